@@ -1,0 +1,5 @@
+pub mod Bytes
+pub mod Laws
+pub mod Numbers
+pub mod Widths
+pub mod Windows

@@ -1,0 +1,96 @@
+-- What may stand in bits, field after field: a grammar as data, and what it says of bits.
+use Rattle.std.specs.Prelude.{◌≡◌, ◌⊎◌, ◌<◌, ◌≤◌, ℕ, Bool, true, false, List, [], ◌++◌, length, take, drop, Option, Result, Ok, Err, nat_lt, if◌then◌else◌}
+use Rattle.bits.specs.Bits.{number}
+
+-- How the values of a variable stand as numbers of so many bits. A number that stands for no value tells why.
+pub record Codes (E A : Type 0) : Type 0 where
+  pub width : ℕ
+  pub value : ℕ → Result A E
+  pub number : A → ℕ
+
+-- A layout tells how an A stands in bits: as nothing; as nothing, unless a fault is there; as a variable, with the fault
+-- of too few bits and the faults of its own; as a run of bits; as one of two layouts; as one kind of an A; as one layout
+-- and then another that goes by its value. Each field also says where in the C that is spelled its value is found.
+pub data Layout : Type 0 → Type 0 → Type 0 → Type 1 where
+  done : {F C A : Type 0} → A → Layout F C A
+  unless : {F C : Type 0} → Bool → F → Layout F C (Unit {0})
+  field : {F E C A : Type 0} → F → (E → F) → Codes E A → (C → A) → Layout F C A
+  run : {F C : Type 0} → ℕ → F → (C → List Bool) → Layout F C (List Bool)
+  choice : {F C A : Type 0} → Bool → Layout F C A → Layout F C A → Layout F C A
+  kind : {F C D A : Type 0} → (D → A) → (C → Option D) → Layout F D D → Layout F C A
+  told_as : {F G C A : Type 0} → (G → F) → Layout G C A → Layout F C A
+  then_ : {F C A B : Type 0} → Layout F C A → (A → Layout F C B) → Layout F C B
+
+infixl 10 ◌>>=◌
+abbrev pub ◌>>=◌ : {F C A B : Type 0} → Layout F C A → (A → Layout F C B) → Layout F C B
+m >>= f = then_ m f
+
+-- The bits spell the value.
+abbrev pub Spells : {F C A : Type 0} → Layout F C A → A → List Bool → Type 0
+Spells (done y) x bits = (x ≡ y) × (bits ≡ [])
+Spells (unless bad f) x bits = (bad ≡ false) × (bits ≡ [])
+Spells (field f g codes get) x bits = (length bits ≡ codes.width) × (codes.value (number bits) ≡ Ok x)
+Spells (run n f get) x bits = (length bits ≡ n) × (bits ≡ x)
+Spells (choice true m n) x bits = Spells m x bits
+Spells (choice false m n) x bits = Spells n x bits
+Spells (kind make get m) x bits = (y : _) × (x ≡ make y) × Spells m y bits
+Spells (told_as g m) x bits = Spells m x bits
+Spells (then_ m f) y bits = (x : _) × (front rest : List Bool) × (bits ≡ front ++ rest) × Spells m x front × Spells (f x) y rest
+
+-- A front of the bits spells the value, and the rest follows it.
+pub record Begins {F C A : Type 0} (m : Layout F C A) (x : A) (bits rest : List Bool) : Type 0 where
+  pub front : List Bool
+  pub parts : bits ≡ front ++ rest
+  pub spelled : Spells m x front
+
+-- No front of the bits spells a value, and this is the first fault in the order of the bits.
+abbrev pub Refuses : {F C A : Type 0} → Layout F C A → F → List Bool → Type 0
+Refuses (done y) e bits = ⊥
+Refuses (unless bad f) e bits = (bad ≡ true) × (e ≡ f)
+Refuses (field f g codes get) e bits =
+    ((length bits < codes.width) × (e ≡ f)) ⊎ ((d : _) × (codes.width ≤ length bits) × (codes.value (number (take codes.width bits)) ≡ Err d) × (e ≡ g d))
+Refuses (run n f get) e bits = (length bits < n) × (e ≡ f)
+Refuses (choice true m n) e bits = Refuses m e bits
+Refuses (choice false m n) e bits = Refuses n e bits
+Refuses (kind make get m) e bits = Refuses m e bits
+Refuses (told_as g m) e bits = (d : _) × Refuses m d bits × (e ≡ g d)
+Refuses (then_ m f) e bits = Refuses m e bits ⊎ ((x : _) × (front rest : List Bool) × (bits ≡ front ++ rest) × Spells m x front × Refuses (f x) e rest)
+
+-- ---- reading, which the functions that read are stated by
+
+abbrev pub after : {F A B : Type 0} → Result (A × List Bool) F → (A → List Bool → Result (B × List Bool) F) → Result (B × List Bool) F
+after (Ok x) f = f x.0 x.1
+after (Err e) f = Err e
+
+abbrev pub map_fault : {G F X : Type 0} → (G → F) → Result X G → Result X F
+map_fault g (Ok x) = Ok x
+map_fault g (Err e) = Err (g e)
+
+-- a value with the bits after it
+abbrev pub beside : {F A : Type 0} → Result A F → List Bool → Result (A × List Bool) F
+beside (Ok x) rest = Ok (x, rest)
+beside (Err e) rest = Err e
+
+-- a variable at the front of the bits
+unfoldable pub read_field : {F E A : Type 0} → F → (E → F) → Codes E A → List Bool → Result (A × List Bool) F
+read_field f g codes bits = if nat_lt (length bits) codes.width then Err f else map_fault g (beside (codes.value (number (take codes.width bits))) (drop codes.width bits))
+
+-- so many bits at the front
+unfoldable pub read_run : {F : Type 0} → ℕ → F → List Bool → Result (List Bool × List Bool) F
+read_run n f bits = if nat_lt (length bits) n then Err f else Ok (take n bits, drop n bits)
+
+-- The value at the front of the bits and the bits after it, or the first fault.
+abbrev pub read : {F C A : Type 0} → Layout F C A → List Bool → Result (A × List Bool) F
+read (done x) bits = Ok (x, bits)
+read (unless bad f) bits = if bad then Err f else Ok (tt, bits)
+read (field f g codes get) bits = read_field f g codes bits
+read (run n f get) bits = read_run n f bits
+read (choice b m n) bits = if b then read m bits else read n bits
+read (kind make get m) bits = after (read m bits) (λ y rest. Ok (make y, rest))
+read (told_as g m) bits = map_fault g (read m bits)
+read (then_ m f) bits = after (read m bits) (λ x rest. read (f x) rest)
+
+-- What a function that reads returned, seen by view, and the bits left are what reading gives.
+abbrev pub Gives : {F X Y : Type 0} → (X → Y) → Result X F → List Bool → Result (Y × List Bool) F → Type 0
+Gives view (Ok x) left reading = reading ≡ Ok (view x, left)
+Gives view (Err e) left reading = reading ≡ Err e

@@ -1,0 +1,17 @@
+-- How faults of variables and packets are told of a telegram.
+use Rattle.vars.specs.declared.variable.NoValue.{NoValue}
+use Rattle.vars.specs.declared.variable.NoValue.TheVariants as values
+use Rattle.packets.specs.declared.fault.PacketFault.{PacketFault}
+use Rattle.packets.specs.declared.fault.PacketFault.TheVariants as packets
+use Rattle.telegram.specs.declared.fault.TelegramFault.{TelegramFault}
+use Rattle.telegram.specs.declared.fault.TelegramFault.TheVariants as telegrams
+
+abbrev pub value_fault : NoValue → TelegramFault
+value_fault values.Spare = telegrams.Spare
+value_fault values.OutOfRange = telegrams.OutOfRange
+
+abbrev pub telegram_fault : PacketFault → TelegramFault
+telegram_fault packets.Truncated = telegrams.Truncated
+telegram_fault packets.WrongLength = telegrams.WrongLength
+telegram_fault packets.Spare = telegrams.Spare
+telegram_fault packets.OutOfRange = telegrams.OutOfRange

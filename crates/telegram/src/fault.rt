@@ -1,0 +1,65 @@
+use packets::PacketFault;
+use thiserror::Error;
+use vars::NoValue;
+
+/// Why bytes carry no telegram. The number of a fault is its discriminant.
+#[derive(Clone, Copy, Debug, PartialEq, Eq, Error)]
+pub enum TelegramFault {
+    /// The bits end within the header or a packet.
+    #[error("Truncated")]
+    Truncated = 1,
+    /// L_PACKET isn't the number of bits of its packet.
+    #[error("WrongLength")]
+    WrongLength = 2,
+    /// A variable has a number that the language keeps spare.
+    #[error("Spare")]
+    Spare = 3,
+    /// A variable has a number outside its range.
+    #[error("OutOfRange")]
+    OutOfRange = 4,
+    /// M_VERSION isn't 16.
+    #[error("WrongVersion")]
+    WrongVersion = 5,
+    /// Q_UPDOWN isn't 1.
+    #[error("NotUplink")]
+    NotUplink = 6,
+    /// Q_MEDIA isn't 0.
+    #[error("NotBalise")]
+    NotBalise = 7,
+    /// The bits end before the end mark.
+    #[error("NoEnd")]
+    NoEnd = 8,
+    /// There are more than 104 bytes.
+    #[error("TooLong")]
+    TooLong = 9,
+}
+
+impl From<NoValue> for TelegramFault {
+    ghost use Rattle.std.specs.Prelude.{◌≡◌};
+    ghost use Rattle.telegram.specs.Faults.{value_fault};
+
+    ghost from_gives = { λ x y. y ≡ value_fault x };
+
+    fn from(fault: NoValue) -> TelegramFault {
+        match fault {
+            NoValue::Spare => TelegramFault::Spare,
+            NoValue::OutOfRange => TelegramFault::OutOfRange,
+        }
+    }
+}
+
+impl From<PacketFault> for TelegramFault {
+    ghost use Rattle.std.specs.Prelude.{◌≡◌};
+    ghost use Rattle.telegram.specs.Faults.{telegram_fault};
+
+    ghost from_gives = { λ x y. y ≡ telegram_fault x };
+
+    fn from(fault: PacketFault) -> TelegramFault {
+        match fault {
+            PacketFault::Truncated => TelegramFault::Truncated,
+            PacketFault::WrongLength => TelegramFault::WrongLength,
+            PacketFault::Spare => TelegramFault::Spare,
+            PacketFault::OutOfRange => TelegramFault::OutOfRange,
+        }
+    }
+}

@@ -1,0 +1,111 @@
+ghost use Rattle.std.specs.Prelude.{◌≡◌, ◌≤◌, ◌<◌, ◌^◌};
+ghost use Rattle.bits.specs.Layout.{Gives, read, read_field};
+ghost use Rattle.telegram.specs.Faults.{value_fault};
+ghost use Rattle.telegram.specs.Telegrams.{header as header_layout, only};
+
+use crate::fault::TelegramFault;
+use bits::BitReader;
+use packets::FieldSink;
+use vars::{
+    Country, Duplicate, GroupIdentity, GroupNumber, MessageCounter, PositionInGroup, Variable,
+};
+
+/// The header of a telegram. Its direction is up, its version 16 and its medium a balise.
+#[derive(Clone, Copy, Debug, PartialEq, Eq)]
+pub struct Header {
+    /// N_PIG: the place of the balise in its group.
+    pub position: PositionInGroup,
+    /// N_TOTAL: the place of the last balise of the group.
+    pub last_position: PositionInGroup,
+    /// M_DUP.
+    pub duplicate: Duplicate,
+    /// M_MCOUNT.
+    pub counter: MessageCounter,
+    /// NID_C and NID_BG.
+    pub group: GroupIdentity,
+    /// Q_LINK: whether the group may be announced by linking.
+    pub linked: bool,
+}
+
+impl Header {
+    /// Hands all fields to the sink, and stops where it takes no more.
+    pub fn fields<S: FieldSink>(&self, sink: &mut S) -> Result<(), S::Error> {
+        sink.field("Q_UPDOWN", 1, 1)?;
+        sink.field("M_VERSION", 7, 16)?;
+        sink.field("Q_MEDIA", 1, 0)?;
+        sink.variable("N_PIG", &self.position)?;
+        sink.variable("N_TOTAL", &self.last_position)?;
+        sink.variable("M_DUP", &self.duplicate)?;
+        sink.variable("M_MCOUNT", &self.counter)?;
+        sink.variable("NID_C", &self.group.country)?;
+        sink.variable("NID_BG", &self.group.number)?;
+        sink.variable("Q_LINK", &self.linked)
+    }
+}
+
+/// Reads a variable.
+#[inline(always)]
+#[tactic(auto, unfolding(bits::specs::Layout::read_field))]
+pub(crate) fn field<V: Variable>(
+    reader: &mut BitReader<'_>,
+    short: TelegramFault,
+) -> Result<V, TelegramFault>
+    ensures { Gives (λ x. x) result reader.new (read_field short value_fault V.codes reader.old) }
+{
+    let number = reader.take(V::WIDTH).ok_or(short)?;
+    let value = V::of_number(number)?;
+    Ok(value)
+}
+
+/// Reads a field that has one value alone.
+#[inline(always)]
+#[tactic(auto, unfolding(bits::specs::Layout::read_field))]
+fn fixed(
+    reader: &mut BitReader<'_>,
+    width: u32,
+    value: u64,
+    other: TelegramFault,
+) -> Result<(), TelegramFault>
+    requires { width ≤ 8 }
+    ensures { Gives (λ x. x) result reader.new (read_field TelegramFault.Truncated (λ e. e) (only width value other) reader.old) }
+{
+    let number = reader.take(width).ok_or(TelegramFault::Truncated)?;
+    if number != value {
+        return Err(other);
+    }
+    Ok(())
+}
+
+#[inline(always)]
+fn variable<V: Variable>(reader: &mut BitReader<'_>) -> Result<V, TelegramFault>
+    ensures { Gives (λ x. x) result reader.new (read_field TelegramFault.Truncated value_fault V.codes reader.old) }
+{
+    field(reader, TelegramFault::Truncated)
+}
+
+#[tactic(auto, unfolding(crate::specs::Telegrams::header))]
+pub(crate) fn read_header(reader: &mut BitReader<'_>) -> Result<Header, TelegramFault>
+    ensures { Gives (λ x. x) result reader.new (read header_layout reader.old) }
+{
+    fixed(reader, 1, 1, TelegramFault::NotUplink)?;
+    fixed(reader, 7, 16, TelegramFault::WrongVersion)?;
+    fixed(reader, 1, 0, TelegramFault::NotBalise)?;
+    let position: PositionInGroup = variable(reader)?;
+    let last_position: PositionInGroup = variable(reader)?;
+    if last_position < position {
+        return Err(TelegramFault::OutOfRange);
+    }
+    let duplicate: Duplicate = variable(reader)?;
+    let counter: MessageCounter = variable(reader)?;
+    let country: Country = variable(reader)?;
+    let number: GroupNumber = variable(reader)?;
+    let linked: bool = variable(reader)?;
+    Ok(Header {
+        position,
+        last_position,
+        duplicate,
+        counter,
+        group: GroupIdentity { country, number },
+        linked,
+    })
+}

@@ -1,0 +1,45 @@
+ghost use Rattle.std.specs.Prelude.{◌≡◌, ◌↔◌, IsSome, IfSome};
+ghost use Rattle.units.specs.Limits.{IsMph};
+
+use std::marker::Model;
+
+/// A speed in metres per hour, 1 km/h being 1,000: from 0 to 600,000.
+#[derive(Clone, Copy, Debug, PartialEq, Eq, PartialOrd, Ord)]
+pub struct Mph {
+    mph: u32,
+}
+
+impl Model for Mph {
+    ghost use Rattle.std.specs.Prelude.{ℕ};
+    ghost use Rattle.units.specs.Limits.{IsMph};
+
+    ghost Value = { ℕ };
+
+    ghost view = { λ v. v.mph };
+
+    ghost invariant = { λ v. IsMph v.mph };
+
+    ghost inverse = { λ n. record { mph = n } };
+}
+
+impl Mph {
+    /// So many metres per hour; None exactly outside the limits.
+    pub fn new(mph: u32) -> Option<Mph>
+        ensures found { IsSome result ↔ IsMph mph }
+        ensures value { IfSome result (λ v. v ≡ mph) }
+    {
+        if mph <= 600_000 {
+            Some(Mph { mph })
+        } else {
+            None
+        }
+    }
+
+    /// The number of metres per hour.
+    pub fn get(self) -> u32
+        ensures value { result ≡ self }
+        ensures limits { IsMph result }
+    {
+        self.mph
+    }
+}

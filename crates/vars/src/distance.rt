@@ -1,0 +1,61 @@
+ghost use Rattle.std.specs.Prelude.{◌≡◌, ◌*◌, pos};
+ghost use Rattle.vars.specs.Meanings.{centimetres_of};
+
+use crate::scale::Scale;
+use crate::variable::{NoValue, Variable};
+use std::marker::Model;
+use units::Cm;
+
+/// A distance or a length in units of the packet's scale (variables D_ and L_): from 0 to 32,767.
+#[derive(Clone, Copy, Debug, PartialEq, Eq, PartialOrd, Ord)]
+pub struct Distance {
+    steps: u16,
+}
+
+impl Model for Distance {
+    ghost use Rattle.std.specs.Prelude.{ℕ, ◌<◌, ◌^◌};
+
+    ghost Value = { ℕ };
+
+    ghost view = { λ d. d.steps };
+
+    ghost invariant = { λ d. d.steps < 2 ^ 15 };
+
+    ghost inverse = { λ n. record { steps = n } };
+}
+
+impl Distance {
+    /// The distance in centimetres.
+    pub fn in_scale(self, scale: Scale) -> Cm
+        ensures { result ≡ pos (self * centimetres_of scale) }
+    {
+        let cm = u32::from(self.steps) * scale.centimetres();
+        Cm::new(i64::from(cm)).unwrap()
+    }
+}
+
+impl Variable for Distance {
+    ghost use Rattle.std.specs.Prelude.{refl};
+    ghost use Rattle.std.proofs.Common.{arith};
+    ghost use Rattle.vars.specs.Variables.{distance};
+
+    ghost codes = { distance };
+
+    ghost WIDTH = { 15 };
+
+    const WIDTH: u32 = 15;
+
+    fn of_number(number: u64) -> Result<Distance, NoValue> {
+        Ok(Distance {
+            steps: number as u16,
+        })
+    }
+
+    fn number(&self) -> u64 {
+        u64::from(self.steps)
+    }
+
+    ghost width_is = { refl };
+
+    ghost width_small = { Prim.omega arith };
+}

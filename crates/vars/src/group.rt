@@ -1,0 +1,248 @@
+ghost use Rattle.std.specs.Prelude.{◌≡◌, ◌↔◌, IsTrue};
+
+use crate::variable::{NoValue, Variable};
+use std::marker::Model;
+
+/// N_PIG: the place of a balise in its group, from 0 to 7. N_TOTAL is the place of the last balise.
+#[derive(Clone, Copy, Debug, PartialEq, Eq, PartialOrd, Ord)]
+pub struct PositionInGroup {
+    position: u8,
+}
+
+impl Model for PositionInGroup {
+    ghost use Rattle.std.specs.Prelude.{ℕ, ◌<◌, ◌^◌};
+
+    ghost Value = { ℕ };
+
+    ghost view = { λ n. n.position };
+
+    ghost invariant = { λ n. n.position < 2 ^ 3 };
+
+    ghost inverse = { λ n. record { position = n } };
+}
+
+impl Variable for PositionInGroup {
+    ghost use Rattle.std.specs.Prelude.{refl};
+    ghost use Rattle.std.proofs.Common.{arith};
+    ghost use Rattle.vars.specs.Variables.{position_in_group};
+
+    ghost codes = { position_in_group };
+
+    ghost WIDTH = { 3 };
+
+    const WIDTH: u32 = 3;
+
+    fn of_number(number: u64) -> Result<PositionInGroup, NoValue> {
+        Ok(PositionInGroup {
+            position: number as u8,
+        })
+    }
+
+    fn number(&self) -> u64 {
+        u64::from(self.position)
+    }
+
+    ghost width_is = { refl };
+
+    ghost width_small = { Prim.omega arith };
+}
+
+/// M_DUP: whether a balise repeats what a neighbour tells.
+#[derive(Clone, Copy, Debug, PartialEq, Eq)]
+pub enum Duplicate {
+    /// It repeats none.
+    NoDuplicate,
+    /// It repeats the next balise.
+    OfNext,
+    /// It repeats the previous balise.
+    OfPrevious,
+}
+
+impl Variable for Duplicate {
+    ghost use Rattle.std.specs.Prelude.{refl};
+    ghost use Rattle.std.proofs.Common.{arith};
+    ghost use Rattle.vars.specs.Variables.{m_dup};
+
+    ghost codes = { m_dup };
+
+    ghost WIDTH = { 2 };
+
+    const WIDTH: u32 = 2;
+
+    #[tactic(auto, unfolding(crate::specs::Variables::duplicate_of))]
+    fn of_number(number: u64) -> Result<Duplicate, NoValue> {
+        match number {
+            0 => Ok(Duplicate::NoDuplicate),
+            1 => Ok(Duplicate::OfNext),
+            2 => Ok(Duplicate::OfPrevious),
+            _ => Err(NoValue::Spare),
+        }
+    }
+
+    fn number(&self) -> u64 {
+        match self {
+            Duplicate::NoDuplicate => 0,
+            Duplicate::OfNext => 1,
+            Duplicate::OfPrevious => 2,
+        }
+    }
+
+    ghost width_is = { refl };
+
+    ghost width_small = { Prim.omega arith };
+}
+
+/// M_MCOUNT: tells which telegrams of a group belong to one message.
+#[derive(Clone, Copy, Debug, PartialEq, Eq)]
+pub struct MessageCounter {
+    count: u8,
+}
+
+impl Model for MessageCounter {
+    ghost use Rattle.std.specs.Prelude.{ℕ};
+
+    ghost Value = { ℕ };
+
+    ghost view = { λ n. n.count };
+
+    ghost inverse = { λ n. record { count = n } };
+}
+
+impl MessageCounter {
+    /// Whether the telegram fits all others of its group (255).
+    pub fn fits_all(self) -> bool
+        ensures { IsTrue result ↔ (self ≡ 255) }
+    {
+        self.count == 255
+    }
+
+    /// Whether the telegram fits no message, and isn't to be used (254).
+    pub fn fits_none(self) -> bool
+        ensures { IsTrue result ↔ (self ≡ 254) }
+    {
+        self.count == 254
+    }
+}
+
+impl Variable for MessageCounter {
+    ghost use Rattle.std.specs.Prelude.{refl};
+    ghost use Rattle.std.proofs.Common.{arith};
+    ghost use Rattle.vars.specs.Variables.{m_mcount};
+
+    ghost codes = { m_mcount };
+
+    ghost WIDTH = { 8 };
+
+    const WIDTH: u32 = 8;
+
+    fn of_number(number: u64) -> Result<MessageCounter, NoValue> {
+        Ok(MessageCounter {
+            count: number as u8,
+        })
+    }
+
+    fn number(&self) -> u64 {
+        u64::from(self.count)
+    }
+
+    ghost width_is = { refl };
+
+    ghost width_small = { Prim.omega arith };
+}
+
+/// NID_C: a country or region, from 0 to 1,023.
+#[derive(Clone, Copy, Debug, PartialEq, Eq)]
+pub struct Country {
+    number: u16,
+}
+
+impl Model for Country {
+    ghost use Rattle.std.specs.Prelude.{ℕ, ◌<◌, ◌^◌};
+
+    ghost Value = { ℕ };
+
+    ghost view = { λ n. n.number };
+
+    ghost invariant = { λ n. n.number < 2 ^ 10 };
+
+    ghost inverse = { λ n. record { number = n } };
+}
+
+impl Variable for Country {
+    ghost use Rattle.std.specs.Prelude.{refl};
+    ghost use Rattle.std.proofs.Common.{arith};
+    ghost use Rattle.vars.specs.Variables.{nid_c};
+
+    ghost codes = { nid_c };
+
+    ghost WIDTH = { 10 };
+
+    const WIDTH: u32 = 10;
+
+    fn of_number(number: u64) -> Result<Country, NoValue> {
+        Ok(Country {
+            number: number as u16,
+        })
+    }
+
+    fn number(&self) -> u64 {
+        u64::from(self.number)
+    }
+
+    ghost width_is = { refl };
+
+    ghost width_small = { Prim.omega arith };
+}
+
+/// NID_BG: the number of a balise group within its country or region, from 0 to 16,383.
+#[derive(Clone, Copy, Debug, PartialEq, Eq)]
+pub struct GroupNumber {
+    number: u16,
+}
+
+impl Model for GroupNumber {
+    ghost use Rattle.std.specs.Prelude.{ℕ, ◌<◌, ◌^◌};
+
+    ghost Value = { ℕ };
+
+    ghost view = { λ n. n.number };
+
+    ghost invariant = { λ n. n.number < 2 ^ 14 };
+
+    ghost inverse = { λ n. record { number = n } };
+}
+
+impl Variable for GroupNumber {
+    ghost use Rattle.std.specs.Prelude.{refl};
+    ghost use Rattle.std.proofs.Common.{arith};
+    ghost use Rattle.vars.specs.Variables.{nid_bg};
+
+    ghost codes = { nid_bg };
+
+    ghost WIDTH = { 14 };
+
+    const WIDTH: u32 = 14;
+
+    fn of_number(number: u64) -> Result<GroupNumber, NoValue> {
+        Ok(GroupNumber {
+            number: number as u16,
+        })
+    }
+
+    fn number(&self) -> u64 {
+        u64::from(self.number)
+    }
+
+    ghost width_is = { refl };
+
+    ghost width_small = { Prim.omega arith };
+}
+
+/// Which balise group it is.
+#[derive(Clone, Copy, Debug, PartialEq, Eq)]
+pub struct GroupIdentity {
+    /// NID_C.
+    pub country: Country,
+    /// NID_BG.
+    pub number: GroupNumber,
+}

@@ -1,0 +1,59 @@
+ghost use Rattle.std.specs.Prelude.{◌≡◌, ◌≤◌};
+ghost use Rattle.vars.specs.Meanings.{centimetres_of};
+
+use crate::variable::{NoValue, Variable};
+
+/// Q_SCALE: the unit of the distances and lengths of a packet.
+#[derive(Clone, Copy, Debug, PartialEq, Eq)]
+pub enum Scale {
+    TenCentimetres,
+    OneMetre,
+    TenMetres,
+}
+
+impl Scale {
+    /// The centimetres of one unit.
+    pub fn centimetres(self) -> u32
+        ensures { result ≡ centimetres_of self }
+    {
+        match self {
+            Scale::TenCentimetres => 10,
+            Scale::OneMetre => 100,
+            Scale::TenMetres => 1_000,
+        }
+    }
+}
+
+impl Variable for Scale {
+    ghost use Rattle.std.specs.Prelude.{refl};
+    ghost use Rattle.std.proofs.Common.{arith};
+    ghost use Rattle.vars.specs.Variables.{q_scale};
+
+    ghost codes = { q_scale };
+
+    ghost WIDTH = { 2 };
+
+    const WIDTH: u32 = 2;
+
+    #[tactic(auto, unfolding(crate::specs::Variables::scale_of))]
+    fn of_number(number: u64) -> Result<Scale, NoValue> {
+        match number {
+            0 => Ok(Scale::TenCentimetres),
+            1 => Ok(Scale::OneMetre),
+            2 => Ok(Scale::TenMetres),
+            _ => Err(NoValue::Spare),
+        }
+    }
+
+    fn number(&self) -> u64 {
+        match self {
+            Scale::TenCentimetres => 0,
+            Scale::OneMetre => 1,
+            Scale::TenMetres => 2,
+        }
+    }
+
+    ghost width_is = { refl };
+
+    ghost width_small = { Prim.omega arith };
+}

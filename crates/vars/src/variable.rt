@@ -1,0 +1,65 @@
+ghost use Rattle.std.specs.Prelude.{◌≡◌, ◌<◌, ◌^◌, ℕ};
+ghost use Rattle.bits.specs.Layout.{Codes};
+ghost use Rattle.vars.specs.declared.variable.NoValue.{NoValue};
+
+use thiserror::Error;
+
+/// Why a number stands for no value of a variable.
+#[derive(Clone, Copy, Debug, PartialEq, Eq, Error)]
+pub enum NoValue {
+    /// The language keeps the number for later use.
+    #[error("Spare")]
+    Spare,
+    /// The number is outside the range of the variable.
+    #[error("OutOfRange")]
+    OutOfRange,
+}
+
+/// A variable of the language: a number of so many bits that stands for a value.
+pub trait Variable: Sized {
+    /// How its values stand in bits.
+    ghost codes: { Codes NoValue Self };
+
+    ghost WIDTH: { ℕ };
+
+    /// The number of its bits, at most 15.
+    const WIDTH: u32;
+
+    /// The value that a number of its bits stands for, or why it stands for none.
+    fn of_number(number: u64) -> Result<Self, NoValue>
+        requires { number < 2 ^ (codes).width }
+        ensures { result ≡ (codes).value number };
+
+    /// The number that stands for the value.
+    fn number(&self) -> u64
+        ensures value { result ≡ (codes).number self.now }
+        ensures bound { result < 2 ^ (codes).width };
+
+    ghost width_is: { (codes).width ≡ WIDTH };
+
+    ghost width_small: { (codes).width < 16 };
+}
+
+impl Variable for bool {
+    ghost use Rattle.std.specs.Prelude.{refl};
+    ghost use Rattle.std.proofs.Common.{arith};
+    ghost use Rattle.vars.specs.Variables.{flag};
+
+    ghost codes = { flag };
+
+    ghost WIDTH = { 1 };
+
+    const WIDTH: u32 = 1;
+
+    fn of_number(number: u64) -> Result<bool, NoValue> {
+        Ok(number == 1)
+    }
+
+    fn number(&self) -> u64 {
+        u64::from(*self)
+    }
+
+    ghost width_is = { refl };
+
+    ghost width_small = { Prim.omega arith };
+}

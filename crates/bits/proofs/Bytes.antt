@@ -32,7 +32,7 @@ low_byte x d e =
     ap (number_bits 8) split ∙ number_bits-low 8 8 (x / 2 ^ 8) d (omega arith)
 
 -- the number of four bytes, the first highest
-four_bytes : (a b c d : ℕ) → b < 256 → c < 256 → d < 256 → number_bits 32 (a * 16777216 + b * 65536 + c * 256 + d) ≡ ((number_bits 8 a ++ number_bits 8 b) ++ number_bits 8 c) ++ number_bits 8 d
+pub four_bytes : (a b c d : ℕ) → b < 256 → c < 256 → d < 256 → number_bits 32 (a * 16777216 + b * 65536 + c * 256 + d) ≡ ((number_bits 8 a ++ number_bits 8 b) ++ number_bits 8 c) ++ number_bits 8 d
 four_bytes a b c d lb lc ld =
     let h1 : (a * 16777216 + b * 65536 + c * 256 + d) / 2 ^ 8 ≡ a * 65536 + b * 256 + c = omega arith in
     let h2 : (a * 65536 + b * 256 + c) / 2 ^ 8 ≡ a * 256 + b = omega arith in

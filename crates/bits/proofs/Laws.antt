@@ -1,10 +1,10 @@
 -- What a layout says of bits and what reading gives are one: what is read is spelled so, what is spelled so is read,
 -- whatever follows, and a fault of reading is the first fault.
-use Rattle.std.proofs.Common.{◌≡◌, ◌≤◌, ◌⊎◌, inl, inr, Bool, true, false, cond, ltb, List, [], ◌++◌, length, take, drop, Result, Ok, Err, refl, sym, ap, ◌∙◌, append_assoc, arith, length-take, length-append}
-use Rattle.std.proofs.lemmas.Bool.{ltb-false, ltb-true, le-ltb, lt-ltb}
-use Rattle.std.proofs.lemmas.List.{take_at, drop_at, take-append-drop, append_cancel_right}
+use Rattle.std.proofs.Common.{ℕ, zero, suc, ◌∷◌, ◌+◌, ◌-◌, nat_eq, subst, ◌≡◌, ◌≤◌, ◌⊎◌, inl, inr, Bool, true, false, cond, ltb, List, [], ◌++◌, length, take, drop, Result, Ok, Err, refl, sym, ap, ◌∙◌, append_assoc, arith, length-take, length-append}
+use Rattle.std.proofs.lemmas.Bool.{ltb-false, ltb-true, le-ltb, lt-ltb, eqb-true, eqb-false, eq-eqb, ne_eqb}
+use Rattle.std.proofs.lemmas.List.{take_at, drop_at, take-append-drop, append_cancel_right, append-nil}
 use Rattle.bits.specs.Bits.{number}
-use Rattle.bits.specs.Layout.{Layout, done, unless, field, run, choice, kind, told_as, map_fault, then_, Spells, Begins, Refuses, read, read_field, read_run, after, beside}
+use Rattle.bits.specs.Layout.{Layout, done, unless, field, run, choice, kind, measured, more, told_as, map_fault, then_, Spells, Begins, Refuses, read, read_field, read_run, read_more, InTurn, InTurnTo, checked, after, beside}
 
 abbrev made : (F : Type 0) {X : Type 0} → X → Result X F
 made F x = Ok x
@@ -62,6 +62,81 @@ beside_err : {F A : Type 0} (r : Result A F) (left : List Bool) (e : F) → besi
 beside_err (Ok x) left e same = absurd cc
 beside_err {A = A} (Err d) left e same = ap (failed A) (err_same (A × List Bool) d e same)
 
+-- ---- a length that is told
+
+-- the bits of a front, as those before it less those behind it
+front_length : (bits front rest : List Bool) → bits ≡ front ++ rest → length bits - length rest ≡ length front
+front_length bits front rest e = omega (arith, ap length e, length-append front rest)
+
+test_ok : {F A : Type 0} (b : Bool) (x y : A × List Bool) (f : F) → cond b (Ok x) (Err f) ≡ Ok y → (b ≡ true) × (x.0 ≡ y.0) × (x.1 ≡ y.1)
+test_ok {F = F} true x y f e = let p = same_reading F x y e in (refl, p.0, p.1)
+test_ok false x y f e = absurd cc
+
+test_err : {F A : Type 0} (b : Bool) (x : A × List Bool) (f e : F) → cond b (Ok x) (Err f) ≡ Err e → (b ≡ false) × (e ≡ f)
+test_err true x f e same = absurd cc
+test_err {A = A} false x f e same = (refl, sym (err_same (A × List Bool) f e same))
+
+-- ---- lists
+
+found_more : {F D : Type 0} (m : Layout F D D) (n : ℕ) (before : List D) (bits : List Bool) (xs : List D) (rest : List Bool)
+    → ((left : List Bool) (x : D) (last : List Bool) → read m left ≡ Ok (x, last) → Begins m x left last)
+    → read_more (λ left. read m left) n before bits ≡ Ok (xs, rest)
+    → (new : List D) × (xs ≡ before ++ new) × (front : List Bool) × (bits ≡ front ++ rest) × InTurn (λ x part. Spells m x part) n new front
+unfolding read_more
+found_more {F = F} m zero before bits xs rest finds e =
+    let p = same_reading F (before, bits) (xs, rest) e in
+    ([], sym p.0 ∙ sym (append-nil before), [], p.1, refl)
+found_more m (suc n) before bits xs rest finds e =
+    let a = after_ok (read m bits) (λ x left. read_more (λ t. read m t) n (before ++ x ∷ []) left) (xs, rest) e in
+    let one = finds bits a.0 a.1 a.2 in
+    let others = found_more m n (before ++ a.0 ∷ []) a.1 xs rest finds a.3 in (
+      a.0 ∷ others.0,
+      others.1 ∙ append_assoc before (a.0 ∷ []) others.0,
+      one.front ++ others.2,
+      one.parts ∙ ap (λ (t : List Bool). one.front ++ t) others.3 ∙ sym (append_assoc one.front others.2 rest),
+      (one.front, others.2, refl, one.spelled, others.4),
+    )
+
+again_more : {F D : Type 0} (m : Layout F D D) (n : ℕ) (before new : List D) (front rest : List Bool)
+    → ((x : D) (part left : List Bool) → Spells m x part → read m (part ++ left) ≡ Ok (x, left))
+    → InTurn (λ x part. Spells m x part) n new front → read_more (λ left. read m left) n before (front ++ rest) ≡ Ok (before ++ new, rest)
+unfolding read_more
+again_more m zero before [] front rest agains s = rw (s, append-nil) refl
+again_more m zero before (x ∷ xs) front rest agains s = absurd s
+again_more m (suc n) before [] front rest agains s = absurd s
+again_more m (suc n) before (x ∷ xs) front rest agains s =
+    let one = agains x s.0 (s.1 ++ rest) s.3 in
+    let others = again_more m n (before ++ x ∷ []) xs s.1 rest agains s.4 in
+    rw (s.2, append_assoc, one) (others ∙ ap (λ (t : List _). Ok (t, rest)) (append_assoc before (x ∷ []) xs))
+
+refused_more : {F D : Type 0} (m : Layout F D D) (n : ℕ) (before : List D) (bits : List Bool) (e : F)
+    → ((left : List Bool) (x : D) (last : List Bool) → read m left ≡ Ok (x, last) → Begins m x left last)
+    → ((left : List Bool) → read m left ≡ Err e → Refuses m e left)
+    → read_more (λ left. read m left) n before bits ≡ Err e → InTurnTo (λ x part. Spells m x part) (λ left. Refuses m e left) n bits
+unfolding read_more
+refused_more m zero before bits e finds refuses same = absurd cc
+refused_more m (suc n) before bits e finds refuses same =
+    elim (after_err (read m bits) (λ x left. read_more (λ t. read m t) n (before ++ x ∷ []) left) e same) [
+      | inl h ↦ inl (refuses bits h)
+      | inr h ↦
+          let one = finds bits h.0 h.1 h.2 in
+          inr (h.0, one.front, h.1, one.parts, one.spelled, refused_more m n (before ++ h.0 ∷ []) h.1 e finds refuses h.3)
+    ]
+
+refused_more_again : {F D : Type 0} (m : Layout F D D) (n : ℕ) (before : List D) (bits : List Bool) (e : F)
+    → ((x : D) (part left : List Bool) → Spells m x part → read m (part ++ left) ≡ Ok (x, left))
+    → ((left : List Bool) → Refuses m e left → read m left ≡ Err e)
+    → InTurnTo (λ x part. Spells m x part) (λ left. Refuses m e left) n bits → read_more (λ left. read m left) n before bits ≡ Err e
+unfolding read_more
+refused_more_again m zero before bits e agains refuses r = absurd r
+refused_more_again m (suc n) before bits e agains refuses r =
+    elim r [
+      | inl h ↦ rw (refuses bits h) refl
+      | inr h ↦
+          let one = agains h.0 h.1 h.2 h.4 in
+          rw (h.3, one) (refused_more_again m n (before ++ h.0 ∷ []) h.2 e agains refuses h.5)
+    ]
+
 -- ---- what is read is spelled so
 
 pub found : {F C A : Type 0} (m : Layout F C A) (bits : List Bool) (x : A) (rest : List Bool) → read m bits ≡ Ok (x, rest) → Begins m x bits rest
@@ -92,6 +167,20 @@ found {F = F} (kind make get m) bits x rest e =
     let p = same_reading F (make a.0, a.1) (x, rest) a.3 in
     let b = found m bits a.0 a.1 a.2 in
     record { front = b.front; parts = b.parts ∙ ap (λ (t : List Bool). b.front ++ t) p.1; spelled = (a.0, sym p.0, b.spelled) }
+found (measured f before m) bits x rest e =
+    let a = after_ok (read m bits) (λ p left. checked f before bits p left) (x, rest) e in
+    let t = test_ok (nat_eq a.0.0 (before + (length bits - length a.1))) (a.0.1, a.1) (x, rest) f a.3 in
+    let one = found m bits a.0 a.1 a.2 in
+    let long = front_length bits one.front a.1 one.parts in
+    let told : a.0.0 ≡ before + length one.front = eqb-true _ _ t.0 ∙ ap (λ (n : ℕ). before + n) long in
+    record {
+      front = one.front;
+      parts = one.parts ∙ ap (λ (r : List Bool). one.front ++ r) t.2;
+      spelled = (a.0.0, subst (λ (y : _). Spells m (a.0.0, y) one.front) t.1 one.spelled, told);
+    }
+found (more n m before get) bits xs rest e =
+    let a = found_more m n before bits xs rest (λ left x last h. found m left x last h) e in
+    record { front = a.2; parts = a.3; spelled = (a.0, a.1, a.4) }
 found (told_as g m) bits x rest e =
     let a = found m bits x rest (fault_ok g (read m bits) (x, rest) e) in record { front = a.front; parts = a.parts; spelled = a.spelled }
 found (then_ m f) bits y rest e =
@@ -119,6 +208,13 @@ again (run n f get) x front rest s =
 again (choice true m n) x front rest s = again m x front rest s
 again (choice false m n) x front rest s = again n x front rest s
 again (kind make get m) x front rest s = rw (again m s.0 front rest s.2, s.1) refl
+again (measured f before m) x front rest s =
+    let one = again m (s.0, x) front rest s.1 in
+    let long = front_length (front ++ rest) front rest refl in
+    let told : nat_eq s.0 (before + (length (front ++ rest) - length rest)) ≡ true = eq-eqb _ _ (s.2 ∙ ap (λ (n : ℕ). before + n) (sym long)) in
+    rw (one, told) refl
+again (more n m before get) xs front rest s =
+    again_more m n before s.0 front rest (λ x part left h. again m x part left h) s.2 ∙ ap (λ (t : List _). Ok (t, rest)) (sym s.1)
 again (told_as g m) x front rest s = rw (again m x front rest s) refl
 again (then_ m f) y front rest s =
     let one = again m s.0 s.1 (s.2 ++ rest) s.4 in
@@ -148,6 +244,17 @@ refused (choice true m n) bits e same = refused m bits e same
 refused (choice false m n) bits e same = refused n bits e same
 refused (kind make get m) bits e same =
     elim (after_err (read m bits) (λ y left. Ok (make y, left)) e same) [ inl h ↦ refused m bits e h | inr h ↦ absurd (let no = h.3 in cc) ]
+refused (measured f before m) bits e same =
+    elim (after_err (read m bits) (λ p left. checked f before bits p left) e same) [
+      | inl h ↦ inl (refused m bits e h)
+      | inr h ↦
+          let t = test_err (nat_eq h.0.0 (before + (length bits - length h.1))) (h.0.1, h.1) f e h.3 in
+          let one = found m bits h.0 h.1 h.2 in
+          let long = front_length bits one.front h.1 one.parts in
+          inr (h.0.0, h.0.1, one.front, h.1, one.parts, one.spelled, (λ told. eqb-false _ _ t.0 (told ∙ ap (λ (n : ℕ). before + n) (sym long))), t.1)
+    ]
+refused (more n m before get) bits e same =
+    refused_more m n before bits e (λ left x last h. found m left x last h) (λ left h. refused m left e h) same
 refused (told_as g m) bits e same =
     let a = fault_err g (read m bits) e same in (a.0, refused m bits a.0 a.1, a.2)
 refused (then_ m f) bits e same =
@@ -172,6 +279,17 @@ refused_again (run n f get) bits e r =
 refused_again (choice true m n) bits e r = refused_again m bits e r
 refused_again (choice false m n) bits e r = refused_again n bits e r
 refused_again (kind make get m) bits e r = rw (refused_again m bits e r) refl
+refused_again (measured f before m) bits e r =
+    elim r [
+      | inl h ↦ rw (refused_again m bits e h) refl
+      | inr h ↦
+          let one = again m (h.0, h.1) h.2 h.3 h.5 in
+          let long = front_length (h.2 ++ h.3) h.2 h.3 refl in
+          let told : nat_eq h.0 (before + (length (h.2 ++ h.3) - length h.3)) ≡ false = ne_eqb _ _ (λ same. h.6 (same ∙ ap (λ (n : ℕ). before + n) long)) in
+          rw (h.4, one, told, h.7) refl
+    ]
+refused_again (more n m before get) bits e r =
+    refused_more_again m n before bits e (λ x part left h. again m x part left h) (λ left h. refused_again m left e h) r
 refused_again (told_as g m) bits e r = rw (refused_again m bits r.0 r.1, r.2) refl
 refused_again (then_ m f) bits e r =
     elim r [

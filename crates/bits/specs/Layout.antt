@@ -1,5 +1,5 @@
 -- What may stand in bits, field after field: a grammar as data, and what it says of bits.
-use Rattle.std.specs.Prelude.{◌≡◌, ◌⊎◌, ◌<◌, ◌≤◌, ℕ, Bool, true, false, List, [], ◌++◌, length, take, drop, Option, Result, Ok, Err, nat_lt, if◌then◌else◌}
+use Rattle.std.specs.Prelude.{◌≡◌, ◌≢◌, ◌==◌, ◌+◌, ◌-◌, ◌⊎◌, ◌<◌, ◌≤◌, ℕ, zero, suc, Bool, true, false, List, [], ◌∷◌, ◌++◌, length, take, drop, Option, Result, Ok, Err, nat_lt, if◌then◌else◌}
 use Rattle.bits.specs.Bits.{number}
 
 -- How the values of a variable stand as numbers of so many bits. A number that stands for no value tells why.
@@ -9,21 +9,37 @@ pub record Codes (E A : Type 0) : Type 0 where
   pub number : A → ℕ
 
 -- A layout tells how an A stands in bits: as nothing; as nothing, unless a fault is there; as a variable, with the fault
--- of too few bits and the faults of its own; as a run of bits; as one of two layouts; as one kind of an A; as one layout
--- and then another that goes by its value. Each field also says where in the C that is spelled its value is found.
+-- of too few bits and the faults of its own; as a run of bits; as one of two layouts; as one kind of an A; with a number
+-- that must tell how many bits there are, those before them included; as so many more elements of a list; with its faults
+-- told in other words; as one layout and then another that goes by its value. Each field also says where in the C that is
+-- spelled its value is found.
 pub data Layout : Type 0 → Type 0 → Type 0 → Type 1 where
   done : {F C A : Type 0} → A → Layout F C A
   unless : {F C : Type 0} → Bool → F → Layout F C (Unit {0})
   field : {F E C A : Type 0} → F → (E → F) → Codes E A → (C → A) → Layout F C A
   run : {F C : Type 0} → ℕ → F → (C → List Bool) → Layout F C (List Bool)
   choice : {F C A : Type 0} → Bool → Layout F C A → Layout F C A → Layout F C A
-  kind : {F C D A : Type 0} → (D → A) → (C → Option D) → Layout F D D → Layout F C A
+  kind : {F C D B A : Type 0} → (B → A) → (C → Option D) → Layout F D B → Layout F C A
+  measured : {F C A : Type 0} → F → ℕ → Layout F C (ℕ × A) → Layout F C A
+  more : {F C D : Type 0} → ℕ → Layout F D D → List D → (C → List D) → Layout F C (List D)
   told_as : {F G C A : Type 0} → (G → F) → Layout G C A → Layout F C A
   then_ : {F C A B : Type 0} → Layout F C A → (A → Layout F C B) → Layout F C B
 
 infixl 10 ◌>>=◌
 abbrev pub ◌>>=◌ : {F C A B : Type 0} → Layout F C A → (A → Layout F C B) → Layout F C B
 m >>= f = then_ m f
+
+-- so many values, each as P says, one after another
+abbrev pub InTurn : {D : Type 0} → (D → List Bool → Type 0) → ℕ → List D → List Bool → Type 0
+InTurn P zero [] bits = bits ≡ []
+InTurn P zero (x ∷ xs) bits = ⊥
+InTurn P (suc n) [] bits = ⊥
+InTurn P (suc n) (x ∷ xs) bits = (front rest : List Bool) × (bits ≡ front ++ rest) × P x front × InTurn P n xs rest
+
+-- of so many values the first that isn't as P says has a fault, as Q says
+abbrev pub InTurnTo : {D : Type 0} → (D → List Bool → Type 0) → (List Bool → Type 0) → ℕ → List Bool → Type 0
+InTurnTo P Q zero bits = ⊥
+InTurnTo {D = D} P Q (suc n) bits = Q bits ⊎ ((x : D) × (front rest : List Bool) × (bits ≡ front ++ rest) × P x front × InTurnTo P Q n rest)
 
 -- The bits spell the value.
 abbrev pub Spells : {F C A : Type 0} → Layout F C A → A → List Bool → Type 0
@@ -34,6 +50,8 @@ Spells (run n f get) x bits = (length bits ≡ n) × (bits ≡ x)
 Spells (choice true m n) x bits = Spells m x bits
 Spells (choice false m n) x bits = Spells n x bits
 Spells (kind make get m) x bits = (y : _) × (x ≡ make y) × Spells m y bits
+Spells (measured f before m) x bits = (told : ℕ) × Spells m (told, x) bits × (told ≡ before + length bits)
+Spells (more n m before get) xs bits = (new : List _) × (xs ≡ before ++ new) × InTurn (λ x part. Spells m x part) n new bits
 Spells (told_as g m) x bits = Spells m x bits
 Spells (then_ m f) y bits = (x : _) × (front rest : List Bool) × (bits ≡ front ++ rest) × Spells m x front × Spells (f x) y rest
 
@@ -53,6 +71,9 @@ Refuses (run n f get) e bits = (length bits < n) × (e ≡ f)
 Refuses (choice true m n) e bits = Refuses m e bits
 Refuses (choice false m n) e bits = Refuses n e bits
 Refuses (kind make get m) e bits = Refuses m e bits
+Refuses (measured f before m) e bits =
+    Refuses m e bits ⊎ ((told : ℕ) × (x : _) × (front rest : List Bool) × (bits ≡ front ++ rest) × Spells m (told, x) front × (told ≢ before + length front) × (e ≡ f))
+Refuses (more n m before get) e bits = InTurnTo (λ x part. Spells m x part) (λ left. Refuses m e left) n bits
 Refuses (told_as g m) e bits = (d : _) × Refuses m d bits × (e ≡ g d)
 Refuses (then_ m f) e bits = Refuses m e bits ⊎ ((x : _) × (front rest : List Bool) × (bits ≡ front ++ rest) × Spells m x front × Refuses (f x) e rest)
 
@@ -79,6 +100,15 @@ read_field f g codes bits = if nat_lt (length bits) codes.width then Err f else 
 unfoldable pub read_run : {F : Type 0} → ℕ → F → List Bool → Result (List Bool × List Bool) F
 read_run n f bits = if nat_lt (length bits) n then Err f else Ok (take n bits, drop n bits)
 
+-- the value, where the number beside it tells the bits that were taken and those before them
+abbrev pub checked : {F A : Type 0} → F → ℕ → List Bool → (ℕ × A) → List Bool → Result (A × List Bool) F
+checked f before bits p rest = if p.0 == before + (length bits - length rest) then Ok (p.1, rest) else Err f
+
+-- so many more elements at the front, behind those before
+unfoldable pub read_more : {F D : Type 0} → (List Bool → Result (D × List Bool) F) → ℕ → List D → List Bool → Result (List D × List Bool) F
+read_more r zero before bits = Ok (before, bits)
+read_more r (suc n) before bits = after (r bits) (λ x rest. read_more r n (before ++ x ∷ []) rest)
+
 -- The value at the front of the bits and the bits after it, or the first fault.
 abbrev pub read : {F C A : Type 0} → Layout F C A → List Bool → Result (A × List Bool) F
 read (done x) bits = Ok (x, bits)
@@ -87,6 +117,8 @@ read (field f g codes get) bits = read_field f g codes bits
 read (run n f get) bits = read_run n f bits
 read (choice b m n) bits = if b then read m bits else read n bits
 read (kind make get m) bits = after (read m bits) (λ y rest. Ok (make y, rest))
+read (measured f before m) bits = after (read m bits) (λ p rest. checked f before bits p rest)
+read (more n m before get) bits = read_more (read m) n before bits
 read (told_as g m) bits = map_fault g (read m bits)
 read (then_ m f) bits = after (read m bits) (λ x rest. read (f x) rest)
 
@@ -94,3 +126,8 @@ read (then_ m f) bits = after (read m bits) (λ x rest. read (f x) rest)
 abbrev pub Gives : {F X Y : Type 0} → (X → Y) → Result X F → List Bool → Result (Y × List Bool) F → Type 0
 Gives view (Ok x) left reading = reading ≡ Ok (view x, left)
 Gives view (Err e) left reading = reading ≡ Err e
+
+-- so many steps, each from what the one before it came to
+unfoldable pub folded : {F C S : Type 0} → (S → Layout F C S) → ℕ → S → Layout F C S
+folded m zero s = done s
+folded m (suc n) s = m s >>= folded m n

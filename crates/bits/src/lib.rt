@@ -1,7 +1,9 @@
-//! Bits of bytes, taken from the highest on, and layouts: grammars of bits as data.
+//! Bits of bytes, taken and written from the highest on, and layouts: grammars of bits as data.
 #![tactic(auto)]
 
 mod reader;
 mod window;
+mod writer;
 
 pub use reader::{BitReader, Run};
+pub use writer::{BitWriter, Full};

@@ -48,6 +48,14 @@ impl<'a> Run<'a> {
     {
         self.len == 0
     }
+
+    /// A reader that the bits stand in front of.
+    pub(crate) fn bits(&self) -> BitReader<'a>
+        ensures front { take (length self.now) result ≡ self.now }
+        ensures some { length self.now ≤ length result }
+    {
+        self.bits.fork()
+    }
 }
 
 impl<'a> BitReader<'a> {
@@ -76,6 +84,15 @@ impl<'a> BitReader<'a> {
                 rest: self.window.rest,
             },
         }
+    }
+
+    /// How many bits are left.
+    #[inline]
+    pub fn remaining(&self) -> u128
+        ensures value { result ≡ length self.now }
+        ensures bound { result < 2 ^ 68 }
+    {
+        u128::from(self.window.held) + 8 * self.window.rest.len() as u128
     }
 
     /// The next n bits as a run, not copied. None where fewer are left, and then nothing is taken.

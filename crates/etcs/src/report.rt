@@ -28,10 +28,10 @@ fn print_packet<W: Write>(packet: &Packet<'_>, out: &mut W) -> io::Result<()> {
     write!(out, "packet {}", packet.number().get())?;
     let mut line = FieldLine { out };
     packet.fields(&mut line)?;
-    match packet {
-        Packet::Other(_) => writeln!(line.out, " skipped"),
-        Packet::SpeedRestriction(_) | Packet::RestrictionRevocation(_) => writeln!(line.out),
+    if let Packet::Other(_) = packet {
+        return writeln!(line.out, " skipped");
     }
+    writeln!(line.out)
 }
 
 /// Writes a telegram: a line with its header, one a packet, and one with its number of bits.

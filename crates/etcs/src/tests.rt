@@ -1,5 +1,6 @@
 use crate::commands::etcs_main;
-use packets::Packet;
+use bits::BitReader;
+use packets::{Packet, PacketFault, read_packet};
 use std::io;
 use std::io::Write;
 use std::mem::size_of;
@@ -44,6 +45,57 @@ fn tells_telegrams(rt: HostRuntime) -> Result<(), Fail> {
         "90007F80200150A00F83FF80",
         "packet 66 Q_DIR=2 L_PACKET=31 NID_TSR=7\nend 89\n",
     )
+}
+
+/// A telegram with an authority, a gradient and a static speed.
+#[test]
+fn tells_an_authority(rt: HostRuntime) -> Result<(), Fail> {
+    told(
+        &rt,
+        "90007F802001432024A8007FE007D002B00D900010000DC03A400020801FE0",
+        "packet 12 Q_DIR=2 L_PACKET=73 Q_SCALE=1 V_MAIN=32 V_LOA=0 T_LOA=1023 N_ITER=0 L_ENDSECTION=1000 Q_SECTIONTIMER=0 Q_ENDTIMER=0 Q_DANGERPOINT=0 Q_OVERLAP=0\npacket 21 Q_DIR=2 L_PACKET=54 Q_SCALE=1 D_GRADIENT=0 Q_GDIR=1 G_A=0 N_ITER=0\npacket 27 Q_DIR=2 L_PACKET=58 Q_SCALE=1 D_STATIC=0 V_STATIC=32 Q_FRONT=1 N_ITER=0 N_ITER=0\nend 243\n",
+    )
+}
+
+/// Each packet with its optional parts and a list of two, spelled by hand from the tables of its fields.
+#[test]
+fn tells_each_packet(rt: HostRuntime) -> Result<(), Fail> {
+    told(
+        &rt,
+        "90007F80200141503B40FA0001C28207D2028008BFFF",
+        "packet 5 Q_DIR=1 L_PACKET=118 Q_SCALE=2 D_LINK=1000 Q_NEWCOUNTRY=0 NID_BG=3 Q_LINKORIENTATION=1 Q_LINKREACTION=0 Q_LOCACC=10 N_ITER=1 D_LINK=500 Q_NEWCOUNTRY=1 NID_C=5 NID_BG=4 Q_LINKORIENTATION=0 Q_LINKREACTION=2 Q_LOCACC=63\nend 176\n",
+    )?;
+    told(
+        &rt,
+        "90007F802001432068280A078102590F003202BC41E019100641201901400A1FFFC0",
+        "packet 12 Q_DIR=2 L_PACKET=208 Q_SCALE=1 V_MAIN=32 V_LOA=20 T_LOA=60 N_ITER=1 L_SECTION=300 Q_SECTIONTIMER=1 T_SECTIONTIMER=60 D_SECTIONTIMERSTOPLOC=100 L_ENDSECTION=700 Q_SECTIONTIMER=0 Q_ENDTIMER=1 T_ENDTIMER=30 D_ENDTIMERSTARTLOC=200 Q_DANGERPOINT=1 D_DP=50 V_RELEASEDP=4 Q_OVERLAP=1 D_STARTOL=100 T_OL=20 D_OL=80 V_RELEASEOL=127\nend 266\n",
+    )?;
+    told(
+        &rt,
+        "90007F802001454027000000A107D1FFFF",
+        "packet 21 Q_DIR=0 L_PACKET=78 Q_SCALE=0 D_GRADIENT=0 Q_GDIR=0 G_A=5 N_ITER=1 D_GRADIENT=1000 Q_GDIR=1 G_A=255\nend 136\n",
+    )?;
+    told(
+        &rt,
+        "90007F80200146E03620001044641FC040FA7F03FC",
+        "packet 27 Q_DIR=2 L_PACKET=108 Q_SCALE=1 D_STATIC=0 V_STATIC=32 Q_FRONT=1 N_ITER=2 NC_DIFF=3 V_DIFF=16 NC_DIFF=7 V_DIFF=120 N_ITER=1 D_STATIC=500 V_STATIC=127 Q_FRONT=0 N_ITER=0\nend 166\n",
+    )?;
+    told(
+        &rt,
+        "90007F8020014A602CBFFFC84800A0A0029FE0",
+        "packet 41 Q_DIR=2 L_PACKET=89 Q_SCALE=1 D_LEVELTR=32767 M_LEVELTR=1 NID_STM=9 L_ACKLEVELTR=10 N_ITER=1 M_LEVELTR=2 L_ACKLEVELTR=20\nend 147\n",
+    )?;
+    told(
+        &rt,
+        "90007F802001542045207D0FE03200320401921BFFF8000FF0",
+        "packet 80 Q_DIR=2 L_PACKET=138 Q_SCALE=1 D_MAMODE=500 M_MAMODE=0 V_MAMODE=127 L_MAMODE=200 L_ACKMAMODE=100 N_ITER=1 D_MAMODE=50 M_MAMODE=1 V_MAMODE=6 L_MAMODE=32767 L_ACKMAMODE=0\nend 196\n",
+    )?;
+    told(
+        &rt,
+        "90007F80200140E04EA0190203861018A08000400300C83CFFFFFE",
+        "packet 3 Q_DIR=2 L_PACKET=157 Q_SCALE=1 D_VALIDNV=100 N_ITER=1 NID_C=7 V_NVSHUNT=6 V_NVSTFF=8 V_NVONSIGHT=6 V_NVUNFIT=20 V_NVREL=8 D_NVROLL=2 V_NVALLOWOVTRP=0 V_NVSUPOVTRP=6 D_NVOVTRP=200 T_NVOVTRP=60 D_NVSTFF=32767\nend 215\n",
+    )?;
+    Ok(())
 }
 
 #[test]
@@ -93,6 +145,56 @@ fn fault_of(bytes: &[u8]) -> u8 {
         Ok(_) => 0,
         Err(fault) => fault as u8,
     }
+}
+
+/// Spare numbers, numbers out of range and a length that is one too many, spelled by hand.
+#[test]
+fn refuses_each_number_without_a_value(rt: HostRuntime) -> Result<(), Fail> {
+    for (text, fault) in [
+        ("90007F802001416022A0FA0001F281FE", 3),
+        ("90007F8020014A601FA0002800007F80", 3),
+        ("90007F80200154202A20002FE032003203FC", 3),
+        ("90007F80200143202FA8007FE007D04019797F80", 4),
+        ("90007F802001432024BE407FE007D01FE0", 4),
+        ("90007F80200146E01D20003F400FF0", 4),
+        ("90007F80200154202A20000FC032003203FC", 4),
+        ("90007F80200140E049A01901FC4062820001000C0320F3FFFFF8", 4),
+        ("90007F80200145601B600000A0FF", 3),
+        ("90007F80200145601BA00000A0FF", 2),
+    ] {
+        let bytes = hex::decode(rt.alloc(), text).ok().ok_or("hex")?;
+        assert_eq!(rt; fault_of(bytes.as_slice()), fault, "of {text}");
+    }
+    Ok(())
+}
+
+/// A packet 5 of 32 groups, the first of another country.
+const LINKS: &str =
+    "058A10800A80A000E03E00280016000058003C0000C000980001A00170000380036000078007C0001000118000220027000048005600009800BC00014001980002A003700005800760000B800FC000180021800032004700006800960000D8013C0001C002980003A005700007800B60000F8017C000200031800042006700008800D600011801BC00024003980004A007700009800F600013801FC00028004180";
+
+/// Packets 27 of three steps, with 70 and with 71 differences.
+const DIFFERENCES_70: &str =
+    "1B86E8800A41F882104208410821042084108210420841082104208410821042084108210420841082104208410821042084002907E2084108210420841082104208410821042084108210420841082104208410821042084108210420841082001482810420841082104208410820";
+
+const DIFFERENCES_71: &str =
+    "1B86FE800A41F882104208410821042084108210420841082104208410821042084108210420841082104208410821042084002907E208410821042084108210420841082104208410821042084108210420841082104208410821042084108200148291042084108210420841082104";
+
+#[test]
+fn reads_long_lists(rt: HostRuntime) -> Result<(), Fail> {
+    let links = hex::decode(rt.alloc(), LINKS).ok().ok_or("hex")?;
+    match read_packet(&mut BitReader::new(links.as_slice())) {
+        Ok(Packet::Linking(packet)) => assert_eq!(rt; packet.links.len(), 32),
+        _ => assert!(rt; false, "32 groups"),
+    }
+    let most = hex::decode(rt.alloc(), DIFFERENCES_70).ok().ok_or("hex")?;
+    match read_packet(&mut BitReader::new(most.as_slice())) {
+        Ok(Packet::StaticSpeeds(packet)) => assert_eq!(rt; packet.differences.len(), 70),
+        _ => assert!(rt; false, "70 differences"),
+    }
+    let above = hex::decode(rt.alloc(), DIFFERENCES_71).ok().ok_or("hex")?;
+    let fault = read_packet(&mut BitReader::new(above.as_slice())).err();
+    assert_eq!(rt; fault, Some(PacketFault::OutOfRange), "71 differences");
+    Ok(())
 }
 
 /// A telegram with a restriction, of 129 bits and seven that are free.

@@ -1,12 +1,21 @@
 ghost use Rattle.std.specs.Prelude.{◌≡◌, ◌↔◌, ◌++◌, List, Bool, Ok, Err, IfOk, OnErr};
-ghost use Rattle.bits.specs.Layout.{Begins, Gives, Refuses, Spells, read, read_field, read_run};
+ghost use Rattle.bits.specs.Layout.{Begins, Gives, Refuses, Spells, kind, read, read_field, read_run};
 ghost use Rattle.packets.specs.Faults.{packet_fault};
-ghost use Rattle.packets.specs.Packets.{speed_restriction, restriction_revocation, skipped, packet, packet_of};
+ghost use Rattle.packets.specs.Packets.{as_packet, as_other, skipped, body_of, packet, packet_of};
 ghost use Rattle.packets.specs.declared.fault.PacketFault.{PacketFault};
 ghost use Rattle.packets.specs.declared.packet.Packet.{Packet};
+ghost use Rattle.packets.specs.declared.packet.Packet.TheVariants as packets;
 
+use crate::authority::read_movement_authority;
 use crate::fault::PacketFault;
-use crate::packet::{Other, Packet, RestrictionRevocation, SpeedRestriction};
+use crate::gradients::read_gradients;
+use crate::level_transition::read_level_transition;
+use crate::linking::read_linking;
+use crate::mode_profile::read_mode_profile;
+use crate::national::read_national_values;
+use crate::packet::{Other, Packet};
+use crate::restrictions::{read_restriction, read_revocation};
+use crate::static_speeds::read_static_speeds;
 use bits::{BitReader, Run};
 use vars::{PacketLength, PacketNumber, Variable};
 
@@ -21,45 +30,6 @@ pub(crate) fn field<V: Variable>(reader: &mut BitReader<'_>) -> Result<V, Packet
     Ok(value)
 }
 
-#[tactic(auto, unfolding(crate::specs::Packets::speed_restriction))]
-fn restriction(reader: &mut BitReader<'_>) -> Result<SpeedRestriction, PacketFault>
-    ensures { Gives (λ x. x) result reader.new (read speed_restriction reader.old) }
-{
-    let direction = field(reader)?;
-    let told: PacketLength = field(reader)?;
-    let scale = field(reader)?;
-    let number = field(reader)?;
-    let start = field(reader)?;
-    let length = field(reader)?;
-    let delay = field(reader)?;
-    let speed = field(reader)?;
-    if told.bits() != 71 {
-        return Err(PacketFault::WrongLength);
-    }
-    Ok(SpeedRestriction {
-        direction,
-        scale,
-        number,
-        start,
-        length,
-        delay,
-        speed,
-    })
-}
-
-#[tactic(auto, unfolding(crate::specs::Packets::restriction_revocation))]
-fn revocation(reader: &mut BitReader<'_>) -> Result<RestrictionRevocation, PacketFault>
-    ensures { Gives (λ x. x) result reader.new (read restriction_revocation reader.old) }
-{
-    let direction = field(reader)?;
-    let told: PacketLength = field(reader)?;
-    let number = field(reader)?;
-    if told.bits() != 31 {
-        return Err(PacketFault::WrongLength);
-    }
-    Ok(RestrictionRevocation { direction, number })
-}
-
 /// Takes so many bits as they are.
 #[tactic(auto, unfolding(bits::specs::Layout::read_run))]
 fn run<'a>(reader: &mut BitReader<'a>, bits: u32) -> Result<Run<'a>, PacketFault>
@@ -68,9 +38,14 @@ fn run<'a>(reader: &mut BitReader<'a>, bits: u32) -> Result<Run<'a>, PacketFault
     reader.run(bits).ok_or(PacketFault::Truncated)
 }
 
+/// Reads a packet that is skipped, behind its number, into the place of another packet; answers the length that it tells.
 #[tactic(auto, unfolding(crate::specs::Packets::skipped))]
-fn other<'a>(reader: &mut BitReader<'a>, number: PacketNumber) -> Result<Other<'a>, PacketFault>
-    ensures { Gives (λ x. x) result reader.new (read (skipped number) reader.old) }
+fn read_other<'a>(
+    reader: &mut BitReader<'a>,
+    number: PacketNumber,
+    out: &mut Packet<'a>,
+) -> Result<PacketLength, PacketFault>
+    ensures { Gives (λ told. (told, out.new)) result reader.new (read (kind (as_packet packets.Other) as_other (skipped number)) reader.old) }
 {
     let direction = field(reader)?;
     let told: PacketLength = field(reader)?;
@@ -78,11 +53,34 @@ fn other<'a>(reader: &mut BitReader<'a>, number: PacketNumber) -> Result<Other<'
         return Err(PacketFault::WrongLength);
     }
     let body = run(reader, u32::from(told.bits()) - 23)?;
-    Ok(Other {
+    *out = Packet::Other(Other {
         number,
         direction,
         body,
-    })
+    });
+    Ok(told)
+}
+
+#[tactic(auto, unfolding(crate::specs::Packets::body_of))]
+fn read_body<'a>(
+    reader: &mut BitReader<'a>,
+    number: PacketNumber,
+    out: &mut Packet<'a>,
+) -> Result<PacketLength, PacketFault>
+    ensures { Gives (λ told. (told, out.new)) result reader.new (read (body_of number) reader.old) }
+{
+    match number.get() {
+        3 => read_national_values(reader, out),
+        5 => read_linking(reader, out),
+        12 => read_movement_authority(reader, out),
+        21 => read_gradients(reader, out),
+        27 => read_static_speeds(reader, out),
+        41 => read_level_transition(reader, out),
+        65 => read_restriction(reader, out),
+        66 => read_revocation(reader, out),
+        80 => read_mode_profile(reader, out),
+        _ => read_other(reader, number, out),
+    }
 }
 
 /// Reads what follows the number of a packet, into the place of another packet. A fault leaves the reader where the
@@ -95,12 +93,15 @@ pub fn read_numbered<'a>(
 ) -> Result<(), PacketFault>
     ensures { Gives (λ _. out.new) result reader.new (read (packet_of number) reader.old) }
 {
-    *out = match number.get() {
-        255 => return Err(PacketFault::OutOfRange),
-        65 => Packet::SpeedRestriction(restriction(reader)?),
-        66 => Packet::RestrictionRevocation(revocation(reader)?),
-        _ => Packet::Other(other(reader, number)?),
-    };
+    if number.get() == 255 {
+        return Err(PacketFault::OutOfRange);
+    }
+    let before = reader.remaining();
+    let told = read_body(reader, number, out)?;
+    let taken = before.saturating_sub(reader.remaining());
+    if u128::from(told.bits()) != 8 + taken {
+        return Err(PacketFault::WrongLength);
+    }
     Ok(())
 }
 

@@ -151,7 +151,7 @@ impl Variable for MessageCounter {
 }
 
 /// NID_C: a country or region, from 0 to 1,023.
-#[derive(Clone, Copy, Debug, PartialEq, Eq)]
+#[derive(Clone, Copy, Debug, Default, PartialEq, Eq)]
 pub struct Country {
     number: u16,
 }

@@ -3,17 +3,31 @@
 #![tactic(auto)]
 
 mod distance;
+mod gradient;
 mod group;
+mod level;
+mod linking;
+mod lists;
 mod packet_head;
 mod restriction;
 mod scale;
+mod special_distance;
+mod special_speed;
 mod speed;
+mod time;
 mod variable;
 
 pub use distance::Distance;
+pub use gradient::{GradientDirection, Steepness};
 pub use group::{Country, Duplicate, GroupIdentity, GroupNumber, MessageCounter, PositionInGroup};
+pub use level::{AreaMode, Level, StmIdentity};
+pub use linking::{LinkOrientation, LinkReaction, LocationAccuracy};
+pub use lists::{Iterations, TrainCategory};
 pub use packet_head::{PacketLength, PacketNumber, UntestedDirection, ValidityDirection};
 pub use restriction::{RestrictionNumber, TrainLengthDelay};
 pub use scale::Scale;
+pub use special_distance::{OpenLength, StartPlace};
+pub use special_speed::{AreaSpeed, ReleaseSpeed, StaticSpeed};
 pub use speed::SpeedStep;
+pub use time::{OverrideTime, Timer};
 pub use variable::{NoValue, Variable};

@@ -1,0 +1,6 @@
+pub mod Calls
+pub mod Copies
+pub mod Moments
+pub mod Reaching
+pub mod RecordLemmas
+pub mod Settling

@@ -1,0 +1,73 @@
+use Rattle.std.proofs.Common.{rules, ◌≡◌, ◌*◌, ◌/◌, length, arith}
+use Rattle.std.specs.Prelude.{vec_len}
+use Rattle.disk.specs.declared.record.Span.{Span}
+use Rattle.disk.specs.declared.record.Call.TheVariants.{Written, Torn}
+use Rattle.disk.proofs.Calls.{leaves_written_bytes, leaves_torn_bytes, touches_to, written_holds, hands_written, hands_torn, handed_holds, same_handed_written, same_handed_torn, others_handed, torn_contents}
+use Rattle.disk.proofs.memory.MemoryDisk.write.Goals as goal
+
+pub returns-in-Runs-clause-moments : goal.returns-in-Runs-clause-moments
+returns-in-Runs-clause-moments c =
+    let m = c.args.self.now in
+    let whole : length c.args.bytes.now ≡ 512 * (length c.args.bytes.now / 512) = omega (arith, c.requires.whole) in
+    let wide : vec_len m.written ≡ length m.written.items = search rules in
+    let span : Span = record { first = c.args.first; sectors = length c.args.bytes.now / 512; from = c.len.result } in
+    touches_to c.args.first (length c.args.bytes.now) (vec_len m.written) m.sectors m.faults _ m.start.items m.written.items c.args.bytes.now m.calls.items (Written span) _ _ _ _ m.recorded wide
+    (λ s out. leaves_written_bytes span (length c.args.bytes.now) s whole out) c.note.ensures.sectors (search rules) c.note.ensures.written c.note.ensures.calls
+
+pub returns-in-Runs-clause-written : goal.returns-in-Runs-clause-written
+returns-in-Runs-clause-written c =
+    let m = c.args.self.now in
+    let whole : length c.args.bytes.now ≡ 512 * (length c.args.bytes.now / 512) = omega (arith, c.requires.whole) in
+    let at : c.len.result ≡ length m.written.items = search rules in
+    let span : Span = record { first = c.args.first; sectors = length c.args.bytes.now / 512; from = c.len.result } in
+    written_holds m.start.items m.written.items c.args.bytes.now m.calls.items span _ _ _ at whole (search rules) c.note.ensures.written c.note.ensures.calls
+
+pub returns-in-Runs-clause-handed : goal.returns-in-Runs-clause-handed
+returns-in-Runs-clause-handed c = λ _ _.
+    let m = c.args.self.now in
+    let whole : length c.args.bytes.now ≡ 512 * (length c.args.bytes.now / 512) = omega (arith, c.requires.whole) in
+    let at : c.len.result ≡ length m.written.items = search rules in
+    let span : Span = record { first = c.args.first; sectors = length c.args.bytes.now / 512; from = c.len.result } in
+    handed_holds m.start.items m.written.items c.args.bytes.now m.calls.items (Written span) span _ _ _ (hands_written span) at whole c.note.ensures.written c.note.ensures.calls
+
+pub returns-in-Runs-clause-others_handed : goal.returns-in-Runs-clause-others_handed
+returns-in-Runs-clause-others_handed c =
+    let m = c.args.self.now in
+    let whole : length c.args.bytes.now ≡ 512 * (length c.args.bytes.now / 512) = omega (arith, c.requires.whole) in
+    let wide : vec_len m.written ≡ length m.written.items = search rules in
+    let span : Span = record { first = c.args.first; sectors = length c.args.bytes.now / 512; from = c.len.result } in
+    others_handed c.args.first (length c.args.bytes.now) (vec_len m.written) m.sectors m.start.items m.written.items c.args.bytes.now m.calls.items (Written span) _ _ _ m.recorded wide
+    (λ s out. same_handed_written span (length c.args.bytes.now) s whole out) (search rules) c.note.ensures.written c.note.ensures.calls
+
+pub returns-in-Fails-clause-moments : goal.returns-in-Fails-clause-moments
+returns-in-Fails-clause-moments c =
+    let m = c.args.self.now in
+    let whole : length c.args.bytes.now ≡ 512 * (length c.args.bytes.now / 512) = omega (arith, c.requires.whole) in
+    let wide : vec_len m.written ≡ length m.written.items = search rules in
+    let span : Span = record { first = c.args.first; sectors = length c.args.bytes.now / 512; from = c.len.result } in
+    touches_to c.args.first (length c.args.bytes.now) (vec_len m.written) m.sectors m.faults _ m.start.items m.written.items c.args.bytes.now m.calls.items (Torn span) _ _ _ _ m.recorded wide
+    (λ s out. leaves_torn_bytes span (length c.args.bytes.now) s whole out) (search rules) (search rules) (search rules) (search rules)
+
+pub returns-in-Fails-clause-old_bytes : goal.returns-in-Fails-clause-old_bytes
+returns-in-Fails-clause-old_bytes c =
+    let m = c.args.self.now in
+    let wide : vec_len m.written ≡ length m.written.items = search rules in
+    let span : Span = record { first = c.args.first; sectors = length c.args.bytes.now / 512; from = c.len.result } in
+    torn_contents (vec_len m.written) m.sectors m.start.items m.written.items c.args.bytes.now m.calls.items span c.fault-in-Fails.new.self.start.items c.fault-in-Fails.new.self.written.items c.fault-in-Fails.new.self.calls.items m.recorded wide (search rules) (search rules) (search rules)
+
+pub returns-in-Fails-clause-handed : goal.returns-in-Fails-clause-handed
+returns-in-Fails-clause-handed c = λ _ _.
+    let m = c.args.self.now in
+    let whole : length c.args.bytes.now ≡ 512 * (length c.args.bytes.now / 512) = omega (arith, c.requires.whole) in
+    let at : c.len.result ≡ length m.written.items = search rules in
+    let span : Span = record { first = c.args.first; sectors = length c.args.bytes.now / 512; from = c.len.result } in
+    handed_holds m.start.items m.written.items c.args.bytes.now m.calls.items (Torn span) span c.fault-in-Fails.new.self.start.items c.fault-in-Fails.new.self.written.items c.fault-in-Fails.new.self.calls.items (hands_torn span) at whole (search rules) (search rules)
+
+pub returns-in-Fails-clause-others_handed : goal.returns-in-Fails-clause-others_handed
+returns-in-Fails-clause-others_handed c =
+    let m = c.args.self.now in
+    let whole : length c.args.bytes.now ≡ 512 * (length c.args.bytes.now / 512) = omega (arith, c.requires.whole) in
+    let wide : vec_len m.written ≡ length m.written.items = search rules in
+    let span : Span = record { first = c.args.first; sectors = length c.args.bytes.now / 512; from = c.len.result } in
+    others_handed c.args.first (length c.args.bytes.now) (vec_len m.written) m.sectors m.start.items m.written.items c.args.bytes.now m.calls.items (Torn span) c.fault-in-Fails.new.self.start.items c.fault-in-Fails.new.self.written.items c.fault-in-Fails.new.self.calls.items m.recorded wide
+    (λ s out. same_handed_torn span (length c.args.bytes.now) s whole out) (search rules) (search rules) (search rules)

@@ -1,0 +1,6 @@
+pub mod Choice
+pub mod Liar
+pub mod Memory
+pub mod Plan
+pub mod Record
+pub mod State

@@ -1,0 +1,103 @@
+-- What contracts see of a disk in memory.
+use Rattle.std.specs.Prelude.{◌≡◌, ℕ, ◌+◌, ◌-◌, ◌%◌, ◌^◌, ◌<◌, ◌≤◌, ◌&&◌, ◌++◌, ◌∷◌, [], nat_le, nat_lt, Bool, true, false, if◌then◌else◌, List, replicate, vec_len, All, Result, is_err}
+use Rattle.disk.specs.State.{State, now, contents_of, IsImage, IsSynced}
+use Rattle.disk.specs.Record.{bytes_at, trace_of, state_of}
+use Rattle.disk.specs.Plan.{fate_of, fails, takes}
+use Rattle.disk.specs.Choice.{settled_sector, IsChoice, HasWholeSectors}
+use Rattle.disk.specs.declared.DiskFault.{DiskFault}
+use Rattle.disk.specs.declared.choice.Choice.{Choice}
+use Rattle.disk.specs.declared.memory.Plan.{Plan}
+use Rattle.disk.specs.declared.memory.Plan.TheVariants.{Nothing}
+use Rattle.disk.specs.declared.memory.Fate.{Fate}
+use Rattle.disk.specs.declared.memory.Room.{Room}
+use Rattle.disk.specs.declared.memory.Memory.{Memory}
+use Rattle.disk.specs.declared.record.Call.{Call}
+
+-- What contracts see of it as a disk. It is honest, and its moments are its calls: moment k is after k calls (this
+-- project's profile).
+abbrev pub memory_state : Memory → State
+memory_state m = state_of m.sectors m.faults m.start.items m.written.items m.calls.items
+
+-- the bytes that were last handed in for sector s to a write, also to one that failed (this project's profile)
+abbrev pub handed_of : Memory → ℕ → List ℕ
+handed_of m s = bytes_at m.start.items m.written.items s (trace_of s m.calls.items).handed
+
+-- what is to go wrong (this project's profile)
+abbrev pub plan_of : Memory → Plan
+plan_of m = m.plan
+
+-- the calls counted since the plan was made (this project's profile)
+abbrev pub calls_since : Memory → ℕ
+calls_since m = vec_len m.calls - m.planned_at
+
+-- all its room, used or not (this project's profile)
+abbrev pub room_of : Memory → Room
+room_of m = m.room
+
+-- the bytes of its room for written sectors that are used (this project's profile)
+abbrev pub bytes_used : Memory → ℕ
+bytes_used m = vec_len m.written
+
+-- there is room for a call that hands in so many bytes (this project's profile)
+abbrev pub has_room_for : ℕ → Memory → Bool
+has_room_for bytes m = nat_lt (vec_len m.calls) m.room.calls && nat_le bytes (m.room.bytes - vec_len m.written)
+
+-- what the plan makes of the next call (this project's profile)
+abbrev pub fate_now : Memory → Fate
+fate_now m = fate_of m.plan (vec_len m.calls - m.planned_at)
+
+-- A disk on which no call was made and nothing is planned: no sector is open, and no call has failed (this
+-- project's profile).
+pub record IsFresh (m : Memory) : Type 0 where
+  pub clock : (memory_state m).clock ≡ 0
+  pub faults : (memory_state m).faults ≡ 0
+  pub synced : IsSynced (memory_state m)
+  pub plan : plan_of m ≡ Nothing
+  pub since : calls_since m ≡ 0
+  pub used : bytes_used m ≡ 0
+
+-- all sectors of a disk of so many hold zeros, and there are no others (this project's profile)
+pub record HoldsZeros (sectors : ℕ) (contents : ℕ → List ℕ) : Type 0 where
+  pub zeros : (s : ℕ) → s < sectors → contents s ≡ replicate 512 0
+  pub others : (s : ℕ) → sectors ≤ s → contents s ≡ []
+
+-- What a call does that hands in so many bytes. It answers DiskFault exactly beyond the room and where the plan says
+-- so. Beyond the room it changes nothing else than the count of failures, and the clock stands still; else the clock
+-- goes up by one. The plan and the room stay (this project's profile).
+pub record HasRun {T : Type 0} (bytes : ℕ) (result : Result T DiskFault) (old new : Memory) : Type 0 where
+  pub answer : is_err result ≡ (if has_room_for bytes old then fails (fate_now old) else true)
+  pub clock : (memory_state new).clock ≡ (memory_state old).clock + (if has_room_for bytes old then 1 else 0)
+  pub since : calls_since new ≡ calls_since old + (if has_room_for bytes old then 1 else 0)
+  pub used : bytes_used new ≡ bytes_used old + (if has_room_for bytes old then takes (fate_now old) bytes else 0)
+  pub plan : plan_of new ≡ plan_of old
+  pub room : room_of new ≡ room_of old
+  pub beyond : has_room_for bytes old ≡ false → new ≡ record old { faults = (old.faults + 1) % 2 ^ 64 }
+
+-- the same was last handed in for each sector (this project's profile)
+abbrev pub SameHanded : Memory → Memory → Type 0
+SameHanded old new = (s : ℕ) → handed_of new s ≡ handed_of old s
+
+-- each sector holds what it held (this project's profile)
+abbrev pub SameContents : Memory → Memory → Type 0
+SameContents old new = (s : ℕ) → contents_of (memory_state new) s ≡ contents_of (memory_state old) s
+
+-- every list of choices settles the disk to an image of it (this project's profile)
+abbrev pub SettlesToImages : Memory → Type 0
+SettlesToImages m = (choices : List Choice) → IsImage (now (memory_state m)) (settled_sector (memory_state m) (handed_of m) choices)
+
+-- each image of the disk, if its sectors are whole, is what some list of choices settles it to (this project's profile)
+abbrev pub ReachesEachImage : Memory → Type 0
+ReachesEachImage m = (c : ℕ → List ℕ) → IsImage (now (memory_state m)) c → HasWholeSectors (memory_state m).sectors c
+    → (choices : List Choice) × All IsChoice choices × ((s : ℕ) → settled_sector (memory_state m) (handed_of m) choices s ≡ c s)
+
+-- A call was added to the record, with the bytes that it hands in, and all else is as it was (this project's
+-- profile).
+pub record IsNoted (call : Call) (bytes : List ℕ) (old new : Memory) : Type 0 where
+  pub calls : new.calls.items ≡ old.calls.items ++ call ∷ []
+  pub written : new.written.items ≡ old.written.items ++ bytes
+  pub start : new.start ≡ old.start
+  pub sectors : new.sectors ≡ old.sectors
+  pub room : new.room ≡ old.room
+  pub plan : new.plan ≡ old.plan
+  pub planned_at : new.planned_at ≡ old.planned_at
+  pub faults : new.faults ≡ old.faults

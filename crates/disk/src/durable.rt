@@ -1,0 +1,31 @@
+// A write that is on the medium when it returns.
+ghost use Rattle.std.specs.Prelude.{◌≡◌, length, IsTrue, OnOk};
+ghost use Rattle.disk.specs.State.{contents_of, AreSectors, Stays, Touches, Holds, IsSynced, AtEachMoment, SameBut};
+
+use crate::{Disk, DiskFault};
+
+/// Writes whole sectors and syncs: at Ok they hold these bytes, and no sector is open. It stops at the first
+/// DiskFault, after which the sectors may hold any bytes.
+pub fn put<D: Disk>(disk: &mut D, first: u64, bytes: &[u8]) -> Result<(), DiskFault>
+    requires { AreSectors first (length bytes.now) (D.state disk.old).sectors }
+
+    ensures stays { Stays result (D.state disk.old) (D.state disk.new) }
+
+    // At each moment the medium is as it was, but for these sectors.
+    ensures moments { IsTrue (D.state disk.old).honest → Touches first (length bytes.now) (D.state disk.old) (D.state disk.new) }
+
+    // Wherever power is lost, these sectors may hold any bytes, and the others hold what they held.
+    ensures any_moment { IsTrue (D.state disk.old).honest → IsSynced (D.state disk.old) →
+        AtEachMoment (D.state disk.old) (D.state disk.new) (SameBut first (length bytes.now) (contents_of (D.state disk.old))) }
+
+    ensures others { IsTrue (D.state disk.old).honest →
+        SameBut first (length bytes.now) (contents_of (D.state disk.old)) (contents_of (D.state disk.new)) }
+
+    ensures synced { IsTrue (D.state disk.old).honest → OnOk result (IsSynced (D.state disk.new)) }
+
+    ensures written { IsTrue (D.state disk.old).honest → OnOk result (Holds (contents_of (D.state disk.new)) first bytes.now) }
+{
+    disk.write(first, bytes)?;
+    disk.sync()?;
+    Ok(())
+}

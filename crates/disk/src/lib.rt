@@ -1,0 +1,29 @@
+//! Sectors of 512 bytes, and what a loss of power may leave of them.
+//!
+//! `Disk` is the model of a device, `put` a write that is on the medium when it returns, `Memory` a disk in memory that
+//! can lose power at any call, and `Liar` a disk that does not keep to the model.
+#![tactic(auto)]
+
+mod choice;
+mod device;
+mod durable;
+mod faults;
+mod laws;
+mod liar;
+mod memory;
+mod record;
+
+pub use choice::Choice;
+pub use device::Disk;
+pub use durable::put;
+pub use faults::NoMemory;
+pub use laws::settling_gives_each_image;
+pub use liar::Liar;
+pub use memory::{Memory, Plan};
+
+/// The bytes of a sector.
+pub const SECTOR_BYTES: usize = 512;
+
+/// The device failed in this call.
+#[derive(Clone, Copy, Debug, PartialEq, Eq)]
+pub struct DiskFault;

@@ -1,0 +1,132 @@
+// The record that a disk in memory keeps of its calls.
+ghost use Rattle.std.specs.Prelude.{◌≡◌, ℕ, ◌+◌, ◌*◌, ◌^◌, ◌<◌, ◌≤◌, length, All};
+ghost use Rattle.disk.specs.Record.{bytes_at, place_in, trace_next, trace_of, IsWithin, IsPlaced, AllPlaced};
+
+use crate::SECTOR_BYTES;
+
+/// A call of the record.
+#[derive(Clone, Copy, Debug)]
+pub enum Call {
+    /// A read, a sync that failed, or any call without power.
+    Quiet,
+    /// A sync that succeeded.
+    Synced,
+    /// A write that succeeded.
+    Written(Span),
+    /// A write that failed.
+    Torn(Span),
+}
+
+/// What a write was handed: so many sectors from `first` on, whose bytes begin at `from` among the written ones.
+#[derive(Clone, Copy, Debug)]
+pub struct Span {
+    pub first: u64,
+    pub sectors: u64,
+    pub from: usize,
+}
+
+/// Where the bytes of a sector stand: among those that the disk began with, or from an offset among the written
+/// ones.
+#[derive(Clone, Copy, Debug)]
+pub enum Place {
+    Start,
+    Record(usize),
+}
+
+/// What the record tells of one sector.
+#[derive(Clone, Copy, Debug)]
+pub struct Trace {
+    /// What a read gives.
+    pub last: Place,
+    /// What was last handed in, also to a write that failed.
+    pub handed: Place,
+    /// What a read gave at the last sync.
+    pub synced: Place,
+    /// Whether it was written since.
+    pub is_open: bool,
+}
+
+impl Span {
+    // Where the bytes of a sector stand, if it is one of these.
+    fn place_of(self, sector: u64) -> Option<Place>
+        requires { self.from + 512 * self.sectors < 2 ^ 64 }
+        ensures { result ≡ place_in self sector }
+    {
+        if self.first <= sector && sector - self.first < self.sectors {
+            let offset = (sector - self.first) as usize * SECTOR_BYTES;
+            Some(Place::Record(self.from + offset))
+        } else {
+            None
+        }
+    }
+}
+
+impl Trace {
+    const START: Trace = Trace {
+        last: Place::Start,
+        handed: Place::Start,
+        synced: Place::Start,
+        is_open: false,
+    };
+
+    // What is told of a sector after one more call.
+    fn after(self, call: Call, sector: u64, sectors: u64, written: usize) -> Trace
+        requires { IsWithin sectors written call }
+        ensures { result ≡ trace_next sector self call }
+    {
+        match call {
+            Call::Quiet => self,
+            Call::Synced => Trace {
+                synced: self.last,
+                is_open: false,
+                ..self
+            },
+            Call::Written(span) => match span.place_of(sector) {
+                Some(place) => Trace {
+                    last: place,
+                    handed: place,
+                    is_open: true,
+                    ..self
+                },
+                None => self,
+            },
+            Call::Torn(span) => match span.place_of(sector) {
+                Some(place) => Trace {
+                    handed: place,
+                    is_open: true,
+                    ..self
+                },
+                None => self,
+            },
+        }
+    }
+}
+
+/// Follows a sector through these calls.
+pub fn follow(calls: &[Call], sector: u64, sectors: u64, written: usize) -> Trace
+    requires { All (IsWithin sectors written) calls.now }
+    ensures trace { result ≡ trace_of sector calls.now }
+    ensures placed { AllPlaced written result }
+{
+    let mut trace = Trace::START;
+    for call in calls {
+        trace = trace.after(*call, sector, sectors, written);
+    }
+    trace
+}
+
+/// The bytes of a sector that stand at this place.
+pub fn bytes_in<'a>(start: &'a [u8], written: &'a [u8], sector: u64, place: Place) -> &'a [u8]
+    requires within { 512 * sector + 512 ≤ length start.now }
+    requires placed { IsPlaced (length written.now) place }
+    ensures size { length result.now ≡ 512 }
+    ensures bytes { result.now ≡ bytes_at start.now written.now sector place }
+{
+    match place {
+        Place::Start => {
+            let at = sector as usize * SECTOR_BYTES;
+            &start[at..at + SECTOR_BYTES]
+        }
+        Place::Record(at) => &written[at..at + SECTOR_BYTES],
+    }
+}

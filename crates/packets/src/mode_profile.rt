@@ -1,0 +1,104 @@
+ghost use Rattle.bits.specs.Layout.{Gives, kind, read};
+ghost use Rattle.packets.specs.Packets.{as_packet, as_mode_profile, mode_profile};
+ghost use Rattle.packets.specs.declared.packet.Packet.TheVariants as packets;
+
+use crate::element::{Element, list};
+use crate::fault::PacketFault;
+use crate::packet::Packet;
+use crate::reading::field;
+use arrayvec::ArrayVec;
+use bits::BitReader;
+use vars::{
+    AreaMode, AreaSpeed, Distance, Iterations, OpenLength, PacketLength, Scale, ValidityDirection,
+    Variable,
+};
+
+/// An area in which a mode is asked for.
+#[derive(Clone, Copy, Debug, PartialEq, Eq)]
+pub struct ModeArea {
+    /// D_MAMODE: from the start of the area before, the first from the group.
+    pub distance: Distance,
+    /// M_MAMODE.
+    pub mode: AreaMode,
+    /// V_MAMODE.
+    pub speed: AreaSpeed,
+    /// L_MAMODE.
+    pub length: OpenLength,
+    /// L_ACKMAMODE: how far before its start it may be acknowledged.
+    pub acknowledgement: Distance,
+}
+
+/// Fills room that isn't in use.
+impl Default for ModeArea {
+    fn default() -> ModeArea {
+        ModeArea {
+            distance: Distance::of_number(0).unwrap(),
+            mode: AreaMode::OnSight,
+            speed: AreaSpeed::National,
+            length: OpenLength::NoEnd,
+            acknowledgement: Distance::of_number(0).unwrap(),
+        }
+    }
+}
+
+impl Element for ModeArea {
+    ghost use Rattle.packets.specs.Packets.{mode_area, mode_area_bits};
+
+    ghost layout = { mode_area };
+
+    ghost size = { mode_area_bits };
+
+    #[tactic(auto, unfolding(crate::specs::Packets::mode_area))]
+    fn read(reader: &mut BitReader<'_>) -> Result<ModeArea, PacketFault> {
+        let distance = field(reader)?;
+        let mode = field(reader)?;
+        let speed = field(reader)?;
+        let length = field(reader)?;
+        let acknowledgement = field(reader)?;
+        Ok(ModeArea {
+            distance,
+            mode,
+            speed,
+            length,
+            acknowledgement,
+        })
+    }
+
+    fn bits(&self) -> u64 {
+        54
+    }
+}
+
+/// Packet 80: the areas in which On Sight or Shunting is asked for.
+#[derive(Drop)]
+pub struct ModeProfile {
+    /// Q_DIR.
+    pub direction: ValidityDirection,
+    /// Q_SCALE.
+    pub scale: Scale,
+    /// The areas, the nearest first.
+    pub areas: ArrayVec<ModeArea, 32>,
+}
+
+/// Reads packet 80 behind its number, into the place of another packet; answers the length that it tells.
+#[tactic(auto, unfolding(crate::specs::Packets::mode_profile))]
+pub(crate) fn read_mode_profile<'a>(
+    reader: &mut BitReader<'a>,
+    out: &mut Packet<'a>,
+) -> Result<PacketLength, PacketFault>
+    ensures { Gives (λ told. (told, out.new)) result reader.new (read (kind (as_packet packets.ModeProfile) as_mode_profile mode_profile) reader.old) }
+{
+    let direction = field(reader)?;
+    let told: PacketLength = field(reader)?;
+    let scale = field(reader)?;
+    let mut areas: ArrayVec<ModeArea, 32> = ArrayVec::new();
+    list(reader, &mut areas, 1)?;
+    let more: Iterations = field(reader)?;
+    list(reader, &mut areas, more.count())?;
+    *out = Packet::ModeProfile(ModeProfile {
+        direction,
+        scale,
+        areas,
+    });
+    Ok(told)
+}

@@ -1,0 +1,83 @@
+ghost use Rattle.bits.specs.Layout.{Gives, kind, read};
+ghost use Rattle.packets.specs.Packets.{as_packet, as_speed_restriction, as_revocation, speed_restriction, restriction_revocation};
+ghost use Rattle.packets.specs.declared.packet.Packet.TheVariants as packets;
+
+use crate::fault::PacketFault;
+use crate::packet::Packet;
+use crate::reading::field;
+use bits::BitReader;
+use vars::{
+    Distance, PacketLength, RestrictionNumber, Scale, SpeedStep, TrainLengthDelay,
+    ValidityDirection,
+};
+
+/// Packet 65: a temporary speed restriction.
+#[derive(Clone, Copy, Debug, PartialEq, Eq)]
+pub struct SpeedRestriction {
+    /// Q_DIR.
+    pub direction: ValidityDirection,
+    /// Q_SCALE.
+    pub scale: Scale,
+    /// NID_TSR.
+    pub number: RestrictionNumber,
+    /// D_TSR: from the group to its start.
+    pub start: Distance,
+    /// L_TSR.
+    pub length: Distance,
+    /// Q_FRONT.
+    pub delay: TrainLengthDelay,
+    /// V_TSR.
+    pub speed: SpeedStep,
+}
+
+/// Packet 66: a temporary speed restriction is revoked.
+#[derive(Clone, Copy, Debug, PartialEq, Eq)]
+pub struct RestrictionRevocation {
+    /// Q_DIR.
+    pub direction: ValidityDirection,
+    /// NID_TSR.
+    pub number: RestrictionNumber,
+}
+
+/// Reads packet 65 behind its number, into the place of another packet; answers the length that it tells.
+#[tactic(auto, unfolding(crate::specs::Packets::speed_restriction))]
+pub(crate) fn read_restriction<'a>(
+    reader: &mut BitReader<'a>,
+    out: &mut Packet<'a>,
+) -> Result<PacketLength, PacketFault>
+    ensures { Gives (λ told. (told, out.new)) result reader.new (read (kind (as_packet packets.SpeedRestriction) as_speed_restriction speed_restriction) reader.old) }
+{
+    let direction = field(reader)?;
+    let told: PacketLength = field(reader)?;
+    let scale = field(reader)?;
+    let number = field(reader)?;
+    let start = field(reader)?;
+    let length = field(reader)?;
+    let delay = field(reader)?;
+    let speed = field(reader)?;
+    *out = Packet::SpeedRestriction(SpeedRestriction {
+        direction,
+        scale,
+        number,
+        start,
+        length,
+        delay,
+        speed,
+    });
+    Ok(told)
+}
+
+/// Reads packet 66 behind its number, into the place of another packet; answers the length that it tells.
+#[tactic(auto, unfolding(crate::specs::Packets::restriction_revocation))]
+pub(crate) fn read_revocation<'a>(
+    reader: &mut BitReader<'a>,
+    out: &mut Packet<'a>,
+) -> Result<PacketLength, PacketFault>
+    ensures { Gives (λ told. (told, out.new)) result reader.new (read (kind (as_packet packets.RestrictionRevocation) as_revocation restriction_revocation) reader.old) }
+{
+    let direction = field(reader)?;
+    let told: PacketLength = field(reader)?;
+    let number = field(reader)?;
+    *out = Packet::RestrictionRevocation(RestrictionRevocation { direction, number });
+    Ok(told)
+}

@@ -114,7 +114,7 @@ padded held k word lt le few =
 
 -- ---- bits that are read and written
 
-number-lt : (bs : List Bool) → number bs < 2 ^ length bs
+pub number-lt : (bs : List Bool) → number bs < 2 ^ length bs
 number-lt [] = omega arith
 number-lt (true ∷ bs) = omega (arith, number-lt bs, pow-suc 2 (length bs))
 number-lt (false ∷ bs) = omega (arith, number-lt bs, pow-suc 2 (length bs))

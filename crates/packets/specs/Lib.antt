@@ -1,3 +1,4 @@
 pub mod Faults
 pub mod Packets
 pub mod Parts
+pub mod Writing

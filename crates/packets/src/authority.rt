@@ -1,13 +1,16 @@
+ghost use Rattle.std.specs.Prelude.{◌≡◌, ◌+◌, ◌*◌, ◌<◌, ◌≤◌, ◌^◌, length};
 ghost use Rattle.bits.specs.Layout.{Gives, kind, read};
-ghost use Rattle.packets.specs.Packets.{as_packet, as_movement_authority, movement_authority};
+ghost use Rattle.bits.specs.Writing.{appended};
+ghost use Rattle.packets.specs.Packets.{length_of, as_packet, as_movement_authority, movement_authority};
 ghost use Rattle.packets.specs.declared.packet.Packet.TheVariants as packets;
 
-use crate::element::{Element, list, optional};
+use crate::element::{Element, Written, list, optional, write_list, write_optional};
 use crate::fault::PacketFault;
 use crate::packet::Packet;
 use crate::reading::field;
+use crate::writing::put;
 use arrayvec::ArrayVec;
-use bits::BitReader;
+use bits::{BitReader, BitWriter};
 use vars::{
     Distance, Iterations, PacketLength, ReleaseSpeed, Scale, SpeedStep, Timer, ValidityDirection,
     Variable,
@@ -51,6 +54,14 @@ impl Element for SectionTimer {
     }
 }
 
+impl<const N: usize> Written<N> for SectionTimer {
+    #[tactic(auto, unfolding(crate::specs::Packets::section_timer))]
+    fn write(&self, writer: &mut BitWriter<N>) {
+        put(writer, &self.time);
+        put(writer, &self.stop);
+    }
+}
+
 /// A section of an authority.
 #[derive(Clone, Copy, Debug, PartialEq, Eq)]
 pub struct Section {
@@ -87,6 +98,15 @@ impl Element for Section {
 
     fn bits(&self) -> u64 {
         if self.timer.is_some() { 41 } else { 16 }
+    }
+}
+
+impl<const N: usize> Written<N> for Section {
+    #[tactic(auto, unfolding(crate::specs::Packets::section))]
+    fn write(&self, writer: &mut BitWriter<N>) {
+        put(writer, &self.length);
+        put(writer, &self.timer.is_some());
+        write_optional(&self.timer, writer);
     }
 }
 
@@ -128,6 +148,14 @@ impl Element for EndTimer {
     }
 }
 
+impl<const N: usize> Written<N> for EndTimer {
+    #[tactic(auto, unfolding(crate::specs::Packets::end_timer))]
+    fn write(&self, writer: &mut BitWriter<N>) {
+        put(writer, &self.time);
+        put(writer, &self.start);
+    }
+}
+
 /// The danger point behind the end.
 #[derive(Clone, Copy, Debug, PartialEq, Eq)]
 pub struct DangerPoint {
@@ -163,6 +191,14 @@ impl Element for DangerPoint {
 
     fn bits(&self) -> u64 {
         22
+    }
+}
+
+impl<const N: usize> Written<N> for DangerPoint {
+    #[tactic(auto, unfolding(crate::specs::Packets::danger_point))]
+    fn write(&self, writer: &mut BitWriter<N>) {
+        put(writer, &self.distance);
+        put(writer, &self.release);
     }
 }
 
@@ -217,6 +253,16 @@ impl Element for Overlap {
     }
 }
 
+impl<const N: usize> Written<N> for Overlap {
+    #[tactic(auto, unfolding(crate::specs::Packets::overlap))]
+    fn write(&self, writer: &mut BitWriter<N>) {
+        put(writer, &self.start);
+        put(writer, &self.time);
+        put(writer, &self.distance);
+        put(writer, &self.release);
+    }
+}
+
 /// Packet 12: a movement authority of level 1.
 #[derive(Drop)]
 pub struct MovementAuthority {
@@ -231,7 +277,7 @@ pub struct MovementAuthority {
     /// T_LOA.
     pub end_time: Timer,
     /// The sections before the end section, at most 31.
-    pub sections: ArrayVec<Section, 32>,
+    pub sections: ArrayVec<Section, 31>,
     /// L_ENDSECTION and its timer.
     pub end_section: Section,
     /// Where Q_ENDTIMER is 1.
@@ -257,7 +303,7 @@ pub(crate) fn read_movement_authority<'a>(
     let end_speed = field(reader)?;
     let end_time = field(reader)?;
     let count: Iterations = field(reader)?;
-    let mut sections: ArrayVec<Section, 32> = ArrayVec::new();
+    let mut sections: ArrayVec<Section, 31> = ArrayVec::new();
     list(reader, &mut sections, count.count())?;
     let end_section = Section::read(reader)?;
     let timed: bool = field(reader)?;
@@ -279,4 +325,33 @@ pub(crate) fn read_movement_authority<'a>(
         overlap,
     });
     Ok(told)
+}
+
+/// Writes packet 12 behind its number, with the length that it tells.
+#[tactic(auto, unfolding(crate::specs::Packets::movement_authority))]
+pub(crate) fn write_movement_authority<const N: usize>(
+    packet: &MovementAuthority,
+    told: u64,
+    writer: &mut BitWriter<N>,
+)
+    requires told { told ≡ length_of (packets.MovementAuthority packet.now) }
+    requires small { told < 2 ^ 13 }
+    requires room { length writer.old + told ≤ 8 * N + 8 }
+    ensures { writer.new ≡ appended movement_authority packet.now writer.old }
+{
+    put(writer, &packet.direction);
+    writer.write(13, told);
+    put(writer, &packet.scale);
+    put(writer, &packet.speed);
+    put(writer, &packet.end_speed);
+    put(writer, &packet.end_time);
+    writer.write(5, packet.sections.len() as u64);
+    write_list(packet.sections.as_slice(), writer);
+    packet.end_section.write(writer);
+    put(writer, &packet.end_timer.is_some());
+    write_optional(&packet.end_timer, writer);
+    put(writer, &packet.danger_point.is_some());
+    write_optional(&packet.danger_point, writer);
+    put(writer, &packet.overlap.is_some());
+    write_optional(&packet.overlap, writer);
 }

@@ -1,13 +1,16 @@
+ghost use Rattle.std.specs.Prelude.{◌≡◌, ◌+◌, ◌*◌, ◌<◌, ◌≤◌, ◌^◌, length};
 ghost use Rattle.bits.specs.Layout.{Gives, kind, read};
-ghost use Rattle.packets.specs.Packets.{as_packet, as_gradients, gradients as gradients_layout};
+ghost use Rattle.bits.specs.Writing.{appended};
+ghost use Rattle.packets.specs.Packets.{length_of, as_packet, as_gradients, gradients as gradients_layout};
 ghost use Rattle.packets.specs.declared.packet.Packet.TheVariants as packets;
 
-use crate::element::{Element, list};
+use crate::element::{Element, Written, list, write_from_first};
 use crate::fault::PacketFault;
 use crate::packet::Packet;
 use crate::reading::field;
+use crate::writing::put;
 use arrayvec::ArrayVec;
-use bits::BitReader;
+use bits::{BitReader, BitWriter};
 use vars::{
     Distance, GradientDirection, Iterations, PacketLength, Scale, Steepness, ValidityDirection,
     Variable,
@@ -59,6 +62,15 @@ impl Element for Gradient {
     }
 }
 
+impl<const N: usize> Written<N> for Gradient {
+    #[tactic(auto, unfolding(crate::specs::Packets::gradient))]
+    fn write(&self, writer: &mut BitWriter<N>) {
+        put(writer, &self.distance);
+        put(writer, &self.direction);
+        put(writer, &self.steepness);
+    }
+}
+
 /// Packet 21: the gradient profile.
 #[derive(Drop)]
 pub struct Gradients {
@@ -91,4 +103,22 @@ pub(crate) fn read_gradients<'a>(
         gradients,
     });
     Ok(told)
+}
+
+/// Writes packet 21 behind its number, with the length that it tells.
+#[tactic(auto, unfolding(crate::specs::Packets::gradients))]
+pub(crate) fn write_gradients<const N: usize>(
+    packet: &Gradients,
+    told: u64,
+    writer: &mut BitWriter<N>,
+)
+    requires told { told ≡ length_of (packets.Gradients packet.now) }
+    requires small { told < 2 ^ 13 }
+    requires room { length writer.old + told ≤ 8 * N + 8 }
+    ensures { writer.new ≡ appended gradients_layout packet.now writer.old }
+{
+    put(writer, &packet.direction);
+    writer.write(13, told);
+    put(writer, &packet.scale);
+    write_from_first(packet.gradients.as_slice(), writer);
 }

@@ -1,14 +1,16 @@
+ghost use Rattle.std.specs.Prelude.{◌≡◌, ◌+◌, ◌*◌, ◌<◌, ◌≤◌, ◌^◌, length};
 ghost use Rattle.bits.specs.Layout.{Gives, kind, read};
-ghost use Rattle.packets.specs.Packets.{as_packet, as_level_transition, level_transition, has_stm as has_stm_of};
+ghost use Rattle.bits.specs.Writing.{appended};
+ghost use Rattle.packets.specs.Packets.{length_of, as_packet, as_level_transition, level_transition, has_stm as has_stm_of};
 ghost use Rattle.packets.specs.declared.packet.Packet.TheVariants as packets;
-ghost use Rattle.std.specs.Prelude.{◌≡◌};
 
-use crate::element::{Element, list, optional};
+use crate::element::{Element, Written, list, optional, write_from_first};
 use crate::fault::PacketFault;
 use crate::packet::Packet;
 use crate::reading::field;
+use crate::writing::put;
 use arrayvec::ArrayVec;
-use bits::BitReader;
+use bits::{BitReader, BitWriter};
 use vars::{
     Distance, Iterations, Level, PacketLength, Scale, StartPlace, StmIdentity, ValidityDirection,
     Variable,
@@ -38,6 +40,13 @@ impl Element for StmIdentity {
 
     fn bits(&self) -> u64 {
         8
+    }
+}
+
+impl<const N: usize> Written<N> for StmIdentity {
+    #[tactic(auto, unfolding(crate::specs::Packets::stm_identity))]
+    fn write(&self, writer: &mut BitWriter<N>) {
+        put(writer, self);
     }
 }
 
@@ -87,6 +96,21 @@ impl Element for LevelOrder {
     }
 }
 
+impl<const N: usize> Written<N> for LevelOrder {
+    #[tactic(auto, unfolding(crate::specs::Packets::level_order))]
+    fn write(&self, writer: &mut BitWriter<N>) {
+        put(writer, &self.level);
+        if has_stm(self.level) {
+            if let Some(stm) = &self.stm {
+                stm.write(writer);
+                put(writer, &self.acknowledgement);
+            }
+            return;
+        }
+        put(writer, &self.acknowledgement);
+    }
+}
+
 /// Packet 41: a change of level is announced.
 #[derive(Drop)]
 pub struct LevelTransition {
@@ -123,4 +147,23 @@ pub(crate) fn read_level_transition<'a>(
         orders,
     });
     Ok(told)
+}
+
+/// Writes packet 41 behind its number, with the length that it tells.
+#[tactic(auto, unfolding(crate::specs::Packets::level_transition))]
+pub(crate) fn write_level_transition<const N: usize>(
+    packet: &LevelTransition,
+    told: u64,
+    writer: &mut BitWriter<N>,
+)
+    requires told { told ≡ length_of (packets.LevelTransition packet.now) }
+    requires small { told < 2 ^ 13 }
+    requires room { length writer.old + told ≤ 8 * N + 8 }
+    ensures { writer.new ≡ appended level_transition packet.now writer.old }
+{
+    put(writer, &packet.direction);
+    writer.write(13, told);
+    put(writer, &packet.scale);
+    put(writer, &packet.start);
+    write_from_first(packet.orders.as_slice(), writer);
 }

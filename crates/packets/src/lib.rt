@@ -14,6 +14,7 @@ mod packet;
 mod reading;
 mod restrictions;
 mod static_speeds;
+mod writing;
 
 pub use authority::{DangerPoint, EndTimer, MovementAuthority, Overlap, Section, SectionTimer};
 pub use fault::PacketFault;
@@ -27,3 +28,4 @@ pub use packet::{Other, Packet};
 pub use reading::{one_spelling, read_numbered, read_packet};
 pub use restrictions::{RestrictionRevocation, SpeedRestriction};
 pub use static_speeds::{Difference, StaticSpeeds, StaticStep};
+pub use writing::write_packet;

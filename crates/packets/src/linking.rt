@@ -1,13 +1,16 @@
+ghost use Rattle.std.specs.Prelude.{◌≡◌, ◌+◌, ◌*◌, ◌<◌, ◌≤◌, ◌^◌, length};
 ghost use Rattle.bits.specs.Layout.{Gives, kind, read};
-ghost use Rattle.packets.specs.Packets.{as_packet, as_linking, linking as linking_layout};
+ghost use Rattle.bits.specs.Writing.{appended};
+ghost use Rattle.packets.specs.Packets.{length_of, as_packet, as_linking, linking as linking_layout};
 ghost use Rattle.packets.specs.declared.packet.Packet.TheVariants as packets;
 
-use crate::element::{Element, list, optional};
+use crate::element::{Element, Written, list, optional, write_from_first, write_optional};
 use crate::fault::PacketFault;
 use crate::packet::Packet;
 use crate::reading::field;
+use crate::writing::put;
 use arrayvec::ArrayVec;
-use bits::BitReader;
+use bits::{BitReader, BitWriter};
 use vars::{
     Country, Distance, GroupNumber, Iterations, LinkOrientation, LinkReaction, LocationAccuracy,
     PacketLength, Scale, ValidityDirection, Variable,
@@ -75,6 +78,19 @@ impl Element for Link {
     }
 }
 
+impl<const N: usize> Written<N> for Link {
+    #[tactic(auto, unfolding(crate::specs::Packets::link))]
+    fn write(&self, writer: &mut BitWriter<N>) {
+        put(writer, &self.distance);
+        put(writer, &self.country.is_some());
+        write_optional(&self.country, writer);
+        put(writer, &self.group);
+        put(writer, &self.orientation);
+        put(writer, &self.reaction);
+        put(writer, &self.accuracy);
+    }
+}
+
 /// Packet 5: which groups come, and what follows where one doesn't.
 #[derive(Drop)]
 pub struct Linking {
@@ -107,4 +123,18 @@ pub(crate) fn read_linking<'a>(
         links,
     });
     Ok(told)
+}
+
+/// Writes packet 5 behind its number, with the length that it tells.
+#[tactic(auto, unfolding(crate::specs::Packets::linking))]
+pub(crate) fn write_linking<const N: usize>(packet: &Linking, told: u64, writer: &mut BitWriter<N>)
+    requires told { told ≡ length_of (packets.Linking packet.now) }
+    requires small { told < 2 ^ 13 }
+    requires room { length writer.old + told ≤ 8 * N + 8 }
+    ensures { writer.new ≡ appended linking_layout packet.now writer.old }
+{
+    put(writer, &packet.direction);
+    writer.write(13, told);
+    put(writer, &packet.scale);
+    write_from_first(packet.links.as_slice(), writer);
 }

@@ -1,13 +1,16 @@
+ghost use Rattle.std.specs.Prelude.{◌≡◌, ◌+◌, ◌*◌, ◌<◌, ◌≤◌, ◌^◌, length};
 ghost use Rattle.bits.specs.Layout.{Gives, kind, read};
-ghost use Rattle.packets.specs.Packets.{as_packet, as_mode_profile, mode_profile};
+ghost use Rattle.bits.specs.Writing.{appended};
+ghost use Rattle.packets.specs.Packets.{length_of, as_packet, as_mode_profile, mode_profile};
 ghost use Rattle.packets.specs.declared.packet.Packet.TheVariants as packets;
 
-use crate::element::{Element, list};
+use crate::element::{Element, Written, list, write_from_first};
 use crate::fault::PacketFault;
 use crate::packet::Packet;
 use crate::reading::field;
+use crate::writing::put;
 use arrayvec::ArrayVec;
-use bits::BitReader;
+use bits::{BitReader, BitWriter};
 use vars::{
     AreaMode, AreaSpeed, Distance, Iterations, OpenLength, PacketLength, Scale, ValidityDirection,
     Variable,
@@ -69,6 +72,17 @@ impl Element for ModeArea {
     }
 }
 
+impl<const N: usize> Written<N> for ModeArea {
+    #[tactic(auto, unfolding(crate::specs::Packets::mode_area))]
+    fn write(&self, writer: &mut BitWriter<N>) {
+        put(writer, &self.distance);
+        put(writer, &self.mode);
+        put(writer, &self.speed);
+        put(writer, &self.length);
+        put(writer, &self.acknowledgement);
+    }
+}
+
 /// Packet 80: the areas in which On Sight or Shunting is asked for.
 #[derive(Drop)]
 pub struct ModeProfile {
@@ -101,4 +115,22 @@ pub(crate) fn read_mode_profile<'a>(
         areas,
     });
     Ok(told)
+}
+
+/// Writes packet 80 behind its number, with the length that it tells.
+#[tactic(auto, unfolding(crate::specs::Packets::mode_profile))]
+pub(crate) fn write_mode_profile<const N: usize>(
+    packet: &ModeProfile,
+    told: u64,
+    writer: &mut BitWriter<N>,
+)
+    requires told { told ≡ length_of (packets.ModeProfile packet.now) }
+    requires small { told < 2 ^ 13 }
+    requires room { length writer.old + told ≤ 8 * N + 8 }
+    ensures { writer.new ≡ appended mode_profile packet.now writer.old }
+{
+    put(writer, &packet.direction);
+    writer.write(13, told);
+    put(writer, &packet.scale);
+    write_from_first(packet.areas.as_slice(), writer);
 }

@@ -1,13 +1,16 @@
+ghost use Rattle.std.specs.Prelude.{◌≡◌, ◌+◌, ◌*◌, ◌<◌, ◌≤◌, ◌^◌, length};
 ghost use Rattle.bits.specs.Layout.{Gives, kind, read};
-ghost use Rattle.packets.specs.Packets.{as_packet, as_national_values, national_values};
+ghost use Rattle.bits.specs.Writing.{appended};
+ghost use Rattle.packets.specs.Packets.{length_of, as_packet, as_national_values, national_values};
 ghost use Rattle.packets.specs.declared.packet.Packet.TheVariants as packets;
 
-use crate::element::{Element, list};
+use crate::element::{Element, Written, list, write_list};
 use crate::fault::PacketFault;
 use crate::packet::Packet;
 use crate::reading::field;
+use crate::writing::put;
 use arrayvec::ArrayVec;
-use bits::BitReader;
+use bits::{BitReader, BitWriter};
 use vars::{
     Country, Distance, Iterations, OpenLength, OverrideTime, PacketLength, Scale, SpeedStep,
     StartPlace, ValidityDirection, Variable,
@@ -30,6 +33,13 @@ impl Element for Country {
     }
 }
 
+impl<const N: usize> Written<N> for Country {
+    #[tactic(auto, unfolding(crate::specs::Packets::country))]
+    fn write(&self, writer: &mut BitWriter<N>) {
+        put(writer, self);
+    }
+}
+
 /// Packet 3, in this project's own order: national values and the countries that they are for.
 #[derive(Drop)]
 pub struct NationalValues {
@@ -40,7 +50,7 @@ pub struct NationalValues {
     /// D_VALIDNV.
     pub start: StartPlace,
     /// The countries beside that of the group, at most 31.
-    pub countries: ArrayVec<Country, 32>,
+    pub countries: ArrayVec<Country, 31>,
     /// V_NVSHUNT.
     pub shunting: SpeedStep,
     /// V_NVSTFF.
@@ -78,7 +88,7 @@ pub(crate) fn read_national_values<'a>(
     let scale = field(reader)?;
     let start = field(reader)?;
     let count: Iterations = field(reader)?;
-    let mut countries: ArrayVec<Country, 32> = ArrayVec::new();
+    let mut countries: ArrayVec<Country, 31> = ArrayVec::new();
     list(reader, &mut countries, count.count())?;
     let shunting = field(reader)?;
     let staff_responsible = field(reader)?;
@@ -109,4 +119,35 @@ pub(crate) fn read_national_values<'a>(
         staff_responsible_distance,
     });
     Ok(told)
+}
+
+/// Writes packet 3 behind its number, with the length that it tells.
+#[tactic(auto, unfolding(crate::specs::Packets::national_values))]
+pub(crate) fn write_national_values<const N: usize>(
+    packet: &NationalValues,
+    told: u64,
+    writer: &mut BitWriter<N>,
+)
+    requires told { told ≡ length_of (packets.NationalValues packet.now) }
+    requires small { told < 2 ^ 13 }
+    requires room { length writer.old + told ≤ 8 * N + 8 }
+    ensures { writer.new ≡ appended national_values packet.now writer.old }
+{
+    put(writer, &packet.direction);
+    writer.write(13, told);
+    put(writer, &packet.scale);
+    put(writer, &packet.start);
+    writer.write(5, packet.countries.len() as u64);
+    write_list(packet.countries.as_slice(), writer);
+    put(writer, &packet.shunting);
+    put(writer, &packet.staff_responsible);
+    put(writer, &packet.on_sight);
+    put(writer, &packet.unfitted);
+    put(writer, &packet.release);
+    put(writer, &packet.roll);
+    put(writer, &packet.override_allowed);
+    put(writer, &packet.override_speed);
+    put(writer, &packet.override_distance);
+    put(writer, &packet.override_time);
+    put(writer, &packet.staff_responsible_distance);
 }

@@ -122,6 +122,7 @@ pub fn read_packet<'a>(reader: &mut BitReader<'a>) -> Result<Packet<'a>, PacketF
     ensures only { (p : Packet) (rest : List Bool) → Begins packet p reader.old rest → (result ≡ Ok p) × (reader.new ≡ rest) }
     ensures fault { (e : PacketFault) → (result ≡ Err e) ↔ Refuses packet e reader.old }
     ensures err { OnErr result (reader.new ≡ reader.old) }
+    ensures spelled { IfOk result (λ p. (bits : List Bool) × Spells packet p bits) }
 {
     let mut trial = reader.fork();
     let packet = whole(&mut trial)?;

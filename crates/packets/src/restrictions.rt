@@ -1,11 +1,14 @@
+ghost use Rattle.std.specs.Prelude.{◌≡◌, ◌+◌, ◌*◌, ◌≤◌, length};
 ghost use Rattle.bits.specs.Layout.{Gives, kind, read};
+ghost use Rattle.bits.specs.Writing.{appended};
 ghost use Rattle.packets.specs.Packets.{as_packet, as_speed_restriction, as_revocation, speed_restriction, restriction_revocation};
 ghost use Rattle.packets.specs.declared.packet.Packet.TheVariants as packets;
 
 use crate::fault::PacketFault;
 use crate::packet::Packet;
 use crate::reading::field;
-use bits::BitReader;
+use crate::writing::put;
+use bits::{BitReader, BitWriter};
 use vars::{
     Distance, PacketLength, RestrictionNumber, Scale, SpeedStep, TrainLengthDelay,
     ValidityDirection,
@@ -80,4 +83,37 @@ pub(crate) fn read_revocation<'a>(
     let number = field(reader)?;
     *out = Packet::RestrictionRevocation(RestrictionRevocation { direction, number });
     Ok(told)
+}
+
+/// Writes packet 65 behind its number.
+#[tactic(auto, unfolding(crate::specs::Packets::speed_restriction))]
+pub(crate) fn write_restriction<const N: usize>(
+    packet: &SpeedRestriction,
+    writer: &mut BitWriter<N>,
+)
+    requires { length writer.old + 63 ≤ 8 * N }
+    ensures { writer.new ≡ appended speed_restriction packet.now writer.old }
+{
+    put(writer, &packet.direction);
+    writer.write(13, 71);
+    put(writer, &packet.scale);
+    put(writer, &packet.number);
+    put(writer, &packet.start);
+    put(writer, &packet.length);
+    put(writer, &packet.delay);
+    put(writer, &packet.speed);
+}
+
+/// Writes packet 66 behind its number.
+#[tactic(auto, unfolding(crate::specs::Packets::restriction_revocation))]
+pub(crate) fn write_revocation<const N: usize>(
+    packet: &RestrictionRevocation,
+    writer: &mut BitWriter<N>,
+)
+    requires { length writer.old + 23 ≤ 8 * N }
+    ensures { writer.new ≡ appended restriction_revocation packet.now writer.old }
+{
+    put(writer, &packet.direction);
+    writer.write(13, 31);
+    put(writer, &packet.number);
 }

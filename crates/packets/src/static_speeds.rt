@@ -1,14 +1,16 @@
-ghost use Rattle.std.specs.Prelude.{◌≡◌, ◌+◌, ◌≤◌, ◌<◌, length, OnOk};
+ghost use Rattle.std.specs.Prelude.{◌≡◌, ◌+◌, ◌*◌, ◌≤◌, ◌<◌, ◌^◌, length, nat_lt, if◌then◌else◌, OnOk};
 ghost use Rattle.bits.specs.Layout.{Gives, folded, kind, read};
-ghost use Rattle.packets.specs.Packets.{as_packet, as_static_speeds, static_step, static_speeds};
+ghost use Rattle.packets.specs.Packets.{as_packet, as_static_speeds, static_speeds_length, static_step, static_speeds};
+ghost use Rattle.packets.specs.Writing.{step_appended, steps_appended, static_speeds_appended};
 ghost use Rattle.packets.specs.declared.packet.Packet.TheVariants as packets;
 
-use crate::element::{Element, list};
+use crate::element::{Element, Written, list, write_list};
 use crate::fault::PacketFault;
 use crate::packet::Packet;
 use crate::reading::field;
+use crate::writing::put;
 use arrayvec::ArrayVec;
-use bits::BitReader;
+use bits::{BitReader, BitWriter};
 use vars::{
     Distance, Iterations, PacketLength, Scale, SpeedStep, StaticSpeed, TrainCategory,
     TrainLengthDelay, ValidityDirection, Variable,
@@ -49,6 +51,14 @@ impl Element for Difference {
 
     fn bits(&self) -> u64 {
         11
+    }
+}
+
+impl<const N: usize> Written<N> for Difference {
+    #[tactic(auto, unfolding(crate::specs::Packets::difference))]
+    fn write(&self, writer: &mut BitWriter<N>) {
+        put(writer, &self.category);
+        put(writer, &self.speed);
     }
 }
 
@@ -152,4 +162,65 @@ pub(crate) fn read_static_speeds<'a>(
     read_steps(reader, &mut speeds, more.count())?;
     *out = Packet::StaticSpeeds(speeds);
     Ok(told)
+}
+
+/// Writes a step, with its own differences.
+fn write_step<const N: usize>(step: &StaticStep, own: &[Difference], writer: &mut BitWriter<N>)
+    requires { length writer.old + 28 + 11 * length own.now ≤ 8 * N }
+    ensures value { writer.new ≡ step_appended step.now own.now writer.old }
+    ensures len { length writer.new ≤ length writer.old + 28 + 11 * length own.now }
+{
+    put(writer, &step.distance);
+    put(writer, &step.speed);
+    put(writer, &step.delay);
+    put(writer, &step.differences);
+    write_list(own, writer);
+}
+
+/// The number of a step's own differences, of those that are left.
+fn own_count(step: &StaticStep, left: usize) -> usize
+    ensures { result ≡ (if nat_lt left step.now.differences then left else step.now.differences) }
+{
+    usize::from(step.differences.count()).min(left)
+}
+
+/// Writes steps, each with its own of the differences.
+fn write_steps<const N: usize>(
+    steps: &[StaticStep],
+    differences: &[Difference],
+    writer: &mut BitWriter<N>,
+)
+    requires { length writer.old + 28 * length steps.now + 11 * length differences.now ≤ 8 * N }
+    ensures { writer.new ≡ steps_appended steps.now differences.now writer.old }
+{
+    let mut left = differences;
+    for step in steps {
+        let (own, others) = left.split_at(own_count(step, left.len()));
+        write_step(step, own, writer);
+        left = others;
+    }
+}
+
+/// Writes packet 27 behind its number, with the length that it tells.
+pub(crate) fn write_static_speeds<const N: usize>(
+    packet: &StaticSpeeds,
+    told: u64,
+    writer: &mut BitWriter<N>,
+)
+    requires told { told ≡ static_speeds_length packet.now }
+    requires small { told < 2 ^ 13 }
+    requires room { length writer.old + told ≤ 8 * N + 8 }
+    ensures { writer.new ≡ static_speeds_appended packet.now writer.old }
+{
+    put(writer, &packet.direction);
+    writer.write(13, told);
+    put(writer, &packet.scale);
+    let Some((first, others)) = packet.steps.as_slice().split_first() else {
+        return;
+    };
+    let differences = packet.differences.as_slice();
+    let (own, left) = differences.split_at(own_count(first, differences.len()));
+    write_step(first, own, writer);
+    writer.write(5, others.len() as u64);
+    write_steps(others, left, writer);
 }

@@ -36,3 +36,8 @@ returns-clause-fault c = λ e. (
       let begins : Begins packet c.in_ok-packet.packet c.args.reader.now c.whole.new.reader = found packet _ _ _ (rw c.fork-trial.ensures at c.in_ok-packet.ensures) in
       absurd (begins_not_refused packet _ e _ _ begins r),
 )
+
+pub returns-clause-spelled : goal.returns-clause-spelled
+returns-clause-spelled c =
+    let begins : Begins packet c.in_ok-packet.packet c.args.reader.now c.whole.new.reader = found packet _ _ _ (rw c.fork-trial.ensures at c.in_ok-packet.ensures) in
+    (begins.front, begins.spelled)

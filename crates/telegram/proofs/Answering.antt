@@ -1,13 +1,15 @@
 -- What decoding answers, once for all of its exits.
 use Rattle.std.proofs.Common.{◌≡◌, ◌≤◌, ◌↔◌, inl, inr, ℕ, Bool, List, ◌++◌, length, Result, Ok, Err, refl, sym, ap, subst, ◌∙◌, append_assoc, arith}
 use Rattle.bits.specs.Bits.{bits_of}
-use Rattle.bits.specs.Layout.{Begins}
-use Rattle.bits.proofs.Laws.{err_same, begins_once, begins_not_refused, refused_once}
+use Rattle.bits.specs.Layout.{Begins, read}
+use Rattle.bits.proofs.Laws.{err_same, begins_once, begins_not_refused, refused_once, found, refused}
+use Rattle.packets.specs.declared.packet.Packet.{Packet}
+use Rattle.telegram.specs.declared.header.Header.{Header}
 use Rattle.telegram.specs.declared.fault.TelegramFault.{TelegramFault}
 use Rattle.telegram.specs.declared.message.Telegram.{Telegram}
 use Rattle.telegram.specs.Sequences.{BeginsPackets}
-use Rattle.telegram.specs.Telegrams.{header, Carries, RefusesPackets, RefusesTelegram, RefusesBytes}
-use Rattle.telegram.proofs.Packets.{packets_spelled, packets_begin, packets_once, packets_not_refused, packets_refused_once}
+use Rattle.telegram.specs.Telegrams.{header, SpellsTelegram, Carries, RefusesPackets, RefusesTelegram, RefusesBytes}
+use Rattle.telegram.proofs.PacketsInTurn.{packets_spelled, packets_begin, packets_once, packets_not_refused, packets_refused_once}
 
 -- the bits begin with the telegram, and the rest follows its end mark
 pub record BeginsTelegram (t : Telegram) (bits rest : List Bool) : Type 0 where
@@ -15,11 +17,11 @@ pub record BeginsTelegram (t : Telegram) (bits rest : List Bool) : Type 0 where
   pub header_first : Begins header t.header bits behind
   pub packets_then : BeginsPackets t.packets.items behind rest
 
-telegram_once : (t u : Telegram) (bits r s : List Bool) → BeginsTelegram t bits r → BeginsTelegram u bits s → t ≡ u
+pub telegram_once : (t u : Telegram) (bits r s : List Bool) → BeginsTelegram t bits r → BeginsTelegram u bits s → (t ≡ u) × (r ≡ s)
 telegram_once t u bits r s b d =
     let heads = begins_once header t.header u.header bits b.behind d.behind b.header_first d.header_first in
     let ps = packets_once t.packets.items u.packets.items b.behind r s b.packets_then (subst (λ (x : List Bool). BeginsPackets u.packets.items x s) (sym heads.1) d.packets_then) in
-    λ i. record { header = heads.0 i; packets = record { items = ps.0 i } }
+    ((λ i. record { header = heads.0 i; packets = record { items = ps.0 i } }), ps.1)
 
 telegram_not_refused : (t : Telegram) (e : TelegramFault) (bits rest : List Bool) → BeginsTelegram t bits rest → RefusesTelegram e bits → ⊥
 telegram_not_refused t e bits rest b r =
@@ -57,7 +59,7 @@ bytes_refused_once d e bytes r s =
 
 -- ---- bytes
 
-carries : (bytes : List ℕ) (t : Telegram) (rest : List Bool) → length bytes ≤ 104 → BeginsTelegram t (bits_of bytes) rest → Carries bytes t
+pub carries : (bytes : List ℕ) (t : Telegram) (rest : List Bool) → length bytes ≤ 104 → BeginsTelegram t (bits_of bytes) rest → Carries bytes t
 carries bytes t rest small b =
     let ps = packets_spelled t.packets.items b.behind rest b.packets_then in
     record {
@@ -68,49 +70,56 @@ carries bytes t rest small b =
       spelled = (b.header_first.front, ps.0, refl, b.header_first.spelled, ps.2);
     }
 
-carried : (bytes : List ℕ) (t : Telegram) (c : Carries bytes t) → BeginsTelegram t (bits_of bytes) c.rest
-carried bytes t c = record {
-  behind = c.spelled.1 ++ c.rest;
-  header_first = record {
-    front = c.spelled.0;
-    parts = c.parts ∙ ap (λ (x : List Bool). x ++ c.rest) c.spelled.2 ∙ append_assoc c.spelled.0 c.spelled.1 c.rest;
-    spelled = c.spelled.3;
-  };
-  packets_then = packets_begin t.packets.items c.spelled.1 c.rest c.spelled.4;
+-- what spells the telegram begins with it, whatever follows
+pub spelled_begins : (t : Telegram) (front rest : List Bool) → SpellsTelegram t front → BeginsTelegram t (front ++ rest) rest
+spelled_begins t front rest s = record {
+  behind = s.1 ++ rest;
+  header_first = record { front = s.0; parts = ap (λ (x : List Bool). x ++ rest) s.2 ∙ append_assoc s.0 s.1 rest; spelled = s.3 };
+  packets_then = packets_begin t.packets.items s.1 rest s.4;
 }
 
-not_refused : (bytes : List ℕ) (t : Telegram) (e : TelegramFault) → Carries bytes t → RefusesBytes e bytes → ⊥
+pub carried : (bytes : List ℕ) (t : Telegram) (c : Carries bytes t) → BeginsTelegram t (bits_of bytes) c.rest
+carried bytes t c = subst (λ (x : List Bool). BeginsTelegram t x c.rest) (sym c.parts) (spelled_begins t c.front c.rest c.spelled)
+
+pub not_refused : (bytes : List ℕ) (t : Telegram) (e : TelegramFault) → Carries bytes t → RefusesBytes e bytes → ⊥
 not_refused bytes t e c r =
     elim r [
       | inl h ↦ absurd (let a = h.0 in let b = c.small in omega arith)
       | inr h ↦ telegram_not_refused t e (bits_of bytes) c.rest (carried bytes t c) h.1
     ]
 
+-- bytes carry one telegram at most
+pub carried_once : (bytes : List ℕ) (t u : Telegram) → Carries bytes t → Carries bytes u → t ≡ u
+carried_once bytes t u c d = (telegram_once t u (bits_of bytes) c.rest d.rest (carried bytes t c) (carried bytes u d)).0
+
+-- ---- what is read of bytes
+
+pub header_refused : (bytes : List ℕ) (e : TelegramFault) → length bytes ≤ 104 → read header (bits_of bytes) ≡ Err e → RefusesBytes e bytes
+header_refused bytes e small fault = inr (small, inl (refused header _ e fault))
+
+pub packets_refused : (bytes : List ℕ) (rest : List Bool) (h : Header) (e : TelegramFault) (ps : List Packet) → length bytes ≤ 104 → read header (bits_of bytes) ≡ Ok (h, rest)
+    → RefusesPackets e ps rest → RefusesBytes e bytes
+packets_refused bytes rest h e ps small first r = inr (small, inr (h, rest, ps, found header _ h rest first, r))
+
+pub read_carries : (bytes : List ℕ) (t : Telegram) (behind rest : List Bool) → length bytes ≤ 104 → read header (bits_of bytes) ≡ Ok (t.header, behind) → BeginsPackets t.packets.items behind rest → Carries bytes t
+read_carries bytes t behind rest small first ps = carries bytes t rest small (record { behind = behind; header_first = found header _ _ _ first; packets_then = ps })
+
 -- ---- answers
 
-abbrev made : Telegram → Result Telegram TelegramFault
-made t = Ok t
+abbrev pub made : {X : Type 0} → X → Result X TelegramFault
+made x = Ok x
 
-abbrev failed : TelegramFault → Result Telegram TelegramFault
-failed e = Err e
+abbrev pub failed : (X : Type 0) → TelegramFault → Result X TelegramFault
+failed X e = Err e
 
-ok_same : (t u : Telegram) → made t ≡ made u → t ≡ u
-ok_same t u same = cc
+pub ok_same : {X : Type 0} (x y : X) → made x ≡ made y → x ≡ y
+ok_same x y same = cc
 
-pub found_ok : (bytes : List ℕ) (t : Telegram) (rest : List Bool) → length bytes ≤ 104 → BeginsTelegram t (bits_of bytes) rest → (u : Telegram) → (made t ≡ made u) ↔ Carries bytes u
-found_ok bytes t rest small b u = (
-  λ same. subst (λ (x : Telegram). Carries bytes x) (ok_same t u same) (carries bytes t rest small b),
-  λ c. ap made (telegram_once t u (bits_of bytes) rest c.rest b (carried bytes u c)),
-)
+pub fault_ok : {X : Type 0} (x : X) (bytes : List ℕ) (t : Telegram) → Carries bytes t → (e : TelegramFault) → (made x ≡ failed X e) ↔ RefusesBytes e bytes
+fault_ok x bytes t c e = (λ same. absurd cc, λ r. absurd (not_refused bytes t e c r))
 
-pub fault_ok : (bytes : List ℕ) (t : Telegram) (rest : List Bool) → length bytes ≤ 104 → BeginsTelegram t (bits_of bytes) rest → (e : TelegramFault) → (made t ≡ failed e) ↔ RefusesBytes e bytes
-fault_ok bytes t rest small b e = (λ same. absurd cc, λ r. absurd (not_refused bytes t e (carries bytes t rest small b) r))
-
-pub found_err : (bytes : List ℕ) (d : TelegramFault) → RefusesBytes d bytes → (u : Telegram) → (failed d ≡ made u) ↔ Carries bytes u
-found_err bytes d r u = (λ same. absurd cc, λ c. absurd (not_refused bytes u d c r))
-
-pub fault_err : (bytes : List ℕ) (d : TelegramFault) → RefusesBytes d bytes → (e : TelegramFault) → (failed d ≡ failed e) ↔ RefusesBytes e bytes
-fault_err bytes d r e = (
-  λ same. subst (λ (x : TelegramFault). RefusesBytes x bytes) (err_same Telegram d e same) r,
-  λ s. ap failed (bytes_refused_once d e bytes r s),
+pub fault_err : (X : Type 0) (bytes : List ℕ) (d : TelegramFault) → RefusesBytes d bytes → (e : TelegramFault) → (failed X d ≡ failed X e) ↔ RefusesBytes e bytes
+fault_err X bytes d r e = (
+  λ same. subst (λ (x : TelegramFault). RefusesBytes x bytes) (err_same X d e same) r,
+  λ s. ap (failed X) (bytes_refused_once d e bytes r s),
 )

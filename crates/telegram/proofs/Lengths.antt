@@ -1,5 +1,5 @@
 -- The bits of a telegram.
-use Rattle.std.proofs.Common.{◌≡◌, ℕ, ◌+◌, ◌-◌, ◌≤◌, List, [], ◌∷◌, Bool, Option, Some, None, length, refl, ap, arith, length-append}
+use Rattle.std.proofs.Common.{◌≡◌, ℕ, ◌+◌, ◌-◌, ◌*◌, ◌≤◌, List, [], ◌∷◌, Bool, Option, Some, None, length, refl, ap, arith, length-append}
 use Rattle.bits.specs.Layout.{Spells, Begins}
 use Rattle.bits.proofs.Widths.{Counts, counts-as, counts-then, counts-field, counts-unless, counts-done, counts-choice, counts-kind, counts-told}
 use Rattle.packets.specs.Packets.{length_of}
@@ -7,7 +7,7 @@ use Rattle.packets.specs.declared.packet.Packet.{Packet}
 use Rattle.packets.proofs.Lengths.{counts-packet_of, length_of-least}
 use Rattle.telegram.specs.declared.header.Header.{Header}
 use Rattle.telegram.specs.declared.message.Telegram.{Telegram}
-use Rattle.telegram.specs.Sequences.{length_of_all}
+use Rattle.telegram.specs.Sequences.{BeginsPackets, length_of_all}
 use Rattle.telegram.specs.Telegrams.{header, next_packet, SpellsPackets, SpellsTelegram}
 
 counts-header : Counts header (λ _. 50)
@@ -51,10 +51,15 @@ length-end : (bits : List Bool) → Spells next_packet None bits → length bits
 unfolding next_length
 length-end bits s = counts-next.bits None bits s
 
+-- a packet takes as many bits as its length tells
+pub packet_length : (p : Packet) (bits rest : List Bool) → Begins next_packet (Some p) bits rest → length rest + length_of p ≡ length bits
+packet_length p bits rest b =
+    omega (arith, ap length b.parts, length-append b.front rest, length-next_packet p b.front b.spelled)
+
 -- a packet takes 23 bits at least
 pub packet_takes : (p : Packet) (bits rest : List Bool) → Begins next_packet (Some p) bits rest → length rest + 23 ≤ length bits
 packet_takes p bits rest b =
-    omega (arith, ap length b.parts, length-append b.front rest, length-next_packet p b.front b.spelled, length_of-least p)
+    omega (arith, packet_length p bits rest b, length_of-least p)
 
 pub header_takes : (h : Header) (bits rest : List Bool) → Begins header h bits rest → length rest + 50 ≡ length bits
 header_takes h bits rest b =
@@ -68,3 +73,11 @@ length-packets (p ∷ ps) bits s =
 pub length-telegram : (t : Telegram) (bits : List Bool) → SpellsTelegram t bits → length bits ≡ 58 + length_of_all t.packets.items
 length-telegram t bits s =
     omega (arith, ap length s.2, length-append s.0 s.1, counts-header.bits t.header s.0 s.3, length-packets t.packets.items s.1 s.4)
+
+end_takes : (bits rest : List Bool) → Begins next_packet None bits rest → length rest + 8 ≡ length bits
+end_takes bits rest b = omega (arith, ap length b.parts, length-append b.front rest, length-end b.front b.spelled)
+
+-- packets take 23 bits each at least, and the end mark takes 8
+pub packets_take : (ps : List Packet) (bits rest : List Bool) → BeginsPackets ps bits rest → 23 * length ps + 8 ≤ length bits
+packets_take [] bits rest b = omega (arith, end_takes bits rest b)
+packets_take (p ∷ ps) bits rest b = omega (arith, packet_takes p bits b.0 b.1, packets_take ps b.0 rest b.2)

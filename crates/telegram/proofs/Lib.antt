@@ -1,3 +1,6 @@
 pub mod Answering
 pub mod Lengths
-pub mod Packets
+pub mod PacketsInTurn
+pub mod Places
+pub mod Walking
+pub mod Written

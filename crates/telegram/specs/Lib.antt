@@ -1,3 +1,5 @@
+pub mod Encodings
 pub mod Faults
 pub mod Sequences
 pub mod Telegrams
+pub mod Walks

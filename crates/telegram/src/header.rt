@@ -27,6 +27,23 @@ pub struct Header {
     pub linked: bool,
 }
 
+/// A header to be filled.
+impl Default for Header {
+    fn default() -> Header {
+        Header {
+            position: PositionInGroup::of_number(0).unwrap(),
+            last_position: PositionInGroup::of_number(0).unwrap(),
+            duplicate: Duplicate::NoDuplicate,
+            counter: MessageCounter::of_number(0).unwrap(),
+            group: GroupIdentity {
+                country: Country::of_number(0).unwrap(),
+                number: GroupNumber::of_number(0).unwrap(),
+            },
+            linked: false,
+        }
+    }
+}
+
 impl Header {
     /// Hands all fields to the sink, and stops where it takes no more.
     pub fn fields<S: FieldSink>(&self, sink: &mut S) -> Result<(), S::Error> {

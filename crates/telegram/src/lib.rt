@@ -2,11 +2,21 @@
 #![tactic(auto)]
 
 mod decoding;
+mod encoding;
 mod fault;
 mod header;
+mod laws;
 mod message;
+mod place;
+mod validation;
+mod walk;
 
-pub use decoding::decode;
+pub use decoding::{decode, decode_into};
+pub use encoding::{TooLong, encode};
 pub use fault::TelegramFault;
 pub use header::Header;
+pub use laws::{at_most_33_packets, packets_stand_in_place, telegrams_spelled_once};
 pub use message::Telegram;
+pub use place::PacketInPlace;
+pub use validation::packets;
+pub use walk::Packets;

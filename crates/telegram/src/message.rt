@@ -1,6 +1,10 @@
-ghost use Rattle.std.specs.Prelude.{◌≡◌, ◌+◌, ◌*◌, ◌<◌, ◌^◌, ◌≤◌, List, Bool, length};
+ghost use Rattle.std.specs.Prelude.{◌≡◌, ◌+◌, ◌*◌, ◌<◌, ◌^◌, ◌≤◌, ◌↔◌, ◌∷◌, ◌++◌, List, [], Bool, length, IsOk, OnOk, OnErr};
+ghost use Rattle.bits.specs.Layout.{Spells};
+ghost use Rattle.packets.specs.Packets.{packet as packet_layout};
+ghost use Rattle.telegram.specs.Telegrams.{SpellsTelegram};
 ghost use Rattle.telegram.specs.Sequences.{length_of_all};
 
+use crate::encoding::TooLong;
 use crate::header::Header;
 use arrayvec::ArrayVec;
 use packets::Packet;
@@ -26,7 +30,15 @@ fn bits_of_all(packets: &[Packet<'_>]) -> u64
 }
 
 impl<'a> Telegram<'a> {
-    ghost use Rattle.telegram.specs.Telegrams.{SpellsTelegram};
+    /// A telegram with no packets, to be filled.
+    pub fn new() -> Self
+        ensures { result.packets.items ≡ [] }
+    {
+        Telegram {
+            header: Header::default(),
+            packets: ArrayVec::new(),
+        }
+    }
 
     /// The number of bits up to and with the end mark.
     pub fn bits(&self) -> u64
@@ -34,5 +46,33 @@ impl<'a> Telegram<'a> {
         ensures spelled { (bits : List Bool) → SpellsTelegram self.now bits → length bits ≡ result }
     {
         58 + bits_of_all(self.packets.as_slice())
+    }
+}
+
+impl<'a> Telegram<'a> {
+    /// Appends a packet that has a spelling to a telegram that has one, which it then has still. It is TooLong where there
+    /// are 33 packets already, and then nothing changes.
+    pub fn push(&mut self, packet: Packet<'a>) -> Result<(), TooLong>
+        requires telegram { (bits : List Bool) × SpellsTelegram self.old bits }
+        requires packet { (bits : List Bool) × Spells packet_layout packet bits }
+        ensures room { IsOk result ↔ (length self.old.packets.items < 33) }
+        ensures packets { OnOk result (self.new.packets.items ≡ self.old.packets.items ++ packet.entry ∷ []) }
+        ensures header { self.new.header ≡ self.old.header }
+        ensures spelled { OnOk result ((bits : List Bool) × SpellsTelegram self.new bits) }
+        ensures err { OnErr result (self.new ≡ self.old) }
+    {
+        if self.packets.is_full() {
+            return Err(TooLong);
+        }
+        self.packets.push(packet);
+        Ok(())
+    }
+}
+
+impl<'a> Default for Telegram<'a> {
+    ghost is_default = { λ t. t.packets.items ≡ [] };
+
+    fn default() -> Telegram<'a> {
+        Telegram::new()
     }
 }

@@ -6,7 +6,7 @@ use Rattle.bits.proofs.Laws.{found, refused}
 use Rattle.telegram.specs.Telegrams.{next_packet}
 use Rattle.telegram.specs.declared.fault.TelegramFault.TheVariants.{NoEnd}
 use Rattle.telegram.proofs.Lengths.{packet_takes}
-use Rattle.telegram.proofs.Packets.{no_end, one_more_begins, one_more_refused}
+use Rattle.telegram.proofs.PacketsInTurn.{no_end, one_more_begins, one_more_refused}
 use Rattle.telegram.proofs.decoding.read_packets.Goals as goal
 
 pub returns-in_err-more-clause-err : goal.returns-in_err-more-clause-err
@@ -17,26 +17,26 @@ returns-in_err-more-clause-err c =
 
 pub returns-then-not-more-clause-ok : goal.returns-then-not-more-clause-ok
 returns-then-not-more-clause-ok c =
-    let here : read next_packet c.packets.reader ≡ Ok (None, c.next.new.reader) = rw c.if-not-more.true at c.in_ok-more.ensures in
+    let here : read next_packet c.packets.reader ≡ Ok (None, c.read_next.new.reader) = rw c.if-not-more.true at c.in_ok-more.ensures in
     rw append-nil at (c.packets.invariant.begins [] _ (found next_packet _ _ _ here))
 
 pub returns-then-len-eq33-clause-err : goal.returns-then-len-eq33-clause-err
 returns-then-len-eq33-clause-err c =
-    let here : read next_packet c.packets.reader ≡ Ok (Some c.next.new.out, c.next.new.reader) = rw c.if-not-more.false at c.in_ok-more.ensures in
+    let here : read next_packet c.packets.reader ≡ Ok (Some c.read_next.new.out, c.read_next.new.reader) = rw c.if-not-more.false at c.in_ok-more.ensures in
     let b = found next_packet _ _ _ here in
     let taken = packet_takes _ _ _ b in
-    let few : length c.next.new.reader < 8 = omega (arith, taken, c.packets.invariant.room, c.len.ensures.value, c.if-len-eq33.true) in
+    let few : length c.read_next.new.reader < 8 = omega (arith, taken, c.packets.invariant.room, c.len.ensures.value, c.if-len-eq33.true) in
     (_, one_more_refused _ _ _ _ _ b c.packets.invariant.refused NoEnd [] (no_end _ few))
 
 pub packets-smaller : goal.packets-smaller
 packets-smaller c =
-    let here : read next_packet c.packets.reader ≡ Ok (Some c.next.new.out, c.next.new.reader) = rw c.if-not-more.false at c.in_ok-more.ensures in
+    let here : read next_packet c.packets.reader ≡ Ok (Some c.read_next.new.out, c.read_next.new.reader) = rw c.if-not-more.false at c.in_ok-more.ensures in
     let taken = packet_takes _ _ _ (found next_packet _ _ _ here) in
     omega (arith, taken)
 
 pub packets-preserved : goal.packets-preserved
 packets-preserved c =
-    let here : read next_packet c.packets.reader ≡ Ok (Some c.next.new.out, c.next.new.reader) = rw c.if-not-more.false at c.in_ok-more.ensures in
+    let here : read next_packet c.packets.reader ≡ Ok (Some c.read_next.new.out, c.read_next.new.reader) = rw c.if-not-more.false at c.in_ok-more.ensures in
     let b = found next_packet _ _ _ here in
     let taken = packet_takes _ _ _ b in
     record {

@@ -1,0 +1,156 @@
+-- What spells a telegram is what is written of it.
+use Rattle.std.proofs.Common.{◌≡◌, ℕ, suc, ◌+◌, ◌*◌, ◌/◌, ◌-◌, ◌<◌, ◌≤◌, ◌==◌, nat_eq, Bool, true, false, List, [], ◌∷◌, ◌++◌, length, take, drop, replicate, get_or, Option, Some, None, Ok, refl, sym, ap, subst, ◌∙◌, arith, append_assoc, drop-cons, length-append, length-take}
+use Rattle.std.proofs.lemmas.Bool.{eqb-true}
+use Rattle.std.proofs.lemmas.List.{append-nil, drop_all}
+use Rattle.bits.specs.Bits.{bits_of, number, number_bits}
+use Rattle.bits.specs.Layout.{Spells, choice, done, kind, told_as}
+use Rattle.bits.specs.Writing.{appended}
+use Rattle.bits.proofs.WritingLaws.{glue, glue_end, glue_none, field_bits}
+use Rattle.vars.specs.Variables.{position_in_group, m_dup, m_mcount, nid_c, nid_bg, flag, nid_packet}
+use Rattle.vars.proofs.Numbers.{plain_back, flag_back, m_dup_back}
+use Rattle.packets.specs.Packets.{packet, packet_of}
+use Rattle.packets.specs.declared.packet.Packet.{Packet}
+use Rattle.packets.proofs.Spelled.{code_bits, then_code}
+use Rattle.telegram.specs.Encodings.{Encoded}
+use Rattle.telegram.specs.Faults.{telegram_fault}
+use Rattle.telegram.specs.Telegrams.{only, header, next_packet, Carries, SpellsPackets, SpellsTelegram}
+use Rattle.telegram.specs.declared.fault.TelegramFault.{TelegramFault}
+use Rattle.telegram.specs.declared.header.Header.{Header}
+use Rattle.telegram.specs.declared.message.Telegram.{Telegram}
+use Rattle.telegram.proofs.Places.{next_is_packet}
+
+-- ---- the header
+
+only_number : (n v k : ℕ) (fault : TelegramFault) (b : Bool) → nat_eq k v ≡ b → (only n v fault).value k ≡ Ok tt → k ≡ v
+only_number n v k fault true e same = eqb-true k v e
+only_number n v k fault false e same = absurd (let h = rw e at same in cc)
+
+-- bits that have one value alone, and what follows them
+then_fixed : (n v : ℕ) (fault : TelegramFault) (front bits a b all : List Bool) → bits ≡ a ++ b → (length a ≡ n) × ((only n v fault).value (number a) ≡ Ok tt)
+    → (front ++ number_bits n v) ++ b ≡ all → front ++ bits ≡ all
+then_fixed n v fault front bits a b all parts r others =
+    glue front bits a b (front ++ number_bits n v) all parts
+    (ap (λ (t : List Bool). front ++ t) (field_bits n v a r.0 (sym (only_number n v (number a) fault (nat_eq (number a) v) refl r.1)))) others
+
+pub header_bits : (h : Header) (front bits : List Bool) → Spells header h bits → front ++ bits ≡ appended header h front
+unfolding header
+header_bits h front bits s =
+    let version = s.5 in
+    let media = version.5 in
+    let position = media.5 in
+    let last = position.5 in
+    let order = last.5 in
+    let duplicate = order.5 in
+    let counter = duplicate.5 in
+    let country = counter.5 in
+    let number = country.5 in
+    let linked = number.5 in
+    let end = linked.5 in
+    subst (λ (x : Header). front ++ bits ≡ appended header x front) (sym end.0) (
+    then_fixed 1 1 _ _ _ _ _ _ s.3 s.4 (
+    then_fixed 7 16 _ _ _ _ _ _ version.3 version.4 (
+    then_fixed 1 0 _ _ _ _ _ _ media.3 media.4 (
+    then_code position_in_group (plain_back 3) position.0 _ _ _ _ _ position.3 position.4 (
+    then_code position_in_group (plain_back 3) last.0 _ _ _ _ _ last.3 last.4 (
+    glue_none _ _ _ _ _ order.3 order.4.1 (
+    then_code m_dup m_dup_back duplicate.0 _ _ _ _ _ duplicate.3 duplicate.4 (
+    then_code m_mcount (plain_back 8) counter.0 _ _ _ _ _ counter.3 counter.4 (
+    then_code nid_c (plain_back 10) country.0 _ _ _ _ _ country.3 country.4 (
+    then_code nid_bg (plain_back 14) number.0 _ _ _ _ _ number.3 number.4 (
+    then_code flag flag_back linked.0 _ _ _ _ _ linked.3 linked.4 (
+    glue_end _ _ end.1))))))))))))
+
+-- ---- the end mark
+
+none_is_none : {A : Type 0} (x : A) → None ≡ Some x → ⊥
+none_is_none x e = absurd cc
+
+end_number : (b : Bool) (n : ℕ) (bits : List Bool) → nat_eq n 255 ≡ b → Spells (choice b (done None) (kind Some (λ (o : Option Packet). o) (told_as telegram_fault (packet_of n)))) None bits → (n ≡ 255) × (bits ≡ [])
+end_number true n bits e s = (eqb-true n 255 e, s.1)
+end_number false n bits e s = absurd (none_is_none s.0 s.1)
+
+pub end_mark : (bits : List Bool) → Spells next_packet None bits → bits ≡ number_bits 8 255
+unfolding next_packet
+end_mark bits s =
+    let end = end_number (nat_eq s.0 255) s.0 s.2 refl s.5 in
+    s.3 ∙ ap (λ (t : List Bool). s.1 ++ t) end.1 ∙ append-nil s.1 ∙ code_bits nid_packet (plain_back 8) s.0 s.1 s.4 ∙ ap (number_bits 8) end.0
+
+-- ---- packets in turn
+
+-- the packet at a place, with what spells those behind it
+pub record Next (ps : List Packet) (i : ℕ) (p : Packet) (old all : List Bool) : Type 0 where
+  pub front : List Bool
+  pub rest : List Bool
+  pub spelled : Spells packet p front
+  pub others : SpellsPackets (drop (i + 1) ps) rest
+  pub parts : old ++ (front ++ rest) ≡ all
+
+pub next_of : (ps : List Packet) (i : ℕ) (p : Packet) (old all left : List Bool) → i < length ps → p ≡ get_or ps i p → SpellsPackets (drop i ps) left → old ++ left ≡ all → Next ps i p old all
+next_of ps i p old all left lt e s parts =
+    let next : suc i ≡ i + 1 = omega arith in
+    let cut : drop i ps ≡ p ∷ drop (i + 1) ps = drop-cons ps i p lt ∙ ap (λ (q : Packet). q ∷ drop (suc i) ps) (sym e) ∙ ap (λ (n : ℕ). p ∷ drop n ps) next in
+    let t : SpellsPackets (p ∷ drop (i + 1) ps) left = subst (λ (qs : List Packet). SpellsPackets qs left) cut s in
+    record { front = t.0; rest = t.1; spelled = next_is_packet p t.0 t.3; others = t.4; parts = ap (λ (u : List Bool). old ++ u) (sym t.2) ∙ parts }
+
+-- behind the packets only the end mark is left
+pub last_of : (ps : List Packet) (i : ℕ) (left : List Bool) → length ps ≤ i → SpellsPackets (drop i ps) left → left ≡ number_bits 8 255
+last_of ps i left le s = end_mark left (subst (λ (qs : List Packet). SpellsPackets qs left) (drop_all i ps le) s)
+
+-- what fits as a whole fits in part
+pub part_fits : (old front rest start bits : List Bool) → old ++ (front ++ rest) ≡ start ++ bits → length start + length bits ≤ 832 → length old + length front ≤ 832
+part_fits old front rest start bits parts fits =
+    omega (arith, ap length parts, length-append old (front ++ rest), length-append front rest, length-append start bits)
+
+pub whole_fits : (old left start bits : List Bool) (n : ℕ) → length left ≡ n → old ++ left ≡ start ++ bits → (length old + n ≤ 832 → length start + length bits ≤ 832) × (length start + length bits ≤ 832 → length old + n ≤ 832)
+whole_fits old left start bits n long parts =
+    let same : length old + n ≡ length start + length bits = omega (arith, ap length parts, length-append old left, length-append start bits) in
+    (λ fits. omega arith, λ fits. omega arith)
+
+pub one_written : (old front rest new all : List Bool) → new ≡ old ++ front → old ++ (front ++ rest) ≡ all → new ++ rest ≡ all
+one_written old front rest new all put parts = ap (λ (t : List Bool). t ++ rest) put ∙ append_assoc old front rest ∙ parts
+
+-- ---- the whole telegram
+
+pub header_first : (t : Telegram) (bits start first : List Bool) → start ≡ [] → first ≡ appended header t.header start → (s : SpellsTelegram t bits) → first ≡ s.0
+header_first t bits start first none put s = put ∙ ap (appended header t.header) none ∙ sym (header_bits t.header [] s.0 s.3)
+
+pub encoded : (t : Telegram) (bits written : List Bool) (old new : List ℕ) (n : ℕ) → written ≡ bits → SpellsTelegram t bits → n ≡ (length written + 7) / 8
+    → bits_of (take n new) ≡ written ++ replicate (8 * n - length written) false → drop n new ≡ drop n old → Encoded t old new n
+encoded t bits written old new n same s count parts rest = record {
+  bits = written;
+  spelled = subst (λ (b : List Bool). SpellsTelegram t b) (sym same) s;
+  count = count;
+  written = parts;
+  rest = rest;
+}
+
+pub carried : (t : Telegram) (old new : List ℕ) (n : ℕ) → length new ≡ 104 → Encoded t old new n → Carries (take n new) t
+carried t old new n long e = record {
+  small = omega (arith, length-take n new);
+  front = e.bits;
+  rest = replicate (8 * n - length e.bits) false;
+  parts = e.written;
+  spelled = e.spelled;
+}
+
+-- ---- one more packet
+
+behind_other : (number : ℕ) (p : Packet) (bits : List Bool) → (number == 255) ≡ false → Spells (packet_of number) p bits
+    → Spells (choice (number == 255) (done None) (kind Some (λ (o : Option Packet). o) (told_as telegram_fault (packet_of number)))) (Some p) bits
+behind_other number p bits other s = rw other (p, refl, s)
+
+next_packet_spelled : (p : Packet) (bits : List Bool) → Spells packet p bits → Spells next_packet (Some p) bits
+unfolding next_packet packet packet_of
+next_packet_spelled p bits s = (s.0, s.1, s.2, s.3, s.4, behind_other s.0 p s.2 (s.5.4.0) s.5)
+
+pushed : (ps : List Packet) (p : Packet) (bits part : List Bool) → SpellsPackets ps bits → Spells packet p part → (all : List Bool) × SpellsPackets (ps ++ p ∷ []) all
+pushed [] p bits part s one = (part ++ bits, (part, bits, refl, next_packet_spelled p part one, s))
+pushed (q ∷ ps) p bits part s one =
+    let more = pushed ps p s.1 part s.4 one in
+    (s.0 ++ more.0, (s.0, more.0, refl, s.3, more.1))
+
+pub pushed_telegram : (t u : Telegram) (p : Packet) (bits part : List Bool) → u.header ≡ t.header → u.packets.items ≡ t.packets.items ++ p ∷ [] → SpellsTelegram t bits → Spells packet p part
+    → (all : List Bool) × SpellsTelegram u all
+pushed_telegram t u p bits part heads lists s one =
+    let more = pushed t.packets.items p s.1 part s.4 one in
+    (s.0 ++ more.0, (s.0, more.0, refl, subst (λ (h : Header). Spells header h s.0) (sym heads) s.3, subst (λ (ps : List Packet). SpellsPackets ps more.0) (sym lists) more.1))

@@ -1,0 +1,80 @@
+ghost use Rattle.std.specs.Prelude.{◌≡◌, ◌+◌, ◌*◌, ◌≤◌, ◌<◌, ◌^◌, ◌↔◌, ◌++◌, List, Bool, length, take, IsOk, IfOk, OnOk, OnErr};
+ghost use Rattle.bits.specs.Bits.{number_bits};
+ghost use Rattle.bits.specs.Writing.{appended};
+ghost use Rattle.telegram.specs.Encodings.{Encoded};
+ghost use Rattle.telegram.specs.Telegrams.{header as header_layout, Carries, SpellsPackets, SpellsTelegram};
+
+use crate::header::Header;
+use crate::message::Telegram;
+use bits::{BitWriter, Full};
+use packets::{Packet, write_packet};
+use thiserror::Error;
+use vars::Variable;
+
+/// The telegram has more than 832 bits, which are those of 104 bytes.
+#[derive(Clone, Copy, Debug, PartialEq, Eq, Error)]
+#[error("TooLong")]
+pub struct TooLong;
+
+impl From<Full> for TooLong {
+    fn from(_full: Full) -> TooLong {
+        TooLong
+    }
+}
+
+/// Writes a variable.
+#[inline(always)]
+fn put<V: Variable>(writer: &mut BitWriter<104>, value: &V)
+    requires { length writer.old + (V.codes).width ≤ 832 }
+    ensures value { writer.new ≡ writer.old ++ number_bits (V.codes).width ((V.codes).number value.now) }
+    ensures len { length writer.new ≡ length writer.old + (V.codes).width }
+{
+    writer.write(V::WIDTH, value.number());
+}
+
+/// Writes the header.
+#[tactic(auto, unfolding(crate::specs::Telegrams::header))]
+fn write_header(header: &Header, writer: &mut BitWriter<104>)
+    requires { length writer.old + 50 ≤ 832 }
+    ensures { writer.new ≡ appended header_layout header.now writer.old }
+{
+    writer.write(1, 1);
+    writer.write(7, 16);
+    writer.write(1, 0);
+    put(writer, &header.position);
+    put(writer, &header.last_position);
+    put(writer, &header.duplicate);
+    put(writer, &header.counter);
+    put(writer, &header.group.country);
+    put(writer, &header.group.number);
+    put(writer, &header.linked);
+}
+
+/// Writes packets that have a spelling, and the end mark.
+fn write_packets(packets: &[Packet<'_>], writer: &mut BitWriter<104>) -> Result<(), Full>
+    requires { (bits : List Bool) × SpellsPackets packets.now bits }
+    ensures room { (bits : List Bool) → SpellsPackets packets.now bits → (IsOk result ↔ (length writer.old + length bits ≤ 832)) }
+    ensures ok { OnOk result ((bits : List Bool) → SpellsPackets packets.now bits → writer.new ≡ writer.old ++ bits) }
+{
+    for packet in packets {
+        write_packet(writer, packet)?;
+    }
+    writer.put(8, 255)?;
+    Ok(())
+}
+
+/// Writes a telegram that has a spelling (SUBSET-026, 8.4.2) into the front of the array, padded with zero bits to whole
+/// bytes, and returns how many bytes these are; decoded again, they give the telegram. Where it has more than 832 bits it
+/// is TooLong, and nothing is written.
+pub fn encode(telegram: &Telegram<'_>, out: &mut [u8; 104]) -> Result<usize, TooLong>
+    requires { (bits : List Bool) × SpellsTelegram telegram.now bits }
+    ensures room { (bits : List Bool) → SpellsTelegram telegram.now bits → (IsOk result ↔ (length bits ≤ 832)) }
+    ensures ok { IfOk result (λ n. Encoded telegram.now out.old out.new n) }
+    ensures again { IfOk result (λ n. Carries (take n out.new) telegram.now) }
+    ensures err { OnErr result (out.new ≡ out.old) }
+{
+    let mut writer: BitWriter<104> = BitWriter::new();
+    write_header(&telegram.header, &mut writer);
+    write_packets(telegram.packets.as_slice(), &mut writer)?;
+    Ok(writer.copy_to(out))
+}

@@ -1,0 +1,20 @@
+ghost use Rattle.std.specs.Prelude.{◌≡◌, ◌≤◌, ◌++◌, ℕ, List, Bool, length, All};
+ghost use Rattle.telegram.specs.Telegrams.{Carries, SpellsTelegram};
+ghost use Rattle.telegram.specs.Walks.{Walk, IsWalkOf, StandsInPlace};
+ghost use Rattle.telegram.specs.declared.message.Telegram.{Telegram};
+
+/// A telegram has at most 33 packets. Its 104 bytes have 832 bits: 50 are of the header, 8 of the end mark, and at least
+/// 23 of each packet.
+pub fn at_most_33_packets()
+    ensures { (bytes : List ℕ) (t : Telegram) → Carries bytes t → length t.packets.items ≤ 33 }
+{}
+
+/// No spelling of a telegram begins another one, and no two telegrams share one.
+pub fn telegrams_spelled_once()
+    ensures { (s t : Telegram) (a b u v : List Bool) → SpellsTelegram s a → SpellsTelegram t b → a ++ u ≡ b ++ v → (s ≡ t) × (a ≡ b) }
+{}
+
+/// Each packet of a telegram stands in the bytes of its place, and none of these bytes is without a bit of it.
+pub fn packets_stand_in_place()
+    ensures { (bytes : List ℕ) (w : Walk) → IsWalkOf bytes w → All StandsInPlace w.items }
+{}

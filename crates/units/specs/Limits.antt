@@ -5,6 +5,10 @@ use Rattle.std.specs.Prelude.{ℕ, ◌<◌, ◌≤◌, ◌^◌, ℤ, pos, neg_�
 abbrev pub IsCm : ℤ → Type 0
 IsCm z = (neg_ℤ (pos (2 ^ 42)) ≤ℤ z) × (z ≤ℤ pos (2 ^ 42))
 
+-- a length in centimetres
+abbrev pub IsLength : ℕ → Type 0
+IsLength n = n ≤ 2 ^ 40
+
 -- a speed in metres per hour
 abbrev pub IsMph : ℕ → Type 0
 IsMph n = n ≤ 600_000

@@ -1,4 +1,4 @@
-ghost use Rattle.std.specs.Prelude.{◌≡◌, ◌↔◌, IsSome, IfSome};
+ghost use Rattle.std.specs.Prelude.{◌≡◌, ◌↔◌, ◌+ℤ◌, ◌-ℤ◌, IsSome, IfSome};
 ghost use Rattle.units.specs.Limits.{IsCm};
 
 use std::marker::Model;
@@ -25,6 +25,12 @@ impl Model for Cm {
 const GREATEST: i64 = 1 << 42;
 
 impl Cm {
+    /// The place where a life starts; no distance.
+    pub const ZERO: Cm = Cm { cm: 0 };
+
+    /// The least place.
+    pub const MIN: Cm = Cm { cm: -GREATEST };
+
     /// So many centimetres; None exactly outside the limits.
     pub fn new(cm: i64) -> Option<Cm>
         ensures found { IsSome result ↔ IsCm cm }
@@ -43,5 +49,21 @@ impl Cm {
         ensures limits { IsCm result }
     {
         self.cm
+    }
+
+    /// The sum; None exactly where it lies outside the limits.
+    pub fn checked_add(self, other: Cm) -> Option<Cm>
+        ensures found { IsSome result ↔ IsCm (self +ℤ other) }
+        ensures value { IfSome result (λ c. c ≡ self +ℤ other) }
+    {
+        Cm::new(self.cm + other.cm)
+    }
+
+    /// The difference; None exactly where it lies outside the limits.
+    pub fn checked_sub(self, other: Cm) -> Option<Cm>
+        ensures found { IsSome result ↔ IsCm (self -ℤ other) }
+        ensures value { IfSome result (λ c. c ≡ self -ℤ other) }
+    {
+        Cm::new(self.cm - other.cm)
     }
 }

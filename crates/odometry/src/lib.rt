@@ -1,0 +1,11 @@
+//! Odometry: where the train's front is, by the movements of the odometer and the fixes that balise groups give,
+//! and how far that may be wrong (this project's profile).
+#![tactic(auto)]
+
+mod overrun;
+mod place;
+#[cfg(test)]
+mod tests;
+
+pub use overrun::Overrun;
+pub use place::Place;

@@ -1,0 +1,14 @@
+use std::error::Error;
+use std::fmt;
+
+/// The path of the life or a place would lie beyond 2^40 cm.
+#[derive(Clone, Copy, Debug, PartialEq, Eq)]
+pub struct Overrun;
+
+impl fmt::Display for Overrun {
+    fn fmt<W: fmt::Write>(&self, f: &mut fmt::Formatter<W>) -> fmt::Result {
+        write!(f, "a place lies too far")
+    }
+}
+
+impl Error for Overrun {}

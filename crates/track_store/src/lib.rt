@@ -1,0 +1,10 @@
+//! What the track asks of a train: temporary speed restrictions (SUBSET-026, 3.11.5).
+#![tactic(auto)]
+
+mod restriction;
+mod restrictions;
+#[cfg(test)]
+mod tests;
+
+pub use restriction::Restriction;
+pub use restrictions::Restrictions;

@@ -1,0 +1,53 @@
+ghost use Rattle.std.specs.Prelude.{◌≡◌, ◌≤◌, ◌^◌};
+ghost use Rattle.std.specs.Int.RustNames.{unsigned_abs};
+
+use units::{Cm, Mph, Stretch};
+use vars::{RestrictionNumber, TrainLengthDelay};
+
+/// A temporary speed restriction (packet 65) at its place on the track.
+#[derive(Clone, Copy, Debug, PartialEq, Eq)]
+pub struct Restriction {
+    /// NID_TSR.
+    pub number: RestrictionNumber,
+    /// Its first centimetre.
+    pub start: Cm,
+    /// How many centimetres it covers; none where this is 0 or less.
+    pub length: Cm,
+    /// Q_FRONT.
+    pub delay: TrainLengthDelay,
+    /// V_TSR.
+    pub speed: Mph,
+}
+
+impl Restriction {
+    ghost use Rattle.track_store.specs.Restrictions.{end_of, reaches_past};
+    ghost use Rattle.track_store.specs.Meeting.{meets};
+
+    // The first centimetre behind it.
+    fn end(&self) -> i64
+        ensures value { result ≡ end_of self.now }
+        ensures near { unsigned_abs result ≤ 2 ^ 43 }
+    {
+        self.start.get() + self.length.get()
+    }
+
+    // Whether some of it lies at or ahead of a forgetting mark.
+    pub(crate) fn reaches_past(&self, mark: Cm) -> bool
+        ensures { result ≡ reaches_past mark self.now }
+    {
+        mark.get() < self.end()
+    }
+
+    // Whether it limits a train somewhere, where no track before a first centimetre counts.
+    pub(crate) fn meets(&self, first: Cm, train: &Stretch) -> bool
+        ensures { result ≡ meets first train.now self.now }
+    {
+        let from = match self.delay {
+            TrainLengthDelay::Applied => first.get(),
+            TrainLengthDelay::NotApplied => first.get().max(train.min_front().get()),
+        };
+        let first_met = from.max(self.start.get());
+        let last_met = train.max_front().get().min(self.end() - 1);
+        first_met <= last_met
+    }
+}

@@ -168,10 +168,6 @@ fn refuses_each_number_without_a_value(rt: HostRuntime) -> Result<(), Fail> {
     Ok(())
 }
 
-/// A packet 5 of 32 groups, the first of another country.
-const LINKS: &str =
-    "058A10800A80A000E03E00280016000058003C0000C000980001A00170000380036000078007C0001000118000220027000048005600009800BC00014001980002A003700005800760000B800FC000180021800032004700006800960000D8013C0001C002980003A005700007800B60000F8017C000200031800042006700008800D600011801BC00024003980004A007700009800F600013801FC00028004180";
-
 /// Packets 27 of three steps, with 70 and with 71 differences.
 const DIFFERENCES_70: &str =
     "1B86E8800A41F882104208410821042084108210420841082104208410821042084108210420841082104208410821042084002907E2084108210420841082104208410821042084108210420841082104208410821042084108210420841082001482810420841082104208410820";
@@ -180,12 +176,7 @@ const DIFFERENCES_71: &str =
     "1B86FE800A41F882104208410821042084108210420841082104208410821042084108210420841082104208410821042084002907E208410821042084108210420841082104208410821042084108210420841082104208410821042084108200148291042084108210420841082104";
 
 #[test]
-fn reads_long_lists(rt: HostRuntime) -> Result<(), Fail> {
-    let links = hex::decode(rt.alloc(), LINKS).ok().ok_or("hex")?;
-    match read_packet(&mut BitReader::new(links.as_slice())) {
-        Ok(Packet::Linking(packet)) => assert_eq!(rt; packet.links.len(), 32),
-        _ => assert!(rt; false, "32 groups"),
-    }
+fn reads_70_differences(rt: HostRuntime) -> Result<(), Fail> {
     let most = hex::decode(rt.alloc(), DIFFERENCES_70).ok().ok_or("hex")?;
     match read_packet(&mut BitReader::new(most.as_slice())) {
         Ok(Packet::StaticSpeeds(packet)) => assert_eq!(rt; packet.differences.len(), 70),

@@ -1,0 +1,44 @@
+#!/bin/sh
+# Prints the instructions per call of each call on each telegram: what callgrind counts for 2,000 runs less what it
+# counts for 1,000, by 1,000. So what comes before and after the runs falls out, and what a run of the harness adds
+# stays in. Builds what it needs first; what the builds have to say goes to standard error.
+#
+#     bench/measure.sh [CALL..]
+set -e
+top=$(cd "$(dirname "$0")/.." && pwd)
+out=$top/bench/out
+calls=${*:-decode decode_into encode walk walk_into etcs_decode etcs_packet_count}
+
+for crate in etcs_c etcs_bench; do
+    (cd "$top/crates/$crate" && rt lib) >&2
+done
+mkdir -p "$out"
+gcc -O2 -Wall -Wextra -I "$top/include" "$top/bench/check.c" "$top/crates/etcs_c/out/libetcs_c.a" -o "$out/check" >&2
+"$out/check" >&2
+gcc -O2 -Wall -Wextra -I "$top/include" "$top/bench/bench.c" \
+    "$top/crates/etcs_bench/out/libetcs_bench.a" "$top/crates/etcs_c/out/libetcs_c.a" -o "$out/bench" >&2
+
+# counted CALL HEX RUNS: the instructions of the whole process. The environment and the program's name are the same each
+# time, since the C library's memset and memcpy go by where the stack lies.
+cd "$out"
+counted() {
+    if ! env -i PATH="$PATH" valgrind --tool=callgrind --callgrind-out-file=/dev/null ./bench "$@" >counted 2>&1; then
+        cat counted >&2
+        return 1
+    fi
+    sed -n 's/^==[0-9]*== Collected : //p' counted
+}
+
+printf '%-20s %10s %10s %10s\n' call 8_bytes 17_bytes 31_bytes
+for call in $calls; do
+    printf '%-20s' "$call"
+    for telegram in \
+        90007F8020017FC0 \
+        90007F802001506023A0E0190019427F80 \
+        90007F802001432024A8007FE007D002B00D900010000DC03A400020801FE0; do
+        few=$(counted "$call" "$telegram" 1000)
+        many=$(counted "$call" "$telegram" 2000)
+        printf ' %10d' $(((many - few + 500) / 1000))
+    done
+    printf '\n'
+done

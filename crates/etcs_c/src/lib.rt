@@ -1,0 +1,41 @@
+//! What C programs call: telegrams of balises. `include/etcs.h` declares these functions.
+#![tactic(auto)]
+
+ghost use Rattle.std.specs.Prelude.{◌≡◌, ◌↔◌, length};
+ghost use Rattle.etcs_c.specs.Numbers.{fault_number};
+ghost use Rattle.telegram.specs.Telegrams.{Carries, RefusesBytes};
+ghost use Rattle.telegram.specs.declared.fault.TelegramFault.{TelegramFault};
+ghost use Rattle.telegram.specs.declared.message.Telegram.{Telegram};
+
+use telegram::TelegramFault;
+
+/// The number of a fault, its discriminant.
+fn number_of(fault: TelegramFault) -> u32
+    ensures { result ≡ fault_number fault }
+{
+    fault as u32
+}
+
+/// Whether the bytes carry a telegram (SUBSET-026, 8.4.2): 0, or the number of the fault.
+#[unsafe(no_mangle)]
+pub extern "C" fn etcs_decode(bytes: &[u8]) -> u32
+    ensures carried { (result ≡ 0) ↔ ((t : Telegram) × Carries bytes.now t) }
+    ensures refused { (e : TelegramFault) → (result ≡ fault_number e) ↔ RefusesBytes e bytes.now }
+{
+    match telegram::packets(bytes) {
+        Ok(_) => 0,
+        Err(fault) => number_of(fault),
+    }
+}
+
+/// The number of packets of the telegram that the bytes carry, 0 where they carry none.
+#[unsafe(no_mangle)]
+pub extern "C" fn etcs_packet_count(bytes: &[u8]) -> u32
+    ensures carried { (t : Telegram) → Carries bytes.now t → result ≡ length t.packets.items }
+    ensures refused { (e : TelegramFault) → RefusesBytes e bytes.now → result ≡ 0 }
+{
+    match telegram::packets(bytes) {
+        Ok(packets) => packets.len(),
+        Err(_) => 0,
+    }
+}

@@ -1,0 +1,52 @@
+/*
+ * Telegrams of balises (ERTMS/ETCS level 1, UNISIG SUBSET-026 issue 2.3.0), for C and C++.
+ *
+ * Link with libetcs_c.a, which `rt lib` in crates/etcs_c builds.
+ *
+ * The functions are proved to do what is said here, on every input, as long as the caller keeps what it owes:
+ *
+ * - `bytes` is not null, also where `len` is 0 (then nothing is read, and any pointer that is not null will do);
+ * - `len` bytes from there on may be read, and `len` is at most PTRDIFF_MAX;
+ * - nobody writes to them while the call runs.
+ *
+ * The calls don't test this. A call reads those bytes alone, takes no memory but some of the stack, keeps nothing, and
+ * always returns. So calls may run at once in several threads, on the same bytes too.
+ */
+#ifndef ETCS_H
+#define ETCS_H
+
+#include <stddef.h>
+#include <stdint.h>
+
+#ifdef __cplusplus
+extern "C" {
+#endif
+
+/* Why bytes carry no telegram. TOO_LONG comes before all others; else the fault that is told is the first one in the
+ * order of the bits. */
+enum etcs_fault {
+    ETCS_OK = 0,            /* no fault */
+    ETCS_TRUNCATED = 1,     /* the bits end within the header or a packet */
+    ETCS_WRONG_LENGTH = 2,  /* L_PACKET is not the number of bits of its packet */
+    ETCS_SPARE = 3,         /* a variable has a number that the language keeps spare */
+    ETCS_OUT_OF_RANGE = 4,  /* a variable has a number outside its range */
+    ETCS_WRONG_VERSION = 5, /* M_VERSION is not 16 */
+    ETCS_NOT_UPLINK = 6,    /* Q_UPDOWN is not 1 */
+    ETCS_NOT_BALISE = 7,    /* Q_MEDIA is not 0 */
+    ETCS_NO_END = 8,        /* the bits end before the end mark */
+    ETCS_TOO_LONG = 9       /* there are more than 104 bytes */
+};
+
+/* Whether the bytes carry a telegram (SUBSET-026, 8.4.2): ETCS_OK, or the number of the fault (enum etcs_fault).
+ * The bits of each byte count from its highest one. What follows the end mark is free. */
+uint32_t etcs_decode(const uint8_t *bytes, size_t len);
+
+/* How many packets stand before the end mark, from 0 to 33. It is 0 where the bytes carry no telegram, and also
+ * where they carry one with no packet: etcs_decode tells which. */
+uint32_t etcs_packet_count(const uint8_t *bytes, size_t len);
+
+#ifdef __cplusplus
+}
+#endif
+
+#endif

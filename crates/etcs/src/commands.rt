@@ -5,7 +5,7 @@ use hex::FromHexError;
 use std::alloc::{AllocError, Global};
 use std::io;
 use std::io::Write;
-use telegram::decode;
+use telegram::{Telegram, decode_into};
 
 /// How the program ends.
 #[derive(Clone, Copy, Debug, PartialEq, Eq)]
@@ -43,8 +43,9 @@ pub fn tell<W: Write>(out: &mut W, line: &str, status: Status) -> u8 {
 }
 
 fn show<W: Write>(bytes: &[u8], out: &mut W) -> io::Result<Status> {
-    match decode(bytes) {
-        Ok(telegram) => {
+    let mut telegram = Telegram::new();
+    match decode_into(bytes, &mut telegram) {
+        Ok(()) => {
             print_telegram(&telegram, out)?;
             Ok(Status::Done)
         }

@@ -153,7 +153,7 @@ impl Place {
         self.stretch(length).rear()
     }
 
-    /// What a train of this length may stand on. Its rear leaves room for some kilometres more behind it.
+    /// What a train of this length may stand on. Even its rear stays clear of the limits of a place.
     pub fn stretch(&self, length: Length) -> Stretch
         ensures value { result ≡ stretch self.now length }
         ensures near { unsigned_abs result.rear ≤ 2 ^ 42 - 2 ^ 39 }

@@ -37,9 +37,11 @@ impl Restrictions {
         }
     }
 
-    /// Takes a restriction, in place of the one of its number (but for 255). Where memory is refused, nothing changes.
+    /// Takes a restriction, in place of the one of its number (but for 255). The list holds the allocator that it
+    /// takes memory of. Where memory is refused, nothing changes.
     pub fn add(&mut self, _alloc: Global, restriction: Restriction) -> Result<(), NoMemory>
-        ensures ok { OnOk result ((entries : List Entry) → self.old ≡ in_force entries → self.new ≡ in_force (Restricted restriction ∷ entries)) }
+        ensures ok { OnOk result ((entries : List Entry) → self.old ≡ in_force entries
+            → self.new ≡ in_force (Restricted restriction ∷ entries)) }
         ensures err { OnErr result (self.new ≡ self.old) }
     {
         self.items.reserve(1)?;
@@ -52,14 +54,16 @@ impl Restrictions {
 
     /// Revokes the restriction of a number (but for 255).
     pub fn revoke(&mut self, number: RestrictionNumber)
-        ensures { (entries : List Entry) → self.old ≡ in_force entries → self.new ≡ in_force (Revoked number ∷ entries) }
+        ensures { (entries : List Entry) → self.old ≡ in_force entries
+            → self.new ≡ in_force (Revoked number ∷ entries) }
     {
         drop_number(&mut self.items, number);
     }
 
     /// Forgets all track before a place. What was forgotten before stays so.
     pub fn drop_behind(&mut self, mark: Cm)
-        ensures { (entries : List Entry) → self.old ≡ in_force entries → self.new ≡ in_force (Forgotten mark ∷ entries) }
+        ensures { (entries : List Entry) → self.old ≡ in_force entries
+            → self.new ≡ in_force (Forgotten mark ∷ entries) }
     {
         if self.mark < mark {
             self.mark = mark;
@@ -92,7 +96,8 @@ impl Restrictions {
 
 // Drops the restrictions of a number, but for 255.
 fn drop_number(items: &mut Vec<Restriction>, number: RestrictionNumber)
-    ensures kept { items.new.items ≡ filter (λ restriction. not (ends (Revoked number) restriction)) items.old.items }
+    ensures kept { items.new.items
+        ≡ filter (λ restriction. not (ends (Revoked number) restriction)) items.old.items }
     ensures len { vec_len items.new ≤ vec_len items.old }
     ensures capacity { vec_capacity items.new ≡ vec_capacity items.old }
 {
@@ -115,7 +120,8 @@ fn is_ended(restriction: &Restriction, number: RestrictionNumber) -> bool
 
 // The limit once a restriction is counted in, where no track before a first centimetre counts.
 fn limited_by(restriction: &Restriction, first: Cm, train: &Stretch, limit: Mph) -> Mph
-    ensures { result ≡ (if meets first train.now restriction.now then min restriction.now.speed limit else limit) }
+    ensures { result ≡ (if meets first train.now restriction.now
+        then min restriction.now.speed limit else limit) }
 {
     if restriction.meets(first, train) && restriction.speed < limit {
         restriction.speed

@@ -168,6 +168,81 @@ fn refuses_each_number_without_a_value(rt: HostRuntime) -> Result<(), Fail> {
     Ok(())
 }
 
+/// Puts a number of so many bits over those of the bytes from a bit on.
+fn put_over(bytes: &mut [u8], at: usize, width: usize, number: usize) {
+    for i in 0..width {
+        let place = (at + i) / 8;
+        let mask = 0x80u8 >> ((at + i) % 8);
+        if let Some(byte) = bytes.get_mut(place) {
+            *byte = if number >> (width - 1 - i) & 1 == 1 {
+                *byte | mask
+            } else {
+                *byte & !mask
+            };
+        }
+    }
+}
+
+/// A packet 12 with a danger point and an overlap, a packet 27 of one step with a difference, a packet 41, a packet 80, a
+/// packet 5 and a packet 3 of the shortest lists.
+const AUTHORITY: &str = "90007F802001432047280507800118401904806405002806FF";
+
+const SPEEDS: &str = "90007F80200146E022A00A02026401FE";
+
+const LEVELS: &str = "90007F8020014A601FA07D1801407F80";
+
+const AREAS: &str = "90007F80200154202A2002902019400083FC";
+
+const LINKS: &str = "90007F802001416022A00280008001FE";
+
+const VALUES: &str = "90007F80200140E049A01900184062820001000C0320F3FFFFF8";
+
+/// Each number of a variable that has numbers without a value: where it stands, its bits, the numbers that are at fault
+/// and how. A level of a national system takes eight bits more; then N_ITER is read where the end mark begins, as 31, and
+/// the bits end before so many levels.
+#[test]
+fn answers_each_number(rt: HostRuntime) -> Result<(), Fail> {
+    for (text, at, width, first, last, fault) in [
+        (AUTHORITY, 58, 2, 3, 3, 3),
+        (AUTHORITY, 73, 2, 3, 3, 3),
+        (AUTHORITY, 75, 7, 121, 127, 4),
+        (AUTHORITY, 82, 7, 121, 127, 4),
+        (AUTHORITY, 137, 7, 121, 125, 4),
+        (AUTHORITY, 185, 7, 121, 125, 4),
+        (SPEEDS, 90, 7, 121, 126, 4),
+        (SPEEDS, 107, 7, 121, 127, 4),
+        (LEVELS, 90, 3, 5, 7, 3),
+        (AREAS, 90, 2, 2, 3, 3),
+        (AREAS, 92, 7, 121, 126, 4),
+        (LINKS, 106, 2, 3, 3, 3),
+        (VALUES, 95, 7, 121, 127, 4),
+        (VALUES, 102, 7, 121, 127, 4),
+        (VALUES, 109, 7, 121, 127, 4),
+        (VALUES, 116, 7, 121, 127, 4),
+        (VALUES, 123, 7, 121, 127, 4),
+        (VALUES, 145, 7, 121, 127, 4),
+        (VALUES, 152, 7, 121, 127, 4),
+    ] {
+        let mut bytes = hex::decode(rt.alloc(), text).ok().ok_or("hex")?;
+        for number in 0..1usize << width {
+            put_over(bytes.as_mut_slice(), at, width, number);
+            let wanted = if text == LEVELS && number == 1 {
+                1
+            } else if first <= number && number <= last {
+                fault
+            } else {
+                0
+            };
+            assert_eq!(rt;
+                fault_of(bytes.as_slice()),
+                wanted,
+                "{number} at {at} of {text}"
+            );
+        }
+    }
+    Ok(())
+}
+
 /// Packets 27 of three steps, with 70 and with 71 differences.
 const DIFFERENCES_70: &str =
     "1B86E8800A41F882104208410821042084108210420841082104208410821042084108210420841082104208410821042084002907E2084108210420841082104208410821042084108210420841082104208410821042084108210420841082001482810420841082104208410820";

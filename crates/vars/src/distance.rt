@@ -1,4 +1,5 @@
-ghost use Rattle.std.specs.Prelude.{◌≡◌, ◌*◌, pos};
+ghost use Rattle.std.specs.Prelude.{◌≡◌, ◌*◌, ◌<◌, ◌^◌, pos};
+ghost use Rattle.std.specs.Int.RustNames.{unsigned_abs};
 ghost use Rattle.vars.specs.Meanings.{centimetres_of};
 
 use crate::scale::Scale;
@@ -27,7 +28,8 @@ impl Model for Distance {
 impl Distance {
     /// The distance in centimetres.
     pub fn in_scale(self, scale: Scale) -> Cm
-        ensures { result ≡ pos (self * centimetres_of scale) }
+        ensures value { result ≡ pos (self * centimetres_of scale) }
+        ensures near { unsigned_abs result < 2 ^ 25 }
     {
         let cm = u32::from(self.steps) * scale.centimetres();
         Cm::new(i64::from(cm)).unwrap()

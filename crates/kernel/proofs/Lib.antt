@@ -1,0 +1,4 @@
+pub mod Carrying
+pub mod Using
+pub mod Hearing
+pub mod OneInput

@@ -1,0 +1,38 @@
+-- The speed limit after each event (this project's profile).
+use Rattle.std.specs.Prelude.{ℕ, min, List, [], ◌∷◌}
+use Rattle.odometry.specs.Place.{stretch}
+use Rattle.track_store.specs.Restrictions.{in_force, least_speed}
+use Rattle.kernel.specs.declared.events.Event.{Event}
+use Rattle.kernel.specs.declared.events.Event.TheVariants as event
+use Rattle.kernel.specs.declared.events.Input.{Input}
+use Rattle.kernel.specs.declared.train.Mode.{Mode}
+use Rattle.kernel.specs.declared.train.Mode.TheVariants.{StaffResponsible}
+use Rattle.kernel.specs.declared.train.TrainData.{TrainData}
+use Rattle.kernel.specs.History.{Entry, known, restrictions}
+use Rattle.kernel.specs.Lives.{life_of}
+
+-- V_NVSTFF, where no other national value is in force
+abbrev pub staff_responsible_speed : ℕ
+staff_responsible_speed = 40_000
+
+-- the greatest speed that a mode allows
+abbrev pub mode_speed : Mode → ℕ
+mode_speed StaffResponsible = staff_responsible_speed
+
+-- the least of the mode's speed, the train's maximum and the restrictions in force over the train's stretch
+abbrev pub limit : Mode → TrainData → List Entry → ℕ
+limit mode train entries =
+    least_speed (in_force (restrictions entries)) (stretch (known entries) train.length) (min (mode_speed mode) train.maximum)
+
+abbrev pub limit_after : Mode → TrainData → List Event → ℕ
+limit_after mode train events = limit mode train (life_of train events).entries
+
+-- the limit after each of some inputs, that come after these events
+abbrev pub limits_behind : Mode → TrainData → List Event → List Input → List ℕ
+limits_behind mode train events [] = []
+limits_behind mode train events (input ∷ inputs) =
+    limit_after mode train (event.Input input ∷ events) ∷ limits_behind mode train (event.Input input ∷ events) inputs
+
+-- the limit after each input of a life that begins with the first power-up
+abbrev pub limits_of : Mode → TrainData → List Input → List ℕ
+limits_of mode train inputs = limits_behind mode train (event.PowerUp ∷ []) inputs

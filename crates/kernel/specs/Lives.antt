@@ -1,0 +1,30 @@
+-- A list of events, the newest first, is cut into lives at each power-up. What a life says is read off what was kept of the
+-- lives before it and off its own entries, and off nothing else (this project's profile).
+use Rattle.std.specs.Prelude.{◌+◌, ◌-◌, ◌^◌, min, List, [], ◌∷◌}
+use Rattle.kernel.specs.declared.events.Event as events
+use Rattle.kernel.specs.declared.events.Event.TheVariants.{PowerUp, Input}
+use Rattle.kernel.specs.declared.kept.Kept.{Kept}
+use Rattle.kernel.specs.declared.train.TrainData.{TrainData}
+use Rattle.kernel.specs.History.{Entry}
+use Rattle.kernel.specs.Sentences.{entry_of}
+
+pub record Life : Type 0 where
+  pub kept : Kept  -- what was kept at its power-up
+  pub entries : List Entry
+
+-- what is kept of a life, once its power-up is counted too
+abbrev pub kept_of : Life → Kept
+kept_of life = record { lives = min (life.kept.lives + 1) (2 ^ 32 - 1) }
+
+-- before the first power-up
+abbrev pub no_life : Life
+no_life = record { kept = record { lives = 0 }; entries = [] }
+
+abbrev pub life_after : TrainData → Life → events.Event → Life
+life_after train life PowerUp = record { kept = kept_of life; entries = [] }
+life_after train life (Input input) = record life { entries = entry_of train life.entries input ∷ life.entries }
+
+-- the life that a list of events is in
+abbrev pub life_of : TrainData → List events.Event → Life
+life_of train [] = no_life
+life_of train (event ∷ events) = life_after train (life_of train events) event

@@ -1,0 +1,84 @@
+-- What follows where a balise group was read, or a broken one was (SUBSET-026, 3.4.4 and 3.16.2; that the wrong direction
+-- gives a trip: this project's profile).
+use Rattle.std.specs.Prelude.{ℕ, ℤ, ◌+ℤ◌, int_lt, Bool, true, false, not, ◌==◌, ◌&&◌, ◌||◌, nat_lt, if◌then◌else◌, Option, Some, None, List, [], ◌∷◌, filter, find}
+use Rattle.std.specs.Option.{option_map_or}
+use Rattle.vars.specs.declared.group.GroupIdentity.{GroupIdentity}
+use Rattle.vars.specs.declared.linking.LinkOrientation.{LinkOrientation}
+use Rattle.vars.specs.declared.linking.LinkOrientation.TheVariants.{Reverse, Nominal}
+use Rattle.linking.specs.declared.announcement.Announcement.{Announcement}
+use Rattle.linking.specs.declared.effect.Effect.{Effect}
+use Rattle.linking.specs.declared.judgement.GroupRead.{GroupRead}
+use Rattle.linking.specs.declared.judgement.Judgement.{Judgement}
+use Rattle.linking.specs.declared.judgement.Verdict.{Verdict}
+use Rattle.linking.specs.declared.judgement.Verdict.TheVariants.{Accept, Ignore, Reaction}
+use Rattle.linking.specs.Linking.{Entry, Known, is_any, first_place, no_effect, trip, service, effect_of, misses}
+use Rattle.linking.specs.Linking.Entry.{Accepted, Reacted}
+
+-- of several announcements of one group the first in the list is meant
+abbrev pub is_of : GroupIdentity → Announcement → Bool
+is_of group a = (a.group.country == group.country) && (a.group.number == group.number)
+
+abbrev pub first_of : GroupIdentity → List Announcement → Option Announcement
+first_of group announcements = find (is_of group) announcements
+
+-- ---- a group that was read
+
+-- the greatest front at its reading lies before the place where it is announced
+abbrev pub is_too_early : GroupRead → Announcement → Bool
+is_too_early group a = int_lt (group.place.estimate +ℤ group.place.uncertainty) (first_place a)
+
+abbrev pub is_other : LinkOrientation → LinkOrientation → Bool
+is_other Reverse Reverse = false
+is_other Reverse Nominal = true
+is_other Nominal Reverse = true
+is_other Nominal Nominal = false
+
+-- its direction is known and isn't the announced one
+abbrev pub is_wrong_way : GroupRead → Announcement → Bool
+is_wrong_way group a = option_map_or (is_other a.direction) group.direction false
+
+-- what an announced group comes to
+abbrev pub verdict_on : GroupRead → Option Announcement → Verdict
+verdict_on group None = Ignore
+verdict_on group (Some a) = if is_wrong_way group a || is_too_early group a then Reaction a else Accept (Some a)
+
+-- a group that isn't linked is accepted, and each group is where linking isn't in use
+abbrev pub verdict : Known → GroupRead → Verdict
+verdict known group =
+    if group.linked && is_any known.left then verdict_on group (first_of group.group known.left) else Accept None
+
+-- an accepted group passes the announcements before its own, which are missed
+abbrev pub is_before : Announcement → Announcement → Bool
+is_before a b = nat_lt b.number a.number
+
+abbrev pub effect : Known → GroupRead → Verdict → Effect
+effect known group (Accept None) = no_effect
+effect known group (Accept (Some a)) = misses known.has_missed (filter (is_before a) known.left)
+effect known group Ignore = no_effect
+effect known group (Reaction a) = if is_wrong_way group a then trip else effect_of a.reaction
+
+abbrev pub judgement : Known → GroupRead → Judgement
+judgement known group = record { verdict = verdict known group; effect = effect known group (verdict known group) }
+
+abbrev pub after_verdict : Verdict → List Entry → List Entry
+after_verdict (Accept None) entries = entries
+after_verdict (Accept (Some a)) entries = Accepted a.number ∷ entries
+after_verdict Ignore entries = entries
+after_verdict (Reaction a) entries = Reacted a.number ∷ entries
+
+abbrev pub after_judgement : Judgement → List Entry → List Entry
+after_judgement judgement entries = after_verdict judgement.verdict entries
+
+-- ---- a broken group
+
+-- the announcement that a linked group takes with it
+abbrev pub meant : Known → GroupIdentity → Bool → Option Announcement
+meant known group linked = if linked then first_of group known.left else None
+
+-- one that isn't linked gives service, an announced one its own reaction
+abbrev pub broken_effect : Known → GroupIdentity → Bool → Effect
+broken_effect known group linked =
+    if linked then option_map_or (λ a. effect_of a.reaction) (first_of group known.left) no_effect else service
+
+abbrev pub after_broken : Known → GroupIdentity → Bool → List Entry → List Entry
+after_broken known group linked entries = option_map_or (λ a. Reacted a.number ∷ entries) (meant known group linked) entries

@@ -1,0 +1,113 @@
+-- Announced balise groups, read off what was told in one life (SUBSET-026, 3.4.4 and 3.16.2; what two missed groups in turn
+-- do: this project's profile). Lists of entries have the newest first.
+use Rattle.std.specs.Prelude.{ℕ, ◌+◌, ◌*◌, ◌<◌, ℤ, pos, ◌+ℤ◌, ◌-ℤ◌, int_lt, Bool, true, false, not, ◌==◌, ◌||◌, nat_le, if◌then◌else◌, List, [], ◌∷◌, filter, All}
+use Rattle.std.specs.List.{list_any}
+use Rattle.vars.specs.declared.linking.LinkReaction.{LinkReaction}
+use Rattle.vars.specs.declared.linking.LinkReaction.TheVariants.{Trip, ServiceBrake, NoReaction}
+use Rattle.linking.specs.declared.announcement.Announcement.{Announcement}
+use Rattle.linking.specs.declared.effect.Effect.{Effect}
+
+-- what was told: a list of links (packet 5), in place of the one before, where an empty one deletes linking; that the group
+-- of an announcement was accepted, or wasn't used or was broken, or that the train had passed its place
+pub data Entry : Type 0 where
+  Announced : List Announcement → Entry
+  Accepted : ℕ → Entry
+  Reacted : ℕ → Entry
+  Missed : ℕ → Entry
+
+-- ---- which announcements are left
+
+-- an entry takes away announcements of the latest list, told by their numbers
+abbrev pub takes : Entry → ℕ → Bool
+takes (Announced announcements) number = false
+takes (Accepted last) number = nat_le number last
+takes (Reacted one) number = number == one
+takes (Missed one) number = number == one
+
+abbrev pub announced : List Entry → List Announcement
+announced [] = []
+announced (Announced announcements ∷ entries) = announcements
+announced (Accepted number ∷ entries) = announced entries
+announced (Reacted number ∷ entries) = announced entries
+announced (Missed number ∷ entries) = announced entries
+
+abbrev pub since_announced : List Entry → List Entry
+since_announced [] = []
+since_announced (Announced announcements ∷ entries) = []
+since_announced (Accepted number ∷ entries) = Accepted number ∷ since_announced entries
+since_announced (Reacted number ∷ entries) = Reacted number ∷ since_announced entries
+since_announced (Missed number ∷ entries) = Missed number ∷ since_announced entries
+
+-- an announcement of the latest list is left where no entry since has taken it away
+abbrev pub left : List Entry → List Announcement
+left entries = filter (λ a. not (list_any (λ entry. takes entry a.number) (since_announced entries))) (announced entries)
+
+-- whether a group was missed since one was accepted, or else since the start of the life
+abbrev pub has_missed : List Entry → Bool
+has_missed [] = false
+has_missed (Announced announcements ∷ entries) = has_missed entries
+has_missed (Accepted number ∷ entries) = false
+has_missed (Reacted number ∷ entries) = has_missed entries
+has_missed (Missed number ∷ entries) = true
+
+-- what is known of linking
+pub record Known : Type 0 where
+  pub left : List Announcement
+  pub has_missed : Bool
+
+abbrev pub known : List Entry → Known
+known entries = record { left = left entries; has_missed = has_missed entries }
+
+-- linking is in use while an announcement is left
+abbrev pub is_any : List Announcement → Bool
+is_any [] = false
+is_any (a ∷ announcements) = true
+
+-- the numbers of a list rise, as those from 0 on do
+abbrev pub IsRising : List Announcement → Type 0
+IsRising [] = Unit {0}
+IsRising (a ∷ announcements) = All (λ b. a.number < b.number) announcements × IsRising announcements
+
+-- ---- where an announced group may lie, in centimetres
+
+abbrev pub first_place : Announcement → ℤ
+first_place a = a.place -ℤ pos (100 * a.accuracy)
+
+abbrev pub last_place : Announcement → ℤ
+last_place a = a.place +ℤ pos (100 * a.accuracy)
+
+-- the least front lies beyond it
+abbrev pub is_passed_by : ℤ → Announcement → Bool
+is_passed_by min_front a = int_lt (last_place a) min_front
+
+-- ---- effects
+
+abbrev pub no_effect : Effect
+no_effect = record { trip = false; service = false }
+
+abbrev pub trip : Effect
+trip = record { trip = true; service = false }
+
+abbrev pub service : Effect
+service = record { trip = false; service = true }
+
+abbrev pub both : Effect → Effect → Effect
+both e f = record { trip = e.trip || f.trip; service = e.service || f.service }
+
+abbrev pub effect_of : LinkReaction → Effect
+effect_of Trip = trip
+effect_of ServiceBrake = service
+effect_of NoReaction = no_effect
+
+-- a missed group gives its reaction, and service beside it where another was missed before
+abbrev pub miss : Bool → Announcement → Effect
+miss has_missed a = both (effect_of a.reaction) (if has_missed then service else no_effect)
+
+abbrev pub misses : Bool → List Announcement → Effect
+misses has_missed [] = no_effect
+misses has_missed (a ∷ announcements) = both (miss has_missed a) (misses true announcements)
+
+-- one entry for each, in the order of the list
+abbrev pub after_misses : List Announcement → List Entry → List Entry
+after_misses [] entries = entries
+after_misses (a ∷ announcements) entries = after_misses announcements (Missed a.number ∷ entries)

@@ -1,0 +1,89 @@
+ghost use Rattle.std.specs.Prelude.{◌≡◌};
+ghost use Rattle.linking.specs.Linking.{is_passed_by, miss};
+ghost use Rattle.linking.specs.Judging.{is_of, is_too_early, is_wrong_way};
+
+use crate::{Effect, GroupRead};
+use units::Cm;
+use vars::{
+    Country, GroupIdentity, GroupNumber, LinkOrientation, LinkReaction, LocationAccuracy, Variable,
+};
+
+/// A balise group that a list of links (packet 5) announces.
+#[derive(Clone, Copy, Debug, PartialEq, Eq)]
+pub struct Announcement {
+    /// Its number in its list, from 0.
+    pub number: u8,
+    /// Which group it is.
+    pub group: GroupIdentity,
+    /// Where the group is to lie.
+    pub place: Cm,
+    /// How far it may lie from there, to either side (Q_LOCACC).
+    pub accuracy: LocationAccuracy,
+    /// The direction in which the train is to pass it (Q_LINKORIENTATION).
+    pub direction: LinkOrientation,
+    /// What follows where it isn't found as announced (Q_LINKREACTION).
+    pub reaction: LinkReaction,
+}
+
+/// Fills room that isn't in use.
+impl Default for Announcement {
+    fn default() -> Announcement {
+        Announcement {
+            number: 0,
+            group: GroupIdentity {
+                country: Country::default(),
+                number: GroupNumber::of_number(0).unwrap(),
+            },
+            place: Cm::ZERO,
+            accuracy: LocationAccuracy::of_number(0).unwrap(),
+            direction: LinkOrientation::Reverse,
+            reaction: LinkReaction::NoReaction,
+        }
+    }
+}
+
+impl Announcement {
+    // Whether it announces this group.
+    pub(crate) fn is_of(&self, group: &GroupIdentity) -> bool
+        ensures { result ≡ is_of group.now self.now }
+    {
+        self.group == *group
+    }
+
+    // Whether a group was read before the place where it is announced.
+    pub(crate) fn is_too_early(&self, group: &GroupRead) -> bool
+        ensures { result ≡ is_too_early group.now self.now }
+    {
+        let max_front = group.place.estimate.get() + group.place.uncertainty.get();
+        max_front < self.place.get() - self.accuracy.accuracy().get()
+    }
+
+    // Whether a group is known to have been passed in the other direction.
+    pub(crate) fn is_wrong_way(&self, group: &GroupRead) -> bool
+        ensures { result ≡ is_wrong_way group.now self.now }
+    {
+        match group.direction {
+            None => false,
+            Some(direction) => self.direction != direction,
+        }
+    }
+
+    // Whether the least front lies beyond the place where it is announced.
+    pub(crate) fn is_passed_by(&self, min_front: Cm) -> bool
+        ensures { result ≡ is_passed_by min_front self.now }
+    {
+        self.place.get() + self.accuracy.accuracy().get() < min_front.get()
+    }
+
+    // What it asks for where it is missed, and where another was missed before.
+    pub(crate) fn miss(&self, has_missed: bool) -> Effect
+        ensures { result ≡ miss has_missed self.now }
+    {
+        let second = if has_missed {
+            Effect::SERVICE
+        } else {
+            Effect::NONE
+        };
+        Effect::of(self.reaction).both(second)
+    }
+}

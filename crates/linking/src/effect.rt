@@ -1,0 +1,54 @@
+ghost use Rattle.std.specs.Prelude.{◌≡◌};
+ghost use Rattle.linking.specs.Linking.{both, effect_of};
+
+use vars::LinkReaction;
+
+/// What linking asks of the train.
+#[derive(Clone, Copy, Debug, PartialEq, Eq)]
+pub struct Effect {
+    /// A trip.
+    pub trip: bool,
+    /// The service brake.
+    pub service: bool,
+}
+
+impl Effect {
+    /// Nothing.
+    pub const NONE: Effect = Effect {
+        trip: false,
+        service: false,
+    };
+
+    /// A trip alone.
+    pub const TRIP: Effect = Effect {
+        trip: true,
+        service: false,
+    };
+
+    /// The service brake alone.
+    pub const SERVICE: Effect = Effect {
+        trip: false,
+        service: true,
+    };
+
+    /// What a reaction asks for.
+    pub fn of(reaction: LinkReaction) -> Effect
+        ensures { result ≡ effect_of reaction }
+    {
+        match reaction {
+            LinkReaction::Trip => Effect::TRIP,
+            LinkReaction::ServiceBrake => Effect::SERVICE,
+            LinkReaction::NoReaction => Effect::NONE,
+        }
+    }
+
+    /// What either asks for.
+    pub fn both(self, other: Effect) -> Effect
+        ensures { result ≡ both self other }
+    {
+        Effect {
+            trip: self.trip || other.trip,
+            service: self.service || other.service,
+        }
+    }
+}

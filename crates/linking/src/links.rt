@@ -1,0 +1,246 @@
+ghost use Rattle.std.specs.Prelude.{◌≡◌, ◌≤◌, List, [], length, filter, not, nat_lt, ◌∷◌};
+ghost use Rattle.std.specs.List.{list_any};
+ghost use Rattle.linking.specs.Linking.{Entry, IsRising, known, takes, is_any, is_passed_by, misses, after_misses};
+ghost use Rattle.linking.specs.Linking.Entry.{Announced, Accepted, Reacted};
+ghost use Rattle.linking.specs.Judging.{first_of, verdict, effect, judgement, after_verdict, after_judgement, broken_effect, after_broken};
+
+use crate::{Announcement, Effect, GroupRead, Judgement, Verdict};
+use arrayvec::ArrayVec;
+use std::marker::Model;
+use units::Cm;
+use vars::GroupIdentity;
+
+/// The announced groups that are left, and whether one was missed since the last that was accepted.
+#[derive(Drop)]
+pub struct Links {
+    // In the order of their list.
+    left: ArrayVec<Announcement, 32>,
+    has_missed: bool,
+}
+
+impl Model for Links {
+    ghost use Rattle.linking.specs.Linking.{Known, IsRising};
+
+    ghost Value = { Known };
+
+    ghost view = { λ l. record { left = l.left.items; has_missed = l.has_missed } };
+
+    ghost invariant = { λ l. IsRising l.left.items };
+}
+
+impl Links {
+    /// No group is announced. Takes no memory.
+    pub fn new() -> Self
+        ensures { result ≡ known [] }
+    {
+        Links {
+            left: ArrayVec::new(),
+            has_missed: false,
+        }
+    }
+
+    /// Takes a list of links in place of the one before; an empty one deletes linking.
+    pub fn replace(&mut self, announcements: &[Announcement])
+        requires room { length announcements.now ≤ 32 }
+        requires rising { IsRising announcements.now }
+        ensures { (entries : List Entry) → self.old ≡ known entries
+            → self.new ≡ known (Announced announcements.now ∷ entries) }
+    {
+        self.left = ArrayVec::try_from(announcements).unwrap();
+    }
+
+    /// Judges a whole group that was read. One that is accepted takes its announcement and all before it with it, one that
+    /// is found too early or in the wrong direction takes its own.
+    pub fn judge(&mut self, group: &GroupRead) -> Judgement
+        ensures answer { result ≡ judgement self.old group.now }
+        ensures stands { (entries : List Entry) → self.old ≡ known entries
+            → self.new ≡ known (after_judgement (judgement self.old group.now) entries) }
+    {
+        let verdict = self.verdict(group);
+        let effect = self.effect(group, &verdict);
+        self.follow(&verdict);
+        Judgement { verdict, effect }
+    }
+
+    /// Takes note of a broken group: what it asks for. One that is announced takes its announcement with it.
+    pub fn broken(&mut self, group: GroupIdentity, linked: bool) -> Effect
+        ensures answer { result ≡ broken_effect self.old group linked }
+        ensures stands { (entries : List Entry) → self.old ≡ known entries
+            → self.new ≡ known (after_broken self.old group linked entries) }
+    {
+        if !linked {
+            return Effect::SERVICE;
+        }
+        match self.first_of(&group) {
+            None => Effect::NONE,
+            Some(announcement) => {
+                self.remove(announcement.number);
+                Effect::of(announcement.reaction)
+            }
+        }
+    }
+
+    /// Drops the announcements that the least front has passed: what they ask for.
+    pub fn missed(&mut self, min_front: Cm) -> Effect
+        ensures answer { result ≡ misses self.old.has_missed (filter (is_passed_by min_front) self.old.left) }
+        ensures stands { (entries : List Entry) → self.old ≡ known entries
+            → self.new ≡ known (after_misses (filter (is_passed_by min_front) self.old.left) entries) }
+    {
+        let effect = effect_behind(self.left.as_slice(), min_front, self.has_missed);
+        self.has_missed = self.has_missed || is_any_behind(self.left.as_slice(), min_front);
+        drop_behind(&mut self.left, min_front);
+        effect
+    }
+
+    /// Whether linking is in use: whether an announced group is left.
+    pub fn is_in_use(&self) -> bool
+        ensures { result ≡ is_any self.now.left }
+    {
+        !self.left.is_empty()
+    }
+
+    /// An equal value.
+    pub fn copy(&self) -> Self
+        ensures { result ≡ self.now }
+    {
+        Links {
+            left: ArrayVec::try_from(self.left.as_slice()).unwrap(),
+            has_missed: self.has_missed,
+        }
+    }
+}
+
+/// The parts of a judgement.
+impl Links {
+    // The first announcement of a group that is left.
+    fn first_of(&self, group: &GroupIdentity) -> Option<Announcement>
+        ensures { result ≡ first_of group.now self.now.left }
+    {
+        self.left.as_slice().iter().copied().find(|a| a.is_of(group))
+    }
+
+    // What becomes of a group that was read.
+    fn verdict(&self, group: &GroupRead) -> Verdict
+        ensures { result ≡ verdict self.now group.now }
+    {
+        if !group.linked || !self.is_in_use() {
+            return Verdict::Accept(None);
+        }
+        match self.first_of(&group.group) {
+            None => Verdict::Ignore,
+            Some(announcement) => {
+                if announcement.is_wrong_way(group) || announcement.is_too_early(group) {
+                    Verdict::Reaction(announcement)
+                } else {
+                    Verdict::Accept(Some(announcement))
+                }
+            }
+        }
+    }
+
+    // What a verdict asks for.
+    fn effect(&self, group: &GroupRead, verdict: &Verdict) -> Effect
+        ensures { result ≡ effect self.now group.now verdict.now }
+    {
+        match verdict {
+            Verdict::Accept(None) | Verdict::Ignore => Effect::NONE,
+            Verdict::Accept(Some(announcement)) => {
+                effect_before(self.left.as_slice(), announcement.number, self.has_missed)
+            }
+            Verdict::Reaction(announcement) => {
+                if announcement.is_wrong_way(group) {
+                    Effect::TRIP
+                } else {
+                    Effect::of(announcement.reaction)
+                }
+            }
+        }
+    }
+
+    // Drops the announcements that a verdict takes.
+    fn follow(&mut self, verdict: &Verdict)
+        ensures { (entries : List Entry) → self.old ≡ known entries
+            → self.new ≡ known (after_verdict verdict.now entries) }
+    {
+        match verdict {
+            Verdict::Accept(None) | Verdict::Ignore => {}
+            Verdict::Accept(Some(announcement)) => self.accept(announcement.number),
+            Verdict::Reaction(announcement) => self.remove(announcement.number),
+        }
+    }
+
+    // Drops the announcements up to a number, whose group was accepted.
+    fn accept(&mut self, number: u8)
+        ensures { (entries : List Entry) → self.old ≡ known entries
+            → self.new ≡ known (Accepted number ∷ entries) }
+    {
+        self.has_missed = false;
+        drop_up_to(&mut self.left, number);
+    }
+
+    // Drops the announcement of a number, whose group wasn't used or was broken.
+    fn remove(&mut self, number: u8)
+        ensures { (entries : List Entry) → self.old ≡ known entries
+            → self.new ≡ known (Reacted number ∷ entries) }
+    {
+        drop_number(&mut self.left, number);
+    }
+}
+
+// What the announcements before a number ask for where they are missed.
+fn effect_before(announcements: &[Announcement], number: u8, has_missed: bool) -> Effect
+    ensures { result ≡ misses has_missed (filter (λ a. nat_lt a.number number) announcements.now) }
+{
+    let mut missed = has_missed;
+    let mut effect = Effect::NONE;
+    for announcement in announcements {
+        if announcement.number < number {
+            effect = effect.both(announcement.miss(missed));
+            missed = true;
+        }
+    }
+    effect
+}
+
+// What the announcements that the least front has passed ask for where they are missed.
+fn effect_behind(announcements: &[Announcement], min_front: Cm, has_missed: bool) -> Effect
+    ensures { result ≡ misses has_missed (filter (is_passed_by min_front) announcements.now) }
+{
+    let mut missed = has_missed;
+    let mut effect = Effect::NONE;
+    for announcement in announcements {
+        if announcement.is_passed_by(min_front) {
+            effect = effect.both(announcement.miss(missed));
+            missed = true;
+        }
+    }
+    effect
+}
+
+// Whether the least front has passed one of the announcements.
+fn is_any_behind(announcements: &[Announcement], min_front: Cm) -> bool
+    ensures { result ≡ list_any (is_passed_by min_front) announcements.now }
+{
+    announcements.iter().any(|a| a.is_passed_by(min_front))
+}
+
+// Drops the announcements that the least front has passed.
+fn drop_behind(announcements: &mut ArrayVec<Announcement, 32>, min_front: Cm)
+    ensures { announcements.new.items ≡ filter (λ a. not (is_passed_by min_front a)) announcements.old.items }
+{
+    announcements.retain(|a| !a.is_passed_by(min_front));
+}
+
+// Drops the announcements up to a number.
+fn drop_up_to(announcements: &mut ArrayVec<Announcement, 32>, number: u8)
+    ensures { announcements.new.items ≡ filter (λ a. not (takes (Accepted number) a.number)) announcements.old.items }
+{
+    announcements.retain(|a| number < a.number);
+}
+
+// Drops the announcement of a number.
+fn drop_number(announcements: &mut ArrayVec<Announcement, 32>, number: u8)
+    ensures { announcements.new.items ≡ filter (λ a. not (takes (Reacted number) a.number)) announcements.old.items }
+{
+    announcements.retain(|a| a.number != number);
+}

@@ -1,9 +1,10 @@
 -- Where the train's front is, read off the movements and fixes of one life (this project's profile; its words are those
 -- of SUBSET-026, 3.6.4). Lists have the newest first.
-use Rattle.std.specs.Prelude.{ℕ, ◌+◌, ◌^◌, ◌≤◌, ℤ, pos, ◌+ℤ◌, ◌-ℤ◌, Bool, false, ◌&&◌, if◌then◌else◌, nat_le, List, [], ◌∷◌}
+use Rattle.std.specs.Prelude.{ℕ, ◌+◌, ◌-◌, ◌^◌, ◌≤◌, ℤ, pos, ◌+ℤ◌, ◌-ℤ◌, Bool, false, ◌&&◌, if◌then◌else◌, nat_le, List, [], ◌∷◌}
 use Rattle.std.specs.Int.{div_ceil}
 use Rattle.std.specs.Int.RustNames.{unsigned_abs}
 use Rattle.units.specs.Stretches.{Span}
+use Rattle.odometry.specs.declared.earlier.EarlierPlace.{EarlierPlace}
 
 -- a place told by a balise group: where the group lies, how exactly that is known, the movement and the path since its
 -- balise was read, and whether its balise 1 was missed
@@ -94,6 +95,31 @@ min_rear place length = min_front place -ℤ pos length
 -- what a train of this length may stand on
 abbrev pub stretch : Known → ℕ → Span
 stretch place length = record { rear = min_rear place length; min_front = min_front place; max_front = max_front place }
+
+-- the sums of a life at one moment: its movements, and its path
+pub record Sums : Type 0 where
+  pub moved : ℤ
+  pub path : ℕ
+
+abbrev pub sums : Known → Sums
+sums place = record { moved = place.moved_sum; path = place.path_sum }
+
+-- the movement and the path since an earlier moment
+abbrev pub moved_after : Known → Sums → ℤ
+moved_after place earlier = place.moved_sum -ℤ earlier.moved
+
+abbrev pub path_after : Known → Sums → ℕ
+path_after place earlier = place.path_sum - earlier.path
+
+-- where the front was at an earlier moment, reckoned from the last fix
+abbrev pub estimate_then : Known → Sums → ℤ
+estimate_then place earlier = place.estimate -ℤ moved_after place earlier
+
+abbrev pub uncertainty_then : Known → Sums → ℕ
+uncertainty_then place earlier = uncertainty (record place { path_since = place.path_since - path_after place earlier })
+
+abbrev pub place_then : Known → Sums → EarlierPlace
+place_then place earlier = record { estimate = estimate_then place earlier; uncertainty = pos (uncertainty_then place earlier) }
 
 -- the longest path and the farthest place of a life
 abbrev pub farthest : ℕ

@@ -2,10 +2,12 @@
 //! and how far that may be wrong (this project's profile).
 #![tactic(auto)]
 
+mod earlier;
 mod overrun;
 mod place;
 #[cfg(test)]
 mod tests;
 
+pub use earlier::{EarlierPlace, Sums};
 pub use overrun::Overrun;
 pub use place::Place;

@@ -1,8 +1,8 @@
-ghost use Rattle.std.specs.Prelude.{◌≡◌, ◌↔◌, ◌+◌, ◌-◌, ◌^◌, ◌≤◌, List, [], pos, IsTrue, IsOk, OnErr};
+ghost use Rattle.std.specs.Prelude.{◌≡◌, ◌↔◌, ◌+◌, ◌-◌, ◌*◌, ◌^◌, ◌≤◌, List, [], pos, IsTrue, IsOk, OnErr};
 ghost use Rattle.std.specs.Int.RustNames.{unsigned_abs};
-ghost use Rattle.odometry.specs.Place.{Entry, known, uncertainty, min_front, max_front, min_rear, stretch, has_room, after_movement, fix_of, is_made, after_fix};
+ghost use Rattle.odometry.specs.Place.{Entry, known, uncertainty, min_front, max_front, min_rear, stretch, sums, moved_after, path_after, place_then, has_room, after_movement, fix_of, is_made, after_fix};
 
-use crate::Overrun;
+use crate::{EarlierPlace, Overrun, Sums};
 use std::marker::Model;
 use units::{Cm, Length, Stretch};
 
@@ -130,6 +130,50 @@ impl Place {
         let missing = if self.missed { 1_200 } else { 0 };
         let cm = self.accuracy + 500 + growth + missing;
         Cm::new(cm as i64).unwrap()
+    }
+
+    /// The sums of the life now.
+    pub fn sums(&self) -> Sums
+        ensures { result ≡ sums self.now }
+    {
+        Sums {
+            moved: self.moved_sum,
+            path: self.path_sum,
+        }
+    }
+
+    /// The movement since an earlier moment of this life.
+    pub fn moved_after(&self, earlier: Sums) -> Cm
+        ensures value { result ≡ moved_after self.now earlier }
+        ensures near { unsigned_abs result ≤ 2 ^ 41 }
+    {
+        Cm::new(self.moved_sum - earlier.moved().get()).unwrap()
+    }
+
+    /// The path since an earlier moment of this life.
+    pub fn path_after(&self, earlier: Sums) -> Length
+        ensures { result ≡ path_after self.now earlier }
+    {
+        Length::new(self.path_sum.saturating_sub(earlier.path().get())).unwrap()
+    }
+
+    /// Where the front was at an earlier moment of this life, reckoned from the last fix.
+    pub fn place_then(&self, earlier: Sums) -> EarlierPlace
+        ensures value { result ≡ place_then self.now earlier }
+        ensures near { unsigned_abs result.estimate ≤ 3 * 2 ^ 40 }
+    {
+        let estimate = self.estimate - self.moved_after(earlier).get();
+        let path_since = self
+            .path_since
+            .saturating_sub(self.path_after(earlier).get());
+        let then = Place {
+            path_since,
+            ..*self
+        };
+        EarlierPlace {
+            estimate: Cm::new(estimate).unwrap(),
+            uncertainty: then.uncertainty(),
+        }
     }
 
     /// The minimum safe front.

@@ -5,30 +5,42 @@ use Rattle.vars.specs.declared.group.GroupIdentity.{GroupIdentity}
 use Rattle.vars.specs.Meanings.{centimetres_of}
 use Rattle.packets.specs.declared.packet.Packet.{Packet}
 use Rattle.packets.specs.declared.restrictions.SpeedRestriction.{SpeedRestriction}
-use Rattle.packets.specs.Packets.{as_speed_restriction, as_revocation}
+use Rattle.packets.specs.Packets.{as_linking, as_speed_restriction, as_revocation}
+use Rattle.balise_groups.specs.declared.message.Closed.{Closed}
+use Rattle.balise_groups.specs.declared.message.Closed.TheVariants.{Whole, Broken}
+use Rattle.balise_groups.specs.Groups as groups
+use Rattle.linking.specs.declared.announcement.Announcement.{Announcement}
+use Rattle.linking.specs.declared.effect.Effect.{Effect}
+use Rattle.linking.specs.declared.judgement.Verdict.{Verdict}
+use Rattle.linking.specs.Linking as linking
+use Rattle.linking.specs.Linking.Entry.{Announced}
+use Rattle.linking.specs.Judging.{after_verdict, after_broken}
 use Rattle.odometry.specs.Place as odometry
-use Rattle.kernel.specs.declared.heard.Heard.{Heard}
 use Rattle.track_store.specs.declared.restriction.Restriction.{Restriction}
 use Rattle.track_store.specs.Restrictions as track
 use Rattle.track_store.specs.Restrictions.Entry.{Restricted, Revoked, Forgotten}
+use Rattle.kernel.specs.Announcing.{announcements_of}
 
--- what a balise group tells: where it lies, and the packets of its telegrams
-pub record Message : Type 0 where
-  pub place : ℤ
-  pub packets : List Packet
-
--- a packet that was used, and the place of its group, from which its distances count
+-- a packet that was used, its group, and the place from which its distances count
 pub record Fact : Type 0 where
+  pub group : GroupIdentity
   pub place : ℤ
   pub packet : Packet
+
+-- what came of a group that closed
+pub record Outcome : Type 0 where
+  pub closed : Closed
+  pub verdict : Option Verdict  -- what linking says of a whole group
+  pub effect : Effect  -- what linking asks of the train
+  pub fix : Option odometry.Fix  -- the fix that the group made
+  pub facts : List Fact  -- those of its packets that were used, in the order of the message
 
 -- what one input did: a field for each sentence of the order of one event
 pub record Entry : Type 0 where
   pub movement : Option ℤ  -- what the odometer told
-  pub group : Option GroupIdentity  -- the group of which a telegram was read
-  pub message : Option Message  -- what the group tells that closed
-  pub fix : Option odometry.Fix  -- the fix that it made
-  pub facts : List Fact  -- those of its packets that were used, in the order of the message
+  pub heard : Option groups.Entry  -- a telegram that was read, or the path that the life has come to
+  pub missed : List Announcement  -- the announced groups that the train has passed
+  pub groups : List Outcome  -- of the groups that closed, the newest first
   pub mark : Option ℤ  -- the track before this place is forgotten
 
 -- ---- what bears on the place: movements, and fixes behind them
@@ -41,15 +53,59 @@ abbrev pub after_fix : Option odometry.Fix → List odometry.Entry → List odom
 after_fix None entries = entries
 after_fix (Some fix) entries = odometry.after_fix entries fix
 
+abbrev pub after_fixes : List Outcome → List odometry.Entry → List odometry.Entry
+after_fixes [] entries = entries
+after_fixes (outcome ∷ outcomes) entries = after_fix outcome.fix (after_fixes outcomes entries)
+
 abbrev pub places : List Entry → List odometry.Entry
 places [] = []
-places (entry ∷ entries) = after_fix entry.fix (after_movement entry.movement (places entries))
+places (entry ∷ entries) = after_fixes entry.groups (after_movement entry.movement (places entries))
 
-abbrev pub known : List Entry → odometry.Known
-known entries = odometry.known (places entries)
+abbrev pub place_of : List Entry → odometry.Known
+place_of entries = odometry.known (places entries)
+
+-- ---- what bears on balise groups: the telegrams that were read, and the path
+
+abbrev pub after_heard : Option groups.Entry → List groups.Entry → List groups.Entry
+after_heard None entries = entries
+after_heard (Some heard) entries = heard ∷ entries
+
+abbrev pub all_heard : List Entry → List groups.Entry
+all_heard [] = []
+all_heard (entry ∷ entries) = after_heard entry.heard (all_heard entries)
+
+abbrev pub groups_of : List Entry → groups.Known
+groups_of entries = groups.known (all_heard entries)
+
+-- ---- what bears on linking: the groups that were missed; then of each group that closed what became of it, and behind
+-- that the lists of links that it told (packet 5)
+
+abbrev pub after_ruling : Closed → Option Verdict → List linking.Entry → List linking.Entry
+after_ruling (Broken b) verdict entries = after_broken (linking.known entries) b.group b.linked entries
+after_ruling (Whole message) verdict entries = option_map_or (λ v. after_verdict v entries) verdict entries
+
+abbrev pub after_links : Fact → List linking.Entry → List linking.Entry
+after_links fact entries =
+    option_map_or (λ p. Announced (announcements_of fact.group fact.place p) ∷ entries) (as_linking fact.packet) entries
+
+abbrev pub after_all_links : List Fact → List linking.Entry → List linking.Entry
+after_all_links [] entries = entries
+after_all_links (fact ∷ facts) entries = after_all_links facts (after_links fact entries)
+
+abbrev pub after_groups : List Outcome → List linking.Entry → List linking.Entry
+after_groups [] entries = entries
+after_groups (outcome ∷ outcomes) entries =
+    after_all_links outcome.facts (after_ruling outcome.closed outcome.verdict (after_groups outcomes entries))
+
+abbrev pub links : List Entry → List linking.Entry
+links [] = []
+links (entry ∷ entries) = after_groups entry.groups (linking.after_misses entry.missed (links entries))
+
+abbrev pub links_of : List Entry → linking.Known
+links_of entries = linking.known (links entries)
 
 -- ---- what bears on the restrictions. Packets are taken in rising number, equal numbers in the order of the message:
--- the restrictions (packet 65), then the revocations (packet 66); behind them the forgetting mark
+-- the restrictions (packet 65), then the revocations (packet 66); behind all groups the forgetting mark
 
 abbrev pub restriction_of : ℤ → SpeedRestriction → Restriction
 restriction_of place p =
@@ -76,21 +132,15 @@ abbrev pub after_revocations : List Fact → List track.Entry → List track.Ent
 after_revocations [] entries = entries
 after_revocations (fact ∷ facts) entries = after_revocations facts (after_revocation fact entries)
 
+abbrev pub after_messages : List Outcome → List track.Entry → List track.Entry
+after_messages [] entries = entries
+after_messages (outcome ∷ outcomes) entries =
+    after_revocations outcome.facts (after_restrictions outcome.facts (after_messages outcomes entries))
+
 abbrev pub after_mark : Option ℤ → List track.Entry → List track.Entry
 after_mark None entries = entries
 after_mark (Some mark) entries = Forgotten mark ∷ entries
 
 abbrev pub restrictions : List Entry → List track.Entry
 restrictions [] = []
-restrictions (entry ∷ entries) =
-    after_mark entry.mark (after_revocations entry.facts (after_restrictions entry.facts (restrictions entries)))
-
--- ---- the group that closed last, and the path of the life at its last telegram
-
-abbrev pub heard_of : Option GroupIdentity → ℕ → Option Heard → Option Heard
-heard_of None path before = before
-heard_of (Some group) path before = Some (record { group = group; path = path })
-
-abbrev pub last_heard : List Entry → Option Heard
-last_heard [] = None
-last_heard (entry ∷ entries) = heard_of entry.group (known (entry ∷ entries)).path_sum (last_heard entries)
+restrictions (entry ∷ entries) = after_mark entry.mark (after_messages entry.groups (restrictions entries))

@@ -1,7 +1,8 @@
 pub mod Bytes
+pub mod Announcing
 pub mod History
 pub mod Sentences
-pub mod Walking
+pub mod Steps
 pub mod Lives
 pub mod Limit
 pub mod StandsFor

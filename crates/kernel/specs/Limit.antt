@@ -8,7 +8,7 @@ use Rattle.kernel.specs.declared.events.Input.{Input}
 use Rattle.kernel.specs.declared.train.Mode.{Mode}
 use Rattle.kernel.specs.declared.train.Mode.TheVariants.{StaffResponsible}
 use Rattle.kernel.specs.declared.train.TrainData.{TrainData}
-use Rattle.kernel.specs.History.{Entry, known, restrictions}
+use Rattle.kernel.specs.History.{Entry, place_of, restrictions}
 use Rattle.kernel.specs.Lives.{life_of}
 
 -- V_NVSTFF, where no other national value is in force
@@ -22,7 +22,7 @@ mode_speed StaffResponsible = staff_responsible_speed
 -- the least of the mode's speed, the train's maximum and the restrictions in force over the train's stretch
 abbrev pub limit : Mode → TrainData → List Entry → ℕ
 limit mode train entries =
-    least_speed (in_force (restrictions entries)) (stretch (known entries) train.length) (min (mode_speed mode) train.maximum)
+    least_speed (in_force (restrictions entries)) (stretch (place_of entries) train.length) (min (mode_speed mode) train.maximum)
 
 abbrev pub limit_after : Mode → TrainData → List Event → ℕ
 limit_after mode train events = limit mode train (life_of train events).entries

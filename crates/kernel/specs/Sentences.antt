@@ -1,93 +1,169 @@
--- What an input does in a life, sentence by sentence in the order of one event (this project's profile; groups of balises
--- are those of SUBSET-026, 3.4 and 3.16.2). So far a group has one balise, linking and the driver's actions do nothing, and
--- telegrams of longer groups have no effect at all.
-use Rattle.std.specs.Prelude.{ℕ, ◌+◌, ◌==◌, nat_le, ℤ, pos, ◌-ℤ◌, Bool, true, false, ◌&&◌, Option, Some, None, List, [], ◌∷◌, map, filter, if◌then◌else◌}
-use Rattle.std.specs.Option.{option_map, option_map_or}
+-- What an input does in a life, sentence by sentence in the order of one event (this project's profile; balise groups are
+-- those of SUBSET-026, 3.4 and 3.16.2). So far the clock and the driver's actions do nothing.
+use Rattle.std.specs.Prelude.{ℕ, ◌*◌, ◌==◌, ℤ, pos, ◌-ℤ◌, Bool, true, false, Option, Some, None, List, [], ◌∷◌, map, filter, if◌then◌else◌}
+use Rattle.std.specs.Option.{option_map, option_map_or, option_or}
 use Rattle.vars.specs.declared.group.GroupIdentity.{GroupIdentity}
+use Rattle.vars.specs.declared.linking.LinkOrientation.{LinkOrientation}
+use Rattle.vars.specs.declared.linking.LinkOrientation.TheVariants as orientation
 use Rattle.vars.specs.declared.packet_head.ValidityDirection.{ValidityDirection}
 use Rattle.vars.specs.declared.packet_head.ValidityDirection.TheVariants.{Reverse, Nominal, Both}
 use Rattle.packets.specs.declared.packet.Packet.{Packet}
 use Rattle.packets.specs.declared.packet.Packet.TheVariants as packets
-use Rattle.packets.specs.Packets.{number_of}
-use Rattle.telegram.specs.declared.message.Telegram as telegrams
+use Rattle.balise_groups.specs.declared.message.Closed.{Closed}
+use Rattle.balise_groups.specs.declared.message.Closed.TheVariants.{Whole, Broken}
+use Rattle.balise_groups.specs.declared.message.Message.{Message}
+use Rattle.balise_groups.specs.declared.assembler.Taken.{Taken}
+use Rattle.balise_groups.specs.Groups as groups
+use Rattle.balise_groups.specs.Groups.Entry.{Read, Went}
+use Rattle.linking.specs.declared.announcement.Announcement.{Announcement}
+use Rattle.linking.specs.declared.judgement.GroupRead.{GroupRead}
+use Rattle.linking.specs.declared.judgement.Verdict.{Verdict}
+use Rattle.linking.specs.declared.judgement.Verdict.TheVariants.{Accept, Ignore, Reaction}
+use Rattle.linking.specs.Linking.{is_any, is_passed_by}
+use Rattle.linking.specs.Judging.{judgement, broken_effect}
 use Rattle.odometry.specs.Place as odometry
 use Rattle.kernel.specs.declared.events.Input as inputs
 use Rattle.kernel.specs.declared.events.Input.TheVariants.{Telegram, Odometer, Clock, Driver}
 use Rattle.kernel.specs.declared.train.TrainData.{TrainData}
 use Rattle.kernel.specs.Bytes.{telegram_in}
-use Rattle.kernel.specs.declared.heard.Heard.{Heard}
-use Rattle.kernel.specs.History.{Entry, Message, Fact, known, last_heard}
+use Rattle.kernel.specs.History.{Entry, Outcome, Fact, place_of, groups_of, links_of}
 
 abbrev pub nothing : Entry
-nothing = record { movement = None; group = None; message = None; fix = None; facts = []; mark = None }
+nothing = record { movement = None; heard = None; missed = []; groups = []; mark = None }
 
--- ---- first what the input itself does
+-- ---- first what the input itself does: a movement, then the path and the announced groups that the train has passed; or
+-- a telegram
 
--- a telegram of the group that closed last is a repeat within 1,300 cm of path since its last telegram
-abbrev pub is_within : GroupIdentity → ℕ → Heard → Bool
-is_within group path last = (last.group.country == group.country) && (last.group.number == group.number) && nat_le path (last.path + 1300)
+abbrev pub with_path : List Entry → Entry → Entry
+with_path entries entry = record entry { heard = Some (Went (place_of (entry ∷ entries)).path_sum) }
 
-abbrev pub is_repeat : List Entry → GroupIdentity → Bool
-is_repeat entries group = option_map_or (is_within group (known entries).path_sum) (last_heard entries) false
+abbrev pub with_missed : List Entry → Entry → Entry
+with_missed entries entry =
+    record entry { missed = filter (is_passed_by (odometry.min_front (place_of (entry ∷ entries)))) (links_of entries).left }
 
--- what a group of one balise tells: nothing where its counter is 254
-abbrev pub message_of : List Entry → telegrams.Telegram → Option Message
-message_of entries t =
-    if t.header.counter == 254 then None
-    else Some (record { place = (known entries).estimate; packets = t.packets.items })
+abbrev pub moved : List Entry → ℤ → Entry
+moved entries by = with_missed entries (with_path entries (record nothing { movement = Some by }))
 
-abbrev pub heard : List Entry → Option telegrams.Telegram → Entry
-heard entries None = nothing
-heard entries (Some t) =
-    if t.header.last_position == 0
-    then record nothing { group = Some t.header.group; message = if is_repeat entries t.header.group then None else message_of entries t }
-    else nothing
+abbrev pub heard : List Entry → List ℕ → Entry
+heard entries bytes =
+    record nothing { heard = option_map (λ t. Read (record { telegram = t; sums = odometry.sums (place_of entries) })) (telegram_in bytes) }
 
 abbrev pub begun : List Entry → inputs.Input → Entry
-begun entries (Telegram bytes) = heard entries (telegram_in bytes.items)
-begun entries (Odometer reading) = record nothing { movement = Some reading.movement }
+begun entries (Telegram bytes) = heard entries bytes.items
+begun entries (Odometer reading) = moved entries reading.movement
 begun entries (Clock moment) = nothing
 begun entries (Driver action) = nothing
 
--- ---- then a group that closed makes a fix at its own place
+-- ---- then the groups that closed: the one that was ended, and behind it the one that is whole. Each is judged by linking,
+-- by the place of the train at its reading
 
-abbrev pub fix_at : ℤ → odometry.Fix
-fix_at place = odometry.fix_of place 0 (pos 0) 0 false
+abbrev pub group_read : odometry.Known → Message → GroupRead
+group_read place message =
+    record { group = message.group; linked = message.linked; direction = message.direction; place = odometry.place_then place message.sums }
 
-abbrev pub with_fix : Entry → Entry
-with_fix entry = record entry { fix = option_map (λ message. fix_at message.place) entry.message }
+abbrev pub judged : List Entry → Entry → Closed → Outcome
+judged entries entry (Broken b) =
+    record { closed = Broken b; verdict = None; effect = broken_effect (links_of (entry ∷ entries)) b.group b.linked; fix = None; facts = [] }
+judged entries entry (Whole message) =
+    let j = judgement (links_of (entry ∷ entries)) (group_read (place_of (entry ∷ entries)) message) in
+    record { closed = Whole message; verdict = Some j.verdict; effect = j.effect; fix = None; facts = [] }
 
--- ---- then its packets are used: those before the first packet 136 that are valid in both directions
+-- ---- an accepted group makes its fix: an announced one where it was announced, another one at its own place, but only
+-- while linking isn't in use
 
-abbrev pub is_both : ValidityDirection → Bool
-is_both Reverse = false
-is_both Nominal = false
-is_both Both = true
+abbrev pub added : Outcome → Entry → Entry
+added outcome entry = record entry { groups = outcome ∷ entry.groups }
 
-abbrev pub is_for_both : Packet → Bool
-is_for_both (packets.NationalValues p) = is_both p.direction
-is_for_both (packets.Linking p) = is_both p.direction
-is_for_both (packets.MovementAuthority p) = is_both p.direction
-is_for_both (packets.Gradients p) = is_both p.direction
-is_for_both (packets.StaticSpeeds p) = is_both p.direction
-is_for_both (packets.LevelTransition p) = is_both p.direction
-is_for_both (packets.SpeedRestriction p) = is_both p.direction
-is_for_both (packets.RestrictionRevocation p) = is_both p.direction
-is_for_both (packets.ModeProfile p) = is_both p.direction
-is_for_both (packets.Other p) = p.direction == 2
+abbrev pub own_place : odometry.Known → Message → ℤ
+own_place place message = odometry.estimate_then place message.sums
 
-abbrev pub before_infill : List Packet → List Packet
-before_infill [] = []
-before_infill (p ∷ ps) = if number_of p == 136 then [] else p ∷ before_infill ps
+abbrev pub fix_at : odometry.Known → Message → ℤ → ℕ → odometry.Fix
+fix_at place message at accuracy =
+    odometry.fix_of at accuracy (odometry.moved_after place message.sums) (odometry.path_after place message.sums) message.missed
 
-abbrev pub used : List Packet → List Packet
-used ps = filter is_for_both (before_infill ps)
+abbrev pub fix_of : odometry.Known → Bool → Message → Verdict → Option odometry.Fix
+fix_of place in_use message (Accept (Some a)) = Some (fix_at place message a.place (100 * a.accuracy))
+fix_of place in_use message (Accept None) = if in_use then None else Some (fix_at place message (own_place place message) 0)
+fix_of place in_use message Ignore = None
+fix_of place in_use message (Reaction a) = None
 
-abbrev pub facts_of : Message → List Fact
-facts_of message = map (λ p. record { place = message.place; packet = p }) (used message.packets)
+abbrev pub fix_by : odometry.Known → Bool → Closed → Option Verdict → Option odometry.Fix
+fix_by place in_use (Broken b) verdict = None
+fix_by place in_use (Whole message) None = None
+fix_by place in_use (Whole message) (Some verdict) = fix_of place in_use message verdict
 
-abbrev pub with_facts : Entry → Entry
-with_facts entry = record entry { facts = option_map_or facts_of entry.message [] }
+abbrev pub with_fix : List Entry → Entry → Outcome → Outcome
+with_fix entries entry outcome =
+    record outcome { fix = fix_by (place_of (entry ∷ entries)) (is_any (links_of (added outcome entry ∷ entries)).left) outcome.closed outcome.verdict }
+
+-- ---- then the packets of an accepted group are used that are valid in the direction in which it was passed. That is what
+-- its balises tell, or else what its announcement does
+
+abbrev pub is_passed : ValidityDirection → Option LinkOrientation → Bool
+is_passed Both direction = true
+is_passed Nominal (Some orientation.Nominal) = true
+is_passed Nominal (Some orientation.Reverse) = false
+is_passed Nominal None = false
+is_passed Reverse (Some orientation.Nominal) = false
+is_passed Reverse (Some orientation.Reverse) = true
+is_passed Reverse None = false
+
+-- a packet that isn't known isn't used in any way
+abbrev pub is_valid : Option LinkOrientation → Packet → Bool
+is_valid direction (packets.NationalValues p) = is_passed p.direction direction
+is_valid direction (packets.Linking p) = is_passed p.direction direction
+is_valid direction (packets.MovementAuthority p) = is_passed p.direction direction
+is_valid direction (packets.Gradients p) = is_passed p.direction direction
+is_valid direction (packets.StaticSpeeds p) = is_passed p.direction direction
+is_valid direction (packets.LevelTransition p) = is_passed p.direction direction
+is_valid direction (packets.SpeedRestriction p) = is_passed p.direction direction
+is_valid direction (packets.RestrictionRevocation p) = is_passed p.direction direction
+is_valid direction (packets.ModeProfile p) = is_passed p.direction direction
+is_valid direction (packets.Other p) = false
+
+abbrev pub direction_of : Message → Option Announcement → Option LinkOrientation
+direction_of message announced = option_or message.direction (option_map (λ a. a.direction) announced)
+
+-- distances count from the place of the group's fix, and where none was made from the group's own place
+abbrev pub place_by : ℤ → Option odometry.Fix → ℤ
+place_by own None = own
+place_by own (Some fix) = if odometry.is_made fix then fix.at else own
+
+abbrev pub facts_of : GroupIdentity → ℤ → Option LinkOrientation → List Packet → List Fact
+facts_of group place direction ps = map (λ p. record { group = group; place = place; packet = p }) (filter (is_valid direction) ps)
+
+abbrev pub facts_in : odometry.Known → Option odometry.Fix → Message → Verdict → List Fact
+facts_in place fix message (Accept announced) =
+    facts_of message.group (place_by (own_place place message) fix) (direction_of message announced) message.packets
+facts_in place fix message Ignore = []
+facts_in place fix message (Reaction a) = []
+
+abbrev pub facts_by : odometry.Known → Option odometry.Fix → Closed → Option Verdict → List Fact
+facts_by place fix (Broken b) verdict = []
+facts_by place fix (Whole message) None = []
+facts_by place fix (Whole message) (Some verdict) = facts_in place fix message verdict
+
+abbrev pub with_facts : List Entry → Entry → Outcome → Outcome
+with_facts entries entry outcome =
+    record outcome { facts = facts_by (place_of (entry ∷ entries)) outcome.fix outcome.closed outcome.verdict }
+
+abbrev pub outcome_of : List Entry → Entry → Closed → Outcome
+outcome_of entries entry closed = with_facts entries entry (with_fix entries entry (judged entries entry closed))
+
+abbrev pub with_closed : List Entry → Option Closed → Entry → Entry
+with_closed entries None entry = entry
+with_closed entries (Some closed) entry = added (outcome_of entries entry closed) entry
+
+-- what was heard closes at most two groups
+abbrev pub closed_by : groups.Known → Option groups.Entry → Taken
+closed_by known None = record { ended = None; whole = None }
+closed_by known (Some (Read reading)) = groups.taken_by reading known
+closed_by known (Some (Went path)) = record { ended = groups.ended_by path known; whole = None }
+
+abbrev pub with_groups : List Entry → Entry → Entry
+with_groups entries entry =
+    let closed = closed_by (groups_of entries) entry.heard in
+    with_closed entries closed.whole (with_closed entries closed.ended entry)
 
 -- ---- at last the track is forgotten that lies more than a kilometre behind the least rear
 
@@ -95,7 +171,7 @@ abbrev pub mark_at : TrainData → odometry.Known → ℤ
 mark_at train place = odometry.min_rear place train.length -ℤ pos 100_000
 
 abbrev pub with_mark : TrainData → List Entry → Entry → Entry
-with_mark train entries entry = record entry { mark = Some (mark_at train (known (entry ∷ entries))) }
+with_mark train entries entry = record entry { mark = Some (mark_at train (place_of (entry ∷ entries))) }
 
 abbrev pub entry_of : TrainData → List Entry → inputs.Input → Entry
-entry_of train entries input = with_mark train entries (with_facts (with_fix (begun entries input)))
+entry_of train entries input = with_mark train entries (with_groups entries (begun entries input))

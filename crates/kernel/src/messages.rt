@@ -1,23 +1,48 @@
-ghost use Rattle.std.specs.Prelude.{◌≡◌, ◌≤◌, ◌^◌, List, ◌∷◌, map, OnOk, if◌then◌else◌};
+//! How the packets of a group that was accepted are used.
+ghost use Rattle.std.specs.Prelude.{◌≡◌, ◌≤◌, ◌*◌, ◌^◌, List, ◌∷◌, OnOk, if◌then◌else◌};
 ghost use Rattle.std.specs.Int.RustNames.{unsigned_abs};
-ghost use Rattle.track_store.specs.Restrictions.{Entry, in_force};
-ghost use Rattle.kernel.specs.History.{restriction_of, after_restriction, after_restrictions, after_revocation, after_revocations};
-ghost use Rattle.kernel.specs.Sentences.{is_both, is_for_both, facts_of};
-ghost use Rattle.kernel.specs.Walking.{message_at};
+ghost use Rattle.linking.specs.Linking as linking;
+ghost use Rattle.track_store.specs.Restrictions as track;
+ghost use Rattle.kernel.specs.Announcing.{announced, announcements_of};
+ghost use Rattle.kernel.specs.History.{Fact, restriction_of, after_links, after_all_links, after_restriction, after_restrictions, after_revocation, after_revocations};
+ghost use Rattle.kernel.specs.Sentences.{is_passed, is_valid, facts_of};
+ghost use Rattle.kernel.specs.Steps.{fact_of};
 
-use packets::{Packet, SpeedRestriction};
+use arrayvec::ArrayVec;
+use balise_groups::GroupPackets;
+use linking::{Announcement, Links};
+use packets::{Link, Linking, Packet, SpeedRestriction};
 use std::alloc::Global;
-use telegram::Packets;
 use track_store::{Restriction, Restrictions};
 use units::{Cm, NoMemory};
-use vars::ValidityDirection;
+use vars::{Country, GroupIdentity, LinkOrientation, Scale, ValidityDirection};
 
-/// NID_PACKET of infill: what stands behind it isn't used.
-const INFILL: u8 = 136;
+/// How the packets of a group are used.
+#[derive(Clone, Copy, Debug, PartialEq, Eq)]
+pub struct Use {
+    /// Which group it is.
+    pub group: GroupIdentity,
+    /// From where its distances count.
+    pub place: Cm,
+    /// The direction in which it was passed, where that is known.
+    pub direction: Option<LinkOrientation>,
+}
+
+// Whether a packet counts that is valid in this direction.
+fn is_passed(valid: ValidityDirection, direction: &Option<LinkOrientation>) -> bool
+    ensures { result ≡ is_passed valid direction.now }
+{
+    match (valid, direction) {
+        (ValidityDirection::Both, _) => true,
+        (ValidityDirection::Nominal, Some(LinkOrientation::Nominal)) => true,
+        (ValidityDirection::Reverse, Some(LinkOrientation::Reverse)) => true,
+        _ => false,
+    }
+}
 
 // A restriction where it lies on the track, its group being at a place.
 fn restriction_of(packet: &SpeedRestriction, at: Cm) -> Restriction
-    requires { unsigned_abs at ≤ 2 ^ 40 }
+    requires { unsigned_abs at ≤ 3 * 2 ^ 40 }
     ensures { result ≡ restriction_of at packet.now }
 {
     let start = at.get() + packet.start.in_scale(packet.scale).get();
@@ -30,76 +55,129 @@ fn restriction_of(packet: &SpeedRestriction, at: Cm) -> Restriction
     }
 }
 
-// Whether a packet counts that is valid in this direction, the direction of the group being unknown.
-fn is_used(direction: ValidityDirection) -> bool
-    ensures { result ≡ is_both direction }
+// The group that a link announces, counted from the one announced before.
+fn announced(
+    scale: Scale,
+    number: u8,
+    place: Cm,
+    country: Country,
+    link: &Link,
+) -> Announcement
+    requires { unsigned_abs place ≤ 3 * 2 ^ 40 + number * 2 ^ 25 }
+    ensures value { result ≡ announced scale number place country link.now }
+    ensures near { unsigned_abs result.place ≤ 3 * 2 ^ 40 + (number + 1) * 2 ^ 25 }
 {
-    direction == ValidityDirection::Both
+    Announcement {
+        number,
+        group: GroupIdentity {
+            country: link.country.unwrap_or(country),
+            number: link.group,
+        },
+        place: Cm::new(place.get() + link.distance.in_scale(scale).get()).unwrap(),
+        accuracy: link.accuracy,
+        direction: link.orientation,
+        reaction: link.reaction,
+    }
 }
 
-// Takes a packet of a group at a place, where it is a restriction that is used.
+// The groups that a list of links announces.
+fn announcements(packet: &Linking, group: &GroupIdentity, place: Cm) -> ArrayVec<Announcement, 32>
+    requires { unsigned_abs place ≤ 3 * 2 ^ 40 }
+    ensures { result.items ≡ announcements_of group.now place packet.now }
+{
+    let mut announcements: ArrayVec<Announcement, 32> = ArrayVec::new();
+    let mut number = 0;
+    let mut place = place;
+    let mut country = group.country;
+    for link in packet.links.as_slice() {
+        let next = announced(packet.scale, number, place, country, link);
+        place = next.place;
+        country = next.group.country;
+        announcements.push(next);
+        number += 1;
+    }
+    announcements
+}
+
+// Takes a packet, where it is a list of links that is used.
+fn announce(links: &mut Links, packet: &Packet<'_>, used: &Use)
+    requires { unsigned_abs used.now.place ≤ 3 * 2 ^ 40 }
+    ensures { (entries : List linking.Entry) → links.old ≡ linking.known entries
+        → links.new ≡ linking.known (if is_valid used.now.direction packet.now then after_links (fact_of used.now packet.now) entries else entries) }
+{
+    if let Packet::Linking(packet) = packet {
+        if is_passed(packet.direction, &used.direction) {
+            links.replace(announcements(packet, &used.group, used.place).as_slice());
+        }
+    }
+}
+
+// Takes a packet, where it is a restriction that is used.
 fn add(
     restrictions: &mut Restrictions,
     alloc: Global,
     packet: &Packet<'_>,
-    at: Cm,
+    used: &Use,
 ) -> Result<(), NoMemory>
-    requires { unsigned_abs at ≤ 2 ^ 40 }
-    ensures { OnOk result ((entries : List Entry) → restrictions.old ≡ in_force entries
-        → restrictions.new ≡ in_force (if is_for_both packet.now then after_restriction (record { place = at; packet = packet.now }) entries else entries)) }
+    requires { unsigned_abs used.now.place ≤ 3 * 2 ^ 40 }
+    ensures { OnOk result ((entries : List track.Entry) → restrictions.old ≡ track.in_force entries
+        → restrictions.new ≡ track.in_force (if is_valid used.now.direction packet.now then after_restriction (fact_of used.now packet.now) entries else entries)) }
 {
     let Packet::SpeedRestriction(packet) = packet else {
         return Ok(());
     };
-    if is_used(packet.direction) {
-        restrictions.add(alloc, restriction_of(packet, at))?;
+    if is_passed(packet.direction, &used.direction) {
+        restrictions.add(alloc, restriction_of(packet, used.place))?;
     }
     Ok(())
 }
 
 // Takes a packet, where it is a revocation that is used.
-fn revoke(restrictions: &mut Restrictions, packet: &Packet<'_>, at: Cm)
-    ensures { (entries : List Entry) → restrictions.old ≡ in_force entries
-        → restrictions.new ≡ in_force (if is_for_both packet.now then after_revocation (record { place = at; packet = packet.now }) entries else entries) }
+fn revoke(restrictions: &mut Restrictions, packet: &Packet<'_>, used: &Use)
+    ensures { (entries : List track.Entry) → restrictions.old ≡ track.in_force entries
+        → restrictions.new ≡ track.in_force (if is_valid used.now.direction packet.now then after_revocation (fact_of used.now packet.now) entries else entries) }
 {
     if let Packet::RestrictionRevocation(packet) = packet {
-        if is_used(packet.direction) {
+        if is_passed(packet.direction, &used.direction) {
             restrictions.revoke(packet.number);
         }
     }
 }
 
-/// Takes the restrictions (packet 65) of a group at a place.
+/// Takes the lists of links (packet 5) of a group.
+pub fn announce_all(links: &mut Links, packets: &GroupPackets, used: &Use)
+    requires { unsigned_abs used.now.place ≤ 3 * 2 ^ 40 }
+    ensures { (entries : List linking.Entry) → links.old ≡ linking.known entries
+        → links.new ≡ linking.known (after_all_links (facts_of used.now.group used.now.place used.now.direction packets.now) entries) }
+{
+    for item in packets.iter() {
+        announce(links, item.packet(), used);
+    }
+}
+
+/// Takes the restrictions (packet 65) of a group.
 pub fn add_all(
     restrictions: &mut Restrictions,
     alloc: Global,
-    packets: Packets<'_>,
-    at: Cm,
+    packets: &GroupPackets,
+    used: &Use,
 ) -> Result<(), NoMemory>
-    requires { unsigned_abs at ≤ 2 ^ 40 }
-    ensures { OnOk result ((entries : List Entry) → restrictions.old ≡ in_force entries
-        → restrictions.new ≡ in_force (after_restrictions (facts_of (message_at at packets.entry.items)) entries)) }
+    requires { unsigned_abs used.now.place ≤ 3 * 2 ^ 40 }
+    ensures { OnOk result ((entries : List track.Entry) → restrictions.old ≡ track.in_force entries
+        → restrictions.new ≡ track.in_force (after_restrictions (facts_of used.now.group used.now.place used.now.direction packets.now) entries)) }
 {
-    for item in packets {
-        let packet = item.packet();
-        if packet.number().get() == INFILL {
-            return Ok(());
-        }
-        add(restrictions, alloc, packet, at)?;
+    for item in packets.iter() {
+        add(restrictions, alloc, item.packet(), used)?;
     }
     Ok(())
 }
 
-/// Takes the revocations (packet 66) of a group at a place.
-pub fn revoke_all(restrictions: &mut Restrictions, packets: Packets<'_>, at: Cm)
-    ensures { (entries : List Entry) → restrictions.old ≡ in_force entries
-        → restrictions.new ≡ in_force (after_revocations (facts_of (message_at at packets.entry.items)) entries) }
+/// Takes the revocations (packet 66) of a group.
+pub fn revoke_all(restrictions: &mut Restrictions, packets: &GroupPackets, used: &Use)
+    ensures { (entries : List track.Entry) → restrictions.old ≡ track.in_force entries
+        → restrictions.new ≡ track.in_force (after_revocations (facts_of used.now.group used.now.place used.now.direction packets.now) entries) }
 {
-    for item in packets {
-        let packet = item.packet();
-        if packet.number().get() == INFILL {
-            return;
-        }
-        revoke(restrictions, packet, at);
+    for item in packets.iter() {
+        revoke(restrictions, item.packet(), used);
     }
 }

@@ -1,0 +1,148 @@
+//! What a balise group does that closed: it is judged, it makes its fix, its packets are used.
+ghost use Rattle.std.specs.Prelude.{◌≡◌, ◌≤◌, ◌*◌, ◌^◌, Some, None, List, [], ◌∷◌, OnOk, Option};
+ghost use Rattle.std.specs.Int.RustNames.{unsigned_abs};
+ghost use Rattle.balise_groups.specs.declared.message.Closed.{Closed};
+ghost use Rattle.balise_groups.specs.declared.message.Closed.TheVariants.{Whole, Broken};
+ghost use Rattle.linking.specs.declared.effect.Effect.{Effect};
+ghost use Rattle.linking.specs.declared.judgement.Verdict.TheVariants.{Accept};
+ghost use Rattle.linking.specs.Judging.{judgement};
+ghost use Rattle.kernel.specs.History.{Entry, Outcome, place_of, links_of};
+ghost use Rattle.kernel.specs.Sentences.{group_read, judged, added, own_place, direction_of, place_by, facts_of, with_fix, outcome_of, with_closed};
+ghost use Rattle.kernel.specs.Steps.{ruled, accepted, using};
+ghost use Rattle.kernel.specs.Lives.{Life};
+ghost use Rattle.kernel.specs.StandsFor.{StandsForLife, grown};
+
+use crate::messages::{Use, add_all, announce_all, revoke_all};
+use crate::state::State;
+use balise_groups::{Broken, Closed, GroupPackets, Message};
+use linking::{Announcement, GroupRead, Judgement, Verdict};
+use odometry::EarlierPlace;
+use std::alloc::Global;
+use units::{Cm, Length, NoMemory};
+use vars::LinkOrientation;
+
+impl State {
+    // Linking judges a group.
+    fn judge(&mut self, message: &Message) -> Judgement
+        ensures answer { (life : Life) (entry : Entry) → StandsForLife self.old (grown life entry)
+            → result ≡ judgement (links_of (entry ∷ life.entries)) (group_read (place_of (entry ∷ life.entries)) message.now) }
+        ensures stands { (life : Life) (entry : Entry) → StandsForLife self.old (grown life entry)
+            → StandsForLife self.new (grown life (added (ruled message.now result.verdict result.effect) entry)) }
+    {
+        let place = self.place.place_then(message.sums);
+        self.links.judge(&GroupRead {
+            group: message.group,
+            linked: message.linked,
+            direction: message.direction,
+            place,
+        })
+    }
+
+    // Where an accepted group is to be fixed, and how exactly that is known: where it was announced, else at its own place,
+    // but only while linking isn't in use.
+    fn fix_wanted(&self, own: Cm, announced: &Option<Announcement>) -> Option<(Cm, Length)>
+        requires { unsigned_abs own ≤ 3 * 2 ^ 40 }
+        ensures { result ≡ fix_wanted (is_any self.now.links.left) own announced.now }
+    {
+        match announced {
+            Some(announcement) => {
+                let accuracy = announcement.accuracy.accuracy().get().unsigned_abs();
+                Some((announcement.place, Length::new(accuracy).unwrap()))
+            }
+            None if self.links.is_in_use() => None,
+            None => Some((own, Length::ZERO)),
+        }
+    }
+
+    // An accepted group makes its fix: the place from which its distances count.
+    fn fix(&mut self, message: &Message, announced: &Option<Announcement>) -> Cm
+        ensures answer { (life : Life) (entry : Entry) (effect : Effect) → StandsForLife self.old (grown life (added (accepted message.now announced.now effect) entry))
+            → result ≡ place_by (own_place (place_of (entry ∷ life.entries)) message.now) (with_fix life.entries entry (accepted message.now announced.now effect)).fix }
+        ensures stands { (life : Life) (entry : Entry) (effect : Effect) → StandsForLife self.old (grown life (added (accepted message.now announced.now effect) entry))
+            → StandsForLife self.new (grown life (added (with_fix life.entries entry (accepted message.now announced.now effect)) entry)) }
+        ensures near { unsigned_abs result ≤ 3 * 2 ^ 40 }
+    {
+        let own = self.place.place_then(message.sums).estimate;
+        let Some((at, accuracy)) = self.fix_wanted(own, announced) else {
+            return own;
+        };
+        let moved = self.place.moved_after(message.sums);
+        let path = self.place.path_after(message.sums);
+        match self.place.fix(at, accuracy, moved, path, message.missed) {
+            Ok(()) => at,
+            Err(_) => own,
+        }
+    }
+
+    // The packets of an accepted group are used: in rising number, equal numbers in the order of the message.
+    fn take_packets(&mut self, alloc: Global, packets: &GroupPackets, used: &Use) -> Result<(), NoMemory>
+        requires { unsigned_abs used.now.place ≤ 3 * 2 ^ 40 }
+        ensures { OnOk result ((life : Life) (entry : Entry) (outcome : Outcome) → entry.mark ≡ None
+            → StandsForLife self.old (grown life (added (using [] outcome) entry))
+            → StandsForLife self.new (grown life (added (using (facts_of used.now.group used.now.place used.now.direction packets.now) outcome) entry))) }
+    {
+        announce_all(&mut self.links, packets, used);
+        add_all(&mut self.restrictions, alloc, packets, used)?;
+        revoke_all(&mut self.restrictions, packets, used);
+        Ok(())
+    }
+
+    // An accepted group is used.
+    fn accept(&mut self, alloc: Global, message: &Message, announced: &Option<Announcement>) -> Result<(), NoMemory>
+        ensures { OnOk result ((life : Life) (entry : Entry) (effect : Effect) → entry.mark ≡ None
+            → StandsForLife self.old (grown life (added (accepted message.now announced.now effect) entry))
+            → StandsForLife self.new (grown life (added (with_facts life.entries entry (with_fix life.entries entry (accepted message.now announced.now effect))) entry))) }
+    {
+        let place = self.fix(message, announced);
+        let used = Use {
+            group: message.group,
+            place,
+            direction: direction_by(&message.direction, announced),
+        };
+        self.take_packets(alloc, &message.packets, &used)
+    }
+
+    // A whole group.
+    fn close_whole(&mut self, alloc: Global, message: &Message) -> Result<(), NoMemory>
+        ensures { OnOk result ((life : Life) (entry : Entry) → entry.mark ≡ None → StandsForLife self.old (grown life entry)
+            → StandsForLife self.new (grown life (added (outcome_of life.entries entry (Whole message.now)) entry))) }
+    {
+        match self.judge(message).verdict {
+            Verdict::Accept(announced) => self.accept(alloc, message, &announced)?,
+            Verdict::Ignore | Verdict::Reaction(_) => {}
+        }
+        Ok(())
+    }
+
+    // A broken group.
+    fn close_broken(&mut self, group: &Broken)
+        ensures { (life : Life) (entry : Entry) → entry.mark ≡ None → StandsForLife self.old (grown life entry)
+            → StandsForLife self.new (grown life (added (outcome_of life.entries entry (closed.Broken group.now)) entry)) }
+    {
+        self.links.broken(group.group, group.linked);
+    }
+
+    /// A group that closed, if one did.
+    pub(crate) fn close(&mut self, alloc: Global, closed: &Option<Closed>) -> Result<(), NoMemory>
+        ensures { OnOk result ((life : Life) (entry : Entry) → entry.mark ≡ None → StandsForLife self.old (grown life entry)
+            → StandsForLife self.new (grown life (with_closed life.entries closed.now entry))) }
+    {
+        match closed {
+            None => {}
+            Some(Closed::Whole(message)) => self.close_whole(alloc, message)?,
+            Some(Closed::Broken(group)) => self.close_broken(group),
+        }
+        Ok(())
+    }
+}
+
+// The direction in which a group was passed: that of its balises, else the announced one.
+fn direction_by(told: &Option<LinkOrientation>, announced: &Option<Announcement>) -> Option<LinkOrientation>
+    ensures { result ≡ option_or told.now (option_map (λ a. a.direction) announced.now) }
+{
+    match (told, announced) {
+        (Some(direction), _) => Some(*direction),
+        (None, Some(announcement)) => Some(announcement.direction),
+        (None, None) => None,
+    }
+}

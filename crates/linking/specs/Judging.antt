@@ -1,6 +1,6 @@
 -- What follows where a balise group was read, or a broken one was (SUBSET-026, 3.4.4 and 3.16.2; that the wrong direction
 -- gives a trip: this project's profile).
-use Rattle.std.specs.Prelude.{ℕ, ℤ, ◌+ℤ◌, int_lt, Bool, true, false, not, ◌==◌, ◌&&◌, ◌||◌, nat_lt, if◌then◌else◌, Option, Some, None, List, [], ◌∷◌, filter, find}
+use Rattle.std.specs.Prelude.{ℕ, ℤ, ◌+ℤ◌, int_lt, Bool, true, false, ◌==◌, ◌&&◌, ◌||◌, nat_lt, if◌then◌else◌, Option, Some, None, List, ◌∷◌, filter, find}
 use Rattle.std.specs.Option.{option_map_or}
 use Rattle.vars.specs.declared.group.GroupIdentity.{GroupIdentity}
 use Rattle.vars.specs.declared.linking.LinkOrientation.{LinkOrientation}
@@ -23,9 +23,12 @@ first_of group announcements = find (is_of group) announcements
 
 -- ---- a group that was read
 
+abbrev pub max_front : GroupRead → ℤ
+max_front group = group.place.estimate +ℤ group.place.uncertainty
+
 -- the greatest front at its reading lies before the place where it is announced
 abbrev pub is_too_early : GroupRead → Announcement → Bool
-is_too_early group a = int_lt (group.place.estimate +ℤ group.place.uncertainty) (first_place a)
+is_too_early group a = int_lt (max_front group) (first_place a)
 
 abbrev pub is_other : LinkOrientation → LinkOrientation → Bool
 is_other Reverse Reverse = false
@@ -48,12 +51,12 @@ verdict known group =
     if group.linked && is_any known.left then verdict_on group (first_of group.group known.left) else Accept None
 
 -- an accepted group passes the announcements before its own, which are missed
-abbrev pub is_before : Announcement → Announcement → Bool
-is_before a b = nat_lt b.number a.number
+abbrev pub is_before : ℕ → Announcement → Bool
+is_before number a = nat_lt a.number number
 
 abbrev pub effect : Known → GroupRead → Verdict → Effect
 effect known group (Accept None) = no_effect
-effect known group (Accept (Some a)) = misses known.has_missed (filter (is_before a) known.left)
+effect known group (Accept (Some a)) = misses known.has_missed (filter (is_before a.number) known.left)
 effect known group Ignore = no_effect
 effect known group (Reaction a) = if is_wrong_way group a then trip else effect_of a.reaction
 

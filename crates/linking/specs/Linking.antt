@@ -1,6 +1,6 @@
 -- Announced balise groups, read off what was told in one life (SUBSET-026, 3.4.4 and 3.16.2; what two missed groups in turn
 -- do: this project's profile). Lists of entries have the newest first.
-use Rattle.std.specs.Prelude.{ℕ, ◌+◌, ◌*◌, ◌<◌, ℤ, pos, ◌+ℤ◌, ◌-ℤ◌, int_lt, Bool, true, false, not, ◌==◌, ◌||◌, nat_le, if◌then◌else◌, List, [], ◌∷◌, filter, All}
+use Rattle.std.specs.Prelude.{ℕ, ◌*◌, ◌<◌, ℤ, pos, ◌+ℤ◌, ◌-ℤ◌, int_lt, Bool, true, false, not, ◌==◌, ◌||◌, nat_le, if◌then◌else◌, List, [], ◌∷◌, filter, AllPairs}
 use Rattle.std.specs.List.{list_any}
 use Rattle.vars.specs.declared.linking.LinkReaction.{LinkReaction}
 use Rattle.vars.specs.declared.linking.LinkReaction.TheVariants.{Trip, ServiceBrake, NoReaction}
@@ -65,8 +65,7 @@ is_any (a ∷ announcements) = true
 
 -- the numbers of a list rise, as those from 0 on do
 abbrev pub IsRising : List Announcement → Type 0
-IsRising [] = Unit {0}
-IsRising (a ∷ announcements) = All (λ b. a.number < b.number) announcements × IsRising announcements
+IsRising announcements = AllPairs (λ a b. a.number < b.number) announcements
 
 -- ---- where an announced group may lie, in centimetres
 

@@ -1,6 +1,7 @@
-ghost use Rattle.std.specs.Prelude.{◌≡◌};
-ghost use Rattle.linking.specs.Linking.{is_passed_by, miss};
-ghost use Rattle.linking.specs.Judging.{is_of, is_too_early, is_wrong_way};
+ghost use Rattle.std.specs.Prelude.{◌≡◌, ◌≤◌, ◌^◌};
+ghost use Rattle.std.specs.Int.RustNames.{unsigned_abs};
+ghost use Rattle.linking.specs.Linking.{first_place, last_place, is_passed_by, miss};
+ghost use Rattle.linking.specs.Judging.{is_of, is_too_early, is_wrong_way, is_before};
 
 use crate::{Effect, GroupRead};
 use units::Cm;
@@ -50,12 +51,27 @@ impl Announcement {
         self.group == *group
     }
 
+    // The first place at which the group may lie.
+    fn first_place(&self) -> i64
+        ensures value { result ≡ first_place self.now }
+        ensures near { unsigned_abs result ≤ 2 ^ 43 }
+    {
+        self.place.get() - self.accuracy.accuracy().get()
+    }
+
+    // The last place at which the group may lie.
+    fn last_place(&self) -> i64
+        ensures value { result ≡ last_place self.now }
+        ensures near { unsigned_abs result ≤ 2 ^ 43 }
+    {
+        self.place.get() + self.accuracy.accuracy().get()
+    }
+
     // Whether a group was read before the place where it is announced.
     pub(crate) fn is_too_early(&self, group: &GroupRead) -> bool
         ensures { result ≡ is_too_early group.now self.now }
     {
-        let max_front = group.place.estimate.get() + group.place.uncertainty.get();
-        max_front < self.place.get() - self.accuracy.accuracy().get()
+        group.max_front() < self.first_place()
     }
 
     // Whether a group is known to have been passed in the other direction.
@@ -68,11 +84,18 @@ impl Announcement {
         }
     }
 
+    // Whether it stands in the list before a number.
+    pub(crate) fn is_before(&self, number: u8) -> bool
+        ensures { result ≡ is_before number self.now }
+    {
+        self.number < number
+    }
+
     // Whether the least front lies beyond the place where it is announced.
     pub(crate) fn is_passed_by(&self, min_front: Cm) -> bool
         ensures { result ≡ is_passed_by min_front self.now }
     {
-        self.place.get() + self.accuracy.accuracy().get() < min_front.get()
+        self.last_place() < min_front.get()
     }
 
     // What it asks for where it is missed, and where another was missed before.

@@ -1,3 +1,7 @@
+ghost use Rattle.std.specs.Prelude.{◌≡◌, ◌≤◌, ◌^◌};
+ghost use Rattle.std.specs.Int.RustNames.{unsigned_abs};
+ghost use Rattle.linking.specs.Judging.{max_front};
+
 use crate::{Announcement, Effect};
 use odometry::EarlierPlace;
 use vars::{GroupIdentity, LinkOrientation};
@@ -13,6 +17,16 @@ pub struct GroupRead {
     pub direction: Option<LinkOrientation>,
     /// Where the front was thought to be at its reading.
     pub place: EarlierPlace,
+}
+
+impl GroupRead {
+    // The greatest front at its reading. It may lie beyond the limits of a place.
+    pub(crate) fn max_front(&self) -> i64
+        ensures value { result ≡ max_front self.now }
+        ensures near { unsigned_abs result ≤ 2 ^ 43 }
+    {
+        self.place.estimate.get() + self.place.uncertainty.get()
+    }
 }
 
 /// What becomes of a group that was read.

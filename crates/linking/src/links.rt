@@ -1,8 +1,8 @@
-ghost use Rattle.std.specs.Prelude.{◌≡◌, ◌≤◌, List, [], length, filter, not, nat_lt, ◌∷◌};
+ghost use Rattle.std.specs.Prelude.{◌≡◌, ◌≤◌, List, [], length, filter, not, ◌||◌, ◌∷◌};
 ghost use Rattle.std.specs.List.{list_any};
 ghost use Rattle.linking.specs.Linking.{Entry, IsRising, known, takes, is_any, is_passed_by, misses, after_misses};
 ghost use Rattle.linking.specs.Linking.Entry.{Announced, Accepted, Reacted};
-ghost use Rattle.linking.specs.Judging.{first_of, verdict, effect, judgement, after_verdict, after_judgement, broken_effect, after_broken};
+ghost use Rattle.linking.specs.Judging.{first_of, verdict, effect, judgement, after_verdict, after_judgement, broken_effect, after_broken, is_before};
 
 use crate::{Announcement, Effect, GroupRead, Judgement, Verdict};
 use arrayvec::ArrayVec;
@@ -87,7 +87,7 @@ impl Links {
             → self.new ≡ known (after_misses (filter (is_passed_by min_front) self.old.left) entries) }
     {
         let effect = effect_behind(self.left.as_slice(), min_front, self.has_missed);
-        self.has_missed = self.has_missed || is_any_behind(self.left.as_slice(), min_front);
+        self.has_missed = self.has_missed_behind(min_front);
         drop_behind(&mut self.left, min_front);
         effect
     }
@@ -116,7 +116,11 @@ impl Links {
     fn first_of(&self, group: &GroupIdentity) -> Option<Announcement>
         ensures { result ≡ first_of group.now self.now.left }
     {
-        self.left.as_slice().iter().copied().find(|a| a.is_of(group))
+        self.left
+            .as_slice()
+            .iter()
+            .copied()
+            .find(|a| a.is_of(group))
     }
 
     // What becomes of a group that was read.
@@ -169,6 +173,13 @@ impl Links {
         }
     }
 
+    // Whether one was missed since the last acceptance, once those are missed that the least front has passed.
+    fn has_missed_behind(&self, min_front: Cm) -> bool
+        ensures { result ≡ (self.now.has_missed || list_any (is_passed_by min_front) self.now.left) }
+    {
+        self.has_missed || is_any_behind(self.left.as_slice(), min_front)
+    }
+
     // Drops the announcements up to a number, whose group was accepted.
     fn accept(&mut self, number: u8)
         ensures { (entries : List Entry) → self.old ≡ known entries
@@ -189,12 +200,12 @@ impl Links {
 
 // What the announcements before a number ask for where they are missed.
 fn effect_before(announcements: &[Announcement], number: u8, has_missed: bool) -> Effect
-    ensures { result ≡ misses has_missed (filter (λ a. nat_lt a.number number) announcements.now) }
+    ensures { result ≡ misses has_missed (filter (is_before number) announcements.now) }
 {
     let mut missed = has_missed;
     let mut effect = Effect::NONE;
     for announcement in announcements {
-        if announcement.number < number {
+        if announcement.is_before(number) {
             effect = effect.both(announcement.miss(missed));
             missed = true;
         }

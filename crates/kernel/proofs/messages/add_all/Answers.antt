@@ -5,7 +5,7 @@ use Rattle.packets.specs.declared.packet.Packet.{Packet}
 use Rattle.packets.specs.Packets.{number_of}
 use Rattle.kernel.specs.History.{after_restrictions}
 use Rattle.kernel.specs.Sentences.{facts_of}
-use Rattle.kernel.specs.Walking.{packets_of}
+use Rattle.telegram.specs.Walks.{packets_of}
 use Rattle.kernel.proofs.Using.{message, one_restriction}
 use Rattle.kernel.proofs.messages.add_all.Goals as goal
 

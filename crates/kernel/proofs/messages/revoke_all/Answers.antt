@@ -5,7 +5,7 @@ use Rattle.packets.specs.declared.packet.Packet.{Packet}
 use Rattle.packets.specs.Packets.{number_of}
 use Rattle.kernel.specs.History.{after_revocations}
 use Rattle.kernel.specs.Sentences.{facts_of}
-use Rattle.kernel.specs.Walking.{packets_of}
+use Rattle.telegram.specs.Walks.{packets_of}
 use Rattle.kernel.proofs.Using.{message, one_revocation}
 use Rattle.kernel.proofs.messages.revoke_all.Goals as goal
 

@@ -7,17 +7,16 @@ use Rattle.bits.specs.Bits.{bits_of}
 use Rattle.bits.specs.Layout.{read}
 use Rattle.bits.proofs.Laws.{found, begun}
 use Rattle.packets.specs.declared.packet.Packet.{Packet}
-use Rattle.packets.specs.Packets.{length_of}
 use Rattle.telegram.specs.declared.fault.TelegramFault.{TelegramFault}
 use Rattle.telegram.specs.declared.header.Header.{Header}
 use Rattle.telegram.specs.declared.message.Telegram.{Telegram}
 use Rattle.telegram.specs.Sequences.{BeginsPackets}
 use Rattle.telegram.specs.Telegrams.{header, next_packet, Carries, RefusesBytes}
-use Rattle.telegram.specs.Walks.{Walk, IsWalkOf, located_from}
+use Rattle.telegram.specs.Walks.{Walk, IsWalkOf, packets_of, located_from}
 use Rattle.telegram.proofs.Answering.{carried, not_refused, read_carries}
 use Rattle.telegram.proofs.Lengths.{packets_take}
+use Rattle.telegram.proofs.Walking.{located_packets}
 use Rattle.kernel.specs.Bytes.{telegram_in, packets_before_end, those_from, with_header}
-use Rattle.kernel.specs.Walking.{packets_of}
 
 pub some_same : {A : Type 0} (x y : A) → Some x ≡ Some y → x ≡ y
 some_same x y e = cc
@@ -94,10 +93,6 @@ in_carried bytes t e =
     from_header bytes small (read header (bits_of bytes)) t refl p.1
 
 -- ---- what a walk tells
-
-located_packets : (bytes : List ℕ) (start : ℕ) (ps : List Packet) → packets_of (located_from bytes start ps) ≡ ps
-located_packets bytes start [] = refl
-located_packets bytes start (p ∷ ps) = ap (λ (qs : List Packet). p ∷ qs) (located_packets bytes (start + length_of p) ps)
 
 abbrev pub told_by : Walk → Telegram
 told_by w = record { header = w.header; packets = record { items = packets_of w.items } }

@@ -1,15 +1,19 @@
 -- The packets that so many readings give.
-use Rattle.std.proofs.Common.{◌≡◌, ◌↔◌, ℕ, zero, suc, ◌+◌, ◌-◌, ◌<◌, Bool, List, [], ◌∷◌, length, Some, None, Ok, Err, refl, sym, ap, subst, ◌∙◌, arith}
+use Rattle.std.proofs.Common.{◌≡◌, ◌↔◌, ℕ, zero, suc, ◌+◌, ◌-◌, ◌<◌, Bool, List, [], ◌∷◌, length, drop, Some, None, Ok, Err, refl, sym, ap, subst, ◌∙◌, arith}
+use Rattle.bits.specs.Bits.{bits_of}
 use Rattle.bits.specs.Layout.{read}
+use Rattle.bits.proofs.Bytes.{length-bits_of}
 use Rattle.bits.proofs.Laws.{begun, found}
 use Rattle.packets.specs.Packets.{length_of}
 use Rattle.packets.specs.declared.packet.Packet.{Packet}
 use Rattle.telegram.specs.Sequences.{BeginsPackets}
 use Rattle.telegram.specs.Telegrams.{next_packet, Carries, RefusesBytes}
-use Rattle.telegram.specs.Walks.{Walk, IsWalkOf, located_from, packets_in}
+use Rattle.telegram.specs.Walks.{Walk, IsWalkOf, packets_of, located_from, packets_in, received, HoldPackets}
+use Rattle.telegram.specs.declared.header.Header.{Header}
 use Rattle.telegram.specs.declared.message.Telegram.{Telegram}
-use Rattle.telegram.proofs.Answering.{made, failed, ok_same, carried_once, not_refused}
-use Rattle.telegram.proofs.Lengths.{packet_length}
+use Rattle.telegram.proofs.Answering.{made, failed, ok_same, carried, carried_once, not_refused}
+use Rattle.telegram.proofs.Lengths.{packet_length, header_takes}
+use Rattle.telegram.proofs.Places.{behind_front}
 use Rattle.telegram.specs.declared.fault.TelegramFault.{TelegramFault}
 
 -- packets that the bits begin with are read
@@ -58,3 +62,57 @@ walk_found bytes t v c e w = (
 
 pub walk_refused : (bytes : List ℕ) (d : TelegramFault) → RefusesBytes d bytes → (w : Walk) → (failed Walk d ≡ made w) ↔ IsWalkOf bytes w
 walk_refused bytes d r w = (λ same. absurd cc, λ h. absurd (not_refused bytes h.0 d h.1 r))
+
+-- ---- a telegram that is kept in its bytes
+
+-- what a walk tells
+pub located_packets : (bytes : List ℕ) (start : ℕ) (ps : List Packet) → packets_of (located_from bytes start ps) ≡ ps
+located_packets bytes start [] = refl
+located_packets bytes start (p ∷ ps) = ap (λ (qs : List Packet). p ∷ qs) (located_packets bytes (start + length_of p) ps)
+
+-- as many as there are places
+pub located_count : (bytes : List ℕ) (start : ℕ) (ps : List Packet) → length (located_from bytes start ps) ≡ length ps
+located_count bytes start [] = refl
+located_count bytes start (p ∷ ps) = let more = located_count bytes (start + length_of p) ps in omega (arith, more)
+
+-- behind its header the packets of a telegram are read
+packets_behind : (bytes : List ℕ) (t : Telegram) → Carries bytes t → packets_in (length t.packets.items) (drop 50 (bits_of bytes)) ≡ t.packets.items
+packets_behind bytes t c =
+    let b = carried bytes t c in
+    let long = header_takes t.header (bits_of bytes) b.behind b.header_first in
+    rw (behind_front b.header_first.front b.behind (bits_of bytes) 50 b.header_first.parts long) (packets_in-begins t.packets.items b.behind c.rest b.packets_then)
+
+pub all_behind : (bytes : List ℕ) (t : Telegram) (n : ℕ) → Carries bytes t → n ≡ length t.packets.items → packets_in n (drop 50 (bits_of bytes)) ≡ t.packets.items
+all_behind bytes t n c e = subst (λ (k : ℕ). packets_in k (drop 50 (bits_of bytes)) ≡ t.packets.items) (sym e) (packets_behind bytes t c)
+
+pub held : (bytes : List ℕ) (t : Telegram) (n : ℕ) → Carries bytes t → n ≡ length t.packets.items → HoldPackets n bytes
+held bytes t n c e =
+    let b = carried bytes t c in
+    let long = header_takes t.header (bits_of bytes) b.behind b.header_first in
+    record {
+      small = c.small;
+      header_first = omega (arith, long, length-bits_of bytes);
+      counted = ap length (all_behind bytes t n c e) ∙ sym e;
+    }
+
+-- what is kept of the bytes of a walk: a copy of them, the header and the number of the packets
+module _ (bytes copy : List ℕ) (w : Walk) (walk : IsWalkOf bytes w) (h : Header) (n : ℕ) (h_is : h ≡ w.header) (n_is : n ≡ length w.items) (copy_is : copy ≡ bytes) where
+  count_is : n ≡ length walk.0.packets.items
+  count_is = n_is ∙ ap (λ (v : Walk). length v.items) walk.2 ∙ located_count bytes 50 walk.0.packets.items
+
+  pub copy_held : HoldPackets n copy
+  copy_held = subst (λ (b : List ℕ). HoldPackets n b) (sym copy_is) (held bytes walk.0 n walk.1 count_is)
+
+  pub received_same : received h n copy ≡ walk.0
+  received_same =
+      let header_is : h ≡ walk.0.header = h_is ∙ ap (λ (v : Walk). v.header) walk.2 in
+      (λ i. received (header_is i) n (copy_is i)) ∙ (λ i. record { header = walk.0.header; packets = record { items = all_behind bytes walk.0 n walk.1 count_is i } })
+
+pub received_found : (bytes : List ℕ) (t v : Telegram) → Carries bytes t → v ≡ t → (u : Telegram) → (made v ≡ made u) ↔ Carries bytes u
+received_found bytes t v c e u = (
+  λ same. subst (λ (x : Telegram). Carries bytes x) (sym e ∙ ok_same v u same) c,
+  λ d. ap made (e ∙ carried_once bytes t u c d),
+)
+
+pub received_refused : (bytes : List ℕ) (d : TelegramFault) → RefusesBytes d bytes → (u : Telegram) → (failed Telegram d ≡ made u) ↔ Carries bytes u
+received_refused bytes d r u = (λ same. absurd cc, λ c. absurd (not_refused bytes u d c r))

@@ -1,5 +1,5 @@
 -- The packets of a telegram, one after another, where they lie in its bytes (SUBSET-026, 8.4.2).
-use Rattle.std.specs.Prelude.{◌≡◌, ◌<◌, ℕ, zero, suc, ◌+◌, ◌/◌, ◌%◌, Bool, List, [], ◌∷◌, length, drop, Option, Some, None, Result, Ok, Err}
+use Rattle.std.specs.Prelude.{◌≡◌, ◌<◌, ◌≤◌, ◌*◌, ℕ, zero, suc, ◌+◌, ◌/◌, ◌%◌, Bool, List, [], ◌∷◌, map, length, drop, Option, Some, None, Result, Ok, Err}
 use Rattle.std.specs.List.{slice_range}
 use Rattle.bits.specs.Bits.{bits_of}
 use Rattle.bits.specs.Layout.{Begins, read}
@@ -31,6 +31,10 @@ located_from bytes start (p ∷ ps) =
 abbrev pub IsWalkOf : List ℕ → Walk → Type 0
 IsWalkOf bytes w = (t : Telegram) × Carries bytes t × (w ≡ record { header = t.header; items = located_from bytes 50 t.packets.items })
 
+-- what a walk has still to come, without the places
+abbrev pub packets_of : List Located → List Packet
+packets_of items = map (λ item. item.packet) items
+
 -- The packet stands in the bits of its bytes, behind as many of them as its offset tells; the first and the last of the
 -- bytes hold bits of it.
 pub record StandsInPlace (item : Located) : Type 0 where
@@ -49,3 +53,13 @@ before_those_of (Err e) more = []
 unfoldable pub packets_in : ℕ → List Bool → List Packet
 packets_in zero bits = []
 packets_in (suc n) bits = before_those_of (read next_packet bits) (packets_in n)
+
+-- the telegram with this header and so many packets, which stand in these bytes behind the header
+abbrev pub received : Header → ℕ → List ℕ → Telegram
+received h count bytes = record { header = h; packets = record { items = packets_in count (drop 50 (bits_of bytes)) } }
+
+-- Behind a header so many packets can be read in the bytes.
+pub record HoldPackets (count : ℕ) (bytes : List ℕ) : Type 0 where
+  pub small : length bytes ≤ 104
+  pub header_first : 50 ≤ 8 * length bytes
+  pub counted : length (packets_in count (drop 50 (bits_of bytes))) ≡ count

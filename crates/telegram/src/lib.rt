@@ -8,6 +8,7 @@ mod header;
 mod laws;
 mod message;
 mod place;
+mod received;
 mod validation;
 mod walk;
 
@@ -18,5 +19,6 @@ pub use header::Header;
 pub use laws::{at_most_33_packets, packets_stand_in_place, telegrams_spelled_once};
 pub use message::Telegram;
 pub use place::PacketInPlace;
+pub use received::Received;
 pub use validation::packets;
 pub use walk::Packets;

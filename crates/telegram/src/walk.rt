@@ -109,3 +109,18 @@ impl<'a> Iterator for Packets<'a> {
         Some(item)
     }
 }
+
+/// A walk with no packets.
+impl<'a> Default for Packets<'a> {
+    ghost is_default = { λ w. w.items ≡ [] };
+
+    fn default() -> Packets<'a> {
+        Packets {
+            header: Header::default(),
+            bytes: &[],
+            reader: BitReader::new(&[]),
+            start: 0,
+            left: 0,
+        }
+    }
+}

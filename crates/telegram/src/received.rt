@@ -1,0 +1,110 @@
+ghost use Rattle.std.specs.Prelude.{◌≡◌, ◌≤◌, ◌↔◌, Ok, Err, length};
+ghost use Rattle.telegram.specs.Telegrams.{Carries, RefusesBytes};
+ghost use Rattle.telegram.specs.Walks.{packets_of};
+ghost use Rattle.telegram.specs.declared.fault.TelegramFault.{TelegramFault};
+ghost use Rattle.telegram.specs.declared.message.Telegram.{Telegram};
+
+use crate::fault::TelegramFault;
+use crate::header::Header;
+use crate::validation::packets;
+use crate::walk::Packets;
+use arrayvec::ArrayVec;
+use bits::BitReader;
+use std::marker::Model;
+
+/// The bits of a header.
+const HEADER_BITS: u32 = 50;
+
+/// The bytes of a telegram, tested once. Its packets are read again where they lie, each time that they are wanted.
+#[derive(Drop)]
+pub struct Received {
+    bytes: ArrayVec<u8, 104>,
+    header: Header,
+    /// The number of its packets.
+    count: u32,
+}
+
+impl Model for Received {
+    ghost use Rattle.telegram.specs.Walks.{received, HoldPackets};
+    ghost use Rattle.telegram.specs.declared.message.Telegram.{Telegram};
+
+    ghost Value = { Telegram };
+
+    ghost view = { λ r. received r.header r.count r.bytes.items };
+
+    ghost invariant = { λ r. HoldPackets r.count r.bytes.items };
+}
+
+// An equal run of bytes.
+fn copy_of(bytes: &[u8]) -> ArrayVec<u8, 104>
+    requires { length bytes.now ≤ 104 }
+    ensures { result.items ≡ bytes.now }
+{
+    ArrayVec::try_from(bytes).unwrap()
+}
+
+impl Received {
+    /// The telegram that the bytes carry (SUBSET-026, 8.4.2), with a copy of them. The whole telegram is tested here, and
+    /// a fault is the one that `decode` tells.
+    pub fn new(bytes: &[u8]) -> Result<Received, TelegramFault>
+        ensures found { (t : Telegram) → (result ≡ Ok t) ↔ Carries bytes.now t }
+        ensures fault { (e : TelegramFault) → (result ≡ Err e) ↔ RefusesBytes e bytes.now }
+    {
+        let walk = packets(bytes)?;
+        Ok(Received {
+            bytes: copy_of(bytes),
+            header: walk.header(),
+            count: walk.len(),
+        })
+    }
+
+    /// The header.
+    pub fn header(&self) -> Header
+        ensures { result ≡ self.now.header }
+    {
+        self.header
+    }
+
+    /// The packets, to be read one by one where they lie; the telegram isn't tested again.
+    pub fn packets(&self) -> Packets<'_>
+        ensures packets { packets_of result.items ≡ self.now.packets.items }
+        ensures header { result.header ≡ self.now.header }
+    {
+        let bytes = self.bytes.as_slice();
+        let mut reader = BitReader::new(bytes);
+        let _ = reader.run(HEADER_BITS);
+        Packets {
+            header: self.header,
+            bytes,
+            reader,
+            start: HEADER_BITS,
+            left: self.count,
+        }
+    }
+
+    /// An equal value.
+    pub fn copy(&self) -> Received
+        ensures { result ≡ self.now }
+    {
+        Received {
+            bytes: copy_of(self.bytes.as_slice()),
+            header: self.header,
+            count: self.count,
+        }
+    }
+}
+
+/// A telegram with no packets, to be filled.
+impl Default for Received {
+    ghost use Rattle.std.specs.Prelude.{◌≡◌, []};
+
+    ghost is_default = { λ t. t.packets.items ≡ [] };
+
+    fn default() -> Received {
+        Received {
+            bytes: copy_of(&[0; 7]),
+            header: Header::default(),
+            count: 0,
+        }
+    }
+}

@@ -1,5 +1,5 @@
 -- The balise groups that a list of links announces (packet 5: SUBSET-026, 7.4.2.2 and 3.4.4).
-use Rattle.std.specs.Prelude.{ℕ, ◌+◌, ◌*◌, ℤ, pos, ◌+ℤ◌, unwrap_or, List, [], ◌∷◌}
+use Rattle.std.specs.Prelude.{ℕ, ◌*◌, ℤ, pos, ◌+ℤ◌, unwrap_or, List, [], ◌∷◌}
 use Rattle.vars.specs.declared.group.GroupIdentity.{GroupIdentity}
 use Rattle.vars.specs.declared.scale.Scale.{Scale}
 use Rattle.vars.specs.Meanings.{centimetres_of}
@@ -8,10 +8,10 @@ use Rattle.packets.specs.declared.linking.Linking.{Linking}
 use Rattle.linking.specs.declared.announcement.Announcement.{Announcement}
 
 -- a distance counts from the group announced before; a country that isn't given is the one before
-abbrev pub announced : Scale → ℕ → ℤ → ℕ → Link → Announcement
-announced scale number place country link =
+abbrev pub announced : Scale → ℤ → ℕ → Link → Announcement
+announced scale place country link =
     record {
-      number = number;
+      number = 0;
       group = record { country = unwrap_or link.country country; number = link.group };
       place = place +ℤ pos (link.distance * centimetres_of scale);
       accuracy = link.accuracy;
@@ -19,13 +19,13 @@ announced scale number place country link =
       reaction = link.reaction;
     }
 
--- those behind a place and a country, numbered on
-abbrev pub announced_from : Scale → ℕ → ℤ → ℕ → List Link → List Announcement
-announced_from scale number place country [] = []
-announced_from scale number place country (link ∷ links) =
-    let a = announced scale number place country link in
-    a ∷ announced_from scale (number + 1) a.place a.group.country links
+-- those behind a place and a country; linking numbers them
+abbrev pub announced_from : Scale → ℤ → ℕ → List Link → List Announcement
+announced_from scale place country [] = []
+announced_from scale place country (link ∷ links) =
+    let a = announced scale place country link in
+    a ∷ announced_from scale a.place a.group.country links
 
 -- the first distance counts from the place of the group that tells the list, and the first country is its own
 abbrev pub announcements_of : GroupIdentity → ℤ → Linking → List Announcement
-announcements_of group place p = announced_from p.scale 0 place group.country p.links.items
+announcements_of group place p = announced_from p.scale place group.country p.links.items

@@ -5,15 +5,16 @@ mod closing;
 mod events;
 mod kept;
 mod laws;
-mod limits;
+
 mod messages;
 mod receiving;
 mod state;
+mod steps;
 mod train;
 
 pub use events::{Action, Event, Input, Reading};
 pub use kept::Kept;
 pub use laws::{kept_is_the_last, power_up_forgets, telegrams_are_carried};
-pub use limits::{limits, step};
+pub use steps::{limits, step};
 pub use state::State;
 pub use train::{Mode, TrainData};

@@ -1,5 +1,5 @@
 //! How the packets of a group that was accepted are used.
-ghost use Rattle.std.specs.Prelude.{◌≡◌, ◌≤◌, ◌*◌, ◌^◌, List, ◌∷◌, OnOk, if◌then◌else◌};
+ghost use Rattle.std.specs.Prelude.{◌≡◌, ◌+◌, ◌-◌, ◌≤◌, ◌*◌, ◌^◌, List, ◌∷◌, OnOk, if◌then◌else◌};
 ghost use Rattle.std.specs.Int.RustNames.{unsigned_abs};
 ghost use Rattle.linking.specs.Linking as linking;
 ghost use Rattle.track_store.specs.Restrictions as track;
@@ -55,25 +55,31 @@ fn restriction_of(packet: &SpeedRestriction, at: Cm) -> Restriction
     }
 }
 
-// The group that a link announces, counted from the one announced before.
-fn announced(
+// From where the next link counts.
+#[derive(Clone, Copy)]
+struct Chain {
     scale: Scale,
-    number: u8,
     place: Cm,
     country: Country,
-    link: &Link,
-) -> Announcement
-    requires { unsigned_abs place ≤ 3 * 2 ^ 40 + number * 2 ^ 25 }
-    ensures value { result ≡ announced scale number place country link.now }
-    ensures near { unsigned_abs result.place ≤ 3 * 2 ^ 40 + (number + 1) * 2 ^ 25 }
+}
+
+// The group that a link announces; the next one counts from it.
+fn announced(chain: &mut Chain, link: &Link) -> Announcement
+    requires { unsigned_abs chain.old.place ≤ 2 ^ 42 - 2 ^ 25 }
+    ensures value { result ≡ announced chain.old.scale chain.old.place chain.old.country link.now }
+    ensures next { chain.new ≡ record { scale = chain.old.scale; place = result.place; country = result.group.country } }
+    ensures near { unsigned_abs chain.new.place ≤ unsigned_abs chain.old.place + 2 ^ 25 }
 {
+    let place = chain.place.get() + link.distance.in_scale(chain.scale).get();
+    chain.place = Cm::new(place).unwrap();
+    chain.country = link.country.unwrap_or(chain.country);
     Announcement {
-        number,
+        number: 0,
         group: GroupIdentity {
-            country: link.country.unwrap_or(country),
+            country: chain.country,
             number: link.group,
         },
-        place: Cm::new(place.get() + link.distance.in_scale(scale).get()).unwrap(),
+        place: chain.place,
         accuracy: link.accuracy,
         direction: link.orientation,
         reaction: link.reaction,
@@ -86,15 +92,13 @@ fn announcements(packet: &Linking, group: &GroupIdentity, place: Cm) -> ArrayVec
     ensures { result.items ≡ announcements_of group.now place packet.now }
 {
     let mut announcements: ArrayVec<Announcement, 32> = ArrayVec::new();
-    let mut number = 0;
-    let mut place = place;
-    let mut country = group.country;
+    let mut chain = Chain {
+        scale: packet.scale,
+        place,
+        country: group.country,
+    };
     for link in packet.links.as_slice() {
-        let next = announced(packet.scale, number, place, country, link);
-        place = next.place;
-        country = next.group.country;
-        announcements.push(next);
-        number += 1;
+        announcements.push(announced(&mut chain, link));
     }
     announcements
 }

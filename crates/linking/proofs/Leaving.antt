@@ -7,7 +7,7 @@ use Rattle.std.proofs.lemmas.List.Elements.{All-filter}
 use Rattle.std.proofs.lemmas.List.Folds.{list_any_none}
 use Rattle.std.proofs.lemmas.List.Kept.{AllPairs-filter}
 use Rattle.linking.specs.declared.announcement.Announcement.{Announcement}
-use Rattle.linking.specs.Linking.{Entry, Known, known, left, announced, since_announced, has_missed, takes, is_any, IsRising, after_misses}
+use Rattle.linking.specs.Linking.{Entry, Known, known, numbered, left, announced, since_announced, has_missed, takes, is_any, IsRising, after_misses}
 use Rattle.linking.specs.Linking.Entry.{Accepted, Reacted, Missed}
 
 filter-true : {X : Type 0} (xs : List X) → filter (λ x. true) xs ≡ xs
@@ -68,11 +68,11 @@ one_reaction old new flag number entries is kept =
 
 -- .. for a new list
 pub one_list : (new announcements : List Announcement) (old : List Announcement) (flag : Bool) (entries : List Entry) →
-    record { left = old; has_missed = flag } ≡ known entries → new ≡ announcements →
+    record { left = old; has_missed = flag } ≡ known entries → new ≡ numbered announcements →
     record { left = new; has_missed = flag } ≡ known (Entry.Announced announcements ∷ entries)
 one_list new announcements old flag entries is same =
     let m : flag ≡ has_missed entries = ap (λ (k : Known). k.has_missed) is in
-    let n : new ≡ filter (λ a. true) announcements = same ∙ sym (filter-true announcements) in
+    let n : new ≡ filter (λ a. true) (numbered announcements) = same ∙ sym (filter-true (numbered announcements)) in
     λ i. record { left = n i; has_missed = m i }
 
 -- ---- misses

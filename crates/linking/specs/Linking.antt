@@ -1,6 +1,6 @@
 -- Announced balise groups, read off what was told in one life (SUBSET-026, 3.4.4 and 3.16.2; what two missed groups in turn
 -- do: this project's profile). Lists of entries have the newest first.
-use Rattle.std.specs.Prelude.{ℕ, ◌*◌, ◌<◌, ℤ, pos, ◌+ℤ◌, ◌-ℤ◌, int_lt, Bool, true, false, not, ◌==◌, ◌||◌, nat_le, if◌then◌else◌, List, [], ◌∷◌, filter, AllPairs}
+use Rattle.std.specs.Prelude.{ℕ, ◌+◌, ◌*◌, ◌<◌, ℤ, pos, ◌+ℤ◌, ◌-ℤ◌, int_lt, Bool, true, false, not, ◌==◌, ◌||◌, nat_le, if◌then◌else◌, List, [], ◌∷◌, filter, AllPairs}
 use Rattle.std.specs.List.{list_any}
 use Rattle.vars.specs.declared.linking.LinkReaction.{LinkReaction}
 use Rattle.vars.specs.declared.linking.LinkReaction.TheVariants.{Trip, ServiceBrake, NoReaction}
@@ -24,9 +24,18 @@ takes (Accepted last) number = nat_le number last
 takes (Reacted one) number = number == one
 takes (Missed one) number = number == one
 
+-- a list numbered in its order, whatever numbers were told
+abbrev pub numbered_from : ℕ → List Announcement → List Announcement
+numbered_from number [] = []
+numbered_from number (a ∷ announcements) = record a { number = number } ∷ numbered_from (number + 1) announcements
+
+abbrev pub numbered : List Announcement → List Announcement
+numbered announcements = numbered_from 0 announcements
+
+-- the latest list
 abbrev pub announced : List Entry → List Announcement
 announced [] = []
-announced (Announced announcements ∷ entries) = announcements
+announced (Announced announcements ∷ entries) = numbered announcements
 announced (Accepted number ∷ entries) = announced entries
 announced (Reacted number ∷ entries) = announced entries
 announced (Missed number ∷ entries) = announced entries
@@ -63,7 +72,7 @@ abbrev pub is_any : List Announcement → Bool
 is_any [] = false
 is_any (a ∷ announcements) = true
 
--- the numbers of a list rise, as those from 0 on do
+-- the numbers of a list rise
 abbrev pub IsRising : List Announcement → Type 0
 IsRising announcements = AllPairs (λ a b. a.number < b.number) announcements
 

@@ -12,7 +12,7 @@ use vars::{
 /// A balise group that a list of links (packet 5) announces.
 #[derive(Clone, Copy, Debug, PartialEq, Eq)]
 pub struct Announcement {
-    /// Its number in its list, from 0.
+    /// Its number in its list, from 0, as `Links::replace` gives it.
     pub number: u8,
     /// Which group it is.
     pub group: GroupIdentity,

@@ -1,6 +1,6 @@
 ghost use Rattle.std.specs.Prelude.{◌≡◌, ◌≤◌, List, [], length, filter, not, ◌||◌, ◌∷◌};
 ghost use Rattle.std.specs.List.{list_any};
-ghost use Rattle.linking.specs.Linking.{Entry, IsRising, known, takes, is_any, is_passed_by, misses, after_misses};
+ghost use Rattle.linking.specs.Linking.{Entry, known, numbered, takes, is_any, is_passed_by, misses, after_misses};
 ghost use Rattle.linking.specs.Linking.Entry.{Announced, Accepted, Reacted};
 ghost use Rattle.linking.specs.Judging.{first_of, verdict, effect, judgement, after_verdict, after_judgement, broken_effect, after_broken, is_before};
 
@@ -39,14 +39,13 @@ impl Links {
         }
     }
 
-    /// Takes a list of links in place of the one before; an empty one deletes linking.
+    /// Takes a list of links in place of the one before, and numbers it from 0; an empty one deletes linking.
     pub fn replace(&mut self, announcements: &[Announcement])
-        requires room { length announcements.now ≤ 32 }
-        requires rising { IsRising announcements.now }
+        requires { length announcements.now ≤ 32 }
         ensures { (entries : List Entry) → self.old ≡ known entries
             → self.new ≡ known (Announced announcements.now ∷ entries) }
     {
-        self.left = ArrayVec::try_from(announcements).unwrap();
+        self.left = numbered(announcements);
     }
 
     /// Judges a whole group that was read. One that is accepted takes its announcement and all before it with it, one that
@@ -196,6 +195,22 @@ impl Links {
     {
         drop_number(&mut self.left, number);
     }
+}
+
+// The announcements, numbered from 0.
+fn numbered(announcements: &[Announcement]) -> ArrayVec<Announcement, 32>
+    requires { length announcements.now ≤ 32 }
+    ensures { result.items ≡ numbered announcements.now }
+{
+    let mut list = ArrayVec::new();
+    for announcement in announcements {
+        let number = list.len() as u8;
+        list.push(Announcement {
+            number,
+            ..*announcement
+        });
+    }
+    list
 }
 
 // What the announcements before a number ask for where they are missed.

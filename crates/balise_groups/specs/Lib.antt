@@ -1,6 +1,0 @@
-pub mod Closing
-pub mod Groups
-pub mod Laws
-pub mod Places
-pub mod Relation
-pub mod Telling

@@ -7,6 +7,6 @@ use Rattle.kernel.proofs.messages.announcements.Given as goal
 abbrev pub invariant-loop-link : goal.invariant-loop-link
 invariant-loop-link l =
     (l.announcements.items ++ announced_from l.chain.scale l.chain.place l.chain.country (drop l.link-index l.packet.links.items)
-    ≡ announcements_of l.group l.place l.packet)
+    ≡ announcements_of l.fn.group l.fn.place l.fn.packet)
     × (length l.announcements.items ≡ l.link-index)
     × (unsigned_abs l.chain.place ≤ 3 * 2 ^ 40 + l.link-index * 2 ^ 25)

@@ -4,3 +4,4 @@ pub mod Left
 pub mod OneName
 pub mod Places
 pub mod Relation
+pub mod Standing

@@ -1,0 +1,7 @@
+pub mod Below
+pub mod Counting
+pub mod Left
+pub mod OneName
+pub mod Places
+pub mod Relation
+pub mod Standing

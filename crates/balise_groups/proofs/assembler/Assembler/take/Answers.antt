@@ -1,0 +1,22 @@
+use Rattle.std.proofs.Common.{◌≡◌, true, false, sym, ap, ◌∙◌}
+use Rattle.balise_groups.specs.Groups.{Known, groups_of, newest, goes_on, ended}
+use Rattle.balise_groups.proofs.Standing.{not_ignored}
+use Rattle.balise_groups.proofs.assembler.Assembler.take.Goals as goal
+use Rattle.balise_groups.proofs.assembler.Assembler.take.Goals.{then-goes_on-2, else-goes_on-2}
+
+pub returns-clause-stands : goal.returns-clause-stands
+returns-clause-stands c entries is =
+    let groups = groups_of entries in
+    let inside = c.self.view_is ∙ is in
+    let other : goes_on c.args.reading (newest groups.last) ≡ false =
+    ap (λ (k : Known). goes_on c.args.reading k.last) (sym inside) ∙ sym c.goes_on.ensures ∙ c.if-goes_on.false in
+    elim c.if-goes_on-2.branch [
+      | then-goes_on-2 w ↦
+          let current : goes_on c.args.reading (newest groups.current) ≡ true =
+          ap (λ (k : Known). goes_on c.args.reading k.current) (sym inside) ∙ sym c.goes_on-2.ensures ∙ w.if-goes_on-2.true in
+          not_ignored c.args.reading groups _ true other current (c.join.ensures.stands groups (w.self-is ∙ is))
+      | else-goes_on-2 w ↦
+          let current : goes_on c.args.reading (newest groups.current) ≡ false =
+          ap (λ (k : Known). goes_on c.args.reading k.current) (sym inside) ∙ sym c.goes_on-2.ensures ∙ w.if-goes_on-2.false in
+          not_ignored c.args.reading groups _ false other current (c.join.ensures.stands (ended groups) (w.self-is ∙ w.end-ended.ensures.stands groups is))
+    ]

@@ -1,0 +1,6 @@
+pub mod Closing
+pub mod Groups
+pub mod Laws
+pub mod Places
+pub mod Relation
+pub mod Telling

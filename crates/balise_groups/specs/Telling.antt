@@ -1,0 +1,15 @@
+-- The packets that a group tells (SUBSET-026, 3.4 and 8.4; that infill isn't used is this project's profile).
+use Rattle.std.specs.Prelude.{List, [], ◌∷◌, ◌++◌, ◌==◌, if◌then◌else◌}
+use Rattle.packets.specs.Packets.{number_of}
+use Rattle.packets.specs.declared.packet.Packet.{Packet}
+use Rattle.telegram.specs.declared.message.Telegram.{Telegram}
+
+-- Packet 136 announces infill: neither it nor what stands behind it is used.
+abbrev pub before_infill : List Packet → List Packet
+before_infill [] = []
+before_infill (packet ∷ packets) = if number_of packet == 136 then [] else packet ∷ before_infill packets
+
+-- what telegrams tell, one after another
+abbrev pub told_by : List Telegram → List Packet
+told_by [] = []
+told_by (telegram ∷ telegrams) = before_infill telegram.packets.items ++ told_by telegrams

@@ -1,0 +1,164 @@
+ghost use Rattle.std.specs.Prelude.{◌≡◌, ℕ, List, [], ◌∷◌, None};
+ghost use Rattle.balise_groups.specs.Closing.{close_of};
+ghost use Rattle.balise_groups.specs.Groups.{Entry, Groups, Known, seen_at, is_left, goes_on, ended, ended_if_whole, joined_by, close_if_whole, with_reading, known_of, known, taken_by, ended_by};
+ghost use Rattle.balise_groups.specs.Groups.Entry.{Read, Went};
+
+use crate::message::Closed;
+use crate::reading::Reading;
+use crate::readings::Readings;
+use std::marker::Model;
+use units::Length;
+use vars::GroupIdentity;
+
+/// How far behind its last telegram a group is still the same one, in centimetres of path.
+const GROUP_PATH: u64 = 1_300;
+
+/// A group, and the path of the life at a telegram of it.
+#[derive(Clone, Copy, Debug, PartialEq, Eq)]
+pub struct Seen {
+    pub group: GroupIdentity,
+    pub path: Length,
+}
+
+/// What closes at a reading: the group that it ended, and its own where that is whole now.
+#[derive(Drop)]
+pub struct Taken {
+    pub ended: Option<Closed>,
+    pub whole: Option<Closed>,
+}
+
+/// Puts the readings of a life together to groups.
+#[derive(Drop)]
+pub struct Assembler {
+    // The readings of the group being read that count, and its newest telegram.
+    readings: Readings,
+    current: Option<Seen>,
+    // The newest telegram of the group that closed last.
+    last: Option<Seen>,
+}
+
+impl Model for Assembler {
+    ghost use Rattle.balise_groups.specs.Groups.{Known};
+
+    ghost Value = { Known };
+
+    ghost view = { λ a. record { readings = a.readings; current = a.current; last = a.last } };
+}
+
+fn seen_at(reading: &Reading) -> Seen
+    ensures { result ≡ seen_at reading.now }
+{
+    Seen {
+        group: reading.telegram.header().group,
+        path: reading.sums.path(),
+    }
+}
+
+// Whether the train has left a group, at this path of the life.
+fn is_left(path: Length, group: &Option<Seen>) -> bool
+    ensures { result ≡ is_left path group.now }
+{
+    match group {
+        None => false,
+        Some(seen) => path.get().saturating_sub(seen.path.get()) > GROUP_PATH,
+    }
+}
+
+// Whether a reading is of a group that the train hasn't left.
+fn goes_on(reading: &Reading, group: &Option<Seen>) -> bool
+    ensures { result ≡ goes_on reading.now group.now }
+{
+    match group {
+        None => false,
+        Some(seen) => {
+            reading.telegram.header().group == seen.group
+                && reading.sums.path().get().saturating_sub(seen.path.get()) <= GROUP_PATH
+        }
+    }
+}
+
+impl Assembler {
+    /// Nothing was read yet.
+    pub fn new() -> Self
+        ensures { result ≡ known [] }
+    {
+        Assembler {
+            readings: Readings::new(),
+            current: None,
+            last: None,
+        }
+    }
+
+    /// Takes a reading, and answers what closes at it.
+    pub fn take(&mut self, reading: Reading) -> Taken
+        ensures answer { result ≡ taken_by reading self.old }
+        ensures stands { (entries : List Entry) → self.old ≡ known entries → self.new ≡ known (Read reading ∷ entries) }
+    {
+        if goes_on(&reading, &self.last) {
+            self.last = Some(seen_at(&reading));
+            return Taken {
+                ended: None,
+                whole: None,
+            };
+        }
+        let ended = if goes_on(&reading, &self.current) {
+            None
+        } else {
+            self.end()
+        };
+        Taken {
+            ended,
+            whole: self.join(reading),
+        }
+    }
+
+    /// Is told the path of the life after a movement, and answers the group that is left by it.
+    pub fn moved(&mut self, path: Length) -> Option<Closed>
+        ensures answer { result ≡ ended_by path self.old }
+        ensures stands { (entries : List Entry) → self.old ≡ known entries → self.new ≡ known (Went path ∷ entries) }
+    {
+        if !is_left(path, &self.current) {
+            return None;
+        }
+        self.end()
+    }
+
+    /// An equal value.
+    pub fn copy(&self) -> Self
+        ensures { result ≡ self.now }
+    {
+        Assembler {
+            readings: self.readings.copy(),
+            current: self.current,
+            last: self.last,
+        }
+    }
+
+    // The group being read ends, if there is one.
+    fn end(&mut self) -> Option<Closed>
+        ensures answer { result ≡ close_of self.old.readings }
+        ensures none { self.new.readings ≡ [] }
+        ensures stands { (groups : Groups) → self.old ≡ known_of groups → self.new ≡ known_of (ended groups) }
+    {
+        let ended = self.readings.close();
+        self.readings = Readings::new();
+        if self.current.is_some() {
+            self.last = self.current;
+            self.current = None;
+        }
+        ended
+    }
+
+    // One more telegram of the group being read, which may make it whole.
+    fn join(&mut self, reading: Reading) -> Option<Closed>
+        ensures answer { result ≡ close_if_whole (with_reading self.old.readings reading) }
+        ensures stands { (groups : Groups) → self.old ≡ known_of groups → self.new ≡ known_of (joined_by reading groups) }
+    {
+        self.current = Some(seen_at(&reading));
+        self.readings.add(reading);
+        if !self.readings.are_whole() {
+            return None;
+        }
+        self.end()
+    }
+}

@@ -1,0 +1,250 @@
+ghost use Rattle.std.specs.Prelude.{◌≡◌, ℕ, ◌+◌, ◌<◌, ◌≤◌, List, [], ◌∷◌, ◌++◌, length};
+ghost use Rattle.std.specs.List.{list_any};
+ghost use Rattle.balise_groups.specs.Telling.{told_by};
+ghost use Rattle.balise_groups.specs.Closing.{all_below, is_at, is_read, is_whole, is_of_next, is_of_previous, covers, is_covered, same_flag, differs, disagrees, is_refused, cause_of, direction_of, reading_at, telegrams_at, telegrams_below, message_of, close_of};
+
+use crate::group_packets::GroupPackets;
+use crate::message::{Broken, Cause, Closed, Message};
+use crate::reading::Reading;
+use arrayvec::ArrayVec;
+use telegram::Received;
+use vars::{Duplicate, LinkOrientation, Variable};
+
+fn is_at(reading: &Reading, place: u64) -> bool
+    ensures { result ≡ is_at place reading.now }
+{
+    reading.telegram.header().position.number() == place
+}
+
+/// Whether a place is among these.
+pub fn was_read(readings: &[Reading], place: u64) -> bool
+    ensures { result ≡ is_read readings.now place }
+{
+    for reading in readings {
+        if is_at(reading, place) {
+            return true;
+        }
+    }
+    false
+}
+
+fn covers(reading: &Reading, place: u64) -> bool
+    ensures { result ≡ covers place reading.now }
+{
+    let header = reading.telegram.header();
+    let read = header.position.number();
+    match header.duplicate {
+        Duplicate::NoDuplicate => false,
+        Duplicate::OfNext => read + 1 == place,
+        Duplicate::OfPrevious => place < 8 && read == place + 1,
+    }
+}
+
+fn is_any_covering(readings: &[Reading], place: u64) -> bool
+    ensures { result ≡ list_any (covers place) readings.now }
+{
+    for reading in readings {
+        if covers(reading, place) {
+            return true;
+        }
+    }
+    false
+}
+
+fn is_covered(readings: &[Reading], place: u64) -> bool
+    ensures { result ≡ is_covered readings.now place }
+{
+    was_read(readings, place) || is_any_covering(readings, place)
+}
+
+fn is_each_read(readings: &[Reading], places: u64) -> bool
+    ensures { result ≡ all_below places (is_read readings.now) }
+{
+    for place in 0..places {
+        if !was_read(readings, place) {
+            return false;
+        }
+    }
+    true
+}
+
+fn is_each_covered(readings: &[Reading], places: u64) -> bool
+    ensures { result ≡ all_below places (is_covered readings.now) }
+{
+    for place in 0..places {
+        if !is_covered(readings, place) {
+            return false;
+        }
+    }
+    true
+}
+
+// How many balises the group has, by N_TOTAL of its first telegram.
+fn places(first: &Reading) -> u64
+    ensures value { result ≡ first.now.telegram.header.last_position + 1 }
+    ensures bound { result ≤ 8 }
+{
+    first.telegram.header().last_position.number() + 1
+}
+
+/// Whether each place of the group that the first reading tells of is read.
+pub fn are_all_read(readings: &[Reading]) -> bool
+    ensures { result ≡ is_whole readings.now }
+{
+    match readings.first() {
+        None => false,
+        Some(first) => is_each_read(readings, places(first)),
+    }
+}
+
+fn differs(first: &Reading, reading: &Reading) -> bool
+    ensures { result ≡ differs first.now reading.now }
+{
+    let header = reading.telegram.header();
+    let other = first.telegram.header();
+    !(header.last_position == other.last_position && header.linked == other.linked)
+}
+
+fn is_mixed(first: &Reading, readings: &[Reading]) -> bool
+    ensures { result ≡ list_any (differs first.now) readings.now }
+{
+    for reading in readings {
+        if differs(first, reading) {
+            return true;
+        }
+    }
+    false
+}
+
+fn disagrees(one: &Reading, other: &Reading) -> bool
+    ensures { result ≡ disagrees one.now other.now }
+{
+    let one = one.telegram.header().counter;
+    let other = other.telegram.header().counter;
+    !one.fits_all() && !other.fits_all() && one != other
+}
+
+fn disagrees_with_any(readings: &[Reading], reading: &Reading) -> bool
+    ensures { result ≡ list_any (disagrees reading.now) readings.now }
+{
+    for other in readings {
+        if disagrees(reading, other) {
+            return true;
+        }
+    }
+    false
+}
+
+fn is_refused(readings: &[Reading], reading: &Reading) -> bool
+    ensures { result ≡ is_refused readings.now reading.now }
+{
+    reading.telegram.header().counter.fits_none() || disagrees_with_any(readings, reading)
+}
+
+fn is_any_refused(readings: &[Reading]) -> bool
+    ensures { result ≡ list_any (is_refused readings.now) readings.now }
+{
+    for reading in readings {
+        if is_refused(readings, reading) {
+            return true;
+        }
+    }
+    false
+}
+
+fn cause(first: &Reading, readings: &[Reading]) -> Option<Cause>
+    ensures { result ≡ cause_of first.now readings.now }
+{
+    if is_mixed(first, readings) {
+        Some(Cause::Mixed)
+    } else if is_any_refused(readings) {
+        Some(Cause::Counter)
+    } else if is_each_covered(readings, places(first)) {
+        None
+    } else {
+        Some(Cause::Missing)
+    }
+}
+
+fn direction(readings: &[Reading]) -> Option<LinkOrientation>
+    ensures { result ≡ direction_of readings.now }
+{
+    let [first, second, ..] = readings else {
+        return None;
+    };
+    if first.telegram.header().position < second.telegram.header().position {
+        Some(LinkOrientation::Nominal)
+    } else {
+        Some(LinkOrientation::Reverse)
+    }
+}
+
+// The reading of balise 1, whose place is 0, or the first one.
+fn place<'a>(first: &'a Reading, readings: &'a [Reading]) -> &'a Reading
+    ensures { result.now ≡ reading_at 0 first.now readings.now }
+{
+    for reading in readings {
+        if is_at(reading, 0) {
+            return reading;
+        }
+    }
+    first
+}
+
+// Adds the telegram of a place.
+fn add_telegram(telegrams: &mut ArrayVec<Received, 8>, readings: &[Reading], place: u64)
+    requires { length telegrams.old.items < 8 }
+    ensures added { telegrams.new.items ≡ telegrams.old.items ++ telegrams_at place readings.now }
+    ensures count { length telegrams.new.items ≤ length telegrams.old.items + 1 }
+{
+    for reading in readings {
+        if is_at(reading, place) {
+            telegrams.push(reading.telegram.copy());
+            return;
+        }
+    }
+}
+
+// The packets of the telegrams, in order of place.
+fn packets(readings: &[Reading], places: u64) -> GroupPackets
+    requires { places ≤ 8 }
+    ensures { result ≡ told_by (telegrams_below places readings.now) }
+{
+    let mut telegrams = ArrayVec::new();
+    for place in 0..places {
+        add_telegram(&mut telegrams, readings, place);
+    }
+    GroupPackets { telegrams }
+}
+
+fn message(first: &Reading, readings: &[Reading]) -> Message
+    ensures { result ≡ message_of first.now readings.now }
+{
+    let header = first.telegram.header();
+    Message {
+        group: header.group,
+        linked: header.linked,
+        direction: direction(readings),
+        sums: place(first, readings).sums,
+        missed: !was_read(readings, 0),
+        packets: packets(readings, places(first)),
+    }
+}
+
+/// What a group closes to, of which these are the readings that count; None where there are none.
+pub fn close(readings: &[Reading]) -> Option<Closed>
+    ensures { result ≡ close_of readings.now }
+{
+    let first = readings.first()?;
+    Some(match cause(first, readings) {
+        None => Closed::Whole(message(first, readings)),
+        Some(cause) => {
+            let header = first.telegram.header();
+            Closed::Broken(Broken {
+                group: header.group,
+                linked: header.linked,
+                cause,
+            })
+        }
+    })
+}

@@ -1,0 +1,33 @@
+ghost use Rattle.std.specs.Prelude.{◌≡◌};
+
+use odometry::Sums;
+use telegram::Received;
+
+/// A telegram of a balise, and the sums of the life when the balise was read.
+#[derive(Drop)]
+pub struct Reading {
+    pub telegram: Received,
+    pub sums: Sums,
+}
+
+impl Reading {
+    /// An equal value.
+    pub fn copy(&self) -> Self
+        ensures { result ≡ self.now }
+    {
+        Reading {
+            telegram: self.telegram.copy(),
+            sums: self.sums,
+        }
+    }
+}
+
+/// A reading to be filled.
+impl Default for Reading {
+    fn default() -> Reading {
+        Reading {
+            telegram: Received::default(),
+            sums: Sums::ZERO,
+        }
+    }
+}

@@ -1,0 +1,74 @@
+ghost use Rattle.std.specs.Prelude.{◌≡◌, List, [], false};
+ghost use Rattle.balise_groups.specs.Closing.{is_whole, close_of};
+ghost use Rattle.balise_groups.specs.Groups.{with_reading};
+
+use crate::closing::{are_all_read, close, was_read};
+use crate::message::Closed;
+use crate::reading::Reading;
+use arrayvec::ArrayVec;
+use std::marker::Model;
+use vars::Variable;
+
+/// The readings of a group that count: the first of each place, in the order in which they came.
+#[derive(Drop)]
+pub struct Readings {
+    items: ArrayVec<Reading, 8>,
+}
+
+impl Model for Readings {
+    ghost use Rattle.std.specs.Prelude.{List};
+    ghost use Rattle.balise_groups.specs.declared.reading.Reading.{Reading};
+    ghost use Rattle.balise_groups.specs.Places.{HaveOwnPlaces};
+
+    ghost Value = { List Reading };
+
+    ghost view = { λ r. r.items.items };
+
+    ghost invariant = { λ r. HaveOwnPlaces r.items.items };
+}
+
+impl Readings {
+    /// No readings.
+    pub fn new() -> Self
+        ensures { result ≡ [] }
+    {
+        Readings {
+            items: ArrayVec::new(),
+        }
+    }
+
+    /// Adds a reading; one of a place that is there already isn't added.
+    pub fn add(&mut self, reading: Reading)
+        ensures { self.new ≡ with_reading self.old reading }
+    {
+        let place = reading.telegram.header().position.number();
+        if !was_read(self.items.as_slice(), place) {
+            self.items.push(reading);
+        }
+    }
+
+    /// Whether each place of the group that the first reading tells of is read.
+    pub fn are_whole(&self) -> bool
+        ensures { result ≡ is_whole self.now }
+    {
+        are_all_read(self.items.as_slice())
+    }
+
+    /// What they close to.
+    pub fn close(&self) -> Option<Closed>
+        ensures { result ≡ close_of self.now }
+    {
+        close(self.items.as_slice())
+    }
+
+    /// An equal value.
+    pub fn copy(&self) -> Self
+        ensures { result ≡ self.now }
+    {
+        let mut items = ArrayVec::new();
+        for reading in self.items.as_slice() {
+            items.push(reading.copy());
+        }
+        Readings { items }
+    }
+}

@@ -1,5 +1,5 @@
 -- The telegram that bytes carry is the one that is read in them.
-use Rattle.std.proofs.Common.{◌≡◌, ◌+◌, ◌<◌, ◌≤◌, ℕ, zero, suc, Bool, true, false, List, [], ◌∷◌, length, Option, Some, None, Result, Ok, Err, refl, sym, ap, subst, ◌∙◌, cond, arith}
+use Rattle.std.proofs.Common.{◌≡◌, ◌<◌, ◌≤◌, ℕ, zero, suc, Bool, true, false, List, [], ◌∷◌, length, Option, Some, None, Result, Ok, Err, refl, sym, ap, subst, ◌∙◌, cond, arith}
 use Rattle.std.specs.Prelude.{nat_le}
 use Rattle.std.specs.Option.{option_map}
 use Rattle.std.proofs.lemmas.Bool.Decides.{nat_tests}
@@ -12,7 +12,7 @@ use Rattle.telegram.specs.declared.header.Header.{Header}
 use Rattle.telegram.specs.declared.message.Telegram.{Telegram}
 use Rattle.telegram.specs.Sequences.{BeginsPackets}
 use Rattle.telegram.specs.Telegrams.{header, next_packet, Carries, RefusesBytes}
-use Rattle.telegram.specs.Walks.{Walk, IsWalkOf, packets_of, located_from}
+use Rattle.telegram.specs.Walks.{Walk, IsWalkOf, packets_of}
 use Rattle.telegram.proofs.Answering.{carried, not_refused, read_carries}
 use Rattle.telegram.proofs.Lengths.{packets_take}
 use Rattle.telegram.proofs.Walking.{located_packets}

@@ -1,4 +1,4 @@
 pub mod Carrying
-pub mod Using
-pub mod Hearing
+pub mod Fixing
+pub mod Marking
 pub mod OneInput

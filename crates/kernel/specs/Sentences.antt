@@ -1,7 +1,7 @@
 -- What an input does in a life, sentence by sentence in the order of one event (this project's profile; balise groups are
 -- those of SUBSET-026, 3.4 and 3.16.2). So far the clock and the driver's actions do nothing.
-use Rattle.std.specs.Prelude.{ℕ, ◌*◌, ◌==◌, ℤ, pos, ◌-ℤ◌, Bool, true, false, Option, Some, None, List, [], ◌∷◌, map, filter, if◌then◌else◌}
-use Rattle.std.specs.Option.{option_map, option_map_or, option_or}
+use Rattle.std.specs.Prelude.{ℕ, ◌*◌, ℤ, pos, ◌-ℤ◌, Bool, true, false, Option, Some, None, List, [], ◌∷◌, map, filter, if◌then◌else◌}
+use Rattle.std.specs.Option.{option_map, option_or}
 use Rattle.vars.specs.declared.group.GroupIdentity.{GroupIdentity}
 use Rattle.vars.specs.declared.linking.LinkOrientation.{LinkOrientation}
 use Rattle.vars.specs.declared.linking.LinkOrientation.TheVariants as orientation

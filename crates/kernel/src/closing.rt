@@ -1,14 +1,14 @@
 //! What a balise group does that closed: it is judged, it makes its fix, its packets are used.
 ghost use Rattle.std.specs.Prelude.{◌≡◌, ◌≤◌, ◌*◌, ◌^◌, Some, None, List, [], ◌∷◌, OnOk, Option};
 ghost use Rattle.std.specs.Int.RustNames.{unsigned_abs};
-ghost use Rattle.balise_groups.specs.declared.message.Closed.{Closed};
-ghost use Rattle.balise_groups.specs.declared.message.Closed.TheVariants.{Whole, Broken};
+ghost use Rattle.std.specs.Option.{option_map, option_or};
+ghost use Rattle.balise_groups.specs.declared.message.Closed.TheVariants as closed;
+ghost use Rattle.linking.specs.Linking.{is_any};
 ghost use Rattle.linking.specs.declared.effect.Effect.{Effect};
-ghost use Rattle.linking.specs.declared.judgement.Verdict.TheVariants.{Accept};
 ghost use Rattle.linking.specs.Judging.{judgement};
 ghost use Rattle.kernel.specs.History.{Entry, Outcome, place_of, links_of};
-ghost use Rattle.kernel.specs.Sentences.{group_read, judged, added, own_place, direction_of, place_by, facts_of, with_fix, outcome_of, with_closed};
-ghost use Rattle.kernel.specs.Steps.{ruled, accepted, using};
+ghost use Rattle.kernel.specs.Sentences.{group_read, judged, added, own_place, direction_of, place_by, with_fix, with_facts, outcome_of, with_closed};
+ghost use Rattle.kernel.specs.Steps.{ruled, accepted, fix_wanted, facts, using};
 ghost use Rattle.kernel.specs.Lives.{Life};
 ghost use Rattle.kernel.specs.StandsFor.{StandsForLife, grown};
 
@@ -16,10 +16,16 @@ use crate::messages::{Use, add_all, announce_all, revoke_all};
 use crate::state::State;
 use balise_groups::{Broken, Closed, GroupPackets, Message};
 use linking::{Announcement, GroupRead, Judgement, Verdict};
-use odometry::EarlierPlace;
 use std::alloc::Global;
 use units::{Cm, Length, NoMemory};
-use vars::LinkOrientation;
+use vars::{LinkOrientation, Variable};
+
+// Where a group is to be fixed, and how exactly that is known.
+#[derive(Clone, Copy)]
+struct Wanted {
+    place: Cm,
+    accuracy: Length,
+}
 
 impl State {
     // Linking judges a group.
@@ -38,19 +44,25 @@ impl State {
         })
     }
 
-    // Where an accepted group is to be fixed, and how exactly that is known: where it was announced, else at its own place,
-    // but only while linking isn't in use.
-    fn fix_wanted(&self, own: Cm, announced: &Option<Announcement>) -> Option<(Cm, Length)>
+    // Where an accepted group is to be fixed: where it was announced, else at its own place, but only while linking isn't
+    // in use.
+    fn fix_wanted(&self, own: Cm, announced: &Option<Announcement>) -> Option<Wanted>
         requires { unsigned_abs own ≤ 3 * 2 ^ 40 }
         ensures { result ≡ fix_wanted (is_any self.now.links.left) own announced.now }
     {
         match announced {
             Some(announcement) => {
-                let accuracy = announcement.accuracy.accuracy().get().unsigned_abs();
-                Some((announcement.place, Length::new(accuracy).unwrap()))
+                let accuracy = 100 * announcement.accuracy.number();
+                Some(Wanted {
+                    place: announcement.place,
+                    accuracy: Length::new(accuracy).unwrap(),
+                })
             }
             None if self.links.is_in_use() => None,
-            None => Some((own, Length::ZERO)),
+            None => Some(Wanted {
+                place: own,
+                accuracy: Length::ZERO,
+            }),
         }
     }
 
@@ -63,23 +75,31 @@ impl State {
         ensures near { unsigned_abs result ≤ 3 * 2 ^ 40 }
     {
         let own = self.place.place_then(message.sums).estimate;
-        let Some((at, accuracy)) = self.fix_wanted(own, announced) else {
+        let Some(wanted) = self.fix_wanted(own, announced) else {
             return own;
         };
         let moved = self.place.moved_after(message.sums);
         let path = self.place.path_after(message.sums);
-        match self.place.fix(at, accuracy, moved, path, message.missed) {
-            Ok(()) => at,
+        match self
+            .place
+            .fix(wanted.place, wanted.accuracy, moved, path, message.missed)
+        {
+            Ok(()) => wanted.place,
             Err(_) => own,
         }
     }
 
     // The packets of an accepted group are used: in rising number, equal numbers in the order of the message.
-    fn take_packets(&mut self, alloc: Global, packets: &GroupPackets, used: &Use) -> Result<(), NoMemory>
+    fn take_packets(
+        &mut self,
+        alloc: Global,
+        packets: &GroupPackets,
+        used: &Use,
+    ) -> Result<(), NoMemory>
         requires { unsigned_abs used.now.place ≤ 3 * 2 ^ 40 }
         ensures { OnOk result ((life : Life) (entry : Entry) (outcome : Outcome) → entry.mark ≡ None
             → StandsForLife self.old (grown life (added (using [] outcome) entry))
-            → StandsForLife self.new (grown life (added (using (facts_of used.now.group used.now.place used.now.direction packets.now) outcome) entry))) }
+            → StandsForLife self.new (grown life (added (using (facts used.now packets.now) outcome) entry))) }
     {
         announce_all(&mut self.links, packets, used);
         add_all(&mut self.restrictions, alloc, packets, used)?;
@@ -88,7 +108,12 @@ impl State {
     }
 
     // An accepted group is used.
-    fn accept(&mut self, alloc: Global, message: &Message, announced: &Option<Announcement>) -> Result<(), NoMemory>
+    fn accept(
+        &mut self,
+        alloc: Global,
+        message: &Message,
+        announced: &Option<Announcement>,
+    ) -> Result<(), NoMemory>
         ensures { OnOk result ((life : Life) (entry : Entry) (effect : Effect) → entry.mark ≡ None
             → StandsForLife self.old (grown life (added (accepted message.now announced.now effect) entry))
             → StandsForLife self.new (grown life (added (with_facts life.entries entry (with_fix life.entries entry (accepted message.now announced.now effect))) entry))) }
@@ -105,7 +130,7 @@ impl State {
     // A whole group.
     fn close_whole(&mut self, alloc: Global, message: &Message) -> Result<(), NoMemory>
         ensures { OnOk result ((life : Life) (entry : Entry) → entry.mark ≡ None → StandsForLife self.old (grown life entry)
-            → StandsForLife self.new (grown life (added (outcome_of life.entries entry (Whole message.now)) entry))) }
+            → StandsForLife self.new (grown life (added (outcome_of life.entries entry (closed.Whole message.now)) entry))) }
     {
         match self.judge(message).verdict {
             Verdict::Accept(announced) => self.accept(alloc, message, &announced)?,
@@ -137,7 +162,10 @@ impl State {
 }
 
 // The direction in which a group was passed: that of its balises, else the announced one.
-fn direction_by(told: &Option<LinkOrientation>, announced: &Option<Announcement>) -> Option<LinkOrientation>
+fn direction_by(
+    told: &Option<LinkOrientation>,
+    announced: &Option<Announcement>,
+) -> Option<LinkOrientation>
     ensures { result ≡ option_or told.now (option_map (λ a. a.direction) announced.now) }
 {
     match (told, announced) {

@@ -5,7 +5,6 @@ mod closing;
 mod events;
 mod kept;
 mod laws;
-
 mod messages;
 mod receiving;
 mod state;
@@ -15,6 +14,6 @@ mod train;
 pub use events::{Action, Event, Input, Reading};
 pub use kept::Kept;
 pub use laws::{kept_is_the_last, power_up_forgets, telegrams_are_carried};
-pub use steps::{limits, step};
 pub use state::State;
+pub use steps::{limits, step};
 pub use train::{Mode, TrainData};

@@ -5,8 +5,8 @@ ghost use Rattle.linking.specs.Linking as linking;
 ghost use Rattle.track_store.specs.Restrictions as track;
 ghost use Rattle.kernel.specs.Announcing.{announced, announcements_of};
 ghost use Rattle.kernel.specs.History.{Fact, restriction_of, after_links, after_all_links, after_restriction, after_restrictions, after_revocation, after_revocations};
-ghost use Rattle.kernel.specs.Sentences.{is_passed, is_valid, facts_of};
-ghost use Rattle.kernel.specs.Steps.{fact_of};
+ghost use Rattle.kernel.specs.Sentences.{is_passed, is_valid};
+ghost use Rattle.kernel.specs.Steps.{fact_of, facts};
 
 use arrayvec::ArrayVec;
 use balise_groups::GroupPackets;
@@ -152,7 +152,7 @@ fn revoke(restrictions: &mut Restrictions, packet: &Packet<'_>, used: &Use)
 pub fn announce_all(links: &mut Links, packets: &GroupPackets, used: &Use)
     requires { unsigned_abs used.now.place ≤ 3 * 2 ^ 40 }
     ensures { (entries : List linking.Entry) → links.old ≡ linking.known entries
-        → links.new ≡ linking.known (after_all_links (facts_of used.now.group used.now.place used.now.direction packets.now) entries) }
+        → links.new ≡ linking.known (after_all_links (facts used.now packets.now) entries) }
 {
     for item in packets.iter() {
         announce(links, item.packet(), used);
@@ -168,7 +168,7 @@ pub fn add_all(
 ) -> Result<(), NoMemory>
     requires { unsigned_abs used.now.place ≤ 3 * 2 ^ 40 }
     ensures { OnOk result ((entries : List track.Entry) → restrictions.old ≡ track.in_force entries
-        → restrictions.new ≡ track.in_force (after_restrictions (facts_of used.now.group used.now.place used.now.direction packets.now) entries)) }
+        → restrictions.new ≡ track.in_force (after_restrictions (facts used.now packets.now) entries)) }
 {
     for item in packets.iter() {
         add(restrictions, alloc, item.packet(), used)?;
@@ -179,7 +179,7 @@ pub fn add_all(
 /// Takes the revocations (packet 66) of a group.
 pub fn revoke_all(restrictions: &mut Restrictions, packets: &GroupPackets, used: &Use)
     ensures { (entries : List track.Entry) → restrictions.old ≡ track.in_force entries
-        → restrictions.new ≡ track.in_force (after_revocations (facts_of used.now.group used.now.place used.now.direction packets.now) entries) }
+        → restrictions.new ≡ track.in_force (after_revocations (facts used.now packets.now) entries) }
 {
     for item in packets.iter() {
         revoke(restrictions, item.packet(), used);

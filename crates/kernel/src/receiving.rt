@@ -1,7 +1,8 @@
 //! What an input does, sentence by sentence in the order of one event.
-ghost use Rattle.std.specs.Prelude.{◌≡◌, List, ◌∷◌, OnOk, None};
+ghost use Rattle.std.specs.Prelude.{◌≡◌, ℕ, List, ◌∷◌, OnOk, Some, None};
 ghost use Rattle.kernel.specs.declared.events.Event.{Event};
 ghost use Rattle.kernel.specs.declared.events.Event.TheVariants as event;
+ghost use Rattle.kernel.specs.Bytes.{telegram_in};
 ghost use Rattle.kernel.specs.History.{Entry};
 ghost use Rattle.kernel.specs.Sentences.{moved, heard, begun, with_groups, with_mark};
 ghost use Rattle.kernel.specs.Lives.{Life, life_after};

@@ -38,7 +38,9 @@ pub fn limits(
     ensures { IfOk result (λ limits. limits.items ≡ limits_of mode train.now inputs.now) }
 {
     let mut limits = Vec::new(alloc);
-    let mut state = State::power_up(alloc, State::empty(alloc).kept());
+    let empty = State::empty(alloc);
+    let kept = empty.kept();
+    let mut state = State::power_up(alloc, kept);
     for input in inputs {
         state.receive(alloc, train, input)?;
         limits.push(state.limit(mode, train))?;

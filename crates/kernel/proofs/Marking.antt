@@ -1,0 +1,23 @@
+-- Nothing marks the track before the last sentence.
+use Rattle.std.proofs.Common.{◌≡◌, List, Option, Some, None, refl}
+use Rattle.balise_groups.specs.declared.message.Closed.{Closed}
+use Rattle.kernel.specs.declared.events.Input.{Input}
+use Rattle.kernel.specs.declared.events.Input.TheVariants as input
+use Rattle.kernel.specs.History.{Entry, groups_of}
+use Rattle.kernel.specs.Sentences.{begun, closed_by, with_closed, with_groups}
+
+pub closed_unmarked : (entries : List Entry) (closed : Option Closed) (entry : Entry) → entry.mark ≡ None → (with_closed entries closed entry).mark ≡ None
+closed_unmarked entries None entry unmarked = unmarked
+closed_unmarked entries (Some c) entry unmarked = unmarked
+
+begun_unmarked : (entries : List Entry) (i : Input) → (begun entries i).mark ≡ None
+begun_unmarked entries (input.Telegram bytes) = refl
+begun_unmarked entries (input.Odometer reading) = refl
+begun_unmarked entries (input.Clock moment) = refl
+begun_unmarked entries (input.Driver action) = refl
+
+pub unmarked : (entries : List Entry) (i : Input) → (with_groups entries (begun entries i)).mark ≡ None
+unmarked entries i =
+    let entry : Entry = begun entries i in
+    let closed = closed_by (groups_of entries) entry.heard in
+    closed_unmarked entries closed.whole (with_closed entries closed.ended entry) (closed_unmarked entries closed.ended entry (begun_unmarked entries i))

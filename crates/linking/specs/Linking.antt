@@ -1,6 +1,7 @@
 -- Announced balise groups, read off what was told in one life (SUBSET-026, 3.4.4 and 3.16.2; what two missed groups in turn
 -- do: this project's profile). Lists of entries have the newest first.
-use Rattle.std.specs.Prelude.{ℕ, ◌+◌, ◌*◌, ◌<◌, ℤ, pos, ◌+ℤ◌, ◌-ℤ◌, int_lt, Bool, true, false, not, ◌==◌, ◌||◌, nat_le, if◌then◌else◌, List, [], ◌∷◌, filter, AllPairs}
+use Rattle.std.specs.Prelude.{ℕ, ◌+◌, ◌*◌, ◌<◌, ℤ, pos, ◌+ℤ◌, ◌-ℤ◌, int_lt, Bool, true, false, not, ◌==◌, ◌||◌, nat_le, if◌then◌else◌, List, [], ◌∷◌, filter, length, AllPairs}
+use Rattle.std.specs.Int.{from_bool}
 use Rattle.std.specs.List.{list_any}
 use Rattle.vars.specs.declared.linking.LinkReaction.{LinkReaction}
 use Rattle.vars.specs.declared.linking.LinkReaction.TheVariants.{Trip, ServiceBrake, NoReaction}
@@ -107,13 +108,18 @@ effect_of Trip = trip
 effect_of ServiceBrake = service
 effect_of NoReaction = no_effect
 
--- a missed group gives its reaction, and service beside it where another was missed before
-abbrev pub miss : Bool → Announcement → Effect
-miss has_missed a = both (effect_of a.reaction) (if has_missed then service else no_effect)
+-- what the reactions of some announcements ask for together
+abbrev pub reactions : List Announcement → Effect
+reactions announcements =
+    record {
+      trip = list_any (λ a. (effect_of a.reaction).trip) announcements;
+      service = list_any (λ a. (effect_of a.reaction).service) announcements;
+    }
 
+-- missed announcements ask for what their reactions do, and for service where two are missed with none accepted between
 abbrev pub misses : Bool → List Announcement → Effect
-misses has_missed [] = no_effect
-misses has_missed (a ∷ announcements) = both (miss has_missed a) (misses true announcements)
+misses has_missed announcements =
+    both (reactions announcements) (if nat_le 2 (from_bool has_missed + length announcements) then service else no_effect)
 
 -- one entry for each, in the order of the list
 abbrev pub after_misses : List Announcement → List Entry → List Entry

@@ -8,17 +8,16 @@ use Rattle.vars.specs.declared.linking.LinkReaction.TheVariants.{Trip, ServiceBr
 use Rattle.linking.specs.declared.announcement.Announcement.{Announcement}
 use Rattle.linking.specs.declared.effect.Effect.{Effect}
 
--- what was told: a list of links (packet 5), in place of the one before, where an empty one deletes linking; that the group
--- of an announcement was accepted, or wasn't used or was broken, or that the train had passed its place
+-- what was told
 pub data Entry : Type 0 where
-  Announced : List Announcement → Entry
-  Accepted : ℕ → Entry
-  Reacted : ℕ → Entry
-  Missed : ℕ → Entry
+  Announced : List Announcement → Entry  -- a list of links (packet 5), in place of the one before; an empty one deletes linking
+  Accepted : ℕ → Entry  -- the group of the announcement of this number was accepted
+  Reacted : ℕ → Entry  -- that group wasn't used, or was broken
+  Missed : ℕ → Entry  -- the train had passed its place
 
 -- ---- which announcements are left
 
--- an entry takes away announcements of the latest list, told by their numbers
+-- an entry takes announcements of the latest list away, by their numbers: an acceptance its own and all before it
 abbrev pub takes : Entry → ℕ → Bool
 takes (Announced announcements) number = false
 takes (Accepted last) number = nat_le number last
@@ -33,7 +32,7 @@ numbered_from number (a ∷ announcements) = record a { number = number } ∷ nu
 abbrev pub numbered : List Announcement → List Announcement
 numbered announcements = numbered_from 0 announcements
 
--- the latest list
+-- the latest list, empty before any
 abbrev pub announced : List Entry → List Announcement
 announced [] = []
 announced (Announced announcements ∷ entries) = numbered announcements
@@ -52,7 +51,7 @@ since_announced (Missed number ∷ entries) = Missed number ∷ since_announced 
 abbrev pub left : List Entry → List Announcement
 left entries = filter (λ a. not (list_any (λ entry. takes entry a.number) (since_announced entries))) (announced entries)
 
--- whether a group was missed since one was accepted, or else since the start of the life
+-- whether a group was missed since the last that was accepted as announced, or else since the start of the life
 abbrev pub has_missed : List Entry → Bool
 has_missed [] = false
 has_missed (Announced announcements ∷ entries) = has_missed entries

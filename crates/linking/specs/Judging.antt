@@ -23,10 +23,11 @@ first_of group announcements = find (is_of group) announcements
 
 -- ---- a group that was read
 
+-- the greatest front at its reading
 abbrev pub max_front : GroupRead → ℤ
 max_front group = group.place.estimate +ℤ group.place.uncertainty
 
--- the greatest front at its reading lies before the place where it is announced
+-- it lies before the place where the group is announced
 abbrev pub is_too_early : GroupRead → Announcement → Bool
 is_too_early group a = int_lt (max_front group) (first_place a)
 
@@ -40,12 +41,12 @@ is_other Nominal Nominal = false
 abbrev pub is_wrong_way : GroupRead → Announcement → Bool
 is_wrong_way group a = option_map_or (is_other a.direction) group.direction false
 
--- what an announced group comes to
+-- what a linked group comes to while others are left, by the announcement that is meant, if there is one
 abbrev pub verdict_on : GroupRead → Option Announcement → Verdict
 verdict_on group None = Ignore
 verdict_on group (Some a) = if is_wrong_way group a || is_too_early group a then Reaction a else Accept (Some a)
 
--- a group that isn't linked is accepted, and each group is where linking isn't in use
+-- a group that isn't linked is accepted, and so is each group where linking isn't in use
 abbrev pub verdict : Known → GroupRead → Verdict
 verdict known group =
     if group.linked && is_any known.left then verdict_on group (first_of group.group known.left) else Accept None
@@ -54,6 +55,7 @@ verdict known group =
 abbrev pub is_before : ℕ → Announcement → Bool
 is_before number a = nat_lt a.number number
 
+-- what a verdict asks for: the wrong direction a trip alone, whatever the announcement's own reaction is
 abbrev pub effect : Known → GroupRead → Verdict → Effect
 effect known group (Accept None) = no_effect
 effect known group (Accept (Some a)) = misses known.has_missed (filter (is_before a.number) known.left)

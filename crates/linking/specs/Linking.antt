@@ -1,23 +1,23 @@
 -- Announced balise groups, read off what was told in one life (SUBSET-026, 3.4.4 and 3.16.2; what two missed groups in turn
 -- do: this project's profile). Lists of entries have the newest first.
-use Rattle.std.specs.Prelude.{ℕ, ◌+◌, ◌*◌, ◌<◌, ℤ, pos, ◌+ℤ◌, ◌-ℤ◌, int_lt, Bool, true, false, not, ◌==◌, ◌||◌, nat_le, if◌then◌else◌, List, [], ◌∷◌, filter, AllPairs}
+use Rattle.std.specs.Prelude.{ℕ, ◌+◌, ◌*◌, ◌<◌, ℤ, pos, ◌+ℤ◌, ◌-ℤ◌, int_lt, Bool, true, false, not, ◌==◌, ◌||◌, nat_le, if◌then◌else◌, List, [], ◌∷◌, filter, length, AllPairs}
+use Rattle.std.specs.Int.{from_bool}
 use Rattle.std.specs.List.{list_any}
 use Rattle.vars.specs.declared.linking.LinkReaction.{LinkReaction}
 use Rattle.vars.specs.declared.linking.LinkReaction.TheVariants.{Trip, ServiceBrake, NoReaction}
 use Rattle.linking.specs.declared.announcement.Announcement.{Announcement}
 use Rattle.linking.specs.declared.effect.Effect.{Effect}
 
--- what was told: a list of links (packet 5), in place of the one before, where an empty one deletes linking; that the group
--- of an announcement was accepted, or wasn't used or was broken, or that the train had passed its place
+-- what was told
 pub data Entry : Type 0 where
-  Announced : List Announcement → Entry
-  Accepted : ℕ → Entry
-  Reacted : ℕ → Entry
-  Missed : ℕ → Entry
+  Announced : List Announcement → Entry  -- a list of links (packet 5), in place of the one before; an empty one deletes linking
+  Accepted : ℕ → Entry  -- the group of the announcement of this number was accepted
+  Reacted : ℕ → Entry  -- that group wasn't used, or was broken
+  Missed : ℕ → Entry  -- the train had passed its place
 
 -- ---- which announcements are left
 
--- an entry takes away announcements of the latest list, told by their numbers
+-- an entry takes announcements of the latest list away, by their numbers: an acceptance its own and all before it
 abbrev pub takes : Entry → ℕ → Bool
 takes (Announced announcements) number = false
 takes (Accepted last) number = nat_le number last
@@ -32,7 +32,7 @@ numbered_from number (a ∷ announcements) = record a { number = number } ∷ nu
 abbrev pub numbered : List Announcement → List Announcement
 numbered announcements = numbered_from 0 announcements
 
--- the latest list
+-- the latest list, empty before any
 abbrev pub announced : List Entry → List Announcement
 announced [] = []
 announced (Announced announcements ∷ entries) = numbered announcements
@@ -51,7 +51,7 @@ since_announced (Missed number ∷ entries) = Missed number ∷ since_announced 
 abbrev pub left : List Entry → List Announcement
 left entries = filter (λ a. not (list_any (λ entry. takes entry a.number) (since_announced entries))) (announced entries)
 
--- whether a group was missed since one was accepted, or else since the start of the life
+-- whether a group was missed since the last that was accepted as announced, or else since the start of the life
 abbrev pub has_missed : List Entry → Bool
 has_missed [] = false
 has_missed (Announced announcements ∷ entries) = has_missed entries
@@ -107,13 +107,18 @@ effect_of Trip = trip
 effect_of ServiceBrake = service
 effect_of NoReaction = no_effect
 
--- a missed group gives its reaction, and service beside it where another was missed before
-abbrev pub miss : Bool → Announcement → Effect
-miss has_missed a = both (effect_of a.reaction) (if has_missed then service else no_effect)
+-- what the reactions of some announcements ask for together
+abbrev pub reactions : List Announcement → Effect
+reactions announcements =
+    record {
+      trip = list_any (λ a. (effect_of a.reaction).trip) announcements;
+      service = list_any (λ a. (effect_of a.reaction).service) announcements;
+    }
 
+-- missed announcements ask for what their reactions do, and for service where two are missed with none accepted between
 abbrev pub misses : Bool → List Announcement → Effect
-misses has_missed [] = no_effect
-misses has_missed (a ∷ announcements) = both (miss has_missed a) (misses true announcements)
+misses has_missed announcements =
+    both (reactions announcements) (if nat_le 2 (from_bool has_missed + length announcements) then service else no_effect)
 
 -- one entry for each, in the order of the list
 abbrev pub after_misses : List Announcement → List Entry → List Entry

@@ -1,6 +1,6 @@
-ghost use Rattle.std.specs.Prelude.{◌≡◌, ◌≤◌, ◌^◌};
+ghost use Rattle.std.specs.Prelude.{◌≡◌, ◌≤◌, ◌^◌, if◌then◌else◌};
 ghost use Rattle.std.specs.Int.RustNames.{unsigned_abs};
-ghost use Rattle.linking.specs.Linking.{first_place, last_place, is_passed_by, miss};
+ghost use Rattle.linking.specs.Linking.{first_place, last_place, is_passed_by, no_effect, service, both, effect_of};
 ghost use Rattle.linking.specs.Judging.{is_of, is_too_early, is_wrong_way, is_before};
 
 use crate::{Effect, GroupRead};
@@ -100,7 +100,7 @@ impl Announcement {
 
     // What it asks for where it is missed, and where another was missed before.
     pub(crate) fn miss(&self, has_missed: bool) -> Effect
-        ensures { result ≡ miss has_missed self.now }
+        ensures { result ≡ both (effect_of self.now.reaction) (if has_missed then service else no_effect) }
     {
         let second = if has_missed {
             Effect::SERVICE

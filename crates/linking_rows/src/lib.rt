@@ -1,0 +1,5 @@
+//! Worked rows of linking.
+#![tactic(auto)]
+
+#[cfg(test)]
+mod links;

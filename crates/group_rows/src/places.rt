@@ -7,7 +7,8 @@ use std::process::Abort;
 use units::Length;
 
 /// Reads all balises of a group but one, in order, with these M_DUP before it and behind it, and leaves the group.
-fn missed<R: Abort>(rt: &R, total: u64, missing: u64, before: u64, behind: u64) {
+fn missed<R: Abort>(rt: &R, total: u8, missing: u8, before: u64, behind: u64) {
+    let (total, missing) = (u64::from(total), u64::from(missing));
     let mut groups = Assembler::new();
     for place in 0..total + 1 {
         if place != missing {

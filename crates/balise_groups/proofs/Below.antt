@@ -17,4 +17,3 @@ one_fails (suc n) test k h e =
       | inl same ↦ ap (λ b. all_below n test && b) (sym (ap test same) ∙ e) ∙ and_false (all_below n test)
       | inr less ↦ ap (λ b. b && test n) (one_fails n test k less e)
     ]
-

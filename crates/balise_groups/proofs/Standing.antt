@@ -1,5 +1,5 @@
 -- What an assembler keeps stays what is to be known of the groups.
-use Rattle.std.proofs.Common.{◌≡◌, List, ◌∷◌, Bool, true, false, cond, Option, Some, sym, ap, ◌∙◌, subst}
+use Rattle.std.proofs.Common.{◌≡◌, List, ◌∷◌, Bool, true, false, cond, Some, sym, ap, ◌∙◌, subst}
 use Rattle.balise_groups.specs.declared.reading.Reading.{Reading}
 use Rattle.balise_groups.specs.declared.assembler.Seen.{Seen}
 use Rattle.balise_groups.specs.Closing.{is_whole}

@@ -36,7 +36,7 @@ fn covers(reading: &Reading, place: u64) -> bool
     match header.duplicate {
         Duplicate::NoDuplicate => false,
         Duplicate::OfNext => read + 1 == place,
-        Duplicate::OfPrevious => place < 8 && read == place + 1,
+        Duplicate::OfPrevious => read == place.saturating_add(1),
     }
 }
 

@@ -16,4 +16,3 @@ pub use laws::{
 };
 pub use message::{Broken, Cause, Closed, Message};
 pub use reading::Reading;
-pub use readings::Readings;

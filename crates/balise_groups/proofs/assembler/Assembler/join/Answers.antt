@@ -1,6 +1,6 @@
 use Rattle.std.proofs.Common.{◌≡◌, true, sym, ap, ◌∙◌}
 use Rattle.balise_groups.specs.Closing.{is_whole}
-use Rattle.balise_groups.specs.Groups.{Known, counting, known_of}
+use Rattle.balise_groups.specs.Groups.{Known, counting}
 use Rattle.balise_groups.proofs.Standing.{with_one, one_more, whole_now}
 use Rattle.balise_groups.proofs.assembler.Assembler.join.Goals as goal
 

@@ -1,6 +1,5 @@
-use Rattle.std.proofs.Common.{◌≡◌, ◌<◌, ℕ, List, false, sym, ap, subst, ◌∙◌, arith, lit<}
+use Rattle.std.proofs.Common.{◌≡◌, false, sym, ap, ◌∙◌, arith, lit<}
 use Rattle.telegram.specs.declared.header.Header.{Header}
-use Rattle.balise_groups.specs.declared.reading.Reading.{Reading}
 use Rattle.balise_groups.specs.Closing.{is_read}
 use Rattle.balise_groups.proofs.Places.{has_room, fit_more}
 use Rattle.balise_groups.proofs.readings.Readings.add.Goals as goal

@@ -7,8 +7,6 @@ mod kept;
 mod laws;
 mod messages;
 mod state;
-#[cfg(test)]
-mod tests;
 mod train;
 
 pub use events::{Action, Event, Input, Reading};

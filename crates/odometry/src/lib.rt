@@ -4,8 +4,6 @@
 
 mod overrun;
 mod place;
-#[cfg(test)]
-mod tests;
 
 pub use overrun::Overrun;
 pub use place::Place;

@@ -1,23 +1,8 @@
-use crate::{Action, Event, Input, Mode, Reading, State, TrainData, limits, step};
-use arrayvec::ArrayVec;
+use crate::told::Told::{self, At, Do, Hear, Move};
+use crate::told::{input, kernel_limits, train};
+use kernel::{Action, Event, Mode, State, step};
 use std::process::Abort;
 use std::test::Fail;
-use units::{Cm, Length, Mph, Ms};
-
-/// What comes in, as the rows write it.
-#[derive(Clone, Copy)]
-enum Told {
-    /// The bytes of a balise, in hexadecimal digits.
-    Hear(&'static str),
-    /// A movement, in centimetres.
-    Move(i64),
-    /// A moment, in milliseconds.
-    At(u64),
-    /// An action of the driver.
-    Do(Action),
-}
-
-use Told::{At, Do, Hear, Move};
 
 /// Restriction 7 of 20 km/h from 10,000 cm on for 5,000 cm, until the front has left it; group 2.
 const AHEAD: &str = "90007F802001506023A0E0190019427F80";
@@ -28,40 +13,20 @@ const HERE: &str = "90007F802001506023A0E0000019417F80";
 
 const HERE_SLOWER: &str = "90007F802001506023A0E000001940FF80";
 
-fn train<R: Abort>(rt: &R) -> TrainData {
-    TrainData {
-        length: Length::new(20_000).expect(rt, "a length"),
-        maximum: Mph::new(160_000).expect(rt, "a speed"),
-    }
-}
-
-fn input<R: Abort + AllocGlobal>(rt: &R, told: Told) -> Input {
-    match told {
-        Hear(digits) => {
-            let bytes = hex::decode(rt.alloc(), digits).ok().expect(rt, "digits");
-            let mut held = ArrayVec::new();
-            assert!(rt; held.try_extend_from_slice(&bytes).is_ok());
-            Input::Telegram(held)
-        }
-        Move(cm) => Input::Odometer(Reading {
-            movement: Cm::new(cm).expect(rt, "a movement"),
-            speed: Mph::new(0).expect(rt, "a speed"),
-        }),
-        At(ms) => Input::Clock(Ms::new(ms).expect(rt, "a moment")),
-        Do(action) => Input::Driver(action),
-    }
-}
-
-/// The limit after each input, in metres per hour.
+/// The kernel gives this limit after each input, in metres per hour.
 fn row<R: Abort + AllocGlobal>(rt: &R, row: &[(Told, u32)]) -> Result<(), Fail> {
     let mut inputs = Vec::new(rt.alloc());
     let mut expected = Vec::new(rt.alloc());
     for (told, limit) in row {
         inputs.push(input(rt, *told))?;
-        expected.push(Mph::new(*limit).expect(rt, "a speed"))?;
+        expected.push(*limit)?;
     }
-    let answer = limits(rt.alloc(), Mode::StaffResponsible, &train(rt), &inputs)?;
-    assert_eq!(rt; answer.as_slice(), expected.as_slice(), "limits of a row");
+    let train = train(rt, 20_000);
+    assert_eq!(rt;
+        kernel_limits(rt, &train, &inputs)?.as_slice(),
+        expected.as_slice(),
+        "kernel"
+    );
     Ok(())
 }
 
@@ -210,7 +175,9 @@ fn scales(rt: HostRuntime) -> Result<(), Fail> {
 
 #[test]
 fn forgotten_track(rt: HostRuntime) -> Result<(), Fail> {
-    // The mark comes to the last centimetre of the restriction, and beyond it.
+    // The mark lies 120,500 cm and the twentieth part of the path, rounded up, behind the estimate: it comes to the last
+    // centimetre of the restriction, and beyond it.
+    // 132,105 / 20 = 6,606: the mark is 132,105 - 120,500 - 6,606 = 4,999. At 132,106 it is 5,000.
     row(
         &rt,
         &[
@@ -225,6 +192,20 @@ fn forgotten_track(rt: HostRuntime) -> Result<(), Fail> {
             (Hear(HERE), 10_000),
             (Move(132_106), 40_000),
             (Move(-132_106), 40_000),
+        ],
+    )?;
+    // 129,474 / 20 = 6,474: the mark is 129,474 - 120,500 - 6,474 = 2,500, and the restriction counts from there to 4,999.
+    // The path is then 270,473, and 13,524 its twentieth part: the estimate is -11,525, and the fronts are
+    // -11,525 - 14,024 = -25,549 and -11,525 + 14,024 = 2,499. One centimetre on, the greatest front is 2,500.
+    // Told anew at -11,524 the restriction ends at -6,525, and is forgotten at once; the old one of its number goes.
+    row(
+        &rt,
+        &[
+            (Hear(HERE), 10_000),
+            (Move(129_474), 40_000),
+            (Move(-140_999), 40_000),
+            (Move(1), 10_000),
+            (Hear(HERE_SLOWER), 40_000),
         ],
     )
 }
@@ -257,7 +238,7 @@ fn a_life_forgets_the_one_before(rt: HostRuntime) -> Result<(), Fail> {
         let (next, limit) = step(
             rt.alloc(),
             Mode::StaffResponsible,
-            &train(&rt),
+            &train(&rt, 20_000),
             &state,
             &event,
         )?;

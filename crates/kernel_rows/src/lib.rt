@@ -1,10 +1,14 @@
-//! Worked rows of the kernel and its parts.
+//! Worked rows of the kernel and its parts, and a plain program that computes the same limits.
 #![tactic(auto)]
 
+#[cfg(test)]
+mod beside;
 #[cfg(test)]
 mod limits;
 #[cfg(test)]
 mod places;
+#[cfg(test)]
+mod plain;
 #[cfg(test)]
 mod restrictions;
 #[cfg(test)]

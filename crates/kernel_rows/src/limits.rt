@@ -1,3 +1,4 @@
+use crate::plain;
 use crate::told::Told::{self, At, Do, Hear, Move};
 use crate::told::{input, kernel_limits, train};
 use kernel::{Action, Event, Mode, State, step};
@@ -13,7 +14,7 @@ const HERE: &str = "90007F802001506023A0E0000019417F80";
 
 const HERE_SLOWER: &str = "90007F802001506023A0E000001940FF80";
 
-/// The kernel gives this limit after each input, in metres per hour.
+/// The kernel and the plain program give this limit after each input, in metres per hour.
 fn row<R: Abort + AllocGlobal>(rt: &R, row: &[(Told, u32)]) -> Result<(), Fail> {
     let mut inputs = Vec::new(rt.alloc());
     let mut expected = Vec::new(rt.alloc());
@@ -27,6 +28,8 @@ fn row<R: Abort + AllocGlobal>(rt: &R, row: &[(Told, u32)]) -> Result<(), Fail> 
         expected.as_slice(),
         "kernel"
     );
+    let plain = plain::limits(rt.alloc(), &train, &inputs)?;
+    assert_eq!(rt; plain.as_slice(), expected.as_slice(), "plain program");
     Ok(())
 }
 

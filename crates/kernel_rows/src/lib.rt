@@ -4,6 +4,8 @@
 #[cfg(test)]
 mod beside;
 #[cfg(test)]
+mod groups;
+#[cfg(test)]
 mod limits;
 #[cfg(test)]
 mod places;

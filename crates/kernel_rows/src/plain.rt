@@ -1,15 +1,18 @@
 // The speed limits as they are defined, computed with no cleverness: after each input the lists of what all inputs so
 // far told and then the limit are worked out anew, centimetre by centimetre.
+mod group;
+mod life;
+mod link;
+mod message;
 mod place;
 mod track;
 
 use kernel::{Input, TrainData};
-use packets::Packet;
 use place::{Fix, Step};
 use std::alloc::{AllocError, Global};
-use telegram::{Telegram, decode};
+use telegram::decode;
 use track::{Telling, Train};
-use vars::{GroupIdentity, ValidityDirection, Variable};
+use vars::{GroupIdentity, Variable};
 
 /// V_NVSTFF, in metres per hour.
 const STAFF_RESPONSIBLE: u32 = 40_000;
@@ -17,10 +20,8 @@ const STAFF_RESPONSIBLE: u32 = 40_000;
 const GROUP_PATH: u64 = 1_300;
 /// How much track behind the least rear isn't forgotten, in centimetres.
 const REMEMBERED: i64 = 100_000;
-/// NID_PACKET of infill: what stands behind it isn't used.
-const INFILL: u8 = 136;
 
-/// A telegram of a group of one balise, and the path of the life at it.
+/// A telegram of a group, and the path of the life at it.
 #[derive(Clone, Copy)]
 struct Heard {
     group: GroupIdentity,
@@ -33,36 +34,6 @@ struct History {
     steps: Vec<Step>,
     heard: Vec<Heard>,
     tellings: Vec<Telling>,
-}
-
-/// Takes the restrictions of a group at a place.
-fn add(tellings: &mut Vec<Telling>, telegram: &Telegram<'_>, at: i64) -> Result<(), AllocError> {
-    for packet in &telegram.packets {
-        if packet.number().get() == INFILL {
-            return Ok(());
-        }
-        if let Packet::SpeedRestriction(packet) = packet {
-            if packet.direction == ValidityDirection::Both {
-                tellings.push(Telling::Restricted(track::area_of(packet, at)))?;
-            }
-        }
-    }
-    Ok(())
-}
-
-/// Takes the revocations of a group.
-fn revoke(tellings: &mut Vec<Telling>, telegram: &Telegram<'_>) -> Result<(), AllocError> {
-    for packet in &telegram.packets {
-        if packet.number().get() == INFILL {
-            return Ok(());
-        }
-        if let Packet::RestrictionRevocation(packet) = packet {
-            if packet.direction == ValidityDirection::Both {
-                tellings.push(Telling::Revoked(packet.number.number()))?;
-            }
-        }
-    }
-    Ok(())
 }
 
 /// Whether a telegram of this group repeats the one before.
@@ -95,8 +66,8 @@ fn listen(history: &mut History, bytes: &[u8]) -> Result<(), AllocError> {
     }
     let at = place::estimate(&history.steps);
     place::add_fix(&mut history.steps, Fix::exact(at))?;
-    add(&mut history.tellings, &telegram, at)?;
-    revoke(&mut history.tellings, &telegram)
+    message::add_restrictions(&mut history.tellings, &telegram, at, None)?;
+    message::add_revocations(&mut history.tellings, &telegram, None)
 }
 
 /// What the train may stand on.
@@ -109,35 +80,46 @@ fn stretch(steps: &[Step], train: &TrainData) -> Train {
     }
 }
 
-/// What one input told, and then the track that is forgotten.
-fn tell(history: &mut History, train: &TrainData, input: &Input) -> Result<(), AllocError> {
-    match input {
-        Input::Telegram(bytes) => listen(history, bytes)?,
-        Input::Odometer(reading) => place::add_movement(
-            &mut history.steps,
-            reading.movement.get(),
-        )?,
-        Input::Clock(_) | Input::Driver(_) => {}
-    }
-    let rear = stretch(&history.steps, train).rear;
-    let mark = rear.saturating_sub(REMEMBERED);
-    history.tellings.push(Telling::Forgotten(mark))?;
-    Ok(())
+/// The track before this place, far behind the train, is forgotten.
+fn mark(steps: &[Step], train: &TrainData) -> i64 {
+    stretch(steps, train).rear.saturating_sub(REMEMBERED)
 }
 
-/// The limit after the last of these inputs.
-fn limit(alloc: Global, train: &TrainData, inputs: &[Input]) -> Result<u32, AllocError> {
+/// The limit, by all that bears on the place and on the restrictions.
+fn limit(
+    alloc: Global,
+    steps: &[Step],
+    tellings: &[Telling],
+    train: &TrainData,
+) -> Result<u32, AllocError> {
+    let speed = train.maximum.get().min(STAFF_RESPONSIBLE);
+    track::least(alloc, tellings, &stretch(steps, train), speed)
+}
+
+/// What one input told, where a group has one balise.
+fn tell(history: &mut History, input: &Input) -> Result<(), AllocError> {
+    match input {
+        Input::Telegram(bytes) => listen(history, bytes),
+        Input::Odometer(reading) => {
+            place::add_movement(&mut history.steps, reading.movement.get())
+        }
+        Input::Clock(_) | Input::Driver(_) => Ok(()),
+    }
+}
+
+/// The limit after the last of these inputs, where a group has one balise.
+fn limit_after(alloc: Global, train: &TrainData, inputs: &[Input]) -> Result<u32, AllocError> {
     let mut history = History {
         steps: Vec::new(alloc),
         heard: Vec::new(alloc),
         tellings: Vec::new(alloc),
     };
     for input in inputs {
-        tell(&mut history, train, input)?;
+        tell(&mut history, input)?;
+        let mark = mark(&history.steps, train);
+        history.tellings.push(Telling::Forgotten(mark))?;
     }
-    let stretch = stretch(&history.steps, train);
-    let speed = train.maximum.get().min(STAFF_RESPONSIBLE);
-    track::least(alloc, &history.tellings, &stretch, speed)
+    limit(alloc, &history.steps, &history.tellings, train)
 }
 
 /// The limit after each input of a life in staff responsible, in metres per hour. A group has one balise here, and
@@ -145,7 +127,36 @@ fn limit(alloc: Global, train: &TrainData, inputs: &[Input]) -> Result<u32, Allo
 pub fn limits(alloc: Global, train: &TrainData, inputs: &[Input]) -> Result<Vec<u32>, AllocError> {
     let mut limits = Vec::new(alloc);
     for last in 0..inputs.len() {
-        limits.push(limit(alloc, train, &inputs[..=last])?)?;
+        limits.push(limit_after(alloc, train, &inputs[..=last])?)?;
+    }
+    Ok(limits)
+}
+
+/// The limit after the last of these inputs, with groups of several balises and linking.
+fn group_limit_after(
+    alloc: Global,
+    train: &TrainData,
+    inputs: &[Input],
+) -> Result<u32, AllocError> {
+    let mut life = life::Life::new(alloc);
+    for number in 0..inputs.len() {
+        life::tell(alloc, &mut life, inputs, number)?;
+        let mark = mark(&life.steps, train);
+        life.tellings.push(Telling::Forgotten(mark))?;
+    }
+    limit(alloc, &life.steps, &life.tellings, train)
+}
+
+/// The limit after each input of a life in staff responsible, in metres per hour, with groups of several balises and
+/// linking.
+pub fn group_limits(
+    alloc: Global,
+    train: &TrainData,
+    inputs: &[Input],
+) -> Result<Vec<u32>, AllocError> {
+    let mut limits = Vec::new(alloc);
+    for last in 0..inputs.len() {
+        limits.push(group_limit_after(alloc, train, &inputs[..=last])?)?;
     }
     Ok(limits)
 }

@@ -48,6 +48,17 @@ fn last_fix(steps: &[Step]) -> Fix {
     last
 }
 
+/// The sum of the life's movements.
+pub fn moved_sum(steps: &[Step]) -> i64 {
+    let mut sum = 0_i64;
+    for step in steps {
+        if let Step::Moved(by) = step {
+            sum = sum.saturating_add(*by);
+        }
+    }
+    sum
+}
+
 /// The path of the life.
 pub fn path_sum(steps: &[Step]) -> u64 {
     let mut sum = 0_u64;
@@ -88,14 +99,19 @@ pub fn estimate(steps: &[Step]) -> i64 {
     last_fix(steps).at.saturating_add(moved_since(steps))
 }
 
-/// How far that may be wrong: the accuracy, 5 m, a twentieth of the path rounded up, and 12 m for a missed balise 1.
-fn uncertainty(steps: &[Step]) -> u64 {
+/// How far the estimate may be wrong at this path since the balise of the last fix was read: the accuracy, 5 m, a
+/// twentieth of the path rounded up, and 12 m for a missed balise 1.
+fn uncertainty_at(steps: &[Step], path: u64) -> u64 {
     let fix = last_fix(steps);
     let missing = if fix.missed { 1_200 } else { 0 };
     fix.accuracy
         .saturating_add(500)
-        .saturating_add(path_since(steps).div_ceil(20))
+        .saturating_add(path.div_ceil(20))
         .saturating_add(missing)
+}
+
+fn uncertainty(steps: &[Step]) -> u64 {
+    uncertainty_at(steps, path_since(steps))
 }
 
 pub fn min_front(steps: &[Step]) -> i64 {
@@ -104,6 +120,27 @@ pub fn min_front(steps: &[Step]) -> i64 {
 
 pub fn max_front(steps: &[Step]) -> i64 {
     estimate(steps).saturating_add_unsigned(uncertainty(steps))
+}
+
+/// The movement since the sum of the movements was this.
+pub fn moved_after(steps: &[Step], sum: i64) -> i64 {
+    moved_sum(steps).saturating_sub(sum)
+}
+
+/// The path since the path of the life was this.
+pub fn path_after(steps: &[Step], sum: u64) -> u64 {
+    path_sum(steps).saturating_sub(sum)
+}
+
+/// Where the front was thought to be when the sum of the movements was this, by the last fix.
+pub fn estimate_at(steps: &[Step], moved: i64) -> i64 {
+    estimate(steps).saturating_sub(moved_after(steps, moved))
+}
+
+/// The greatest front when the sum of the movements and the path of the life were these, by the last fix.
+pub fn max_front_at(steps: &[Step], moved: i64, path: u64) -> i64 {
+    let since = path_since(steps).saturating_sub(path_after(steps, path));
+    estimate_at(steps, moved).saturating_add_unsigned(uncertainty_at(steps, since))
 }
 
 fn is_near(place: i64) -> bool {

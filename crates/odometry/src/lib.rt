@@ -5,8 +5,6 @@
 mod earlier;
 mod overrun;
 mod place;
-#[cfg(test)]
-mod tests;
 
 pub use earlier::{EarlierPlace, Sums};
 pub use overrun::Overrun;

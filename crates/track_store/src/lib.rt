@@ -3,8 +3,6 @@
 
 mod restriction;
 mod restrictions;
-#[cfg(test)]
-mod tests;
 
 pub use restriction::Restriction;
 pub use restrictions::Restrictions;

@@ -1,6 +1,6 @@
-use crate::{Restriction, Restrictions};
 use std::process::Abort;
 use std::test::Fail;
+use track_store::{Restriction, Restrictions};
 use units::{Cm, Mph, Stretch};
 use vars::{RestrictionNumber, TrainLengthDelay, Variable};
 

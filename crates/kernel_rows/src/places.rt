@@ -1,4 +1,4 @@
-use crate::{Overrun, Place};
+use odometry::{Overrun, Place};
 use std::process::Abort;
 use units::{Cm, Length};
 

@@ -1,0 +1,335 @@
+// Rows of groups of several balises and of linking. The train is 20,000 cm long.
+use crate::plain;
+use crate::told::Told::{self, Hear, Move};
+use crate::told::{input, train};
+use std::process::Abort;
+use std::test::Fail;
+
+/// Group 2 announces group 3, 1,000 m ahead, in its nominal direction, to 10 m.
+const LINK: &str = "90007F802001416022A0FA0001C281FE";
+/// The same in its reverse direction.
+const LINK_REVERSE: &str = "90007F802001416022A0FA00018281FE";
+/// The same 10 m ahead.
+const LINK_NEAR: &str = "90007F802001416022A0028001C281FE";
+/// Group 2 announces group 4, 995 m ahead, and group 3, 5 m behind it.
+const LINKS: &str = "90007F80200141603620F8C00242820014001C2BFC";
+/// Group 2 of country 1 announces group 4 of country 5, 500 m ahead, and group 3, 500 m behind it.
+const LINKS_ABROAD: &str = "90007F80200141603B207D20280090A081F400070AFF";
+/// Group 2 revokes restriction 7, tells it, announces group 3 1,000 m ahead, and then group 4.
+const LAST_LINK: &str =
+    "90007F80200150A00F83A0C04741C00000328205808A83E800070A002C04541F400048503FC0";
+/// Place 0 of the two of group 2 announces group 3, 1,000 m ahead; M_DUP is 1 or 0.
+const LINK_OF_TWO: &str = "9002FF802001416022A0FA0001C281FE";
+
+const LINK_OF_TWO_ALONE: &str = "90027F802001416022A0FA0001C281FE";
+/// Restriction 7 of 5 km/h from group 9 on for 50 m, with Q_LINK 1 or 0.
+const STRANGER: &str = "90007F802004D06023A0E000001940FF80";
+
+const STRANGER_UNLINKED: &str = "90007F802004906023A0E000001940FF80";
+/// The same 10 m ahead, with Q_LINK 0.
+const STRANGER_AHEAD: &str = "90007F802004906023A0E002801940FF80";
+/// Restriction 7 of 10 km/h from group 3 on for 50 m, of country 1 or 5.
+const THREE: &str = "90007F802001D06023A0E0000019417F80";
+
+const THREE_ABROAD: &str = "90007F80A001D06023A0E0000019417F80";
+/// The same 20 m ahead.
+const THREE_AHEAD: &str = "90007F802001D06023A0E0050019417F80";
+/// Restriction 8 of 15 km/h from group 4 on for 50 m.
+const FOUR: &str = "90007F802002506023A10000001941FF80";
+/// Group 3 with counter 254 and with Q_LINK 1 or 0.
+const THREE_REFUSED: &str = "90007F002001D06023A0E0000019417F80";
+
+const THREE_REFUSED_UNLINKED: &str = "90007F002001906023A0E0000019417F80";
+/// The two balises of group 3, the second with restriction 7 of 10 km/h from the group on for 50 m.
+const THREE_FIRST: &str = "90027F802001FFC0";
+
+const THREE_SECOND: &str = "90127F802001D06023A0E0000019417F80";
+/// The second with M_DUP 2, and 41 m ahead.
+const THREE_SECOND_AHEAD: &str = "90137F802001D06023A0E00A4019417F80";
+/// Group 3 with restrictions of 5, 10 and 15 km/h with Q_DIR 0, 1 and 2.
+const THREE_WAYS: &str = "90007F802001D04023A02000001940A0A04740800000328241808E818000006507FE";
+/// The two balises of group 2: the first with restrictions of 5 and 10 km/h with Q_DIR 0 and 1, the second with one of
+/// 15 km/h with Q_DIR 2.
+const TWO_FIRST: &str = "90027F802001504023A02000001940A0A047408000003282FF";
+
+const TWO_SECOND: &str = "90127F802001506023A06000001941FF80";
+/// The second with M_DUP 2.
+const TWO_SECOND_DOUBLE: &str = "90137F802001506023A06000001941FF80";
+
+/// The plain program gives this limit after each input, in metres per hour.
+fn row<R: Abort + AllocGlobal>(rt: &R, row: &[(Told, u32)]) -> Result<(), Fail> {
+    let mut inputs = Vec::new(rt.alloc());
+    let mut expected = Vec::new(rt.alloc());
+    for (told, limit) in row {
+        inputs.push(input(rt, *told))?;
+        expected.push(*limit)?;
+    }
+    let plain = plain::group_limits(rt.alloc(), &train(rt, 20_000), &inputs)?;
+    assert_eq!(rt; plain.as_slice(), expected.as_slice(), "plain program");
+    Ok(())
+}
+
+// A group that isn't announced is ignored while another one is, but for Q_LINK 0.
+#[test]
+fn not_announced(rt: HostRuntime) -> Result<(), Fail> {
+    row(&rt, &[(Hear(LINK), 40_000), (Hear(STRANGER), 40_000)])?;
+    row(
+        &rt,
+        &[(Hear(LINK), 40_000), (Hear(STRANGER_UNLINKED), 5_000)],
+    )?;
+    row(&rt, &[(Hear(STRANGER), 5_000)])
+}
+
+#[test]
+fn directions(rt: HostRuntime) -> Result<(), Fail> {
+    row(&rt, &[(Hear(TWO_SECOND), 40_000), (Hear(TWO_FIRST), 5_000)])?;
+    row(
+        &rt,
+        &[(Hear(TWO_FIRST), 40_000), (Hear(TWO_SECOND), 10_000)],
+    )?;
+    row(
+        &rt,
+        &[
+            (Hear(TWO_SECOND_DOUBLE), 40_000),
+            (Move(1_300), 40_000),
+            (Move(1), 15_000),
+        ],
+    )
+}
+
+// With one place read, the direction is the announced one.
+#[test]
+fn announced_directions(rt: HostRuntime) -> Result<(), Fail> {
+    for (link, limit) in [(LINK, 10_000), (LINK_REVERSE, 5_000)] {
+        row(
+            &rt,
+            &[
+                (Hear(link), 40_000),
+                (Move(100_000), 40_000),
+                (Hear(THREE_WAYS), limit),
+            ],
+        )?;
+    }
+    row(&rt, &[(Hear(THREE_WAYS), 15_000)])
+}
+
+// The fix at 100,000 leaves 1,500 cm of doubt. The restriction lies from 102,000 to 106,999.
+// 475 / 20 = 24: the greatest front is 100,475 + 1,524 = 101,999. At 476 it is 102,000.
+// 8,947 / 20 = 448: the least front is 108,947 - 1,948 = 106,999. At 8,948 it is 107,000.
+#[test]
+fn announced_place(rt: HostRuntime) -> Result<(), Fail> {
+    row(
+        &rt,
+        &[
+            (Hear(LINK), 40_000),
+            (Move(100_500), 40_000),
+            (Hear(THREE_AHEAD), 40_000),
+            (Move(475), 40_000),
+            (Move(1), 10_000),
+            (Move(8_471), 10_000),
+            (Move(1), 40_000),
+        ],
+    )
+}
+
+// 93,808 / 20 = 4,691: the greatest front is 93,808 + 5,191 = 98,999, below 100,000 - 1,000. At 93,809 it is 99,000.
+// The group that came too early is no longer announced, and so no group is.
+#[test]
+fn too_early(rt: HostRuntime) -> Result<(), Fail> {
+    row(
+        &rt,
+        &[
+            (Hear(LINK), 40_000),
+            (Move(93_808), 40_000),
+            (Hear(THREE), 40_000),
+            (Hear(STRANGER), 5_000),
+        ],
+    )?;
+    row(
+        &rt,
+        &[
+            (Hear(LINK), 40_000),
+            (Move(93_809), 40_000),
+            (Hear(THREE), 10_000),
+        ],
+    )
+}
+
+// 106,843 / 20 = 5,343: the least front is 106,843 - 5,843 = 101,000, not above 100,000 + 1,000. At 106,844 it is.
+// A group that was missed is not announced: it makes its fix at its own place.
+#[test]
+fn missed(rt: HostRuntime) -> Result<(), Fail> {
+    row(
+        &rt,
+        &[
+            (Hear(LINK), 40_000),
+            (Move(106_843), 40_000),
+            (Hear(STRANGER), 40_000),
+            (Move(1), 40_000),
+            (Hear(THREE), 10_000),
+        ],
+    )?;
+    row(
+        &rt,
+        &[
+            (Hear(LINK), 40_000),
+            (Move(106_844), 40_000),
+            (Hear(STRANGER), 5_000),
+        ],
+    )
+}
+
+#[test]
+fn wrong_way(rt: HostRuntime) -> Result<(), Fail> {
+    for (link, first, second, limit, last) in [
+        (LINK, THREE_FIRST, THREE_SECOND, 10_000, 5_000),
+        (LINK, THREE_SECOND, THREE_FIRST, 40_000, 5_000),
+        (LINK_REVERSE, THREE_FIRST, THREE_SECOND, 40_000, 5_000),
+        (LINK_REVERSE, THREE_SECOND, THREE_FIRST, 10_000, 5_000),
+    ] {
+        row(
+            &rt,
+            &[
+                (Hear(link), 40_000),
+                (Move(100_000), 40_000),
+                (Hear(first), 40_000),
+                (Hear(second), limit),
+                (Hear(STRANGER), last),
+            ],
+        )?;
+    }
+    Ok(())
+}
+
+// The group ends 1,301 cm behind its second balise, the first being missed. The fix at 100,000 leaves
+// 1,000 + 500 + 1,200 cm of doubt, and 67 for the path of 1,332: the greatest front is 101,332 + 2,767 = 104,099.
+#[test]
+fn first_balise_missed(rt: HostRuntime) -> Result<(), Fail> {
+    row(
+        &rt,
+        &[
+            (Hear(LINK), 40_000),
+            (Move(100_000), 40_000),
+            (Hear(THREE_SECOND_AHEAD), 40_000),
+            (Move(1_300), 40_000),
+            (Move(1), 40_000),
+            (Move(31), 40_000),
+            (Move(1), 10_000),
+        ],
+    )
+}
+
+// The restriction begins at 21,000. Without a fix the greatest front is 20,000 + 500 + 1,000 = 21,500, with one 20,500;
+// 476 / 20 = 24, and so it is 21,000 at 20,476.
+#[test]
+fn fix_at_its_own_place(rt: HostRuntime) -> Result<(), Fail> {
+    row(
+        &rt,
+        &[
+            (Hear(LINK), 40_000),
+            (Move(20_000), 40_000),
+            (Hear(STRANGER_AHEAD), 5_000),
+        ],
+    )?;
+    row(
+        &rt,
+        &[
+            (Move(20_000), 40_000),
+            (Hear(STRANGER_AHEAD), 40_000),
+            (Move(475), 40_000),
+            (Move(1), 5_000),
+        ],
+    )
+}
+
+// A broken group is no longer announced, but for Q_LINK 0.
+#[test]
+fn broken(rt: HostRuntime) -> Result<(), Fail> {
+    for (broken, limit) in [(THREE_REFUSED, 5_000), (THREE_REFUSED_UNLINKED, 40_000)] {
+        row(
+            &rt,
+            &[
+                (Hear(LINK), 40_000),
+                (Move(100_000), 40_000),
+                (Hear(broken), 40_000),
+                (Hear(STRANGER), limit),
+            ],
+        )?;
+    }
+    Ok(())
+}
+
+// The telegram of group 9 ends group 2, whose list counts at once, but for where the group is broken.
+#[test]
+fn ended_by_a_telegram(rt: HostRuntime) -> Result<(), Fail> {
+    row(
+        &rt,
+        &[(Hear(LINK_OF_TWO), 40_000), (Hear(STRANGER), 40_000)],
+    )?;
+    row(
+        &rt,
+        &[(Hear(LINK_OF_TWO_ALONE), 40_000), (Hear(STRANGER), 5_000)],
+    )
+}
+
+// An accepted group takes those before it along; group 4 is announced at 99,500, and group 3 at 100,000.
+#[test]
+fn several_announced(rt: HostRuntime) -> Result<(), Fail> {
+    row(
+        &rt,
+        &[
+            (Hear(LINKS), 40_000),
+            (Move(100_000), 40_000),
+            (Hear(THREE), 10_000),
+            (Hear(STRANGER), 5_000),
+        ],
+    )?;
+    row(
+        &rt,
+        &[
+            (Hear(LINKS), 40_000),
+            (Move(100_000), 40_000),
+            (Hear(FOUR), 15_000),
+            (Hear(STRANGER), 15_000),
+            (Hear(THREE), 10_000),
+        ],
+    )
+}
+
+// A country that isn't given is the one before. Of two lists in a message the last counts, and the revocation is taken
+// behind the restriction.
+#[test]
+fn lists(rt: HostRuntime) -> Result<(), Fail> {
+    row(
+        &rt,
+        &[
+            (Hear(LINKS_ABROAD), 40_000),
+            (Move(100_000), 40_000),
+            (Hear(THREE), 40_000),
+            (Hear(THREE_ABROAD), 10_000),
+        ],
+    )?;
+    row(
+        &rt,
+        &[
+            (Hear(LAST_LINK), 40_000),
+            (Move(100_000), 40_000),
+            (Hear(THREE), 40_000),
+            (Hear(FOUR), 15_000),
+        ],
+    )
+}
+
+// The group is announced at 2^40 + 900, to 1,000 cm, and read at 2^40 - 100: no fix is made, and the restriction counts
+// from the group's own place. The greatest front is 2^40 + 400.
+#[test]
+fn announced_too_far(rt: HostRuntime) -> Result<(), Fail> {
+    row(
+        &rt,
+        &[
+            (Move((1 << 40) - 100), 40_000),
+            (Hear(LINK_NEAR), 40_000),
+            (Hear(THREE), 10_000),
+        ],
+    )
+}

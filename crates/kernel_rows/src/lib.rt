@@ -1,0 +1,17 @@
+//! Worked rows of the kernel and its parts, and a plain program that computes the same limits.
+#![tactic(auto)]
+
+#[cfg(test)]
+mod beside;
+#[cfg(test)]
+mod groups;
+#[cfg(test)]
+mod limits;
+#[cfg(test)]
+mod places;
+#[cfg(test)]
+mod plain;
+#[cfg(test)]
+mod restrictions;
+#[cfg(test)]
+mod told;

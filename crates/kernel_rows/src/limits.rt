@@ -1,0 +1,252 @@
+use crate::plain;
+use crate::told::Told::{self, At, Do, Hear, Move};
+use crate::told::{input, kernel_limits, train};
+use kernel::{Action, Event, Mode, State, step};
+use std::process::Abort;
+use std::test::Fail;
+
+/// Restriction 7 of 20 km/h from 10,000 cm on for 5,000 cm, until the front has left it; group 2.
+const AHEAD: &str = "90007F802001506023A0E0190019427F80";
+/// The same until the rear has left it.
+const AHEAD_OF_THE_REAR: &str = "90007F802001506023A0E0190019027F80";
+/// Restriction 7 from the group on for 5,000 cm: group 2 tells of 10 km/h, or of 5 km/h.
+const HERE: &str = "90007F802001506023A0E0000019417F80";
+
+const HERE_SLOWER: &str = "90007F802001506023A0E000001940FF80";
+
+/// The kernel and the plain program give this limit after each input, in metres per hour.
+fn row<R: Abort + AllocGlobal>(rt: &R, row: &[(Told, u32)]) -> Result<(), Fail> {
+    let mut inputs = Vec::new(rt.alloc());
+    let mut expected = Vec::new(rt.alloc());
+    for (told, limit) in row {
+        inputs.push(input(rt, *told))?;
+        expected.push(*limit)?;
+    }
+    let train = train(rt, 20_000);
+    assert_eq!(rt;
+        kernel_limits(rt, &train, &inputs)?.as_slice(),
+        expected.as_slice(),
+        "kernel"
+    );
+    let plain = plain::limits(rt.alloc(), &train, &inputs)?;
+    assert_eq!(rt; plain.as_slice(), expected.as_slice(), "plain program");
+    Ok(())
+}
+
+#[test]
+fn restriction_ahead(rt: HostRuntime) -> Result<(), Fail> {
+    row(
+        &rt,
+        &[
+            (Hear(AHEAD), 40_000),
+            (Move(9_046), 40_000),
+            (Move(1), 20_000),
+            (Move(7_268), 20_000),
+            (Move(1), 40_000),
+            (Move(-1), 20_000),
+        ],
+    )?;
+    row(
+        &rt,
+        &[
+            (Hear(AHEAD_OF_THE_REAR), 40_000),
+            (Move(37_368), 20_000),
+            (Move(1), 40_000),
+        ],
+    )?;
+    row(&rt, &[])
+}
+
+#[test]
+fn replaced_and_revoked(rt: HostRuntime) -> Result<(), Fail> {
+    row(
+        &rt,
+        &[
+            (Hear(HERE), 10_000),
+            (Hear("90007F802001D06023A0E0000019427F80"), 20_000),
+            (Hear("90007F80200250A00F83FF80"), 40_000),
+            (Hear("90007F802002D06023BFE000001940FF80"), 5_000),
+            (Hear("90007F80200350A00FFFFF80"), 5_000),
+        ],
+    )?;
+    // The revocation stands before the restriction in the message, and is taken behind it.
+    row(
+        &rt,
+        &[(Hear("90007F80200150A00F83A0C04741C000003282FF"), 40_000)],
+    )?;
+    // No length.
+    row(&rt, &[(Hear("90007F802001506023A0E0000000417F80"), 40_000)])
+}
+
+#[test]
+fn repeats(rt: HostRuntime) -> Result<(), Fail> {
+    row(
+        &rt,
+        &[
+            (Hear(HERE), 10_000),
+            (Move(1_300), 10_000),
+            (Hear(HERE_SLOWER), 10_000),
+            (Move(1_300), 10_000),
+            (Hear(HERE_SLOWER), 10_000),
+            (Move(1_301), 10_000),
+            (Hear(HERE_SLOWER), 5_000),
+        ],
+    )
+}
+
+#[test]
+fn groups_not_used(rt: HostRuntime) -> Result<(), Fail> {
+    // Counter 254: the group closes with nothing told, and what comes near it is a repeat.
+    row(
+        &rt,
+        &[
+            (Hear("90007F002001506023A0E0000019417F80"), 40_000),
+            (Hear(HERE), 40_000),
+            (Move(1_301), 40_000),
+            (Hear(HERE), 10_000),
+        ],
+    )?;
+    // N_TOTAL 1, and L_PACKET 72: no effect at all.
+    row(
+        &rt,
+        &[
+            (Hear("90027F802001506023A0E0000019417F80"), 40_000),
+            (Hear("90007F80200150602420E0190019427F80"), 40_000),
+            (Hear(""), 40_000),
+            (Hear(HERE), 10_000),
+            (At(1_000), 10_000),
+            (Do(Action::Start), 10_000),
+        ],
+    )
+}
+
+#[test]
+fn packets_not_used(rt: HostRuntime) -> Result<(), Fail> {
+    // Q_DIR 1, 0 and 2.
+    row(
+        &rt,
+        &[
+            (Hear("90007F802001505023A0E0000019417F80"), 40_000),
+            (Hear("90007F802001D04023A0E0000019417F80"), 40_000),
+            (Hear("90007F802002506023A0E0000019417F80"), 10_000),
+        ],
+    )?;
+    // Packet 136 between restrictions of 20 and of 10 km/h, and before the second alone.
+    row(
+        &rt,
+        &[(
+            Hear("90007F802001506023A0E00000194244401741808E840000006505FE"),
+            20_000,
+        )],
+    )?;
+    row(
+        &rt,
+        &[(Hear("90007F80200162200BA0C047420000003282FF"), 40_000)],
+    )
+}
+
+#[test]
+fn scales(rt: HostRuntime) -> Result<(), Fail> {
+    // D_TSR 1 and L_TSR 1 in 10 cm, 1 m and 10 m.
+    row(
+        &rt,
+        &[
+            (Hear("90007F80200150602380E0004000C17F80"), 10_000),
+            (Move(547), 10_000),
+            (Move(1), 40_000),
+        ],
+    )?;
+    row(
+        &rt,
+        &[
+            (Hear("90007F802001506023A0E0004000C17F80"), 10_000),
+            (Move(736), 10_000),
+            (Move(1), 40_000),
+        ],
+    )?;
+    row(
+        &rt,
+        &[
+            (Hear("90007F802001506023C0E0004000C17F80"), 40_000),
+            (Move(475), 40_000),
+            (Move(1), 10_000),
+            (Move(2_155), 10_000),
+            (Move(1), 40_000),
+        ],
+    )
+}
+
+#[test]
+fn forgotten_track(rt: HostRuntime) -> Result<(), Fail> {
+    // The mark lies 120,500 cm and the twentieth part of the path, rounded up, behind the estimate: it comes to the last
+    // centimetre of the restriction, and beyond it.
+    // 132,105 / 20 = 6,606: the mark is 132,105 - 120,500 - 6,606 = 4,999. At 132,106 it is 5,000.
+    row(
+        &rt,
+        &[
+            (Hear(HERE), 10_000),
+            (Move(132_105), 40_000),
+            (Move(-132_105), 10_000),
+        ],
+    )?;
+    row(
+        &rt,
+        &[
+            (Hear(HERE), 10_000),
+            (Move(132_106), 40_000),
+            (Move(-132_106), 40_000),
+        ],
+    )?;
+    // 129,474 / 20 = 6,474: the mark is 129,474 - 120,500 - 6,474 = 2,500, and the restriction counts from there to 4,999.
+    // The path is then 270,473, and 13,524 its twentieth part: the estimate is -11,525, and the fronts are
+    // -11,525 - 14,024 = -25,549 and -11,525 + 14,024 = 2,499. One centimetre on, the greatest front is 2,500.
+    // Told anew at -11,524 the restriction ends at -6,525, and is forgotten at once; the old one of its number goes.
+    row(
+        &rt,
+        &[
+            (Hear(HERE), 10_000),
+            (Move(129_474), 40_000),
+            (Move(-140_999), 40_000),
+            (Move(1), 10_000),
+            (Hear(HERE_SLOWER), 40_000),
+        ],
+    )
+}
+
+#[test]
+fn overrun(rt: HostRuntime) -> Result<(), Fail> {
+    let farthest = 1 << 40;
+    row(
+        &rt,
+        &[
+            (Hear(HERE), 10_000),
+            (Move(farthest + 1), 10_000),
+            (Move(farthest), 40_000),
+            (Hear(HERE), 10_000),
+            (Move(-100_000), 10_000),
+        ],
+    )
+}
+
+#[test]
+fn a_life_forgets_the_one_before(rt: HostRuntime) -> Result<(), Fail> {
+    let mut state = State::empty(rt.alloc());
+    for (event, expected) in [
+        (Event::PowerUp, 40_000),
+        (Event::Input(input(&rt, Hear(HERE))), 10_000),
+        (Event::PowerUp, 40_000),
+        (Event::Input(input(&rt, Move(1))), 40_000),
+        (Event::Input(input(&rt, Hear(HERE))), 10_000),
+    ] {
+        let (next, limit) = step(
+            rt.alloc(),
+            Mode::StaffResponsible,
+            &train(&rt, 20_000),
+            &state,
+            &event,
+        )?;
+        assert_eq!(rt; limit.get(), expected);
+        state = next;
+    }
+    Ok(())
+}

@@ -55,6 +55,14 @@ const TWO_FIRST: &str = "90027F802001504023A02000001940A0A047408000003282FF";
 const TWO_SECOND: &str = "90127F802001506023A06000001941FF80";
 /// The second with M_DUP 2.
 const TWO_SECOND_DOUBLE: &str = "90137F802001506023A06000001941FF80";
+/// The first with M_MCOUNT 3. The second with N_TOTAL 2, with Q_LINK 0, with M_MCOUNT 4.
+const TWO_FIRST_COUNTED: &str = "900201802001504023A02000001940A0A047408000003282FF";
+
+const TWO_SECOND_OF_THREE: &str = "90147F802001506023A06000001941FF80";
+
+const TWO_SECOND_UNLINKED: &str = "90127F802001106023A06000001941FF80";
+
+const TWO_SECOND_COUNTED: &str = "901202002001506023A06000001941FF80";
 
 /// The plain program gives this limit after each input, in metres per hour.
 fn row<R: Abort + AllocGlobal>(rt: &R, row: &[(Told, u32)]) -> Result<(), Fail> {
@@ -240,6 +248,82 @@ fn fix_at_its_own_place(rt: HostRuntime) -> Result<(), Fail> {
             (Move(1), 5_000),
         ],
     )
+}
+
+// The reading of 1,301 cm ends the group, but its announcement is missed before: 107,301 - 500 - 5,366 = 101,435. So the
+// fix is made at its own place, 106,000, and the restriction begins at 110,100. 2,284 / 20 = 115: the greatest front is
+// 106,000 + 2,284 + 500 + 115 + 1,200 = 110,099.
+#[test]
+fn missed_where_it_ends(rt: HostRuntime) -> Result<(), Fail> {
+    row(
+        &rt,
+        &[
+            (Hear(LINK), 40_000),
+            (Move(106_000), 40_000),
+            (Hear(THREE_SECOND_AHEAD), 40_000),
+            (Move(1_301), 40_000),
+            (Move(983), 40_000),
+            (Move(1), 10_000),
+        ],
+    )
+}
+
+// A repeat renews the distance, and so the group is whole; without it the group is broken, and another one begins.
+#[test]
+fn repeated(rt: HostRuntime) -> Result<(), Fail> {
+    row(
+        &rt,
+        &[
+            (Hear(TWO_FIRST), 40_000),
+            (Move(1_300), 40_000),
+            (Hear(TWO_FIRST), 40_000),
+            (Move(1_300), 40_000),
+            (Hear(TWO_SECOND), 10_000),
+        ],
+    )?;
+    row(
+        &rt,
+        &[
+            (Hear(TWO_FIRST), 40_000),
+            (Move(1_301), 40_000),
+            (Hear(TWO_SECOND), 40_000),
+        ],
+    )
+}
+
+// Totals and link flags have to be the same, and counters but for 255.
+#[test]
+fn one_message(rt: HostRuntime) -> Result<(), Fail> {
+    for (first, second, limit) in [
+        (TWO_FIRST, TWO_SECOND_OF_THREE, 40_000),
+        (TWO_FIRST, TWO_SECOND_UNLINKED, 40_000),
+        (TWO_FIRST, TWO_SECOND_COUNTED, 10_000),
+        (TWO_FIRST_COUNTED, TWO_SECOND, 10_000),
+        (TWO_FIRST_COUNTED, TWO_SECOND_COUNTED, 40_000),
+    ] {
+        row(&rt, &[(Hear(first), 40_000), (Hear(second), limit)])?;
+    }
+    Ok(())
+}
+
+// A telegram of the group that closed last, within 1,300 cm, doesn't end the group that is being read.
+#[test]
+fn late(rt: HostRuntime) -> Result<(), Fail> {
+    for (path, limit) in [(1_300, 5_000), (1_301, 10_000)] {
+        row(
+            &rt,
+            &[
+                (Hear(THREE), 10_000),
+                (Move(1_300), 10_000),
+                (Hear(THREE), 10_000),
+                (Move(path), 10_000),
+                (Hear(TWO_SECOND), 10_000),
+                (Hear(THREE), 10_000),
+                (Hear(TWO_FIRST), limit),
+            ],
+        )?;
+    }
+    Ok(())
 }
 
 // A broken group is no longer announced, but for Q_LINK 0.

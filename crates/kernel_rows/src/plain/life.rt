@@ -148,7 +148,7 @@ fn give_up(life: &mut Life, left: &[Announcement], header: &Header) -> Result<()
     Ok(())
 }
 
-/// What a group does that ended with these readings that count, the first with this header.
+/// What a group does that ended with these readings that count.
 fn judge(
     alloc: Global,
     life: &mut Life,

@@ -1,4 +1,4 @@
-// Rows of groups of several balises and of linking. The train is 20,000 cm long.
+// Rows of groups of several balises and of linking. The train is 20,000 cm long; announcements ask for no reaction.
 use crate::plain;
 use crate::told::Told::{self, Hear, Move};
 use crate::told::{input, train};
@@ -6,22 +6,22 @@ use std::process::Abort;
 use std::test::Fail;
 
 /// Group 2 announces group 3, 1,000 m ahead, in its nominal direction, to 10 m.
-const LINK: &str = "90007F802001416022A0FA0001C281FE";
+const LINK: &str = "90007F802001416022A0FA0001E281FE";
 /// The same in its reverse direction.
-const LINK_REVERSE: &str = "90007F802001416022A0FA00018281FE";
+const LINK_REVERSE: &str = "90007F802001416022A0FA0001A281FE";
 /// The same 10 m ahead.
-const LINK_NEAR: &str = "90007F802001416022A0028001C281FE";
+const LINK_NEAR: &str = "90007F802001416022A0028001E281FE";
 /// Group 2 announces group 4, 995 m ahead, and group 3, 5 m behind it.
-const LINKS: &str = "90007F80200141603620F8C00242820014001C2BFC";
+const LINKS: &str = "90007F80200141603620F8C00262820014001E2BFC";
 /// Group 2 of country 1 announces group 4 of country 5, 500 m ahead, and group 3, 500 m behind it.
-const LINKS_ABROAD: &str = "90007F80200141603B207D20280090A081F400070AFF";
+const LINKS_ABROAD: &str = "90007F80200141603B207D20280098A081F400078AFF";
 /// Group 2 revokes restriction 7, tells it, announces group 3 1,000 m ahead, and then group 4.
 const LAST_LINK: &str =
-    "90007F80200150A00F83A0C04741C00000328205808A83E800070A002C04541F400048503FC0";
+    "90007F80200150A00F83A0C04741C00000328205808A83E800078A002C04541F40004C503FC0";
 /// Place 0 of the two of group 2 announces group 3, 1,000 m ahead; M_DUP is 1 or 0.
-const LINK_OF_TWO: &str = "9002FF802001416022A0FA0001C281FE";
+const LINK_OF_TWO: &str = "9002FF802001416022A0FA0001E281FE";
 
-const LINK_OF_TWO_ALONE: &str = "90027F802001416022A0FA0001C281FE";
+const LINK_OF_TWO_ALONE: &str = "90027F802001416022A0FA0001E281FE";
 /// Restriction 7 of 5 km/h from group 9 on for 50 m, with Q_LINK 1 or 0.
 const STRANGER: &str = "90007F802004D06023A0E000001940FF80";
 

@@ -1,7 +1,7 @@
 // Rows of groups of several balises and of linking. The train is 20,000 cm long; announcements ask for no reaction.
 use crate::plain;
 use crate::told::Told::{self, Hear, Move};
-use crate::told::{input, train};
+use crate::told::{input, kernel_limits, train};
 use std::process::Abort;
 use std::test::Fail;
 
@@ -64,7 +64,7 @@ const TWO_SECOND_UNLINKED: &str = "90127F802001106023A06000001941FF80";
 
 const TWO_SECOND_COUNTED: &str = "901202002001506023A06000001941FF80";
 
-/// The plain program gives this limit after each input, in metres per hour.
+/// The kernel and the plain program give this limit after each input, in metres per hour.
 fn row<R: Abort + AllocGlobal>(rt: &R, row: &[(Told, u32)]) -> Result<(), Fail> {
     let mut inputs = Vec::new(rt.alloc());
     let mut expected = Vec::new(rt.alloc());
@@ -72,7 +72,13 @@ fn row<R: Abort + AllocGlobal>(rt: &R, row: &[(Told, u32)]) -> Result<(), Fail> 
         inputs.push(input(rt, *told))?;
         expected.push(*limit)?;
     }
-    let plain = plain::group_limits(rt.alloc(), &train(rt, 20_000), &inputs)?;
+    let train = train(rt, 20_000);
+    assert_eq!(rt;
+        kernel_limits(rt, &train, &inputs)?.as_slice(),
+        expected.as_slice(),
+        "kernel"
+    );
+    let plain = plain::limits(rt.alloc(), &train, &inputs)?;
     assert_eq!(rt; plain.as_slice(), expected.as_slice(), "plain program");
     Ok(())
 }

@@ -1,27 +1,27 @@
-// Rows of groups of several balises and of linking. The train is 20,000 cm long.
+// Rows of groups of several balises and of linking. The train is 20,000 cm long; announcements ask for no reaction.
 use crate::plain;
 use crate::told::Told::{self, Hear, Move};
-use crate::told::{input, train};
+use crate::told::{input, kernel_limits, train};
 use std::process::Abort;
 use std::test::Fail;
 
 /// Group 2 announces group 3, 1,000 m ahead, in its nominal direction, to 10 m.
-const LINK: &str = "90007F802001416022A0FA0001C281FE";
+const LINK: &str = "90007F802001416022A0FA0001E281FE";
 /// The same in its reverse direction.
-const LINK_REVERSE: &str = "90007F802001416022A0FA00018281FE";
+const LINK_REVERSE: &str = "90007F802001416022A0FA0001A281FE";
 /// The same 10 m ahead.
-const LINK_NEAR: &str = "90007F802001416022A0028001C281FE";
+const LINK_NEAR: &str = "90007F802001416022A0028001E281FE";
 /// Group 2 announces group 4, 995 m ahead, and group 3, 5 m behind it.
-const LINKS: &str = "90007F80200141603620F8C00242820014001C2BFC";
+const LINKS: &str = "90007F80200141603620F8C00262820014001E2BFC";
 /// Group 2 of country 1 announces group 4 of country 5, 500 m ahead, and group 3, 500 m behind it.
-const LINKS_ABROAD: &str = "90007F80200141603B207D20280090A081F400070AFF";
+const LINKS_ABROAD: &str = "90007F80200141603B207D20280098A081F400078AFF";
 /// Group 2 revokes restriction 7, tells it, announces group 3 1,000 m ahead, and then group 4.
 const LAST_LINK: &str =
-    "90007F80200150A00F83A0C04741C00000328205808A83E800070A002C04541F400048503FC0";
+    "90007F80200150A00F83A0C04741C00000328205808A83E800078A002C04541F40004C503FC0";
 /// Place 0 of the two of group 2 announces group 3, 1,000 m ahead; M_DUP is 1 or 0.
-const LINK_OF_TWO: &str = "9002FF802001416022A0FA0001C281FE";
+const LINK_OF_TWO: &str = "9002FF802001416022A0FA0001E281FE";
 
-const LINK_OF_TWO_ALONE: &str = "90027F802001416022A0FA0001C281FE";
+const LINK_OF_TWO_ALONE: &str = "90027F802001416022A0FA0001E281FE";
 /// Restriction 7 of 5 km/h from group 9 on for 50 m, with Q_LINK 1 or 0.
 const STRANGER: &str = "90007F802004D06023A0E000001940FF80";
 
@@ -55,8 +55,16 @@ const TWO_FIRST: &str = "90027F802001504023A02000001940A0A047408000003282FF";
 const TWO_SECOND: &str = "90127F802001506023A06000001941FF80";
 /// The second with M_DUP 2.
 const TWO_SECOND_DOUBLE: &str = "90137F802001506023A06000001941FF80";
+/// The first with M_MCOUNT 3. The second with N_TOTAL 2, with Q_LINK 0, with M_MCOUNT 4.
+const TWO_FIRST_COUNTED: &str = "900201802001504023A02000001940A0A047408000003282FF";
 
-/// The plain program gives this limit after each input, in metres per hour.
+const TWO_SECOND_OF_THREE: &str = "90147F802001506023A06000001941FF80";
+
+const TWO_SECOND_UNLINKED: &str = "90127F802001106023A06000001941FF80";
+
+const TWO_SECOND_COUNTED: &str = "901202002001506023A06000001941FF80";
+
+/// The kernel and the plain program give this limit after each input, in metres per hour.
 fn row<R: Abort + AllocGlobal>(rt: &R, row: &[(Told, u32)]) -> Result<(), Fail> {
     let mut inputs = Vec::new(rt.alloc());
     let mut expected = Vec::new(rt.alloc());
@@ -64,7 +72,13 @@ fn row<R: Abort + AllocGlobal>(rt: &R, row: &[(Told, u32)]) -> Result<(), Fail> 
         inputs.push(input(rt, *told))?;
         expected.push(*limit)?;
     }
-    let plain = plain::group_limits(rt.alloc(), &train(rt, 20_000), &inputs)?;
+    let train = train(rt, 20_000);
+    assert_eq!(rt;
+        kernel_limits(rt, &train, &inputs)?.as_slice(),
+        expected.as_slice(),
+        "kernel"
+    );
+    let plain = plain::limits(rt.alloc(), &train, &inputs)?;
     assert_eq!(rt; plain.as_slice(), expected.as_slice(), "plain program");
     Ok(())
 }
@@ -240,6 +254,82 @@ fn fix_at_its_own_place(rt: HostRuntime) -> Result<(), Fail> {
             (Move(1), 5_000),
         ],
     )
+}
+
+// The reading of 1,301 cm ends the group, but its announcement is missed before: 107,301 - 500 - 5,366 = 101,435. So the
+// fix is made at its own place, 106,000, and the restriction begins at 110,100. 2,284 / 20 = 115: the greatest front is
+// 106,000 + 2,284 + 500 + 115 + 1,200 = 110,099.
+#[test]
+fn missed_where_it_ends(rt: HostRuntime) -> Result<(), Fail> {
+    row(
+        &rt,
+        &[
+            (Hear(LINK), 40_000),
+            (Move(106_000), 40_000),
+            (Hear(THREE_SECOND_AHEAD), 40_000),
+            (Move(1_301), 40_000),
+            (Move(983), 40_000),
+            (Move(1), 10_000),
+        ],
+    )
+}
+
+// A repeat renews the distance, and so the group is whole; without it the group is broken, and another one begins.
+#[test]
+fn repeated(rt: HostRuntime) -> Result<(), Fail> {
+    row(
+        &rt,
+        &[
+            (Hear(TWO_FIRST), 40_000),
+            (Move(1_300), 40_000),
+            (Hear(TWO_FIRST), 40_000),
+            (Move(1_300), 40_000),
+            (Hear(TWO_SECOND), 10_000),
+        ],
+    )?;
+    row(
+        &rt,
+        &[
+            (Hear(TWO_FIRST), 40_000),
+            (Move(1_301), 40_000),
+            (Hear(TWO_SECOND), 40_000),
+        ],
+    )
+}
+
+// Totals and link flags have to be the same, and counters but for 255.
+#[test]
+fn one_message(rt: HostRuntime) -> Result<(), Fail> {
+    for (first, second, limit) in [
+        (TWO_FIRST, TWO_SECOND_OF_THREE, 40_000),
+        (TWO_FIRST, TWO_SECOND_UNLINKED, 40_000),
+        (TWO_FIRST, TWO_SECOND_COUNTED, 10_000),
+        (TWO_FIRST_COUNTED, TWO_SECOND, 10_000),
+        (TWO_FIRST_COUNTED, TWO_SECOND_COUNTED, 40_000),
+    ] {
+        row(&rt, &[(Hear(first), 40_000), (Hear(second), limit)])?;
+    }
+    Ok(())
+}
+
+// A telegram of the group that closed last, within 1,300 cm, doesn't end the group that is being read.
+#[test]
+fn late(rt: HostRuntime) -> Result<(), Fail> {
+    for (path, limit) in [(1_300, 5_000), (1_301, 10_000)] {
+        row(
+            &rt,
+            &[
+                (Hear(THREE), 10_000),
+                (Move(1_300), 10_000),
+                (Hear(THREE), 10_000),
+                (Move(path), 10_000),
+                (Hear(TWO_SECOND), 10_000),
+                (Hear(THREE), 10_000),
+                (Hear(TWO_FIRST), limit),
+            ],
+        )?;
+    }
+    Ok(())
 }
 
 // A broken group is no longer announced, but for Q_LINK 0.

@@ -106,11 +106,10 @@ fn groups_not_used(rt: HostRuntime) -> Result<(), Fail> {
             (Hear(HERE), 10_000),
         ],
     )?;
-    // N_TOTAL 1, and L_PACKET 72: no effect at all.
+    // L_PACKET 72, and no bytes: no effect at all.
     row(
         &rt,
         &[
-            (Hear("90027F802001506023A0E0000019417F80"), 40_000),
             (Hear("90007F80200150602420E0190019427F80"), 40_000),
             (Hear(""), 40_000),
             (Hear(HERE), 10_000),

@@ -1,14 +1,24 @@
 // What the inputs of a life told, groups of several balises and linking included, in the order of each event.
 use crate::plain::group::{self, Reading};
 use crate::plain::link::{self, Announcement, Verdict, Word};
+use crate::plain::message;
 use crate::plain::place::{self, Fix, Step};
 use crate::plain::track::Telling;
-use crate::plain::{GROUP_PATH, Heard, message};
 use kernel::Input;
 use std::alloc::{AllocError, Global};
 use std::mem;
 use telegram::{Header, decode};
 use vars::{GroupIdentity, LinkOrientation};
+
+/// How far behind its last telegram a group is still the same one, in centimetres of path.
+const GROUP_PATH: u64 = 1_300;
+
+/// A telegram of a group, and the path of the life at it.
+#[derive(Clone, Copy)]
+struct Heard {
+    group: GroupIdentity,
+    path: u64,
+}
 
 /// What the inputs of a life told, the oldest first.
 #[derive(Drop)]
@@ -148,7 +158,7 @@ fn give_up(life: &mut Life, left: &[Announcement], header: &Header) -> Result<()
     Ok(())
 }
 
-/// What a group does that ended with these readings that count, the first with this header.
+/// What a group does that ended with these readings that count.
 fn judge(
     alloc: Global,
     life: &mut Life,

@@ -15,6 +15,6 @@ returns c =
     let direction = c.direction_by.ensures in
     let fixed = with_fix life.entries entry (accepted c.args.message.now c.args.announced.now effect) in
     subst (λ (facts : List Fact). StandsForLife c.take_packets.new.self (grown life (added (using facts fixed) entry)))
-        (λ i. facts_of c.args.message.now.group (place i) (direction i) c.args.message.now.packets)
-        (taken life entry fixed unmarked before)))
+    (λ i. facts_of c.args.message.now.group (place i) (direction i) c.args.message.now.packets)
+    (taken life entry fixed unmarked before)))
     c.take_packets.ensures

@@ -21,5 +21,5 @@ returns-in_ok-accept-in-Accept c life entry unmarked s =
     let verdict = sym told ∙ ap (λ (j : Judgement). j.verdict) answer in
     let same = ap (λ (j : Judgement). j.effect) answer in
     subst (λ (outcome : Outcome). StandsForLife c.accept.new.self (grown life (added (with_facts life.entries entry (with_fix life.entries entry outcome)) entry)))
-        (λ i. ruled m (verdict i) (same i))
-        (c.in_ok-accept-in-Accept.ensures life entry effect unmarked before)
+    (λ i. ruled m (verdict i) (same i))
+    (c.in_ok-accept-in-Accept.ensures life entry effect unmarked before)

@@ -17,8 +17,8 @@ pub returns-in-Err : goal.returns-in-Err
 returns-in-Err c life s =
     let none = refused_none _ _ ((c.in-Err.ensures.fault _).0 refl) in
     subst
-        (λ (o : Option Telegram). StandsForLife c.args.self.now
-        (grown life
-        (with_groups life.entries (record nothing { heard = option_map (λ t. Read (record { telegram = t; sums = odometry.sums (place_of life.entries) })) o }))))
-        (sym none)
-        (record { place_is = s.place_is; groups_are = s.groups_are; links_are = s.links_are; restrictions_are = s.restrictions_are; lives_are = s.lives_are })
+    (λ (o : Option Telegram). StandsForLife c.args.self.now
+    (grown life
+    (with_groups life.entries (record nothing { heard = option_map (λ t. Read (record { telegram = t; sums = odometry.sums (place_of life.entries) })) o }))))
+    (sym none)
+    (record { place_is = s.place_is; groups_are = s.groups_are; links_are = s.links_are; restrictions_are = s.restrictions_are; lives_are = s.lives_are })

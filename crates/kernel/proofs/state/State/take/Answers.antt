@@ -38,5 +38,5 @@ returns c =
     let ended = with_closed before c.take-taken.result.ended entry in
     let second = closed life ended (closed_unmarked before c.take-taken.result.ended entry refl) first in
     subst (λ (e : Entry). StandsForLife c.close-2.new.self (grown life (with_groups before e))) (sym entry_is)
-        (subst (λ (t : Taken). StandsForLife c.close-2.new.self (grown life (with_closed before t.whole (with_closed before t.ended entry)))) taken second)))
+    (subst (λ (t : Taken). StandsForLife c.close-2.new.self (grown life (with_closed before t.whole (with_closed before t.ended entry)))) taken second)))
     c.close-2.ensures

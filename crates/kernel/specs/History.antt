@@ -5,16 +5,19 @@ use Rattle.vars.specs.declared.group.GroupIdentity.{GroupIdentity}
 use Rattle.vars.specs.Meanings.{centimetres_of}
 use Rattle.packets.specs.declared.packet.Packet.{Packet}
 use Rattle.packets.specs.declared.restrictions.SpeedRestriction.{SpeedRestriction}
-use Rattle.packets.specs.Packets.{as_linking, as_speed_restriction, as_revocation}
+use Rattle.packets.specs.Packets.{as_national_values, as_linking, as_speed_restriction, as_revocation}
 use Rattle.balise_groups.specs.declared.message.Closed.{Closed}
 use Rattle.balise_groups.specs.declared.message.Closed.TheVariants.{Whole, Broken}
 use Rattle.balise_groups.specs.Groups as groups
 use Rattle.linking.specs.declared.announcement.Announcement.{Announcement}
 use Rattle.linking.specs.declared.effect.Effect.{Effect}
 use Rattle.linking.specs.declared.judgement.Verdict.{Verdict}
+use Rattle.linking.specs.declared.judgement.Verdict.TheVariants.{Accept, Ignore, Reaction}
 use Rattle.linking.specs.Linking as linking
 use Rattle.linking.specs.Linking.Entry.{Announced}
 use Rattle.linking.specs.Judging.{after_verdict, after_broken}
+use Rattle.national.specs.InForce as national
+use Rattle.national.specs.InForce.Entry as nationals
 use Rattle.odometry.specs.Place as odometry
 use Rattle.track_store.specs.declared.restriction.Restriction.{Restriction}
 use Rattle.track_store.specs.Restrictions as track
@@ -41,6 +44,7 @@ pub record Entry : Type 0 where
   pub heard : Option groups.Entry  -- a telegram that was read, or the path that the life has come to
   pub missed : List Announcement  -- the announced groups that the train has passed
   pub groups : List Outcome  -- of the groups that closed, the newest first
+  pub front : Option ℤ  -- where the greatest front is once the groups are used
   pub mark : Option ℤ  -- the track before this place is forgotten
 
 -- ---- what bears on the place: movements, and fixes behind them
@@ -103,6 +107,39 @@ links (entry ∷ entries) = after_groups entry.groups (linking.after_misses entr
 
 abbrev pub links_of : List Entry → linking.Known
 links_of entries = linking.known (links entries)
+
+-- ---- what bears on the national values: of each group that was accepted its country, and behind that the values that it tells
+-- (packet 3); behind all groups where the greatest front is
+
+abbrev pub after_verdict_in : ℕ → Verdict → List national.Entry → List national.Entry
+after_verdict_in country (Accept announced) entries = nationals.Entered country ∷ entries
+after_verdict_in country Ignore entries = entries
+after_verdict_in country (Reaction a) entries = entries
+
+abbrev pub after_country : Closed → Option Verdict → List national.Entry → List national.Entry
+after_country (Broken b) verdict entries = entries
+after_country (Whole message) verdict entries = option_map_or (λ v. after_verdict_in message.group.country v entries) verdict entries
+
+abbrev pub after_values : Fact → List national.Entry → List national.Entry
+after_values fact entries =
+    option_map_or (λ p. nationals.Announced (national.fact_of p fact.group.country fact.place) ∷ entries) (as_national_values fact.packet) entries
+
+abbrev pub after_all_values : List Fact → List national.Entry → List national.Entry
+after_all_values [] entries = entries
+after_all_values (fact ∷ facts) entries = after_all_values facts (after_values fact entries)
+
+abbrev pub after_countries : List Outcome → List national.Entry → List national.Entry
+after_countries [] entries = entries
+after_countries (outcome ∷ outcomes) entries =
+    after_all_values outcome.facts (after_country outcome.closed outcome.verdict (after_countries outcomes entries))
+
+abbrev pub after_front : Option ℤ → List national.Entry → List national.Entry
+after_front None entries = entries
+after_front (Some front) entries = nationals.Reached front ∷ entries
+
+abbrev pub national_entries : List Entry → List national.Entry
+national_entries [] = []
+national_entries (entry ∷ entries) = after_front entry.front (after_countries entry.groups (national_entries entries))
 
 -- ---- what bears on the restrictions. Packets are taken in rising number, equal numbers in the order of the message:
 -- the restrictions (packet 65), then the revocations (packet 66); behind all groups the forgetting mark

@@ -8,24 +8,22 @@ use Rattle.kernel.specs.declared.events.Input.{Input}
 use Rattle.kernel.specs.declared.train.Mode.{Mode}
 use Rattle.kernel.specs.declared.train.Mode.TheVariants.{StaffResponsible}
 use Rattle.kernel.specs.declared.train.TrainData.{TrainData}
-use Rattle.kernel.specs.History.{Entry, place_of, restrictions}
-use Rattle.kernel.specs.Lives.{life_of}
+use Rattle.national.specs.declared.values.Values.{Values}
+use Rattle.kernel.specs.History.{place_of, restrictions}
+use Rattle.kernel.specs.Lives.{Life, life_of, national_of}
 
--- V_NVSTFF, where no other national value is in force
-abbrev pub staff_responsible_speed : ℕ
-staff_responsible_speed = 40_000
-
--- the greatest speed that a mode allows
-abbrev pub mode_speed : Mode → ℕ
-mode_speed StaffResponsible = staff_responsible_speed
+-- the greatest speed that a mode allows, by the national values in force
+abbrev pub mode_speed : Mode → Values → ℕ
+mode_speed StaffResponsible values = values.staff_responsible
 
 -- the least of the mode's speed, the train's maximum and the restrictions in force over the train's stretch
-abbrev pub limit : Mode → TrainData → List Entry → ℕ
-limit mode train entries =
-    least_speed (in_force (restrictions entries)) (stretch (place_of entries) train.length) (min (mode_speed mode) train.maximum)
+abbrev pub limit : Mode → TrainData → Life → ℕ
+limit mode train life =
+    least_speed (in_force (restrictions life.entries)) (stretch (place_of life.entries) train.length)
+    (min (mode_speed mode (national_of life).in_force.values) train.maximum)
 
 abbrev pub limit_after : Mode → TrainData → List Event → ℕ
-limit_after mode train events = limit mode train (life_of train events).entries
+limit_after mode train events = limit mode train (life_of train events)
 
 -- the limit after each of some inputs, that come after these events
 abbrev pub limits_behind : Mode → TrainData → List Event → List Input → List ℕ

@@ -5,20 +5,25 @@ use Rattle.kernel.specs.declared.events.Event as events
 use Rattle.kernel.specs.declared.events.Event.TheVariants.{PowerUp, Input}
 use Rattle.kernel.specs.declared.kept.Kept.{Kept}
 use Rattle.kernel.specs.declared.train.TrainData.{TrainData}
-use Rattle.kernel.specs.History.{Entry}
+use Rattle.national.specs.InForce as national
+use Rattle.kernel.specs.History.{Entry, national_entries}
 use Rattle.kernel.specs.Sentences.{entry_of}
 
 pub record Life : Type 0 where
   pub kept : Kept  -- what was kept at its power-up
   pub entries : List Entry
 
+-- what a life knows of the national values, of which those in force before its power-up were kept
+abbrev pub national_of : Life → national.Known
+national_of life = national.known life.kept.national (national_entries life.entries)
+
 -- what is kept of a life, once its power-up is counted too
 abbrev pub kept_of : Life → Kept
-kept_of life = record { lives = min (life.kept.lives + 1) (2 ^ 32 - 1) }
+kept_of life = record { lives = min (life.kept.lives + 1) (2 ^ 32 - 1); national = (national_of life).in_force }
 
 -- before the first power-up
 abbrev pub no_life : Life
-no_life = record { kept = record { lives = 0 }; entries = [] }
+no_life = record { kept = record { lives = 0; national = national.nothing_kept }; entries = [] }
 
 abbrev pub life_after : TrainData → Life → events.Event → Life
 life_after train life PowerUp = record { kept = kept_of life; entries = [] }

@@ -29,7 +29,7 @@ use Rattle.kernel.specs.Bytes.{telegram_in}
 use Rattle.kernel.specs.History.{Entry, Outcome, Fact, place_of, groups_of, links_of}
 
 abbrev pub nothing : Entry
-nothing = record { movement = None; heard = None; missed = []; groups = []; mark = None }
+nothing = record { movement = None; heard = None; missed = []; groups = []; front = None; mark = None }
 
 -- ---- first what the input itself does: a movement, then the path and the announced groups that the train has passed; or
 -- a telegram
@@ -165,6 +165,11 @@ with_groups entries entry =
     let closed = closed_by (groups_of entries) entry.heard in
     with_closed entries closed.whole (with_closed entries closed.ended entry)
 
+-- ---- then national values that are announced come into force where the greatest front has reached their place
+
+abbrev pub with_front : List Entry → Entry → Entry
+with_front entries entry = record entry { front = Some (odometry.max_front (place_of (entry ∷ entries))) }
+
 -- ---- at last the track is forgotten that lies more than a kilometre behind the least rear
 
 abbrev pub mark_at : TrainData → odometry.Known → ℤ
@@ -174,4 +179,4 @@ abbrev pub with_mark : TrainData → List Entry → Entry → Entry
 with_mark train entries entry = record entry { mark = Some (mark_at train (place_of (entry ∷ entries))) }
 
 abbrev pub entry_of : TrainData → List Entry → inputs.Input → Entry
-entry_of train entries input = with_mark train entries (with_groups entries (begun entries input))
+entry_of train entries input = with_mark train entries (with_front entries (with_groups entries (begun entries input)))

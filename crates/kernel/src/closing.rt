@@ -12,7 +12,7 @@ ghost use Rattle.kernel.specs.Steps.{ruled, accepted, fix_wanted, facts, using};
 ghost use Rattle.kernel.specs.Lives.{Life};
 ghost use Rattle.kernel.specs.StandsFor.{StandsForLife, grown};
 
-use crate::messages::{Use, add_all, announce_all, revoke_all};
+use crate::messages::{Use, add_all, announce_all, revoke_all, take_all_values};
 use crate::state::State;
 use balise_groups::{Broken, Closed, GroupPackets, Message};
 use linking::{Announcement, GroupRead, Judgement, Verdict};
@@ -28,20 +28,24 @@ struct Wanted {
 }
 
 impl State {
-    // Linking judges a group.
+    // Linking judges a group. One that is accepted counts for the national values by its country.
     fn judge(&mut self, message: &Message) -> Judgement
         ensures answer { (life : Life) (entry : Entry) → StandsForLife self.old (grown life entry)
             → result ≡ judgement (links_of (entry ∷ life.entries)) (group_read (place_of (entry ∷ life.entries)) message.now) }
-        ensures stands { (life : Life) (entry : Entry) → StandsForLife self.old (grown life entry)
+        ensures stands { (life : Life) (entry : Entry) → entry.front ≡ None → StandsForLife self.old (grown life entry)
             → StandsForLife self.new (grown life (added (ruled message.now result.verdict result.effect) entry)) }
     {
         let place = self.place.place_then(message.sums);
-        self.links.judge(&GroupRead {
+        let judgement = self.links.judge(&GroupRead {
             group: message.group,
             linked: message.linked,
             direction: message.direction,
             place,
-        })
+        });
+        if let Verdict::Accept(_) = judgement.verdict {
+            self.national.enter(message.group.country);
+        }
+        judgement
     }
 
     // Where an accepted group is to be fixed: where it was announced, else at its own place, but only while linking isn't
@@ -97,10 +101,11 @@ impl State {
         used: &Use,
     ) -> Result<(), NoMemory>
         requires { unsigned_abs used.now.place ≤ 3 * 2 ^ 40 }
-        ensures { OnOk result ((life : Life) (entry : Entry) (outcome : Outcome) → entry.mark ≡ None
+        ensures { OnOk result ((life : Life) (entry : Entry) (outcome : Outcome) → entry.front ≡ None → entry.mark ≡ None
             → StandsForLife self.old (grown life (added (using [] outcome) entry))
             → StandsForLife self.new (grown life (added (using (facts used.now packets.now) outcome) entry))) }
     {
+        take_all_values(&mut self.national, packets, used);
         announce_all(&mut self.links, packets, used);
         add_all(&mut self.restrictions, alloc, packets, used)?;
         revoke_all(&mut self.restrictions, packets, used);
@@ -114,7 +119,7 @@ impl State {
         message: &Message,
         announced: &Option<Announcement>,
     ) -> Result<(), NoMemory>
-        ensures { OnOk result ((life : Life) (entry : Entry) (effect : Effect) → entry.mark ≡ None
+        ensures { OnOk result ((life : Life) (entry : Entry) (effect : Effect) → entry.front ≡ None → entry.mark ≡ None
             → StandsForLife self.old (grown life (added (accepted message.now announced.now effect) entry))
             → StandsForLife self.new (grown life (added (with_facts life.entries entry (with_fix life.entries entry (accepted message.now announced.now effect))) entry))) }
     {
@@ -129,7 +134,7 @@ impl State {
 
     // A whole group.
     fn close_whole(&mut self, alloc: Global, message: &Message) -> Result<(), NoMemory>
-        ensures { OnOk result ((life : Life) (entry : Entry) → entry.mark ≡ None → StandsForLife self.old (grown life entry)
+        ensures { OnOk result ((life : Life) (entry : Entry) → entry.front ≡ None → entry.mark ≡ None → StandsForLife self.old (grown life entry)
             → StandsForLife self.new (grown life (added (outcome_of life.entries entry (closed.Whole message.now)) entry))) }
     {
         match self.judge(message).verdict {
@@ -141,7 +146,7 @@ impl State {
 
     // A broken group.
     fn close_broken(&mut self, group: &Broken)
-        ensures { (life : Life) (entry : Entry) → entry.mark ≡ None → StandsForLife self.old (grown life entry)
+        ensures { (life : Life) (entry : Entry) → entry.front ≡ None → entry.mark ≡ None → StandsForLife self.old (grown life entry)
             → StandsForLife self.new (grown life (added (outcome_of life.entries entry (closed.Broken group.now)) entry)) }
     {
         self.links.broken(group.group, group.linked);
@@ -149,7 +154,7 @@ impl State {
 
     /// A group that closed, if one did.
     pub(crate) fn close(&mut self, alloc: Global, closed: &Option<Closed>) -> Result<(), NoMemory>
-        ensures { OnOk result ((life : Life) (entry : Entry) → entry.mark ≡ None → StandsForLife self.old (grown life entry)
+        ensures { OnOk result ((life : Life) (entry : Entry) → entry.front ≡ None → entry.mark ≡ None → StandsForLife self.old (grown life entry)
             → StandsForLife self.new (grown life (with_closed life.entries closed.now entry))) }
     {
         match closed {

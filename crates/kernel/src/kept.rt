@@ -1,6 +1,25 @@
+use national::{CountryValues, National};
+
 /// What outlives a power-up.
-#[derive(Clone, Copy, Debug, PartialEq, Eq)]
+#[derive(Drop)]
 pub struct Kept {
     /// How many power-ups there were, up to the greatest number of 32 bits.
     pub lives: u32,
+    /// The national values in force, with the countries that they are for.
+    pub national: CountryValues,
+}
+
+impl Kept {
+    ghost use Rattle.std.specs.Prelude.{◌≡◌};
+    ghost use Rattle.national.specs.InForce.{nothing_kept};
+
+    // Before the first power-up.
+    pub(crate) fn nothing() -> Kept
+        ensures { result ≡ record { lives = 0; national = nothing_kept } }
+    {
+        Kept {
+            lives: 0,
+            national: National::new().in_force().copy(),
+        }
+    }
 }

@@ -2,15 +2,18 @@
 ghost use Rattle.std.specs.Prelude.{◌≡◌, ◌+◌, ◌-◌, ◌≤◌, ◌*◌, ◌^◌, List, ◌∷◌, OnOk, if◌then◌else◌};
 ghost use Rattle.std.specs.Int.RustNames.{unsigned_abs};
 ghost use Rattle.linking.specs.Linking as linking;
+ghost use Rattle.national.specs.InForce as values;
+ghost use Rattle.national.specs.Values.{ValuesFor};
 ghost use Rattle.track_store.specs.Restrictions as track;
 ghost use Rattle.kernel.specs.Announcing.{announced, announcements_of};
-ghost use Rattle.kernel.specs.History.{Fact, restriction_of, after_links, after_all_links, after_restriction, after_restrictions, after_revocation, after_revocations};
+ghost use Rattle.kernel.specs.History.{Fact, restriction_of, after_values, after_all_values, after_links, after_all_links, after_restriction, after_restrictions, after_revocation, after_revocations};
 ghost use Rattle.kernel.specs.Sentences.{is_passed, is_valid};
 ghost use Rattle.kernel.specs.Steps.{fact_of, facts};
 
 use arrayvec::ArrayVec;
 use balise_groups::GroupPackets;
 use linking::{Announcement, Links};
+use national::National;
 use packets::{Link, Linking, Packet, SpeedRestriction};
 use std::alloc::Global;
 use track_store::{Restriction, Restrictions};
@@ -103,6 +106,19 @@ fn announcements(packet: &Linking, group: &GroupIdentity, place: Cm) -> ArrayVec
     announcements
 }
 
+// Takes a packet, where it tells national values and is used.
+fn take_values(national: &mut National, packet: &Packet<'_>, used: &Use)
+    requires { unsigned_abs used.now.place ≤ 3 * 2 ^ 40 }
+    ensures { (kept : ValuesFor) (entries : List values.Entry) → national.old ≡ values.known kept entries
+        → national.new ≡ values.known kept (if is_valid used.now.direction packet.now then after_values (fact_of used.now packet.now) entries else entries) }
+{
+    if let Packet::NationalValues(packet) = packet {
+        if is_passed(packet.direction, &used.direction) {
+            national.announce(packet, used.group.country, used.place);
+        }
+    }
+}
+
 // Takes a packet, where it is a list of links that is used.
 fn announce(links: &mut Links, packet: &Packet<'_>, used: &Use)
     requires { unsigned_abs used.now.place ≤ 3 * 2 ^ 40 }
@@ -145,6 +161,17 @@ fn revoke(restrictions: &mut Restrictions, packet: &Packet<'_>, used: &Use)
         if is_passed(packet.direction, &used.direction) {
             restrictions.revoke(packet.number);
         }
+    }
+}
+
+/// Takes the national values (packet 3) of a group.
+pub fn take_all_values(national: &mut National, packets: &GroupPackets, used: &Use)
+    requires { unsigned_abs used.now.place ≤ 3 * 2 ^ 40 }
+    ensures { (kept : ValuesFor) (entries : List values.Entry) → national.old ≡ values.known kept entries
+        → national.new ≡ values.known kept (after_all_values (facts used.now packets.now) entries) }
+{
+    for item in packets.iter() {
+        take_values(national, item.packet(), used);
     }
 }
 

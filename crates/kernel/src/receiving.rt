@@ -4,7 +4,7 @@ ghost use Rattle.kernel.specs.declared.events.Event.{Event};
 ghost use Rattle.kernel.specs.declared.events.Event.TheVariants as event;
 ghost use Rattle.kernel.specs.Bytes.{telegram_in};
 ghost use Rattle.kernel.specs.History.{Entry};
-ghost use Rattle.kernel.specs.Sentences.{moved, heard, begun, with_groups, with_mark};
+ghost use Rattle.kernel.specs.Sentences.{moved, heard, begun, with_groups, with_front, with_mark};
 ghost use Rattle.kernel.specs.Lives.{Life, life_after};
 ghost use Rattle.kernel.specs.StandsFor.{StandsForLife, StandsFor, grown};
 
@@ -70,6 +70,14 @@ impl State {
         Ok(())
     }
 
+    // National values come into force where the greatest front has reached their place.
+    fn look(&mut self)
+        ensures { (life : Life) (entry : Entry) → entry.front ≡ None → StandsForLife self.old (grown life entry)
+            → StandsForLife self.new (grown life (with_front life.entries entry)) }
+    {
+        self.national.reach(self.place.max_front());
+    }
+
     // The track that lies far behind the train is forgotten.
     fn forget(&mut self, train: &TrainData)
         ensures { (life : Life) (entry : Entry) → entry.mark ≡ None → StandsForLife self.old (grown life entry)
@@ -91,6 +99,7 @@ impl State {
             → StandsForLife self.new (life_after train.now life (event.Input input.now))) }
     {
         self.begin(alloc, input)?;
+        self.look();
         self.forget(train);
         Ok(())
     }

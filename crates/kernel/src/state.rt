@@ -10,6 +10,7 @@ use crate::kept::Kept;
 use crate::train::{Mode, TrainData};
 use balise_groups::Assembler;
 use linking::Links;
+use national::National;
 use odometry::Place;
 use std::alloc::Global;
 use std::marker::Model;
@@ -22,6 +23,7 @@ pub struct State {
     pub(crate) place: Place,
     pub(crate) groups: Assembler,
     pub(crate) links: Links,
+    pub(crate) national: National,
     pub(crate) restrictions: Restrictions,
     pub(crate) lives: u32,
 }
@@ -31,7 +33,7 @@ impl Model for State {
 
     ghost Value = { Knowledge };
 
-    ghost view = { λ s. record { place = s.place; groups = s.groups; links = s.links; restrictions = s.restrictions; lives = s.lives } };
+    ghost view = { λ s. record { place = s.place; groups = s.groups; links = s.links; national = s.national; restrictions = s.restrictions; lives = s.lives } };
 }
 
 impl State {
@@ -39,7 +41,7 @@ impl State {
     pub fn empty(alloc: Global) -> Self
         ensures { (train : TrainData) → StandsFor train result [] }
     {
-        State::power_up(alloc, Kept { lives: 0 })
+        State::power_up(alloc, Kept::nothing())
     }
 
     /// A life begins, and nothing is known but what was kept. Takes no memory.
@@ -50,6 +52,7 @@ impl State {
             place: Place::new(),
             groups: Assembler::new(),
             links: Links::new(),
+            national: National::kept(kept.national),
             restrictions: Restrictions::new(alloc),
             lives: kept.lives,
         }
@@ -61,6 +64,7 @@ impl State {
     {
         Kept {
             lives: self.lives.saturating_add(1),
+            national: self.national.in_force().copy(),
         }
     }
 
@@ -72,6 +76,7 @@ impl State {
             place: self.place,
             groups: self.groups.copy(),
             links: self.links.copy(),
+            national: self.national.copy(),
             restrictions: self.restrictions.copy(alloc)?,
             lives: self.lives,
         })
@@ -79,10 +84,10 @@ impl State {
 
     /// The speed limit.
     pub(crate) fn limit(&self, mode: Mode, train: &TrainData) -> Mph
-        ensures { (life : Life) → StandsForLife self.now life → result ≡ limit mode train.now life.entries }
+        ensures { (life : Life) → StandsForLife self.now life → result ≡ limit mode train.now life }
     {
         let stretch = self.place.stretch(train.length);
-        let speed = mode.speed().min(train.maximum);
+        let speed = mode.speed(self.national.in_force().values()).min(train.maximum);
         self.restrictions.least(&stretch, speed)
     }
 }

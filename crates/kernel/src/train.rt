@@ -1,6 +1,7 @@
 ghost use Rattle.std.specs.Prelude.{◌≡◌};
 ghost use Rattle.kernel.specs.Limit.{mode_speed};
 
+use national::Values;
 use units::{Length, Mph};
 
 /// In which way the train is supervised (SUBSET-026, 4.4).
@@ -20,12 +21,12 @@ pub struct TrainData {
 }
 
 impl Mode {
-    /// The greatest speed that it allows.
-    pub fn speed(self) -> Mph
-        ensures { result ≡ mode_speed self }
+    /// The greatest speed that it allows, by the national values in force.
+    pub fn speed(self, values: &Values) -> Mph
+        ensures { result ≡ mode_speed self values.now }
     {
         match self {
-            Mode::StaffResponsible => Mph::new(40_000).unwrap(),
+            Mode::StaffResponsible => values.staff_responsible,
         }
     }
 }

@@ -9,12 +9,12 @@ use Rattle.kernel.proofs.state.State.accept.Goals as goal
 pub returns : goal.returns
 returns c =
     on_ok_weaker c.take_packets.result
-    (λ taken life entry effect unmarked s.
+    (λ taken life entry effect unlooked unmarked s.
     (let before = c.fix-place.ensures.stands life entry effect s in
     let place = c.fix-place.ensures.answer life entry effect s in
     let direction = c.direction_by.ensures in
     let fixed = with_fix life.entries entry (accepted c.args.message.now c.args.announced.now effect) in
     subst (λ (facts : List Fact). StandsForLife c.take_packets.new.self (grown life (added (using facts fixed) entry)))
     (λ i. facts_of c.args.message.now.group (place i) (direction i) c.args.message.now.packets)
-    (taken life entry fixed unmarked before)))
+    (taken life entry fixed unlooked unmarked before)))
     c.take_packets.ensures

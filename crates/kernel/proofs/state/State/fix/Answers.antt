@@ -65,6 +65,7 @@ returns-clause-stands c life entry effect s =
           ∙ sym (ap (λ (fix : Option odometry.Fix). odometry.known (after_fix fix (places (entry ∷ life.entries)))) (fix_is c life entry effect s));
       groups_are = ap (λ (k : Knowledge). k.groups) c.self.view_is ∙ s.groups_are;
       links_are = ap (λ (k : Knowledge). k.links) c.self.view_is ∙ s.links_are;
+      national_is = ap (λ (k : Knowledge). k.national) c.self.view_is ∙ s.national_is;
       restrictions_are = ap (λ (k : Knowledge). k.restrictions) c.self.view_is ∙ s.restrictions_are;
       lives_are = ap (λ (k : Knowledge). k.lives) c.self.view_is ∙ s.lives_are;
     }

@@ -21,4 +21,4 @@ returns-in-Err c life s =
     (grown life
     (with_groups life.entries (record nothing { heard = option_map (λ t. Read (record { telegram = t; sums = odometry.sums (place_of life.entries) })) o }))))
     (sym none)
-    (record { place_is = s.place_is; groups_are = s.groups_are; links_are = s.links_are; restrictions_are = s.restrictions_are; lives_are = s.lives_are })
+    (record { place_is = s.place_is; groups_are = s.groups_are; links_are = s.links_are; national_is = s.national_is; restrictions_are = s.restrictions_are; lives_are = s.lives_are })

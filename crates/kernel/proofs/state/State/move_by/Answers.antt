@@ -26,8 +26,9 @@ returns c =
       groups_are = c.moved-ended.ensures.stands (all_heard life.entries) groups_before ∙ ap (λ p. groups.known (groups.Entry.Went p ∷ all_heard life.entries)) path_is;
       links_are = c.missed.ensures.stands (links life.entries) links_before
           ∙ (λ i. linking.known (linking.after_misses (filter (linking.is_passed_by (front_is i)) (links_before i).left) (links life.entries)));
+      national_is = ap (λ (k : Knowledge). k.national) c.self.view_is ∙ s.national_is;
       restrictions_are = ap (λ (k : Knowledge). k.restrictions) c.self.view_is ∙ s.restrictions_are;
       lives_are = ap (λ (k : Knowledge). k.lives) c.self.view_is ∙ s.lives_are;
     } in
-    subst (λ (o : Option Closed). StandsForLife c.close.new.self (grown life (with_closed life.entries o entry))) ended (closed life entry refl all)))
+    subst (λ (o : Option Closed). StandsForLife c.close.new.self (grown life (with_closed life.entries o entry))) ended (closed life entry refl refl all)))
     c.close.ensures

@@ -10,7 +10,7 @@ use Rattle.balise_groups.specs.Groups.Entry.{Read}
 use Rattle.kernel.specs.History.{Entry, place_of, all_heard}
 use Rattle.kernel.specs.Sentences.{nothing, heard, with_closed, with_groups}
 use Rattle.kernel.specs.StandsFor.{Knowledge, StandsForLife, grown}
-use Rattle.kernel.proofs.Marking.{closed_unmarked}
+use Rattle.kernel.proofs.Marking.{closed_unlooked, closed_unmarked}
 use Rattle.kernel.proofs.state.State.take.Goals as goal
 
 pub returns : goal.returns
@@ -31,12 +31,13 @@ returns c =
       place_is = place_before;
       groups_are = c.take-taken.ensures.stands (all_heard before) groups_before ∙ (λ i. groups.known (Read (with_sums (sums_are i)) ∷ all_heard before));
       links_are = ap (λ (k : Knowledge). k.links) c.self.view_is ∙ s.links_are;
+      national_is = ap (λ (k : Knowledge). k.national) c.self.view_is ∙ s.national_is;
       restrictions_are = ap (λ (k : Knowledge). k.restrictions) c.self.view_is ∙ s.restrictions_are;
       lives_are = ap (λ (k : Knowledge). k.lives) c.self.view_is ∙ s.lives_are;
     } in
-    let first = c.in_ok-close.ensures life entry refl all in
+    let first = c.in_ok-close.ensures life entry refl refl all in
     let ended = with_closed before c.take-taken.result.ended entry in
-    let second = closed life ended (closed_unmarked before c.take-taken.result.ended entry refl) first in
+    let second = closed life ended (closed_unlooked before c.take-taken.result.ended entry refl) (closed_unmarked before c.take-taken.result.ended entry refl) first in
     subst (λ (e : Entry). StandsForLife c.close-2.new.self (grown life (with_groups before e))) (sym entry_is)
     (subst (λ (t : Taken). StandsForLife c.close-2.new.self (grown life (with_closed before t.whole (with_closed before t.ended entry)))) taken second)))
     c.close-2.ensures

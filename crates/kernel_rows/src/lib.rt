@@ -8,6 +8,8 @@ mod groups;
 #[cfg(test)]
 mod limits;
 #[cfg(test)]
+mod national_rows;
+#[cfg(test)]
 mod places;
 #[cfg(test)]
 mod plain;

@@ -15,4 +15,4 @@ same_life train p q [] same = ap (λ (k : Kept). record { kept = k; entries = []
 same_life train p q (e ∷ later) same = ap (λ (life : Life). life_after train life e) (same_life train p q later same)
 
 pub returns : goal.returns
-returns c mode train p q later same = ap (λ (life : Life). limit mode train life.entries) (same_life train p q later same)
+returns c mode train p q later same = ap (limit mode train) (same_life train p q later same)

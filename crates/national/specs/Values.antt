@@ -1,0 +1,86 @@
+-- National values and the countries that they are for (SUBSET-026, 3.18.2 and 7.4.2.1; the defaults and the order of the
+-- countries: this project's profile).
+use Rattle.std.specs.Prelude.{ℕ, ◌*◌, ◌==◌, ℤ, pos, Bool, true, false, ◌&&◌, not, if◌then◌else◌, Option, Some, None, List, [], ◌∷◌, ◌++◌}
+use Rattle.std.specs.List.{list_any}
+use Rattle.vars.specs.Meanings.{centimetres_of}
+use Rattle.vars.specs.declared.scale.Scale.{Scale}
+use Rattle.vars.specs.declared.special_distance.OpenLength.{OpenLength}
+use Rattle.vars.specs.declared.special_distance.OpenLength.TheVariants.{Length, NoEnd}
+use Rattle.packets.specs.declared.national.NationalValues.{NationalValues}
+use Rattle.national.specs.declared.values.Values.{Values}
+
+-- ---- what a packet 3 tells, in metres per hour, centimetres and milliseconds
+
+-- a speed is told in steps of 5 km/h
+abbrev pub speed_of : ℕ → ℕ
+speed_of steps = 5_000 * steps
+
+-- a distance is told in units of the packet's scale
+abbrev pub distance_in : Scale → ℕ → ℤ
+distance_in scale number = pos (number * centimetres_of scale)
+
+-- one that may have no end
+abbrev pub open_distance_in : Scale → OpenLength → Option ℤ
+open_distance_in scale (Length number) = Some (distance_in scale number)
+open_distance_in scale NoEnd = None
+
+-- a time is told in seconds, and 255 has no end
+abbrev pub time_of : ℕ → Option ℕ
+time_of seconds = if seconds == 255 then None else Some (1_000 * seconds)
+
+abbrev pub values_of : NationalValues → Values
+values_of packet = record {
+  shunting = speed_of packet.shunting;
+  staff_responsible = speed_of packet.staff_responsible;
+  on_sight = speed_of packet.on_sight;
+  unfitted = speed_of packet.unfitted;
+  release = speed_of packet.release;
+  roll = distance_in packet.scale packet.roll;
+  override_allowed = speed_of packet.override_allowed;
+  override_speed = speed_of packet.override_speed;
+  override_distance = distance_in packet.scale packet.override_distance;
+  override_time = time_of packet.override_time;
+  staff_responsible_distance = open_distance_in packet.scale packet.staff_responsible_distance;
+}
+
+-- ---- the defaults
+
+abbrev pub defaults : Values
+defaults = record {
+  shunting = 30_000;
+  staff_responsible = 40_000;
+  on_sight = 30_000;
+  unfitted = 100_000;
+  release = 40_000;
+  roll = pos 200;
+  override_allowed = 0;
+  override_speed = 30_000;
+  override_distance = pos 20_000;
+  override_time = Some 60_000;
+  staff_responsible_distance = None;
+}
+
+-- ---- the countries
+
+-- values, with the countries that they are for
+pub record ValuesFor : Type 0 where
+  pub values : Values
+  pub countries : List ℕ
+
+abbrev pub values_for : Values → List ℕ → ValuesFor
+values_for values countries = record { values = values; countries = countries }
+
+-- a packet 3 is for the countries that it lists and, behind them, for that of its group
+abbrev pub told_by : NationalValues → ℕ → ValuesFor
+told_by packet country = values_for (values_of packet) (packet.countries.items ++ country ∷ [])
+
+abbrev pub is_any : List ℕ → Bool
+is_any [] = false
+is_any (country ∷ countries) = true
+
+abbrev pub is_among : ℕ → List ℕ → Bool
+is_among country countries = list_any (λ other. other == country) countries
+
+-- a country is foreign where there are others and it is none of them
+abbrev pub is_foreign : ℕ → List ℕ → Bool
+is_foreign country countries = is_any countries && not (is_among country countries)

@@ -1,0 +1,63 @@
+ghost use Rattle.std.specs.Prelude.{◌≡◌, ◌*◌, ◌^◌, ◌≤◌};
+ghost use Rattle.std.specs.Int.RustNames.{unsigned_abs};
+ghost use Rattle.national.specs.InForce.{fact_of, start_from, is_reached, announcement_of};
+
+use crate::CountryValues;
+use packets::NationalValues;
+use units::Cm;
+use vars::{Country, Scale, StartPlace};
+
+/// Values that are to come into force.
+#[derive(Drop)]
+pub struct Announcement {
+    /// The values, with the countries that they are for.
+    pub values: CountryValues,
+    /// Where they come into force; None: wherever the train is.
+    pub start: Option<Cm>,
+}
+
+impl Announcement {
+    /// What packet 3 announces, by the country and the place of its group.
+    pub fn of(packet: &NationalValues, country: Country, place: Cm) -> Self
+        requires { unsigned_abs place ≤ 3 * 2 ^ 40 }
+        ensures { result ≡ announcement_of (fact_of packet.now country place) }
+    {
+        Announcement {
+            values: CountryValues::told_by(packet, country),
+            start: start_from(packet.scale, place, packet.start),
+        }
+    }
+
+    /// Whether the greatest front has reached where they come into force.
+    pub fn is_reached(&self, max_front: Cm) -> bool
+        ensures { result ≡ is_reached self.now.start max_front }
+    {
+        match self.start {
+            None => true,
+            Some(start) => start <= max_front,
+        }
+    }
+
+    /// An equal value.
+    pub fn copy(&self) -> Self
+        ensures { result ≡ self.now }
+    {
+        Announcement {
+            values: self.values.copy(),
+            start: self.start,
+        }
+    }
+}
+
+// Where an announcement comes into force that is told from a place.
+fn start_from(scale: Scale, place: Cm, start: StartPlace) -> Option<Cm>
+    requires { unsigned_abs place ≤ 3 * 2 ^ 40 }
+    ensures { result ≡ start_from scale place start }
+{
+    match start {
+        StartPlace::At(distance) => {
+            Some(Cm::new(place.get() + distance.in_scale(scale).get()).unwrap())
+        }
+        StartPlace::Now => None,
+    }
+}

@@ -1,0 +1,113 @@
+ghost use Rattle.std.specs.Prelude.{◌≡◌, ◌≤◌, [], ◌∷◌, length};
+ghost use Rattle.national.specs.Values.{defaults, values_for, told_by, is_any, is_among, is_foreign};
+
+use crate::Values;
+use arrayvec::ArrayVec;
+use packets::NationalValues;
+use std::marker::Model;
+use vars::Country;
+
+/// National values, with the countries that they are for.
+#[derive(Drop)]
+pub struct CountryValues {
+    values: Values,
+    // In the order in which they were told; none stands for no country.
+    countries: ArrayVec<Country, 33>,
+}
+
+impl Model for CountryValues {
+    ghost use Rattle.national.specs.Values.{ValuesFor};
+
+    ghost Value = { ValuesFor };
+
+    ghost view = { λ v. record { values = v.values; countries = v.countries.items } };
+}
+
+impl CountryValues {
+    /// These values for these countries.
+    pub fn new(values: &Values, countries: &[Country]) -> Self
+        requires { length countries.now ≤ 33 }
+        ensures { result ≡ values_for values.now countries.now }
+    {
+        CountryValues {
+            values: *values,
+            countries: ArrayVec::try_from(countries).unwrap(),
+        }
+    }
+
+    /// The values.
+    pub fn values(&self) -> &Values
+        ensures { result.now ≡ self.now.values }
+    {
+        &self.values
+    }
+
+    /// The countries that the values are for, repeated where they were told so; none where they are for no country.
+    pub fn countries(&self) -> &[Country]
+        ensures value { result.now ≡ self.now.countries }
+        ensures few { length result.now ≤ 33 }
+    {
+        self.countries.as_slice()
+    }
+
+    /// An equal value.
+    pub fn copy(&self) -> Self
+        ensures { result ≡ self.now }
+    {
+        CountryValues::new(&self.values, self.countries.as_slice())
+    }
+
+    // The defaults, for no country.
+    pub(crate) fn for_no_country() -> Self
+        ensures { result ≡ values_for defaults [] }
+    {
+        CountryValues {
+            values: Values::defaults(),
+            countries: ArrayVec::new(),
+        }
+    }
+
+    // The defaults, for one country.
+    pub(crate) fn defaults_for(country: Country) -> Self
+        ensures { result ≡ values_for defaults (country ∷ []) }
+    {
+        let mut countries = ArrayVec::new();
+        countries.push(country);
+        CountryValues {
+            values: Values::defaults(),
+            countries,
+        }
+    }
+
+    // What packet 3 of a group of a country tells.
+    pub(crate) fn told_by(packet: &NationalValues, country: Country) -> Self
+        ensures { result ≡ told_by packet.now country }
+    {
+        let mut countries = ArrayVec::try_from(packet.countries.as_slice()).unwrap();
+        countries.push(country);
+        CountryValues {
+            values: Values::of(packet),
+            countries,
+        }
+    }
+
+    // Whether a country is none of several.
+    pub(crate) fn is_foreign(&self, country: Country) -> bool
+        ensures { result ≡ is_foreign country self.now.countries }
+    {
+        let countries = self.countries.as_slice();
+        is_any(countries) && !is_among(countries, country)
+    }
+}
+
+fn is_any(countries: &[Country]) -> bool
+    ensures { result ≡ is_any countries.now }
+{
+    !countries.is_empty()
+}
+
+fn is_among(countries: &[Country], country: Country) -> bool
+    ensures { result ≡ is_among country countries.now }
+{
+    countries.iter().any(|other| *other == country)
+}

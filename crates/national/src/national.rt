@@ -1,0 +1,128 @@
+ghost use Rattle.std.specs.Prelude.{◌≡◌, ◌*◌, ◌^◌, ◌≤◌, false, List, [], ◌∷◌, length, IfSome};
+ghost use Rattle.std.specs.Int.RustNames.{unsigned_abs};
+ghost use Rattle.national.specs.Values.{ValuesFor, is_any, is_foreign};
+ghost use Rattle.national.specs.InForce.{Entry, fact_of, is_reached, known, in_force, nothing_kept, has_come};
+ghost use Rattle.national.specs.InForce.Entry.{Announced, Entered, Reached};
+
+use crate::announcement::Announcement;
+use crate::{CountryValues, Values};
+use packets::NationalValues;
+use std::marker::Model;
+use units::Cm;
+use vars::Country;
+
+/// The national values in force, and those that are announced.
+#[derive(Drop)]
+pub struct National {
+    in_force: CountryValues,
+    announced: Option<Announcement>,
+}
+
+impl Model for National {
+    ghost use Rattle.national.specs.InForce.{Known};
+
+    ghost Value = { Known };
+
+    ghost view = { λ n. record { in_force = n.in_force; announced = n.announced } };
+}
+
+impl National {
+    /// The defaults, for no country. Takes no memory.
+    pub fn new() -> Self
+        ensures { result ≡ known nothing_kept [] }
+    {
+        National::kept(CountryValues::for_no_country())
+    }
+
+    /// What a power-up kept is in force, and nothing is announced.
+    pub fn kept(in_force: CountryValues) -> Self
+        ensures { result ≡ known in_force [] }
+    {
+        National {
+            in_force,
+            announced: None,
+        }
+    }
+
+    /// Takes packet 3 of a group of a country, in place of the one that is announced. Its start counts from the group's place.
+    pub fn announce(&mut self, packet: &NationalValues, group_country: Country, place: Cm)
+        requires { unsigned_abs place ≤ 3 * 2 ^ 40 }
+        ensures { (kept : ValuesFor) → (entries : List Entry) → self.old ≡ known kept entries
+            → self.new ≡ known kept (Announced (fact_of packet.now group_country place) ∷ entries) }
+    {
+        self.announced = Some(Announcement::of(packet, group_country, place));
+    }
+
+    /// Takes note of an accepted group of a country, before its packets are taken. A foreign one puts the defaults in force.
+    pub fn enter(&mut self, country: Country)
+        ensures stands { (kept : ValuesFor) → (entries : List Entry) → self.old ≡ known kept entries
+            → self.new ≡ known kept (Entered country ∷ entries) }
+        ensures at_home { is_foreign country self.new.in_force.countries ≡ false }
+    {
+        if self.in_force.is_foreign(country) {
+            self.in_force = CountryValues::defaults_for(country);
+        }
+    }
+
+    /// The look, once an event: what is announced comes into force where the greatest front has reached its start.
+    pub fn reach(&mut self, max_front: Cm)
+        ensures stands { (kept : ValuesFor) → (entries : List Entry) → self.old ≡ known kept entries
+            → self.new ≡ known kept (Reached max_front ∷ entries) }
+        ensures ahead { IfSome self.new.announced (λ a. is_reached a.start max_front ≡ false) }
+    {
+        if let Some(announced) = self.announced.take() {
+            if announced.is_reached(max_front) {
+                self.in_force = announced.values;
+            } else {
+                self.announced = Some(announced);
+            }
+        }
+    }
+
+    /// Forgets what is announced, as a power-up does.
+    pub fn forget_announced(&mut self)
+        ensures { (kept : ValuesFor) → (entries : List Entry) → self.old ≡ known kept entries
+            → self.new ≡ known (in_force kept entries) [] }
+    {
+        self.announced = None;
+    }
+
+    /// What is in force: what is to be kept over a power-up.
+    pub fn in_force(&self) -> &CountryValues
+        ensures { result.now ≡ self.now.in_force }
+    {
+        &self.in_force
+    }
+
+    /// The values in force.
+    pub fn values(&self) -> &Values
+        ensures { result.now ≡ self.now.in_force.values }
+    {
+        self.in_force.values()
+    }
+
+    /// The countries that the values in force are for, repeated where they were told so. Where a life began with the
+    /// defaults for no country, there are none exactly while no packet 3 came into force.
+    pub fn countries(&self) -> &[Country]
+        ensures value { result.now ≡ self.now.in_force.countries }
+        ensures few { length result.now ≤ 33 }
+        ensures any { (entries : List Entry) → self.now ≡ known nothing_kept entries
+            → is_any result.now ≡ has_come entries }
+    {
+        self.in_force.countries()
+    }
+
+    /// An equal value.
+    pub fn copy(&self) -> Self
+        ensures { result ≡ self.now }
+    {
+        let announced = match &self.announced {
+            None => None,
+            Some(announced) => Some(announced.copy()),
+        };
+        National {
+            in_force: self.in_force.copy(),
+            announced,
+        }
+    }
+}

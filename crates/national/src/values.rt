@@ -1,0 +1,89 @@
+ghost use Rattle.std.specs.Prelude.{◌≡◌};
+ghost use Rattle.national.specs.Values.{defaults, values_of, time_of, open_distance_in};
+
+use packets::NationalValues;
+use units::{Cm, Mph, Ms};
+use vars::{OpenLength, OverrideTime, Scale, SpeedStep, Variable};
+
+/// National values (packet 3).
+#[derive(Clone, Copy, Debug, PartialEq, Eq)]
+pub struct Values {
+    /// The speed in Shunting (V_NVSHUNT).
+    pub shunting: Mph,
+    /// The speed in Staff Responsible (V_NVSTFF).
+    pub staff_responsible: Mph,
+    /// The speed in On Sight (V_NVONSIGHT).
+    pub on_sight: Mph,
+    /// The speed in Unfitted (V_NVUNFIT).
+    pub unfitted: Mph,
+    /// The release speed (V_NVREL).
+    pub release: Mph,
+    /// How far the train may roll (D_NVROLL).
+    pub roll: Cm,
+    /// The speed at or below which the trip may be overridden (V_NVALLOWOVTRP).
+    pub override_allowed: Mph,
+    /// The speed while the trip is overridden (V_NVSUPOVTRP).
+    pub override_speed: Mph,
+    /// How far the trip stays overridden (D_NVOVTRP).
+    pub override_distance: Cm,
+    /// How long the trip stays overridden (T_NVOVTRP); None has no end.
+    pub override_time: Option<Ms>,
+    /// How far the train may run in Staff Responsible (D_NVSTFF); None has no end.
+    pub staff_responsible_distance: Option<Cm>,
+}
+
+impl Values {
+    /// The defaults, which hold until others come into force.
+    pub fn defaults() -> Values
+        ensures { result ≡ defaults }
+    {
+        Values {
+            shunting: Mph::new(30_000).unwrap(),
+            staff_responsible: Mph::new(40_000).unwrap(),
+            on_sight: Mph::new(30_000).unwrap(),
+            unfitted: Mph::new(100_000).unwrap(),
+            release: Mph::new(40_000).unwrap(),
+            roll: Cm::new(200).unwrap(),
+            override_allowed: Mph::new(0).unwrap(),
+            override_speed: Mph::new(30_000).unwrap(),
+            override_distance: Cm::new(20_000).unwrap(),
+            override_time: Ms::new(60_000),
+            staff_responsible_distance: None,
+        }
+    }
+
+    /// What packet 3 tells.
+    pub fn of(packet: &NationalValues) -> Values
+        ensures { result ≡ values_of packet.now }
+    {
+        let scale = packet.scale;
+        Values {
+            shunting: packet.shunting.speed(),
+            staff_responsible: packet.staff_responsible.speed(),
+            on_sight: packet.on_sight.speed(),
+            unfitted: packet.unfitted.speed(),
+            release: packet.release.speed(),
+            roll: packet.roll.in_scale(scale),
+            override_allowed: packet.override_allowed.speed(),
+            override_speed: packet.override_speed.speed(),
+            override_distance: packet.override_distance.in_scale(scale),
+            override_time: time_limit(packet.override_time),
+            staff_responsible_distance: open_distance(packet.staff_responsible_distance, scale),
+        }
+    }
+}
+
+fn time_limit(time: OverrideTime) -> Option<Ms>
+    ensures { result ≡ time_of time }
+{
+    time.limit()
+}
+
+fn open_distance(length: OpenLength, scale: Scale) -> Option<Cm>
+    ensures { result ≡ open_distance_in scale length }
+{
+    match length {
+        OpenLength::Length(distance) => Some(distance.in_scale(scale)),
+        OpenLength::NoEnd => None,
+    }
+}

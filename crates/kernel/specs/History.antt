@@ -1,5 +1,5 @@
 -- What each input of a life did, the newest first, and what each part of the kernel sees of it (this project's profile).
-use Rattle.std.specs.Prelude.{◌*◌, ℤ, pos, ◌+ℤ◌, Option, Some, None, List, [], ◌∷◌}
+use Rattle.std.specs.Prelude.{ℕ, ◌*◌, ℤ, pos, ◌+ℤ◌, Option, Some, None, List, [], ◌∷◌}
 use Rattle.std.specs.Option.{option_map_or}
 use Rattle.vars.specs.declared.group.GroupIdentity.{GroupIdentity}
 use Rattle.vars.specs.Meanings.{centimetres_of}
@@ -17,7 +17,7 @@ use Rattle.linking.specs.Linking as linking
 use Rattle.linking.specs.Linking.Entry.{Announced}
 use Rattle.linking.specs.Judging.{after_verdict, after_broken}
 use Rattle.national.specs.InForce as national
-use Rattle.national.specs.InForce.Entry as nationals
+use Rattle.national.specs.InForce.Entry.{Announced as Told, Entered, Reached}
 use Rattle.odometry.specs.Place as odometry
 use Rattle.track_store.specs.declared.restriction.Restriction.{Restriction}
 use Rattle.track_store.specs.Restrictions as track
@@ -112,7 +112,7 @@ links_of entries = linking.known (links entries)
 -- (packet 3); behind all groups where the greatest front is
 
 abbrev pub after_verdict_in : ℕ → Verdict → List national.Entry → List national.Entry
-after_verdict_in country (Accept announced) entries = nationals.Entered country ∷ entries
+after_verdict_in country (Accept announced) entries = Entered country ∷ entries
 after_verdict_in country Ignore entries = entries
 after_verdict_in country (Reaction a) entries = entries
 
@@ -122,7 +122,7 @@ after_country (Whole message) verdict entries = option_map_or (λ v. after_verdi
 
 abbrev pub after_values : Fact → List national.Entry → List national.Entry
 after_values fact entries =
-    option_map_or (λ p. nationals.Announced (national.fact_of p fact.group.country fact.place) ∷ entries) (as_national_values fact.packet) entries
+    option_map_or (λ p. Told (national.fact_of p fact.group.country fact.place) ∷ entries) (as_national_values fact.packet) entries
 
 abbrev pub after_all_values : List Fact → List national.Entry → List national.Entry
 after_all_values [] entries = entries
@@ -135,7 +135,7 @@ after_countries (outcome ∷ outcomes) entries =
 
 abbrev pub after_front : Option ℤ → List national.Entry → List national.Entry
 after_front None entries = entries
-after_front (Some front) entries = nationals.Reached front ∷ entries
+after_front (Some front) entries = Reached front ∷ entries
 
 abbrev pub national_entries : List Entry → List national.Entry
 national_entries [] = []

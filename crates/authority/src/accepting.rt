@@ -22,7 +22,8 @@ pub fn stored_by(packet: &MovementAuthority, place: Cm, moment: Ms) -> Stored
     let scale = packet.scale;
     let mut timed = ArrayVec::new();
     let mut at = place;
-    for section in packet.sections.as_slice() {
+    let sections = packet.sections.as_slice();
+    for section in sections {
         push_timed(&mut timed, scale, at, section);
         at = ahead(at, section.length, scale);
     }
@@ -60,12 +61,7 @@ fn behind(place: Cm, by: Distance, scale: Scale) -> Cm
 }
 
 // Appends a section that has a timer.
-fn push_timed(
-    timed: &mut ArrayVec<TimedSection, 32>,
-    scale: Scale,
-    entry: Cm,
-    section: &Section,
-)
+fn push_timed(timed: &mut ArrayVec<TimedSection, 32>, scale: Scale, entry: Cm, section: &Section)
     requires room { array_vec_len timed.old < 32 }
     requires near { unsigned_abs entry ≤ 2 ^ 42 - 2 ^ 25 }
     ensures items { timed.new.items ≡ timed.old.items ++ timed_one scale entry section.now }

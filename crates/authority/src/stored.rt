@@ -64,11 +64,7 @@ fn passed_timer_of(timer: &Option<PlaceTimer>, now: Ms, max_front: Cm) -> Option
     }
 }
 
-fn passed_overlap_of(
-    overlap: &Option<TimedOverlap>,
-    now: Ms,
-    max_front: Cm,
-) -> Option<TimedOverlap>
+fn passed_overlap_of(overlap: &Option<TimedOverlap>, now: Ms, max_front: Cm) -> Option<TimedOverlap>
     ensures { result ≡ option_map (passed_overlap now max_front) overlap.now }
 {
     match overlap {
@@ -179,7 +175,8 @@ impl Stored {
         ensures { result ≡ self.now }
     {
         let mut timed = ArrayVec::new();
-        for section in self.timed.as_slice() {
+        let sections = self.timed.as_slice();
+        for section in sections {
             timed.push(*section);
         }
         Stored {

@@ -1,0 +1,4 @@
+pub mod Passing
+pub mod Storing
+pub mod Ending
+pub mod LawsHold

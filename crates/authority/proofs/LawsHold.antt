@@ -1,12 +1,11 @@
 -- The laws of the definitions.
-use Rattle.std.proofs.Common.{◌≡◌, ◌≢◌, ℕ, ◌*◌, ◌+◌, ◌<◌, ◌≤◌, ℤ, pos, ◌+ℤ◌, ◌<ℤ◌, ◌≤ℤ◌, List, [], ◌∷◌, ◌++◌, Bool, true, false, cond, refl, ap, sym, subst, arith, ◌∙◌, append_assoc, append-nil, inl, inr}
+use Rattle.std.proofs.Common.{◌≡◌, ◌≢◌, ℕ, ◌*◌, ◌+◌, ◌<◌, ◌≤◌, ℤ, pos, ◌+ℤ◌, ◌<ℤ◌, ◌≤ℤ◌, List, [], ◌∷◌, ◌++◌, Bool, true, false, cond, refl, ap, sym, subst, arith, ◌∙◌, ◌⊎◌, append_assoc, append-nil, inl, inr}
 use Rattle.std.specs.Prelude.{not, ◌↔◌, find, ◌&&◌, ◌||◌, ◌==◌, nat_le, if◌then◌else◌, Option, Some, None, option_map, unwrap_or, int_lt}
 use Rattle.std.specs.Option.{option_or}
 use Rattle.std.specs.List.{list_any}
 use Rattle.std.proofs.lemmas.Int.{ints}
 use Rattle.std.proofs.lemmas.Bool.{cases_Bool, and_parts, and_from, or_parts, not-true, not_from_false}
 use Rattle.std.proofs.lemmas.Bool.Decides.{nat_tests}
-use Rattle.units.proofs.Gathering.{IsIn}
 use Rattle.vars.specs.declared.scale.Scale.{Scale}
 use Rattle.packets.specs.declared.authority.Section.{Section}
 use Rattle.packets.specs.declared.authority.SectionTimer.{SectionTimer}
@@ -18,7 +17,7 @@ use Rattle.authority.specs.Entries.{Entry, Fact, Sight, now_of, accepted, sights
 use Rattle.authority.specs.Entries.Entry.{Ticked, Accepted, Passed, Cleared}
 use Rattle.authority.specs.Track.{in_cm, timed_by, timed_one, timed_from, timed_sections, end_from, end_entry, told_end}
 use Rattle.authority.specs.Authority.{reaches, was_stopped, section_has_run_out, first_reached, started_before, end_timer_has_run_out, taken_back, end_by, end_now, end_of, main_speed_of}
-use Rattle.authority.specs.Laws.{HasRunOut, KeepsAuthority}
+use Rattle.authority.specs.Laws.{IsAmong, HasRunOut, StartedAt, MayBeEnd, KeepsAuthority}
 
 -- ---- along the track
 
@@ -267,7 +266,7 @@ short_of : (front place : ℤ) (b : Bool) → (reaches front place && not b) ≡
 short_of front place b h e = grind (arith, ints)
 
 was_short : (start : ℕ) (seen : List Sight) (section : TimedSection) → was_stopped start seen section ≡ false →
-    (sight : Sight) → IsIn sight seen → sight.moment < start + 1000 * section.time → sight.train.min_front <ℤ section.stop_at
+    (sight : Sight) → IsAmong sight seen → sight.moment < start + 1000 * section.time → sight.train.min_front <ℤ section.stop_at
 was_short start [] section h sight there early = absurd there
 was_short start (first ∷ seen) section h sight there early =
     let parts = or_parts (reaches first.train.min_front section.stop_at && not (has_run_out section.time start first.moment)) (was_stopped start seen section) h in
@@ -289,7 +288,7 @@ short_held : (front place : ℤ) → front <ℤ place → (reaches front place &
 short_held front place o = grind (arith, ints)
 
 never_stopped : (start : ℕ) (seen : List Sight) (section : TimedSection) → section.time ≢ 1023 →
-    ((sight : Sight) → IsIn sight seen → sight.moment < start + 1000 * section.time → sight.train.min_front <ℤ section.stop_at) →
+    ((sight : Sight) → IsAmong sight seen → sight.moment < start + 1000 * section.time → sight.train.min_front <ℤ section.stop_at) →
     was_stopped start seen section ≡ false
 never_stopped start [] section n h = refl
 never_stopped start (sight ∷ seen) section n h =
@@ -310,3 +309,188 @@ run_out_so start now seen section = (
   λ r. and_from (has_run_out section.time start now) (not (was_stopped start seen section)) (over_run section.time start now r.has_expiry r.is_over)
       (not_from_false _ (never_stopped start seen section r.has_expiry r.was_short)),
 )
+
+-- ---- when a timer starts at a place
+
+not_reached : (front place : ℤ) → reaches front place ≡ false → front <ℤ place
+not_reached front place e = grind (arith, ints)
+
+short_unreached : (front place : ℤ) → front <ℤ place → reaches front place ≡ false
+short_unreached front place o = grind (arith, ints)
+
+is_reached : (front place : ℤ) → reaches front place ≡ true → place ≤ℤ front
+is_reached front place e = grind (arith, ints)
+
+far_reached : (front place : ℤ) → place ≤ℤ front → reaches front place ≡ true
+far_reached front place o = grind (arith, ints)
+
+none_parts : (before : Option ℕ) (moment : ℕ) (b : Bool) → option_or before (cond b (Some moment) None) ≡ None → (before ≡ None) × (b ≡ false)
+none_parts None moment true h = absurd (cc)
+none_parts None moment false h = (h, refl)
+none_parts (Some m) moment b h = absurd (cc)
+
+all_short : (place : ℤ) (seen : List Sight) → first_reached place seen ≡ None →
+    (before : Sight) → IsAmong before seen → before.train.max_front <ℤ place
+all_short place [] h before there = absurd there
+all_short place (sight ∷ earlier) h before there =
+    let parts = none_parts (first_reached place earlier) sight.moment (reaches sight.train.max_front place) h in
+    elim there [
+      | inl same ↦ subst (λ (s : Sight). s.train.max_front <ℤ place) (sym same) (not_reached sight.train.max_front place parts.1)
+      | inr there ↦ all_short place earlier parts.0 before there
+    ]
+
+short_all : (place : ℤ) (seen : List Sight) → ((before : Sight) → IsAmong before seen → before.train.max_front <ℤ place) → first_reached place seen ≡ None
+short_all place [] h = refl
+short_all place (sight ∷ earlier) h =
+    rw (short_all place earlier (λ s there. h s (inr there)), short_unreached sight.train.max_front place (h sight (inl refl))) refl
+
+one_more : (place : ℤ) (sight : Sight) (seen : List Sight) (moment : ℕ) → StartedAt place seen moment → StartedAt place (sight ∷ seen) moment
+one_more place sight seen moment s = record {
+  later = sight ∷ s.later;
+  sight = s.sight;
+  earlier = s.earlier;
+  in_turn = ap (λ (xs : List Sight). sight ∷ xs) s.in_turn;
+  at_moment = s.at_moment;
+  reached = s.reached;
+  was_short = s.was_short;
+}
+
+start_found : (place : ℤ) (seen : List Sight) (moment : ℕ) → first_reached place seen ≡ Some moment → StartedAt place seen moment
+start_found place [] moment h = absurd (cc)
+start_found place (sight ∷ earlier) moment h =
+    let here : first_reached place earlier ≡ None → (b : Bool) → reaches sight.train.max_front place ≡ b →
+    ◌≡◌ {A = Option ℕ} (cond b (Some sight.moment) None) (Some moment) → StartedAt place (sight ∷ earlier) moment =
+    λ none. elim [
+      | true ↦ λ e k. record {
+        later = [];
+        sight = sight;
+        earlier = earlier;
+        in_turn = refl;
+        at_moment = cc;
+        reached = is_reached sight.train.max_front place e;
+        was_short = all_short place earlier none;
+      }
+      | false ↦ λ e k. absurd (cc)
+    ] in
+    let cases : (o : Option ℕ) → first_reached place earlier ≡ o → option_or o (if reaches sight.train.max_front place then Some sight.moment else None) ≡ Some moment → StartedAt place (sight ∷ earlier) moment =
+    elim [
+      | None ↦ λ none k. here none (reaches sight.train.max_front place) refl k
+      | Some m ↦ λ some k. one_more place sight earlier moment (start_found place earlier moment (some ∙ k))
+    ] in
+    cases (first_reached place earlier) refl h
+
+found_start : (place : ℤ) (later earlier : List Sight) (sight : Sight) → place ≤ℤ sight.train.max_front →
+    ((before : Sight) → IsAmong before earlier → before.train.max_front <ℤ place) → first_reached place (later ++ sight ∷ earlier) ≡ Some sight.moment
+found_start place [] earlier sight o h = rw (short_all place earlier h, far_reached sight.train.max_front place o) refl
+found_start place (last ∷ later) earlier sight o h = rw (found_start place later earlier sight o h) refl
+
+pub starts : (place : ℤ) (seen : List Sight) (moment : ℕ) → (first_reached place seen ≡ Some moment) ↔ StartedAt place seen moment
+starts place seen moment = (
+  start_found place seen moment,
+  λ s. ap (first_reached place) s.in_turn ∙ found_start place s.later s.earlier s.sight s.reached s.was_short ∙ ap Some s.at_moment,
+)
+
+-- ---- the end is at the nearest place
+
+along_to : (from to : ℤ) (sections : List TimedSection) → AreAlong from sections to → from ≤ℤ to
+along_to from to [] h = h
+along_to from to (section ∷ rest) h = let more = along_to section.entry to rest h.1 in omega (arith, ints, h.0, more)
+
+along_entry : (from to : ℤ) (sections : List TimedSection) (s : TimedSection) → AreAlong from sections to → IsAmong s sections → from ≤ℤ s.entry
+along_entry from to [] s h there = absurd there
+along_entry from to (section ∷ rest) s h there =
+    elim there [
+      | inl same ↦ subst (λ (x : TimedSection). from ≤ℤ x.entry) (sym same) h.0
+      | inr there ↦ (let more = along_entry section.entry to rest s h.1 there in omega (arith, ints, h.0, more))
+    ]
+
+first_most : (test : TimedSection → Bool) (from to : ℤ) (sections : List TimedSection) → AreAlong from sections to → first_or test sections to ≤ℤ to
+first_most test from to [] h = omega (arith, ints)
+first_most test from to (section ∷ rest) h =
+    elim (test section) as (λ b. unwrap_or (option_map (λ (s : TimedSection). s.entry) (cond b (Some section) (find test rest))) to ≤ℤ to) [
+      | true ↦ along_to section.entry to rest h.1
+      | false ↦ first_most test section.entry to rest h.1
+    ]
+
+first_least : (test : TimedSection → Bool) (from to : ℤ) (sections : List TimedSection) (s : TimedSection) → AreAlong from sections to →
+    IsAmong s sections → test s ≡ true → first_or test sections to ≤ℤ s.entry
+first_least test from to [] s h there e = absurd there
+first_least test from to (section ∷ rest) s h there e =
+    let cases : (b : Bool) → test section ≡ b → unwrap_or (option_map (λ (s : TimedSection). s.entry) (cond b (Some section) (find test rest))) to ≤ℤ s.entry =
+    elim [
+      | true ↦ λ k. elim there [
+        | inl same ↦ subst (λ (x : TimedSection). section.entry ≤ℤ x.entry) (sym same) (let here : section.entry ≤ℤ section.entry = omega (arith, ints) in here)
+        | inr there ↦ along_entry section.entry to rest s h.1 there
+      ]
+      | false ↦ λ k. elim there [
+        | inl same ↦ absurd (let wrong : false ≡ true = sym k ∙ ap test (sym same) ∙ e in cc)
+        | inr there ↦ first_least test section.entry to rest s h.1 there e
+      ]
+    ] in
+    cases (test section) refl
+
+first_is : (test : TimedSection → Bool) (to : ℤ) (sections : List TimedSection) →
+    (first_or test sections to ≡ to) ⊎ ((s : TimedSection) × IsAmong s sections × (test s ≡ true) × (first_or test sections to ≡ s.entry))
+first_is test to [] = inl refl
+first_is test to (section ∷ rest) =
+    let cases : (b : Bool) → test section ≡ b →
+    (unwrap_or (option_map (λ (s : TimedSection). s.entry) (cond b (Some section) (find test rest))) to ≡ to)
+    ⊎ ((s : TimedSection) × IsAmong s (section ∷ rest) × (test s ≡ true) × (unwrap_or (option_map (λ (s : TimedSection). s.entry) (cond b (Some section) (find test rest))) to ≡ s.entry)) =
+    elim [
+      | true ↦ λ k. inr (section, inl refl, k, refl)
+      | false ↦ λ k. elim (first_is test to rest) [ inl e ↦ inl e | inr w ↦ inr (w.0, inr w.1, w.2, w.3) ]
+    ] in
+    cases (test section) refl
+
+module _ (fact : Fact) (now : ℕ) (seen : List Sight) where
+  abbrev test : TimedSection → Bool
+  test = section_has_run_out fact.moment now seen
+
+  abbrev late : Bool
+  late = end_timer_has_run_out (told_end fact) fact.packet.scale now seen fact.packet.end_timer
+
+  end_is : (end_now fact now seen).end ≡ first_or test (timed_sections fact) (last_place fact late)
+  end_is = by_place fact now seen (taken_back fact now seen) ∙ place_is fact test late
+
+  last_may : (b : Bool) → late ≡ b → (place : ℤ) → place ≡ last_place fact b → MayBeEnd fact now seen place
+  last_may true e place is = inr (inl (e, is))
+  last_may false e place is = inl is
+
+  may_be : MayBeEnd fact now seen (end_now fact now seen).end
+  may_be = elim (first_is test (last_place fact late) (timed_sections fact)) [
+    | inl e ↦ last_may late refl (end_now fact now seen).end (end_is ∙ e)
+    | inr w ↦ inr (inr (w.0, w.1, (run_out_so fact.moment now seen w.0).0 w.2, end_is ∙ w.3))
+  ]
+
+  at_most_last : first_or test (timed_sections fact) (last_place fact late) ≤ℤ last_place fact late
+  at_most_last = first_most test fact.place (last_place fact late) (timed_sections fact) (sections_along fact (last_place fact late) (last_behind fact late))
+
+  last_most : (b : Bool) → last_place fact b ≤ℤ told_end fact
+  last_most true = omega (arith, ints)
+  last_most false = omega (arith, ints)
+
+  nearest_of : (place : ℤ) → MayBeEnd fact now seen place → first_or test (timed_sections fact) (last_place fact late) ≤ℤ place
+  nearest_of place m = elim m [
+    | inl is ↦ (let last = last_most late in rw is (omega (arith, ints, last, at_most_last)))
+    | inr more ↦ elim more [
+      | inl timer ↦ (let last : last_place fact late ≡ end_entry fact = ap (last_place fact) timer.0 in rw timer.1 (omega (arith, ints, last, at_most_last)))
+      | inr w ↦ rw w.3 (first_least test fact.place (last_place fact late) (timed_sections fact) w.0 (sections_along fact (last_place fact late) (last_behind fact late)) w.1
+          ((run_out_so fact.moment now seen w.0).1 w.2))
+    ]
+  ]
+
+  pub nearest_now : (place : ℤ) → MayBeEnd fact now seen place → (end_now fact now seen).end ≤ℤ place
+  nearest_now place m = rw end_is (nearest_of place m)
+
+nearest_some : (o : Option Fact) (fact : Fact) (now : ℕ) (seen : List Sight) (end : End) → o ≡ Some fact → option_map (λ fact. end_now fact now seen) o ≡ Some end →
+    MayBeEnd fact now seen end.end × ((place : ℤ) → MayBeEnd fact now seen place → end.end ≤ℤ place)
+nearest_some o fact now seen end is e =
+    let same : end_now fact now seen ≡ end = (let k : option_map (λ (f : Fact). end_now f now seen) (Some fact) ≡ Some end = ap (option_map (λ (f : Fact). end_now f now seen)) (sym is) ∙ e in cc) in (
+      subst (λ (x : End). MayBeEnd fact now seen x.end) same (may_be fact now seen),
+      λ place m. subst (λ (x : End). x.end ≤ℤ place) same (nearest_now fact now seen place m),
+    )
+
+pub nearest : (entries : List Entry) (fact : Fact) (end : End) → accepted entries ≡ Some fact → end_of entries ≡ Some end →
+    MayBeEnd fact (now_of entries) (sights entries) end.end
+    × ((place : ℤ) → MayBeEnd fact (now_of entries) (sights entries) place → end.end ≤ℤ place)
+nearest entries fact end is e = nearest_some (accepted entries) fact (now_of entries) (sights entries) end is e

@@ -9,7 +9,8 @@ use Rattle.authority.specs.declared.stored.Stored.{Stored}
 use Rattle.authority.specs.Entries.{Fact, Sight}
 use Rattle.authority.specs.Track.{timed_sections, told_end}
 use Rattle.authority.specs.Authority.{was_stopped, overlap_point_of}
-use Rattle.authority.specs.Known.{stops_at, timer_of, end_timer_of, overlap_of, passed_timer, passed_overlap, stored_of, passed_stored}
+use Rattle.authority.specs.Known.{timer_of, end_timer_of, overlap_of, stored_of}
+use Rattle.authority.specs.Steps.{stops_at, passed_timer, passed_overlap, passed_stored}
 
 filter_twice : {X : Type 0} (p q r : X → Bool) → ((x : X) → p x ≡ (r x || q x)) → (xs : List X) →
     filter (λ x. not (p x)) xs ≡ filter (λ x. not (r x)) (filter (λ x. not (q x)) xs)

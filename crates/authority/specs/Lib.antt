@@ -3,4 +3,5 @@ pub mod Timers
 pub mod Track
 pub mod Authority
 pub mod Known
+pub mod Steps
 pub mod Laws

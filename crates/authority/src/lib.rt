@@ -11,4 +11,6 @@ mod timers;
 
 pub use answers::{End, Release};
 pub use authority::Authority;
-pub use laws::{acceptance_forgets, end_never_moves_forward, sections_run_out};
+pub use laws::{
+    acceptance_forgets, end_is_the_nearest, end_never_moves_forward, sections_run_out, timers_start,
+};

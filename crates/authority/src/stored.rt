@@ -1,5 +1,5 @@
 ghost use Rattle.std.specs.Prelude.{◌≡◌, filter, not, if◌then◌else◌, option_map};
-ghost use Rattle.authority.specs.Known.{stops_at, passed_timer, passed_overlap, passed_stored, first_over, is_over_in, taken_back_in, point_in, told_in, end_in, speed_in};
+ghost use Rattle.authority.specs.Steps.{stops_at, passed_timer, passed_overlap, passed_stored, first_over, is_over_in, taken_back_in, point_in, told_in, end_in, speed_in};
 
 use crate::answers::{End, Release};
 use crate::timers::{PlaceTimer, TimedSection, is_over};

@@ -1,6 +1,6 @@
 ghost use Rattle.std.specs.Prelude.{◌≡◌};
 ghost use Rattle.authority.specs.Timers.{has_run_out, started_has_run_out};
-ghost use Rattle.authority.specs.Known.{passed_timer};
+ghost use Rattle.authority.specs.Steps.{passed_timer};
 
 use units::{Cm, Ms};
 use vars::{Timer, Variable};

@@ -1,5 +1,5 @@
 use Rattle.std.proofs.Common.{◌≡◌, drop}
-use Rattle.authority.specs.Known.{first_over}
+use Rattle.authority.specs.Steps.{first_over}
 use Rattle.authority.proofs.stored.first_run_out.Given as goal
 
 abbrev pub invariant-loop-section : goal.invariant-loop-section

@@ -1,7 +1,7 @@
 // Authorities made of plain numbers, and what they answer, in plain numbers.
 use arrayvec::ArrayVec;
 use authority::{Authority, Release};
-use packets::{MovementAuthority, Section, SectionTimer};
+use packets::{DangerPoint, MovementAuthority, Overlap, Section, SectionTimer};
 use std::process::Abort;
 use units::{Cm, Ms, Stretch};
 use vars::{Distance, ReleaseSpeed, Scale, SpeedStep, Timer, ValidityDirection, Variable};
@@ -48,6 +48,24 @@ pub fn section<R: Abort>(rt: &R, length: u16, timer: Option<(u16, u16)>) -> Sect
     }
 }
 
+/// A danger point 30 m behind the end.
+pub fn danger_point<R: Abort>(rt: &R, number: u8) -> DangerPoint {
+    DangerPoint {
+        distance: metres(rt, 30),
+        release: release(rt, number),
+    }
+}
+
+/// An overlap of 50 m, whose timer starts 100 m before the end.
+pub fn overlap<R: Abort>(rt: &R, time: u16, number: u8) -> Overlap {
+    Overlap {
+        start: metres(rt, 100),
+        time: seconds(rt, time),
+        distance: metres(rt, 50),
+        release: release(rt, number),
+    }
+}
+
 /// An authority of 160 km/h, in metres, over some sections and an end section.
 pub fn packet<R: Abort>(rt: &R, before: &[Section], end_section: Section) -> MovementAuthority {
     let mut sections = ArrayVec::new();
@@ -79,20 +97,35 @@ pub fn accepted<R: Abort>(rt: &R, packet: &MovementAuthority) -> Authority {
     authority
 }
 
-/// An event at a moment, after which the front is between two places.
-pub fn pass<R: Abort>(rt: &R, authority: &mut Authority, moment: u64, least: i64, greatest: i64) {
-    let least = Cm::new(least).expect(rt, "a place");
-    let greatest = Cm::new(greatest).expect(rt, "a place");
-    authority.tick(ms(rt, moment));
-    authority.pass(&Stretch::new(Cm::MIN, least, greatest).expect(rt, "a stretch"));
-}
-
 /// The end, the speed there, the supervised location, and the release speed, None for the national one.
-pub fn told<R: Abort>(rt: &R, authority: &Authority) -> (i64, u32, i64, Option<u32>) {
+pub type Told = (i64, u32, i64, Option<u32>);
+
+pub fn told<R: Abort>(rt: &R, authority: &Authority) -> Told {
     let end = authority.end().expect(rt, "an authority");
     let release = match &end.release {
         Release::Speed(speed) => Some(speed.get()),
         Release::National => None,
     };
     (end.end.get(), end.speed.get(), end.location.get(), release)
+}
+
+/// An end with no speed, and nothing behind it.
+pub fn bare(end: i64) -> Told {
+    (end, 0, end, Some(0))
+}
+
+/// After an event at a moment the front is between two places, and the authority tells this.
+pub fn after<R: Abort>(
+    rt: &R,
+    authority: &mut Authority,
+    moment: u64,
+    least: i64,
+    greatest: i64,
+    want: Told,
+) {
+    let least = Cm::new(least).expect(rt, "a place");
+    let greatest = Cm::new(greatest).expect(rt, "a place");
+    authority.tick(ms(rt, moment));
+    authority.pass(&Stretch::new(Cm::MIN, least, greatest).expect(rt, "a stretch"));
+    assert_eq!(rt; told(rt, authority), want, "at {moment}");
 }

@@ -1,13 +1,11 @@
 // What is behind the end, and the speed there.
-use crate::calls::{accepted, metres, packet, pass, release, seconds, section, speed, told};
-use packets::{DangerPoint, Overlap};
+use crate::calls::{accepted, after, bare, danger_point, overlap, packet, seconds, section, speed};
 
-/// An end section of 1000 m, a danger point 30 m behind it, and an overlap of 50 m whose timer starts 100 m before the end;
-/// each with its release speed, the overlap with its time. Each event has a moment, the greatest front, the supervised
-/// location and the release speed.
+/// An end section of 1000 m, a danger point and an overlap; each with the number of its release speed, the overlap with its
+/// time. Each event has a moment, the greatest front, the supervised location and the release speed.
 #[test]
 fn behind_the_end(rt: HostRuntime) {
-    for (point, overlap, events) in [
+    for (point, behind, events) in [
         (
             None,
             None,
@@ -82,32 +80,26 @@ fn behind_the_end(rt: HostRuntime) {
     ] {
         let mut packet = packet(&rt, &[], section(&rt, 1_000, None));
         if let Some(number) = point {
-            packet.danger_point = Some(DangerPoint {
-                distance: metres(&rt, 30),
-                release: release(&rt, number),
-            });
+            packet.danger_point = Some(danger_point(&rt, number));
         }
-        if let Some((time, number)) = overlap {
-            packet.overlap = Some(Overlap {
-                start: metres(&rt, 100),
-                time: seconds(&rt, time),
-                distance: metres(&rt, 50),
-                release: release(&rt, number),
-            });
+        if let Some((time, number)) = behind {
+            packet.overlap = Some(overlap(&rt, time, number));
         }
         let mut authority = accepted(&rt, &packet);
         for (moment, front, location, speed) in events {
-            pass(&rt, &mut authority, moment, 0, front);
-            assert_eq!(rt;
-                told(&rt, &authority),
+            after(
+                &rt,
+                &mut authority,
+                moment,
+                0,
+                front,
                 (100_000, 0, location, speed),
-                "at {moment}"
             );
         }
     }
 }
 
-/// V_LOA in steps and T_LOA, with a danger point of 20 km/h.
+/// V_LOA in steps and T_LOA, with a danger point of 20 km/h; a moment, the speed at the end and the release speed then.
 #[test]
 fn speed_at_the_end(rt: HostRuntime) {
     for (steps, time, moment, at_end, released) in [
@@ -121,17 +113,9 @@ fn speed_at_the_end(rt: HostRuntime) {
         let mut packet = packet(&rt, &[], section(&rt, 1_000, None));
         packet.end_speed = speed(&rt, steps);
         packet.end_time = seconds(&rt, time);
-        packet.danger_point = Some(DangerPoint {
-            distance: metres(&rt, 30),
-            release: release(&rt, 4),
-        });
-        let mut authority = accepted(&rt, &packet);
-        pass(&rt, &mut authority, moment, 0, 0);
-        assert_eq!(rt;
-            told(&rt, &authority),
-            (100_000, at_end, 103_000, Some(released)),
-            "at {moment}"
-        );
+        packet.danger_point = Some(danger_point(&rt, 4));
+        let want = (100_000, at_end, 103_000, Some(released));
+        after(&rt, &mut accepted(&rt, &packet), moment, 0, 0, want);
     }
 }
 
@@ -142,15 +126,16 @@ fn taken_back(rt: HostRuntime) {
     let mut packet = packet(&rt, &before, section(&rt, 700, Some((60, 700))));
     packet.end_speed = speed(&rt, 8);
     packet.end_time = seconds(&rt, 1_023);
-    packet.overlap = Some(Overlap {
-        start: metres(&rt, 100),
-        time: seconds(&rt, 1_023),
-        distance: metres(&rt, 50),
-        release: release(&rt, 4),
-    });
+    packet.danger_point = Some(danger_point(&rt, 4));
+    packet.overlap = Some(overlap(&rt, 1_023, 127));
     let mut authority = accepted(&rt, &packet);
-    pass(&rt, &mut authority, 59_999, 0, 0);
-    assert_eq!(rt; told(&rt, &authority), (100_000, 40_000, 105_000, Some(0)));
-    pass(&rt, &mut authority, 60_000, 0, 0);
-    assert_eq!(rt; told(&rt, &authority), (30_000, 0, 30_000, Some(0)));
+    after(
+        &rt,
+        &mut authority,
+        59_999,
+        0,
+        0,
+        (100_000, 40_000, 105_000, Some(0)),
+    );
+    after(&rt, &mut authority, 60_000, 0, 0, bare(30_000));
 }

@@ -1,31 +1,38 @@
 // What is stored.
-use crate::calls::{accepted, ms, packet, pass, section, told};
+use crate::calls::{accepted, after, bare, ms, packet, section, told};
 use authority::Authority;
 use units::Cm;
 use vars::Scale;
 
 #[test]
-fn accepted_copied_replaced_deleted(rt: HostRuntime) {
+fn accepted_and_deleted(rt: HostRuntime) {
     let mut authority = Authority::new();
-    assert!(rt; !authority.is_stored());
-    assert!(rt; authority.end().is_none());
-    assert!(rt; authority.main_speed().is_none());
-    let first = packet(&rt, &[], section(&rt, 1_000, Some((60, 0))));
-    authority.accept(&first, Cm::ZERO, ms(&rt, 0));
-    let mut copy = authority.copy();
-    pass(&rt, &mut authority, 59_999, 0, 0);
-    authority.tick(ms(&rt, 60_000));
-    copy.tick(ms(&rt, 60_000));
-    assert_eq!(rt; told(&rt, &authority), (100_000, 0, 100_000, Some(0)));
-    assert_eq!(rt; told(&rt, &copy), (0, 0, 0, Some(0)));
+    assert!(rt; !authority.is_stored() && authority.end().is_none());
+    let packet = packet(&rt, &[], section(&rt, 1_000, None));
     let place = Cm::new(-3 << 40).expect(&rt, "a place");
-    copy.accept(&first, place, ms(&rt, 60_000));
-    assert_eq!(rt; told(&rt, &copy).0, (-3 << 40) + 100_000);
-    assert_eq!(rt; copy.main_speed().expect(&rt, "a speed").get(), 160_000);
-    copy.clear();
-    assert!(rt; !copy.is_stored());
-    assert!(rt; copy.end().is_none());
+    authority.accept(&packet, place, ms(&rt, 0));
     assert!(rt; authority.is_stored());
+    assert_eq!(rt; told(&rt, &authority), bare((-3 << 40) + 100_000));
+    assert_eq!(rt;
+        authority.main_speed().expect(&rt, "a speed").get(),
+        160_000
+    );
+    authority.clear();
+    assert!(rt; !authority.is_stored() && authority.main_speed().is_none());
+}
+
+/// What a copy sees is its own.
+#[test]
+fn copied(rt: HostRuntime) {
+    let packet = packet(&rt, &[], section(&rt, 1_000, Some((60, 0))));
+    let mut authority = accepted(&rt, &packet);
+    let mut copy = authority.copy();
+    after(&rt, &mut authority, 59_999, 0, 0, bare(100_000));
+    after(&rt, &mut authority, 60_000, 0, 0, bare(100_000));
+    after(&rt, &mut copy, 60_000, 0, 0, bare(0));
+    copy.accept(&packet, Cm::ZERO, ms(&rt, 60_000));
+    after(&rt, &mut copy, 119_999, -1, -1, bare(100_000));
+    after(&rt, &mut copy, 120_000, 0, 0, bare(0));
 }
 
 /// 31 sections of 100 units and an end section of 200, in each scale; then the last of them runs out, and then the first.
@@ -41,8 +48,7 @@ fn as_many_sections_as_there_may_be(rt: HostRuntime) {
         packet.scale = scale;
         let mut authority = accepted(&rt, &packet);
         for (moment, units) in [(29_999, 3_300), (30_000, 3_100), (60_000, 0)] {
-            pass(&rt, &mut authority, moment, 0, 0);
-            assert_eq!(rt; told(&rt, &authority).0, units * unit, "at {moment}");
+            after(&rt, &mut authority, moment, 0, 0, bare(units * unit));
         }
     }
 }

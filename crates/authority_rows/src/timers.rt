@@ -1,5 +1,5 @@
 // Timers that run out, and where the end is taken back to.
-use crate::calls::{accepted, metres, packet, pass, seconds, section, told};
+use crate::calls::{accepted, after, bare, metres, packet, seconds, section};
 use packets::EndTimer;
 
 /// Sections of 300, 200 and 500 m, some with a timer. Each event has a moment, the least and the greatest front, and the end
@@ -81,12 +81,7 @@ fn sections(rt: HostRuntime) {
         let packet = packet(&rt, &before, section(&rt, 500, last));
         let mut authority = accepted(&rt, &packet);
         for (moment, least, greatest, end) in events {
-            pass(&rt, &mut authority, moment, least, greatest);
-            assert_eq!(rt;
-                told(&rt, &authority),
-                (end, 0, end, Some(0)),
-                "at {moment}"
-            );
+            after(&rt, &mut authority, moment, least, greatest, bare(end));
         }
     }
 }
@@ -140,12 +135,7 @@ fn end_timer(rt: HostRuntime) {
         });
         let mut authority = accepted(&rt, &packet);
         for (moment, front, end) in events {
-            pass(&rt, &mut authority, moment, 0, front);
-            assert_eq!(rt;
-                told(&rt, &authority),
-                (end, 0, end, Some(0)),
-                "at {moment}"
-            );
+            after(&rt, &mut authority, moment, 0, front, bare(end));
         }
     }
 }

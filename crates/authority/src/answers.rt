@@ -15,7 +15,7 @@ pub enum Release {
 
 impl Release {
     /// No release speed.
-    pub fn none() -> Release
+    pub(crate) fn none() -> Release
         ensures { result ≡ no_release }
     {
         Release::Speed(Mph::new(0).unwrap())

@@ -43,8 +43,10 @@ impl Authority {
         requires { unsigned_abs place ≤ 3 * 2 ^ 40 }
         ensures { (entries : List Entry) → self.new ≡ known (Accepted (fact_of packet.now place moment) ∷ entries) }
     {
-        self.moment = moment;
-        self.stored = Some(stored_by(packet, place, moment));
+        *self = Authority {
+            moment,
+            stored: Some(stored_by(packet, place, moment)),
+        };
     }
 
     /// Moves the clock.

@@ -1,4 +1,4 @@
-use Rattle.authority.proofs.LawsHold.{nearest}
+use Rattle.authority.proofs.Nearest.{nearest}
 use Rattle.authority.proofs.laws.end_is_the_nearest.Goals as goal
 
 pub returns : goal.returns

@@ -9,13 +9,12 @@ use Rattle.packets.specs.declared.authority.Overlap.{Overlap}
 use Rattle.authority.specs.declared.answers.End.{End}
 use Rattle.authority.specs.declared.timers.TimedSection.{TimedSection}
 use Rattle.authority.specs.declared.stored.Stored.{Stored}
-use Rattle.authority.specs.declared.stored.Point.{Point}
 use Rattle.authority.specs.Timers.{has_run_out}
 use Rattle.authority.specs.Entries.{Fact, Sight}
 use Rattle.authority.specs.Track.{timed_sections, end_entry, told_end}
-use Rattle.authority.specs.Authority.{was_stopped, end_timer_has_run_out, taken_back, speed_at_end, danger_point_of, overlap_in_force, overlap_has_run_out, overlap_point_of, bare_end, supervised, end_with, end_by, end_now}
+use Rattle.authority.specs.Authority.{was_stopped, end_timer_has_run_out, taken_back, speed_at_end, danger_point_of, overlap_in_force, bare_end, supervised, end_with, end_by, end_now}
 use Rattle.authority.specs.Known.{end_timer_of, overlap_of, stored_of}
-use Rattle.authority.specs.Steps.{is_over_in, taken_back_in, overlap_in, point_in, told_in, end_by_stored, end_in}
+use Rattle.authority.specs.Steps.{is_over_in, taken_back_in, overlap_in, told_in, end_by_stored, end_in}
 
 find_left : {X : Type 0} (p q : X → Bool) (xs : List X) → find p (filter (λ x. not (q x)) xs) ≡ find (λ x. p x && not (q x)) xs
 find_left p q [] = refl

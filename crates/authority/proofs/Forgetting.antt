@@ -1,23 +1,9 @@
 -- Nothing before an acceptance matters.
-use Rattle.std.proofs.Common.{◌≡◌, ◌≢◌, ℕ, ◌*◌, ◌+◌, ◌<◌, ◌≤◌, ℤ, pos, ◌+ℤ◌, ◌<ℤ◌, ◌≤ℤ◌, List, [], ◌∷◌, ◌++◌, Bool, true, false, cond, refl, ap, sym, subst, arith, ◌∙◌, ◌⊎◌, append_assoc, append-nil, inl, inr}
-use Rattle.std.specs.Prelude.{not, ◌↔◌, find, ◌&&◌, ◌||◌, ◌==◌, nat_le, if◌then◌else◌, Option, Some, None, option_map, unwrap_or, int_lt}
-use Rattle.std.specs.Option.{option_or}
-use Rattle.std.specs.List.{list_any}
-use Rattle.std.proofs.lemmas.Int.{ints}
-use Rattle.std.proofs.lemmas.Bool.{cases_Bool, and_parts, and_from, or_parts, not-true, not_from_false}
-use Rattle.std.proofs.lemmas.Bool.Decides.{nat_tests}
-use Rattle.vars.specs.declared.scale.Scale.{Scale}
-use Rattle.packets.specs.declared.authority.Section.{Section}
-use Rattle.packets.specs.declared.authority.SectionTimer.{SectionTimer}
-use Rattle.packets.specs.declared.authority.EndTimer.{EndTimer}
-use Rattle.authority.specs.declared.answers.End.{End}
-use Rattle.authority.specs.declared.timers.TimedSection.{TimedSection}
-use Rattle.authority.specs.Timers.{has_run_out, started_has_run_out}
-use Rattle.authority.specs.Entries.{Entry, Fact, Sight, now_of, accepted, sights, IsInOrder}
+use Rattle.std.proofs.Common.{◌≡◌, ◌*◌, List, [], ◌∷◌, ◌++◌, refl}
+use Rattle.std.specs.Prelude.{option_map}
+use Rattle.authority.specs.Entries.{Entry, Fact, now_of, accepted, sights}
 use Rattle.authority.specs.Entries.Entry.{Ticked, Accepted, Passed, Cleared}
-use Rattle.authority.specs.Track.{in_cm, timed_by, timed_one, timed_from, timed_sections, end_from, end_entry, told_end}
-use Rattle.authority.specs.Authority.{reaches, was_stopped, section_has_run_out, first_reached, started_before, end_timer_has_run_out, taken_back, end_by, end_now, end_of, main_speed_of}
-use Rattle.authority.specs.Laws.{IsAmong, HasRunOut, StartedAt, MayBeEnd, KeepsAuthority}
+use Rattle.authority.specs.Authority.{end_now, end_of, main_speed_of}
 
 same_now : (later before : List Entry) (fact : Fact) → now_of (later ++ Accepted fact ∷ before) ≡ now_of (later ++ Accepted fact ∷ [])
 same_now [] before fact = refl

@@ -1,25 +1,15 @@
 -- The end is at the nearest place where it may be.
-use Rattle.std.proofs.Common.{◌≡◌, ◌≢◌, ℕ, ◌*◌, ◌+◌, ◌<◌, ◌≤◌, ℤ, pos, ◌+ℤ◌, ◌<ℤ◌, ◌≤ℤ◌, List, [], ◌∷◌, ◌++◌, Bool, true, false, cond, refl, ap, sym, subst, arith, ◌∙◌, ◌⊎◌, append_assoc, append-nil, inl, inr}
-use Rattle.std.specs.Prelude.{not, ◌↔◌, find, ◌&&◌, ◌||◌, ◌==◌, nat_le, if◌then◌else◌, Option, Some, None, option_map, unwrap_or, int_lt}
-use Rattle.std.specs.Option.{option_or}
-use Rattle.std.specs.List.{list_any}
+use Rattle.std.proofs.Common.{◌≡◌, ℕ, ℤ, ◌≤ℤ◌, List, Bool, true, false, refl, ap, sym, subst, arith, ◌∙◌, inl, inr}
+use Rattle.std.specs.Prelude.{Option, Some, option_map}
 use Rattle.std.proofs.lemmas.Int.{ints}
-use Rattle.std.proofs.lemmas.Bool.{cases_Bool, and_parts, and_from, or_parts, not-true, not_from_false}
-use Rattle.std.proofs.lemmas.Bool.Decides.{nat_tests}
-use Rattle.vars.specs.declared.scale.Scale.{Scale}
-use Rattle.packets.specs.declared.authority.Section.{Section}
-use Rattle.packets.specs.declared.authority.SectionTimer.{SectionTimer}
-use Rattle.packets.specs.declared.authority.EndTimer.{EndTimer}
 use Rattle.authority.specs.declared.answers.End.{End}
 use Rattle.authority.specs.declared.timers.TimedSection.{TimedSection}
-use Rattle.authority.specs.Timers.{has_run_out, started_has_run_out}
-use Rattle.authority.specs.Entries.{Entry, Fact, Sight, now_of, accepted, sights, IsInOrder}
-use Rattle.authority.specs.Entries.Entry.{Ticked, Accepted, Passed, Cleared}
-use Rattle.authority.specs.Track.{in_cm, timed_by, timed_one, timed_from, timed_sections, end_from, end_entry, told_end}
-use Rattle.authority.specs.Authority.{reaches, was_stopped, section_has_run_out, first_reached, started_before, end_timer_has_run_out, taken_back, end_by, end_now, end_of, main_speed_of}
-use Rattle.authority.specs.Laws.{IsAmong, HasRunOut, StartedAt, MayBeEnd, KeepsAuthority}
-use Rattle.authority.proofs.Along.{AreAlong, first_or, first_sooner, sections_along, first_most, first_least, first_is}
-use Rattle.authority.proofs.Places.{last_place, place_is, last_behind, by_place, now_sooner, place_by}
+use Rattle.authority.specs.Entries.{Entry, Fact, Sight, now_of, accepted, sights}
+use Rattle.authority.specs.Track.{timed_sections, end_entry, told_end}
+use Rattle.authority.specs.Authority.{section_has_run_out, end_timer_has_run_out, taken_back, end_now, end_of}
+use Rattle.authority.specs.Laws.{MayBeEnd}
+use Rattle.authority.proofs.Along.{first_or, sections_along, first_most, first_least, first_is}
+use Rattle.authority.proofs.Places.{last_place, place_is, last_behind, by_place}
 use Rattle.authority.proofs.RunningOut.{run_out_so}
 
 module _ (fact : Fact) (now : ℕ) (seen : List Sight) where

@@ -1,15 +1,12 @@
 -- What one more sight does to the timers.
-use Rattle.std.proofs.Common.{◌≡◌, ℕ, ℤ, List, [], ◌∷◌, Bool, true, false, cond, refl, ap, sym, ◌∙◌}
+use Rattle.std.proofs.Common.{◌≡◌, ℕ, List, [], ◌∷◌, Bool, true, false, cond, refl, ap, sym, ◌∙◌}
 use Rattle.std.specs.Prelude.{not, filter, ◌||◌, Option, Some, None, option_map}
-use Rattle.vars.specs.declared.scale.Scale.{Scale}
-use Rattle.packets.specs.declared.authority.Overlap.{Overlap}
 use Rattle.authority.specs.declared.timers.TimedSection.{TimedSection}
-use Rattle.authority.specs.declared.timers.PlaceTimer.{PlaceTimer}
 use Rattle.authority.specs.declared.stored.Stored.{Stored}
 use Rattle.authority.specs.Entries.{Fact, Sight}
 use Rattle.authority.specs.Track.{timed_sections, told_end}
-use Rattle.authority.specs.Authority.{was_stopped, overlap_point_of}
-use Rattle.authority.specs.Known.{timer_of, end_timer_of, overlap_of, stored_of}
+use Rattle.authority.specs.Authority.{was_stopped}
+use Rattle.authority.specs.Known.{end_timer_of, overlap_of, stored_of}
 use Rattle.authority.specs.Steps.{stops_at, passed_timer, passed_overlap, passed_stored}
 
 filter_twice : {X : Type 0} (p q r : X → Bool) → ((x : X) → p x ≡ (r x || q x)) → (xs : List X) →

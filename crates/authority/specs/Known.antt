@@ -2,7 +2,6 @@
 use Rattle.std.specs.Prelude.{ℕ, ℤ, ◌-ℤ◌, not, filter, List, Option, option_map}
 use Rattle.vars.specs.declared.scale.Scale.{Scale}
 use Rattle.packets.specs.declared.authority.EndTimer.{EndTimer}
-use Rattle.packets.specs.declared.authority.DangerPoint.{DangerPoint}
 use Rattle.packets.specs.declared.authority.Overlap.{Overlap}
 use Rattle.authority.specs.declared.timers.PlaceTimer.{PlaceTimer}
 use Rattle.authority.specs.declared.stored.TimedOverlap.{TimedOverlap}

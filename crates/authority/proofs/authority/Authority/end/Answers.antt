@@ -1,4 +1,4 @@
-use Rattle.std.proofs.Common.{ap, sym, ◌∙◌}
+use Rattle.std.proofs.Common.{ap, ◌∙◌}
 use Rattle.authority.specs.Entries.{now_of, sights, accepted}
 use Rattle.authority.specs.Known.{Known}
 use Rattle.authority.proofs.Ending.{answer_is}

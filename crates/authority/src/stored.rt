@@ -8,14 +8,14 @@ use units::{Cm, Mph, Ms, Stretch};
 use vars::Timer;
 
 /// A place behind the end that is supervised, and its release speed.
-#[derive(Clone, Copy, Debug, PartialEq, Eq)]
+#[derive(Clone, Copy)]
 pub struct Point {
     pub location: Cm,
     pub release: Release,
 }
 
 /// The overlap with its timer.
-#[derive(Clone, Copy, Debug, PartialEq, Eq)]
+#[derive(Clone, Copy)]
 pub struct TimedOverlap {
     pub point: Point,
     pub timer: PlaceTimer,

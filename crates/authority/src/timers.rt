@@ -16,7 +16,7 @@ pub fn is_over(time: Timer, start: Ms, now: Ms) -> bool
 }
 
 /// The timer of a section, at its place on the track.
-#[derive(Clone, Copy, Debug, PartialEq, Eq)]
+#[derive(Clone, Copy)]
 pub struct TimedSection {
     /// Where the section begins.
     pub entry: Cm,
@@ -37,7 +37,7 @@ impl Default for TimedSection {
 }
 
 /// A timer that the greatest front starts.
-#[derive(Clone, Copy, Debug, PartialEq, Eq)]
+#[derive(Clone, Copy)]
 pub struct PlaceTimer {
     /// Where the greatest front starts it.
     pub from: Cm,

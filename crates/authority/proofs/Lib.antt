@@ -1,0 +1,9 @@
+pub mod Passing
+pub mod Storing
+pub mod Ending
+pub mod Along
+pub mod Places
+pub mod RunningOut
+pub mod Forward
+pub mod Forgetting
+pub mod Nearest

@@ -1,0 +1,13 @@
+use Rattle.std.proofs.Common.{◌≡◌, ◌+◌, ◌*◌, ◌^◌, ◌≤◌, ◌++◌, drop}
+use Rattle.std.specs.Int.RustNames.{unsigned_abs}
+use Rattle.arrayvec.specs.ArrayVec.{array_vec_len}
+use Rattle.authority.specs.Track.{timed_from, end_from}
+use Rattle.authority.proofs.accepting.stored_by.Given as goal
+
+abbrev pub invariant-loop-section : goal.invariant-loop-section
+invariant-loop-section l = record {
+  timers : l.timed.items ++ timed_from l.scale l.at (drop l.section-index l.sections) ≡ timed_from l.scale l.initial.at l.sections;
+  end : end_from l.scale l.at (drop l.section-index l.sections) ≡ end_from l.scale l.initial.at l.sections;
+  count : array_vec_len l.timed ≤ l.section-index;
+  near : unsigned_abs l.at ≤ unsigned_abs l.initial.at + l.section-index * 2 ^ 25;
+}

@@ -1,0 +1,7 @@
+pub mod Entries
+pub mod Timers
+pub mod Track
+pub mod Authority
+pub mod Known
+pub mod Steps
+pub mod Laws

@@ -1,0 +1,129 @@
+ghost use Rattle.std.specs.Prelude.{◌≡◌, ◌+◌, ◌-◌, ◌*◌, ◌^◌, ◌<◌, ◌≤◌, ◌++◌, ◌+ℤ◌, ◌-ℤ◌, [], option_map};
+ghost use Rattle.std.specs.Int.RustNames.{unsigned_abs};
+ghost use Rattle.arrayvec.specs.ArrayVec.{array_vec_len};
+ghost use Rattle.authority.specs.Entries.{fact_of};
+ghost use Rattle.authority.specs.Track.{in_cm, timed_one};
+ghost use Rattle.authority.specs.Authority.{danger_point_of};
+ghost use Rattle.authority.specs.Known.{timer_of, end_timer_of, overlap_of, stored_of};
+
+use crate::answers::Release;
+use crate::stored::{Point, Stored, TimedOverlap};
+use crate::timers::{PlaceTimer, TimedSection};
+use arrayvec::ArrayVec;
+use packets::{DangerPoint, EndTimer, MovementAuthority, Overlap, Section};
+use units::{Cm, Ms};
+use vars::{Distance, Scale, Timer};
+
+/// What is stored of an authority whose sections count from a place, when it is accepted.
+pub fn stored_by(packet: &MovementAuthority, place: Cm, moment: Ms) -> Stored
+    requires { unsigned_abs place ≤ 3 * 2 ^ 40 }
+    ensures { result ≡ stored_of (fact_of packet.now place moment) [] }
+{
+    let scale = packet.scale;
+    let mut timed = ArrayVec::new();
+    let mut at = place;
+    let sections = packet.sections.as_slice();
+    for section in sections {
+        push_timed(&mut timed, scale, at, section);
+        at = ahead(at, section.length, scale);
+    }
+    push_timed(&mut timed, scale, at, &packet.end_section);
+    let end = ahead(at, packet.end_section.length, scale);
+    Stored {
+        accepted: moment,
+        timed,
+        end_entry: at,
+        end,
+        main_speed: packet.speed.speed(),
+        end_speed: packet.end_speed.speed(),
+        end_time: packet.end_time,
+        end_timer: end_timer_by(end, scale, &packet.end_timer),
+        danger_point: point_by(end, scale, &packet.danger_point),
+        overlap: overlap_by(end, scale, &packet.overlap),
+    }
+}
+
+// The place so far ahead.
+fn ahead(place: Cm, by: Distance, scale: Scale) -> Cm
+    requires { unsigned_abs place ≤ 2 ^ 42 - 2 ^ 25 }
+    ensures value { result ≡ place +ℤ in_cm scale by }
+    ensures near { unsigned_abs result ≤ unsigned_abs place + 2 ^ 25 }
+{
+    Cm::new(place.get() + by.in_scale(scale).get()).unwrap()
+}
+
+// The place so far behind.
+fn behind(place: Cm, by: Distance, scale: Scale) -> Cm
+    requires { unsigned_abs place ≤ 2 ^ 42 - 2 ^ 25 }
+    ensures { result ≡ place -ℤ in_cm scale by }
+{
+    Cm::new(place.get() - by.in_scale(scale).get()).unwrap()
+}
+
+// Appends a section that has a timer.
+fn push_timed(timed: &mut ArrayVec<TimedSection, 32>, scale: Scale, entry: Cm, section: &Section)
+    requires room { array_vec_len timed.old < 32 }
+    requires near { unsigned_abs entry ≤ 2 ^ 42 - 2 ^ 25 }
+    ensures items { timed.new.items ≡ timed.old.items ++ timed_one scale entry section.now }
+    ensures len { array_vec_len timed.new ≤ array_vec_len timed.old + 1 }
+{
+    match &section.timer {
+        None => {}
+        Some(timer) => timed.push(TimedSection {
+            entry,
+            stop_at: ahead(entry, timer.stop, scale),
+            time: timer.time,
+        }),
+    }
+}
+
+// A timer that starts so far before the end.
+fn timer_by(end: Cm, scale: Scale, start: Distance, time: Timer) -> PlaceTimer
+    requires { unsigned_abs end ≤ 2 ^ 42 - 2 ^ 25 }
+    ensures { result ≡ timer_of end scale start time [] }
+{
+    PlaceTimer {
+        from: behind(end, start, scale),
+        time,
+        started: None,
+    }
+}
+
+fn end_timer_by(end: Cm, scale: Scale, timer: &Option<EndTimer>) -> Option<PlaceTimer>
+    requires { unsigned_abs end ≤ 2 ^ 42 - 2 ^ 25 }
+    ensures { result ≡ option_map (end_timer_of end scale []) timer.now }
+{
+    match timer {
+        None => None,
+        Some(timer) => Some(timer_by(end, scale, timer.start, timer.time)),
+    }
+}
+
+fn point_by(end: Cm, scale: Scale, point: &Option<DangerPoint>) -> Option<Point>
+    requires { unsigned_abs end ≤ 2 ^ 42 - 2 ^ 25 }
+    ensures { result ≡ option_map (danger_point_of end scale) point.now }
+{
+    match point {
+        None => None,
+        Some(point) => Some(Point {
+            location: ahead(end, point.distance, scale),
+            release: Release::of(point.release),
+        }),
+    }
+}
+
+fn overlap_by(end: Cm, scale: Scale, overlap: &Option<Overlap>) -> Option<TimedOverlap>
+    requires { unsigned_abs end ≤ 2 ^ 42 - 2 ^ 25 }
+    ensures { result ≡ option_map (overlap_of end scale []) overlap.now }
+{
+    match overlap {
+        None => None,
+        Some(overlap) => Some(TimedOverlap {
+            point: Point {
+                location: ahead(end, overlap.distance, scale),
+                release: Release::of(overlap.release),
+            },
+            timer: timer_by(end, scale, overlap.start, overlap.time),
+        }),
+    }
+}

@@ -1,0 +1,47 @@
+ghost use Rattle.std.specs.Prelude.{◌≡◌};
+ghost use Rattle.authority.specs.Authority.{release_of, no_release};
+
+use units::{Cm, Mph};
+use vars::{ReleaseSpeed, SpeedStep, Variable};
+
+/// The speed at which a train may approach the end of its authority.
+#[derive(Clone, Copy, Debug, PartialEq, Eq)]
+pub enum Release {
+    /// This speed; 0 where there is none.
+    Speed(Mph),
+    /// The national value.
+    National,
+}
+
+impl Release {
+    /// No release speed.
+    pub(crate) fn none() -> Release
+        ensures { result ≡ no_release }
+    {
+        Release::Speed(Mph::new(0).unwrap())
+    }
+
+    /// The release speed of V_RELEASEDP or V_RELEASEOL. One that is reckoned on board is 0.
+    pub(crate) fn of(told: ReleaseSpeed) -> Release
+        ensures { result ≡ release_of told }
+    {
+        match told {
+            ReleaseSpeed::Speed(step) => Release::Speed(step.speed()),
+            ReleaseSpeed::Onboard => Release::none(),
+            ReleaseSpeed::National => Release::National,
+        }
+    }
+}
+
+/// Up to where the train may go.
+#[derive(Clone, Copy, Debug, PartialEq, Eq)]
+pub struct End {
+    /// The end of authority.
+    pub end: Cm,
+    /// The speed allowed there: V_LOA while it is in force, else 0.
+    pub speed: Mph,
+    /// The supervised location: the end of the overlap, else the danger point, else the end.
+    pub location: Cm,
+    /// The release speed that holds.
+    pub release: Release,
+}

@@ -1,0 +1,120 @@
+ghost use Rattle.std.specs.Prelude.{◌≡◌, ◌*◌, ◌^◌, ◌≤◌, List, [], ◌∷◌, is_some};
+ghost use Rattle.std.specs.Int.RustNames.{unsigned_abs};
+ghost use Rattle.authority.specs.Entries.{Entry, fact_of, accepted};
+ghost use Rattle.authority.specs.Entries.Entry.{Ticked, Accepted, Passed, Cleared};
+ghost use Rattle.authority.specs.Authority.{end_of, main_speed_of};
+ghost use Rattle.authority.specs.Known.{known};
+
+use crate::accepting::stored_by;
+use crate::answers::End;
+use crate::stored::Stored;
+use packets::MovementAuthority;
+use std::marker::Model;
+use units::{Cm, Mph, Ms, Stretch};
+
+/// The movement authority, if one is stored, and the clock that its timers go by.
+#[derive(Drop)]
+pub struct Authority {
+    moment: Ms,
+    stored: Option<Stored>,
+}
+
+impl Model for Authority {
+    ghost use Rattle.authority.specs.Known.{Known};
+
+    ghost Value = { Known };
+
+    ghost view = { λ a. record { moment = a.moment; stored = a.stored } };
+}
+
+impl Authority {
+    /// No authority, at moment 0. Takes no memory.
+    pub fn new() -> Self
+        ensures { result ≡ known [] }
+    {
+        Authority {
+            moment: Ms::new(0).unwrap(),
+            stored: None,
+        }
+    }
+
+    /// Takes packet 12 in place of the old authority. Its sections count from this place.
+    pub fn accept(&mut self, packet: &MovementAuthority, place: Cm, moment: Ms)
+        requires { unsigned_abs place ≤ 3 * 2 ^ 40 }
+        ensures { (entries : List Entry) → self.new ≡ known (Accepted (fact_of packet.now place moment) ∷ entries) }
+    {
+        *self = Authority {
+            moment,
+            stored: Some(stored_by(packet, place, moment)),
+        };
+    }
+
+    /// Moves the clock.
+    pub fn tick(&mut self, moment: Ms)
+        ensures { (entries : List Entry) → self.old ≡ known entries
+            → self.new ≡ known (Ticked moment ∷ entries) }
+    {
+        self.moment = moment;
+    }
+
+    /// Takes where the front is after an event.
+    pub fn pass(&mut self, train: &Stretch)
+        ensures { (entries : List Entry) → self.old ≡ known entries
+            → self.new ≡ known (Passed train.now ∷ entries) }
+    {
+        if let Some(stored) = &mut self.stored {
+            stored.pass(self.moment, train);
+        }
+    }
+
+    /// Deletes the authority. The clock goes on.
+    pub fn clear(&mut self)
+        ensures { (entries : List Entry) → self.old ≡ known entries
+            → self.new ≡ known (Cleared ∷ entries) }
+    {
+        self.stored = None;
+    }
+
+    /// The end of authority now, and what is supervised there; None where no authority is stored.
+    pub fn end(&self) -> Option<End>
+        ensures { (entries : List Entry) → self.now ≡ known entries → result ≡ end_of entries }
+    {
+        match &self.stored {
+            None => None,
+            Some(stored) => Some(stored.end_now(self.moment)),
+        }
+    }
+
+    /// V_MAIN, the greatest speed of the whole authority; None where no authority is stored.
+    pub fn main_speed(&self) -> Option<Mph>
+        ensures { (entries : List Entry) → self.now ≡ known entries → result ≡ main_speed_of entries }
+    {
+        match &self.stored {
+            None => None,
+            Some(stored) => Some(stored.main_speed),
+        }
+    }
+
+    /// Whether an authority is stored.
+    pub fn is_stored(&self) -> bool
+        ensures { (entries : List Entry) → self.now ≡ known entries → result ≡ is_some (accepted entries) }
+    {
+        self.stored.is_some()
+    }
+
+    /// An equal value.
+    pub fn copy(&self) -> Self
+        ensures { result ≡ self.now }
+    {
+        match &self.stored {
+            None => Authority {
+                moment: self.moment,
+                stored: None,
+            },
+            Some(stored) => Authority {
+                moment: self.moment,
+                stored: Some(stored.copy()),
+            },
+        }
+    }
+}

@@ -1,0 +1,216 @@
+ghost use Rattle.std.specs.Prelude.{◌≡◌, filter, not, if◌then◌else◌, option_map};
+ghost use Rattle.authority.specs.Steps.{stops_at, passed_timer, passed_overlap, passed_stored, first_over, is_over_in, taken_back_in, point_in, told_in, end_in, speed_in};
+
+use crate::answers::{End, Release};
+use crate::timers::{PlaceTimer, TimedSection, is_over};
+use arrayvec::ArrayVec;
+use units::{Cm, Mph, Ms, Stretch};
+use vars::Timer;
+
+/// A place behind the end that is supervised, and its release speed.
+#[derive(Clone, Copy)]
+pub struct Point {
+    pub location: Cm,
+    pub release: Release,
+}
+
+/// The overlap with its timer.
+#[derive(Clone, Copy)]
+pub struct TimedOverlap {
+    pub point: Point,
+    pub timer: PlaceTimer,
+}
+
+/// The authority that was accepted last, with what was seen of its timers.
+#[derive(Drop)]
+pub struct Stored {
+    /// When it was accepted.
+    pub accepted: Ms,
+    /// The sections whose timers aren't stopped, along the track.
+    pub timed: ArrayVec<TimedSection, 32>,
+    /// Where the end section begins.
+    pub end_entry: Cm,
+    /// The end as it was told.
+    pub end: Cm,
+    /// V_MAIN.
+    pub main_speed: Mph,
+    /// V_LOA and T_LOA.
+    pub end_speed: Mph,
+    pub end_time: Timer,
+    pub end_timer: Option<PlaceTimer>,
+    pub danger_point: Option<Point>,
+    pub overlap: Option<TimedOverlap>,
+}
+
+/// What is seen after an event.
+impl Stored {
+    /// Takes where the front is.
+    pub fn pass(&mut self, now: Ms, train: &Stretch)
+        ensures { self.new ≡ passed_stored now train.now self.old }
+    {
+        let max_front = train.max_front();
+        self.end_timer = passed_timer_of(&self.end_timer, now, max_front);
+        self.overlap = passed_overlap_of(&self.overlap, now, max_front);
+        drop_stopped(&mut self.timed, self.accepted, now, train.min_front());
+    }
+}
+
+fn passed_timer_of(timer: &Option<PlaceTimer>, now: Ms, max_front: Cm) -> Option<PlaceTimer>
+    ensures { result ≡ option_map (passed_timer now max_front) timer.now }
+{
+    match timer {
+        None => None,
+        Some(timer) => Some(timer.passed(now, max_front)),
+    }
+}
+
+fn passed_overlap_of(overlap: &Option<TimedOverlap>, now: Ms, max_front: Cm) -> Option<TimedOverlap>
+    ensures { result ≡ option_map (passed_overlap now max_front) overlap.now }
+{
+    match overlap {
+        None => None,
+        Some(overlap) => Some(TimedOverlap {
+            point: overlap.point,
+            timer: overlap.timer.passed(now, max_front),
+        }),
+    }
+}
+
+// Drops the sections whose timers stop.
+fn drop_stopped(timed: &mut ArrayVec<TimedSection, 32>, start: Ms, now: Ms, min_front: Cm)
+    ensures { timed.new.items ≡ filter (λ section. not (stops_at start now min_front section)) timed.old.items }
+{
+    timed.retain(|section| !is_stopped(section, start, now, min_front));
+}
+
+// Whether a section's timer that still runs stops where the least front was seen.
+fn is_stopped(section: &TimedSection, start: Ms, now: Ms, min_front: Cm) -> bool
+    ensures { result ≡ stops_at start now min_front section.now }
+{
+    min_front >= section.stop_at && !is_over(section.time, start, now)
+}
+
+/// What it answers.
+impl Stored {
+    /// The end now.
+    pub fn end_now(&self, now: Ms) -> End
+        ensures { result ≡ end_in now self.now }
+    {
+        match self.taken_back(now) {
+            None => self.end_as_told(now),
+            Some(place) => End {
+                end: place,
+                speed: Mph::new(0).unwrap(),
+                location: place,
+                release: Release::none(),
+            },
+        }
+    }
+
+    // Where the end is taken back to.
+    fn taken_back(&self, now: Ms) -> Option<Cm>
+        ensures { result ≡ taken_back_in now self.now }
+    {
+        match first_run_out(self.timed.as_slice(), self.accepted, now) {
+            Some(entry) => Some(entry),
+            None => {
+                if is_over_by(&self.end_timer, now) {
+                    Some(self.end_entry)
+                } else {
+                    None
+                }
+            }
+        }
+    }
+
+    // The end as it was told, with what is behind it.
+    fn end_as_told(&self, now: Ms) -> End
+        ensures { result ≡ told_in now self.now }
+    {
+        let speed = self.speed_at_end(now);
+        let point = self.supervised(now);
+        End {
+            end: self.end,
+            speed,
+            location: point.location,
+            release: if speed.get() == 0 {
+                point.release
+            } else {
+                Release::none()
+            },
+        }
+    }
+
+    // V_LOA while it is in force.
+    fn speed_at_end(&self, now: Ms) -> Mph
+        ensures { result ≡ speed_in now self.now }
+    {
+        if is_over(self.end_time, self.accepted, now) {
+            Mph::new(0).unwrap()
+        } else {
+            self.end_speed
+        }
+    }
+
+    // The overlap until its timer runs out, else the danger point, else the end.
+    fn supervised(&self, now: Ms) -> Point
+        ensures { result ≡ point_in now self.now }
+    {
+        if let Some(overlap) = &self.overlap
+            && !overlap.timer.is_over(now)
+        {
+            return overlap.point;
+        }
+        match self.danger_point {
+            Some(point) => point,
+            None => Point {
+                location: self.end,
+                release: Release::none(),
+            },
+        }
+    }
+
+    /// An equal value.
+    pub fn copy(&self) -> Stored
+        ensures { result ≡ self.now }
+    {
+        let mut timed = ArrayVec::new();
+        let sections = self.timed.as_slice();
+        for section in sections {
+            timed.push(*section);
+        }
+        Stored {
+            accepted: self.accepted,
+            timed,
+            end_entry: self.end_entry,
+            end: self.end,
+            main_speed: self.main_speed,
+            end_speed: self.end_speed,
+            end_time: self.end_time,
+            end_timer: self.end_timer,
+            danger_point: self.danger_point,
+            overlap: self.overlap,
+        }
+    }
+}
+
+fn is_over_by(timer: &Option<PlaceTimer>, now: Ms) -> bool
+    ensures { result ≡ is_over_in now timer.now }
+{
+    match timer {
+        None => false,
+        Some(timer) => timer.is_over(now),
+    }
+}
+
+// The entry of the first section along the track that has run out.
+fn first_run_out(timed: &[TimedSection], start: Ms, now: Ms) -> Option<Cm>
+    ensures { result ≡ first_over start now timed.now }
+{
+    for section in timed {
+        if is_over(section.time, start, now) {
+            return Some(section.entry);
+        }
+    }
+    None
+}

@@ -1,0 +1,5 @@
+//! Worked rows of national values.
+#![tactic(auto)]
+
+#[cfg(test)]
+mod national;

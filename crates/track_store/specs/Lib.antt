@@ -1,2 +1,3 @@
 pub mod Restrictions
 pub mod Meeting
+pub mod Profiles

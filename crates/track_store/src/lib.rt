@@ -1,10 +1,12 @@
 //! What the track asks of a train: temporary speed restrictions (SUBSET-026, 3.11.5).
 #![tactic(auto)]
 
+mod profile;
 mod restriction;
 mod restrictions;
 #[cfg(test)]
 mod tests;
 
+pub use profile::Profile;
 pub use restriction::Restriction;
 pub use restrictions::Restrictions;

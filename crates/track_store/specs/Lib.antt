@@ -1,3 +1,4 @@
 pub mod Restrictions
 pub mod Meeting
 pub mod Profiles
+pub mod Facts

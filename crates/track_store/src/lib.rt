@@ -7,6 +7,6 @@ mod restrictions;
 #[cfg(test)]
 mod tests;
 
-pub use profile::Profile;
+pub use profile::{Profile, ProfileStore, Step};
 pub use restriction::Restriction;
 pub use restrictions::Restrictions;

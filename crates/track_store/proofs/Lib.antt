@@ -1,2 +1,4 @@
 pub mod Standing
 pub mod Limiting
+pub mod Reading
+pub mod Lasting

@@ -1,12 +1,15 @@
 //! What the track asks of a train: temporary speed restrictions (SUBSET-026, 3.11.5).
 #![tactic(auto)]
 
+mod fact;
+mod fact_store;
 mod profile;
 mod restriction;
 mod restrictions;
 #[cfg(test)]
 mod tests;
 
+pub use fact_store::FactStore;
 pub use profile::{Profile, ProfileStore, Step};
 pub use restriction::Restriction;
 pub use restrictions::Restrictions;

@@ -2,3 +2,4 @@ pub mod Standing
 pub mod Limiting
 pub mod Reading
 pub mod Lasting
+pub mod Jumps

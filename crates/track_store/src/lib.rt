@@ -1,4 +1,5 @@
-//! What the track asks of a train: temporary speed restrictions (SUBSET-026, 3.11.5).
+//! What the track asks of a train: temporary speed restrictions (SUBSET-026, 3.11.5), and profiles of speeds and gradients
+//! along it (3.7.1.1, 3.11).
 #![tactic(auto)]
 
 mod fact;
@@ -6,6 +7,7 @@ mod fact_store;
 mod profile;
 mod restriction;
 mod restrictions;
+mod stretches;
 #[cfg(test)]
 mod tests;
 
@@ -13,3 +15,4 @@ pub use fact_store::FactStore;
 pub use profile::{Profile, ProfileStore, Step};
 pub use restriction::Restriction;
 pub use restrictions::Restrictions;
+pub use stretches::least_over;

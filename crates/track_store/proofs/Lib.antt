@@ -1,2 +1,5 @@
 pub mod Standing
 pub mod Limiting
+pub mod Reading
+pub mod Lasting
+pub mod Jumps

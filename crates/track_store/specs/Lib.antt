@@ -1,2 +1,5 @@
 pub mod Restrictions
 pub mod Meeting
+pub mod Profiles
+pub mod Facts
+pub mod Changes

@@ -1,8 +1,21 @@
-//! What the track asks of a train: temporary speed restrictions (SUBSET-026, 3.11.5).
+//! What the track asks of a train: temporary speed restrictions (SUBSET-026, 3.11.5), and profiles of speeds and gradients
+//! along it (3.7.1.1, 3.11).
 #![tactic(auto)]
 
+mod fact;
+mod fact_store;
+mod profile;
 mod restriction;
 mod restrictions;
+<<<<<<< HEAD
+=======
+mod stretches;
+#[cfg(test)]
+mod tests;
+>>>>>>> 0b397d524d60c272f30ff6af3331bab7f8973247
 
+pub use fact_store::FactStore;
+pub use profile::{Profile, ProfileStore, Step};
 pub use restriction::Restriction;
 pub use restrictions::Restrictions;
+pub use stretches::least_over;

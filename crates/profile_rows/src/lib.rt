@@ -1,0 +1,5 @@
+//! Worked rows of profiles.
+#![tactic(auto)]
+
+#[cfg(test)]
+mod rows;

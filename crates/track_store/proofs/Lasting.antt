@@ -1,0 +1,117 @@
+-- What was told gives the same up to the nearest place of a step, of a fact or of the mark.
+use Rattle.std.proofs.Common.{◌≡◌, ℤ, ◌≤ℤ◌, ◌<ℤ◌, List, [], ◌∷◌, Bool, true, false, cond, refl, ap, sym, ◌∙◌, arith}
+use Rattle.std.specs.Prelude.{Option, None, Some, int_lt, not, ◌&&◌, is_none}
+use Rattle.std.specs.List.{list_any}
+use Rattle.std.proofs.lemmas.Int.{ints}
+use Rattle.track_store.specs.declared.profile.Step.{Step}
+use Rattle.track_store.specs.Facts.{Fact, Told, passed, given_by, latest, last_value, value_in}
+use Rattle.track_store.specs.Changes.{nearer, nearest_step, nearest_fact}
+use Rattle.track_store.specs.Profiles.{Lasts}
+
+-- a later place lies before the nearest
+abbrev pub IsBefore : ℤ → Option ℤ → Type 0
+IsBefore later None = Unit {0}
+IsBefore later (Some near) = later <ℤ near
+
+-- the nearest lies ahead of a place
+abbrev pub IsAhead : ℤ → Option ℤ → Type 0
+IsAhead place None = Unit {0}
+IsAhead place (Some near) = place <ℤ near
+
+nearer_ahead : (place : ℤ) (near : Option ℤ) (change : ℤ) → IsAhead place near → IsAhead place (nearer place near change)
+nearer_ahead place None change h =
+    let cases : (a : Bool) → int_lt place change ≡ a → IsAhead place (cond a (Some change) None) =
+    elim [ true ↦ λ e. grind (arith, ints) | false ↦ λ e. h ] in
+    cases (int_lt place change) refl
+nearer_ahead place (Some near) change h =
+    let cases : (a b : Bool) → int_lt place change ≡ a → IsAhead place (cond (a && b) (Some change) (Some near)) =
+    elim [ true ↦ elim [ true ↦ λ e. grind (arith, ints) | false ↦ λ e. h ] | false ↦ λ b e. h ] in
+    cases (int_lt place change) (int_lt change near) refl
+
+nearer_before : (place : ℤ) (near : Option ℤ) (change later : ℤ) → IsBefore later (nearer place near change) → IsBefore later near
+nearer_before place None change later h = tt
+nearer_before place (Some near) change later h =
+    let cases : (a b : Bool) → int_lt change near ≡ b → IsBefore later (cond (a && b) (Some change) (Some near)) → later <ℤ near =
+    elim [ true ↦ elim [ true ↦ λ e k. grind (arith, ints) | false ↦ λ e k. k ] | false ↦ λ b e k. k ] in
+    cases (int_lt place change) (int_lt change near) refl h
+
+-- the same changes lie ahead of a place and of a later one that lies before the nearest
+nearer_same : (place : ℤ) (near : Option ℤ) (change later : ℤ) → place ≤ℤ later → IsBefore later (nearer place near change) →
+    int_lt later change ≡ int_lt place change
+nearer_same place None change later ahead h =
+    let cases : (a : Bool) → int_lt place change ≡ a → IsBefore later (cond a (Some change) None) → int_lt later change ≡ a =
+    elim [ true ↦ λ e k. grind (arith, ints) | false ↦ λ e k. grind (arith, ints) ] in
+    cases (int_lt place change) refl h
+nearer_same place (Some near) change later ahead h =
+    let cases : (a b : Bool) → int_lt place change ≡ a → int_lt change near ≡ b →
+    IsBefore later (cond (a && b) (Some change) (Some near)) → int_lt later change ≡ a =
+    elim [
+      | true ↦ elim [ true ↦ λ d e k. grind (arith, ints) | false ↦ λ d e k. grind (arith, ints) ]
+      | false ↦ λ b d e k. grind (arith, ints)
+    ] in
+    cases (int_lt place change) (int_lt change near) refl refl h
+
+module _ {A : Type 0} (place : ℤ) where
+  step_ahead : (near : Option ℤ) (steps : List (Step A)) → IsAhead place near → IsAhead place (nearest_step place near steps)
+  step_ahead near [] h = h
+  step_ahead near (step ∷ steps) h = step_ahead (nearer place near step.place) steps (nearer_ahead place near step.place h)
+
+  step_before : (near : Option ℤ) (steps : List (Step A)) (later : ℤ) → IsBefore later (nearest_step place near steps) →
+      IsBefore later near
+  step_before near [] later h = h
+  step_before near (step ∷ steps) later h =
+      nearer_before place near step.place later (step_before (nearer place near step.place) steps later h)
+
+  step_same : (near : Option ℤ) (steps : List (Step A)) (later : ℤ) → place ≤ℤ later →
+      IsBefore later (nearest_step place near steps) → passed later steps ≡ passed place steps
+  step_same near [] later ahead h = refl
+  step_same near (step ∷ steps) later ahead h =
+      let here = nearer_same place near step.place later ahead (step_before (nearer place near step.place) steps later h) in
+      let rest = step_same (nearer place near step.place) steps later ahead h in
+      λ i. cond (not (here i)) (step ∷ rest i) (rest i)
+
+  fact_ahead : (near : Option ℤ) (facts : List (Fact A)) → IsAhead place near → IsAhead place (nearest_fact place near facts)
+  fact_ahead near [] h = h
+  fact_ahead near (fact ∷ facts) h =
+      fact_ahead (nearest_step place (nearer place near fact.start) fact.steps) facts
+      (step_ahead (nearer place near fact.start) fact.steps (nearer_ahead place near fact.start h))
+
+  fact_before : (near : Option ℤ) (facts : List (Fact A)) (later : ℤ) → IsBefore later (nearest_fact place near facts) →
+      IsBefore later near
+  fact_before near [] later h = h
+  fact_before near (fact ∷ facts) later h =
+      nearer_before place near fact.start later (step_before (nearer place near fact.start) fact.steps later
+      (fact_before (nearest_step place (nearer place near fact.start) fact.steps) facts later h))
+
+  fact_same : (near : Option ℤ) (facts : List (Fact A)) (later : ℤ) → place ≤ℤ later →
+      IsBefore later (nearest_fact place near facts) → latest facts later ≡ latest facts place
+  fact_same near [] later ahead h = refl
+  fact_same near (fact ∷ facts) later ahead h =
+      let k = fact_before (nearest_step place (nearer place near fact.start) fact.steps) facts later h in
+      let start = nearer_same place near fact.start later ahead (step_before (nearer place near fact.start) fact.steps later k) in
+      let steps = step_same (nearer place near fact.start) fact.steps later ahead k in
+      let rest = fact_same (nearest_step place (nearer place near fact.start) fact.steps) facts later ahead h in
+      λ i. cond (start i) (rest i)
+      (cond (list_any (λ step. is_none step.value) (steps i)) None (last_value None (steps i)))
+
+  lasts_up_to : (value : ℤ → Option A) (near : Option ℤ) → IsAhead place near →
+      ((later : ℤ) → place ≤ℤ later → IsBefore later near → value later ≡ value place) → Lasts value place near
+  lasts_up_to value None ahead same = λ later a. same later a tt
+  lasts_up_to value (Some near) ahead same = (ahead, same)
+
+  -- up to the nearest of all places, what was told gives the same
+  pub lasts : (told : Told A) (near : Option ℤ) → nearest_fact place (nearer place None told.mark) told.facts ≡ near →
+      Lasts (value_in told) place near
+  lasts told near is =
+      let first = nearer place None told.mark in
+      rw (← is) (lasts_up_to (value_in told) (nearest_fact place first told.facts)
+      (fact_ahead first told.facts (nearer_ahead place None told.mark tt))
+      (λ later a h. let mark = nearer_same place None told.mark later a (fact_before first told.facts later h) in
+      let facts = fact_same first told.facts later a h in
+      λ i. cond (mark i) None (facts i)))
+
+pub same_mark : {A : Type 0} {told other : Told A} → told ≡ other → told.mark ≡ other.mark
+same_mark is = ap (λ t. t.mark) is
+
+pub same_facts : {A : Type 0} {told other : Told A} → told ≡ other → told.facts ≡ other.facts
+same_facts is = ap (λ t. t.facts) is

@@ -1,0 +1,20 @@
+-- Where a profile may change next (this project's profile).
+use Rattle.std.specs.Prelude.{ℤ, ◌&&◌, if◌then◌else◌, int_lt, Option, None, Some, List, [], ◌∷◌}
+use Rattle.track_store.specs.declared.profile.Step.{Step}
+use Rattle.track_store.specs.Facts.{Fact}
+
+-- the nearer of the nearest place so far and of another one, which counts only ahead of a place
+abbrev pub nearer : ℤ → Option ℤ → ℤ → Option ℤ
+nearer place None change = if int_lt place change then Some change else None
+nearer place (Some near) change = if int_lt place change && int_lt change near then Some change else Some near
+
+-- .. of the places of steps
+abbrev pub nearest_step : {A : Type 0} → ℤ → Option ℤ → List (Step A) → Option ℤ
+nearest_step place near [] = near
+nearest_step place near (step ∷ steps) = nearest_step place (nearer place near step.place) steps
+
+-- .. of the places of facts
+abbrev pub nearest_fact : {A : Type 0} → ℤ → Option ℤ → List (Fact A) → Option ℤ
+nearest_fact place near [] = near
+nearest_fact place near (fact ∷ facts) =
+    nearest_fact place (nearest_step place (nearer place near fact.start) fact.steps) facts

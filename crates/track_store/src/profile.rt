@@ -1,0 +1,61 @@
+ghost use Rattle.std.specs.Prelude.{◌≡◌, ℤ, Option, OnOk, OnErr, IfOk};
+ghost use Rattle.std.specs.Int.{int_max};
+ghost use Rattle.track_store.specs.Profiles.{Lasts};
+ghost use Rattle.track_store.specs.Facts.{from_mark, replaced};
+
+use std::alloc::Global;
+use units::{Cm, NoMemory};
+
+/// A step of a profile: from its place on, the value holds up to the next step's place.
+#[derive(Clone, Copy, Debug, PartialEq, Eq)]
+pub struct Step<T> {
+    /// Where it begins.
+    pub place: Cm,
+    /// The value; None at an end mark, from which on nothing is told.
+    pub value: Option<T>,
+}
+
+/// A value at each centimetre of the track, which changes now and then: a speed, a gradient (SUBSET-026, 3.11). Who
+/// reads it goes from change to change, and so need not visit each centimetre.
+pub trait Profile<T> {
+    ghost value: { Self → ℤ → Option T };
+
+    /// The value at a centimetre; None where there is none.
+    fn at(&self, place: Cm) -> Option<T>
+        ensures { result ≡ value self.now place };
+
+    /// Up to where the value of a centimetre lasts: it stays the same up to the place that is told, which lies ahead
+    /// and isn't included; where None is told, for ever.
+    fn next(&self, place: Cm) -> Option<Cm>
+        ensures { Lasts (value self.now) place result };
+}
+
+/// A profile that is told piece by piece, and forgotten behind a mark (SUBSET-026, 3.7.1.1; 7.4.2, packets 21 and 27;
+/// the forgetting mark: this project's profile).
+pub trait ProfileStore<T>: Profile<T> {
+    ghost mark: { Self → ℤ };
+
+    /// Takes what is told from a first place on, in place of all that was told there before. The last of the steps at or
+    /// below a centimetre holds there, and nothing where an end mark or no step is at or below it. Where memory is
+    /// refused, nothing changes.
+    fn replace_from(&mut self, start: Cm, steps: &[Step<T>]) -> Result<(), NoMemory>
+        ensures value { OnOk result ((place : ℤ) → Self.value self.new place
+            ≡ from_mark (mark self.old) (replaced (Self.value self.old) start steps.now) place) }
+        ensures mark { OnOk result (mark self.new ≡ mark self.old) }
+        ensures err { OnErr result (self.new ≡ self.old) };
+
+    /// Forgets all track before a place. What was forgotten before stays so.
+    fn drop_behind(&mut self, place: Cm)
+        ensures value { (there : ℤ) → Self.value self.new there ≡ from_mark place (Self.value self.old) there }
+        ensures mark { mark self.new ≡ int_max place (mark self.old) };
+
+    /// Forgets all that was told, and keeps the mark.
+    fn clear(&mut self)
+        ensures value { (place : ℤ) → Self.value self.new place ≡ None }
+        ensures mark { mark self.new ≡ mark self.old };
+
+    /// An equal profile with an equal mark.
+    fn copy(&self, alloc: Global) -> Result<Self, NoMemory>
+        ensures value { IfOk result (λ copy. Self.value copy ≡ Self.value self.now) }
+        ensures mark { IfOk result (λ copy. mark copy ≡ mark self.now) };
+}

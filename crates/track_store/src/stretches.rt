@@ -1,0 +1,33 @@
+ghost use Rattle.std.specs.Prelude.{◌≡◌};
+ghost use Rattle.units.specs.Stretches.{over, least};
+ghost use Rattle.track_store.specs.Profiles.{listed, lesser};
+
+use crate::Profile;
+use units::{Cm, Mph};
+
+/// The least of a speed and of a profile's values from one centimetre to another, both included. It goes from change to
+/// change, and takes no memory.
+pub fn least_over<P: Profile<Mph>>(profile: &P, from: Cm, to: Cm, otherwise: Mph) -> Mph
+    ensures { result ≡ least otherwise (over (λ place. listed (P.value profile.now place)) from to) }
+{
+    let mut limit = otherwise;
+    let mut place = from;
+    while place <= to {
+        limit = lesser_of(limit, profile.at(place));
+        match profile.next(place) {
+            Some(next) => place = next,
+            None => return limit,
+        }
+    }
+    limit
+}
+
+// The lesser of a speed and of a value, if there is one.
+fn lesser_of(limit: Mph, value: Option<Mph>) -> Mph
+    ensures { result ≡ lesser limit value }
+{
+    match value {
+        Some(speed) if speed < limit => speed,
+        _ => limit,
+    }
+}

@@ -28,8 +28,14 @@ module _ (gradient : ℤ → Option ℤ) (deceleration : ℕ) where
   braked_parts place (suc m) n =
       let count : suc m + n ≡ suc (m + n) = omega arith in
       let start : (place +ℤ pos 1) +ℤ pos m ≡ place +ℤ pos (suc m) = omega (arith, ints) in
-      omega (arith, ap (braked gradient deceleration place) count, braked_next place (m + n), braked_parts (place +ℤ pos 1) m n,
-          ap (λ (z : ℤ). braked gradient deceleration z n) start, braked_next place m)
+      omega (
+        arith,
+        ap (braked gradient deceleration place) count,
+        braked_next place (m + n),
+        braked_parts (place +ℤ pos 1) m n,
+        ap (λ (z : ℤ). braked gradient deceleration z n) start,
+        braked_next place m,
+      )
 
   -- on one gradient each centimetre takes off the same
   pub braked_same : (known : Option ℤ) (place : ℤ) (n : ℕ) →
@@ -52,11 +58,16 @@ module _ (gradient : ℤ → Option ℤ) (deceleration : ℕ) where
       ((later : ℤ) → place ≤ℤ later → later <ℤ end → gradient later ≡ gradient place) →
       braked gradient deceleration place (natural (to -ℤ place))
       ≡ 2592 * slowing_on deceleration (gradient place) * natural (end -ℤ place)
-        + braked gradient deceleration end (natural (to -ℤ end))
+      + braked gradient deceleration end (natural (to -ℤ end))
   braked_stretch place end to a b same =
       let n : ℕ = natural (end -ℤ place) in
       let count : pos n ≡ end -ℤ place = natural_is (end -ℤ place) (omega (arith, ints)) in
       let there : place +ℤ pos n ≡ end = rw count (omega (arith, ints)) in
       let even = braked_same (gradient place) place n (λ later c d. same later c (rw there at d)) in
-      omega (arith, ap (braked gradient deceleration place) (parts place end to a b),
-          braked_parts place n (natural (to -ℤ end)), even, ap (λ (z : ℤ). braked gradient deceleration z (natural (to -ℤ end))) there)
+      omega (
+        arith,
+        ap (braked gradient deceleration place) (parts place end to a b),
+        braked_parts place n (natural (to -ℤ end)),
+        even,
+        ap (λ (z : ℤ). braked gradient deceleration z (natural (to -ℤ end))) there,
+      )

@@ -1,6 +1,6 @@
 -- A speed below one that fits also fits.
 use Rattle.std.proofs.Common.{◌≡◌, ℕ, ℤ, pos, ◌+ℤ◌, ◌+◌, ◌-◌, ◌*◌, ◌<◌, ◌≤◌, Bool, true, false, List, [], ◌∷◌, refl, ap, sym, ◌∙◌, arith}
-use Rattle.std.specs.Prelude.{nat_le, nat_lt, ◌&&◌, ◌||◌, Option}
+use Rattle.std.specs.Prelude.{IsTrue, nat_le, nat_lt, ◌&&◌, ◌||◌, Option}
 use Rattle.std.proofs.lemmas.Bool.Decides.{nat_tests}
 use Rattle.std.proofs.lemmas.Int.{ints}
 use Rattle.braking.specs.declared.brakes.Brakes.{Brakes}
@@ -34,8 +34,12 @@ module _ (front : ℤ) (gradient : ℤ → Option ℤ) (brakes : Brakes) where
       let start : (front +ℤ pos way') +ℤ pos (way - way') ≡ front +ℤ pos way = omega (arith, ints) in
       let count : (way - way') + (d - way) ≡ d - way' = omega arith in
       let later = braked_later gradient brakes.deceleration (front +ℤ pos way') (way - way') (d - way) in
-      omega (arith, later, ap (λ (z : ℤ). braked gradient brakes.deceleration z (d - way)) start,
-          ap (braked gradient brakes.deceleration (front +ℤ pos way')) count)
+      omega (
+        arith,
+        later,
+        ap (λ (z : ℤ). braked gradient brakes.deceleration z (d - way)) start,
+        ap (braked gradient brakes.deceleration (front +ℤ pos way')) count,
+      )
 
   pub slower_fits : (t : Target) (v w : ℕ) → w ≤ v → fits front gradient brakes t v ≡ true → fits front gradient brakes t w ≡ true
   unfolding taken_off
@@ -61,3 +65,7 @@ module _ (front : ℤ) (gradient : ℤ → Option ℤ) (brakes : Brakes) where
       let cases : (b : Bool) → fits_all front gradient brakes targets v ≡ b → b ≡ false =
       elim [ true ↦ λ e. absurd (let k : true ≡ false = sym (slower_fits_all targets v w h e) ∙ f in cc) | false ↦ λ e. refl ] in
       cases (fits_all front gradient brakes targets v) refl
+
+  pub slower_true : (t : Target) (v : ℕ) (b : Bool) → b ≡ fits front gradient brakes t v → IsTrue b →
+      (w : ℕ) → w ≤ v → IsTrue (fits front gradient brakes t w)
+  slower_true t v b e h w below = slower_fits t v w below (sym e ∙ h)

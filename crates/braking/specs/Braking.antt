@@ -1,7 +1,7 @@
 -- The speeds from which a train can still brake for what lies ahead (this project's profile). Places are in centimetres,
 -- speeds in metres per hour, decelerations in cm/s^2, gradients in per mille, uphill positive.
-use Rattle.std.specs.Prelude.{ℕ, zero, suc, ◌+◌, ◌-◌, ◌*◌, ◌/◌, ℤ, pos, ◌+ℤ◌, ◌-ℤ◌, ◌*ℤ◌, Bool, ◌&&◌, ◌||◌, nat_le, nat_lt, if◌then◌else◌, Option, None, Some, List}
-use Rattle.std.specs.Int.{int_div_euclid}
+use Rattle.std.specs.Prelude.{ℕ, zero, suc, ◌+◌, ◌-◌, ◌*◌, ℤ, pos, ◌+ℤ◌, ◌-ℤ◌, ◌*ℤ◌, Bool, ◌&&◌, ◌||◌, nat_le, nat_lt, if◌then◌else◌, Option, None, Some, List}
+use Rattle.std.specs.Int.{div_ceil, int_div_euclid}
 use Rattle.std.specs.List.{list_all}
 use Rattle.units.specs.Stretches.{natural}
 use Rattle.braking.specs.declared.brakes.Brakes.{Brakes}
@@ -23,7 +23,7 @@ braked gradient deceleration place (suc n) =
 
 -- the way that a train runs before its brakes act, rounded up: 36,000 m/h in 1 ms are 1 cm
 abbrev pub reaction_way : ℕ → ℕ → ℕ
-reaction_way reaction speed = (speed * reaction + 35_999) / 36_000
+reaction_way reaction speed = div_ceil (speed * reaction) 36_000
 
 -- how far a target lies ahead of the front
 abbrev pub distance_to : ℤ → Target → ℕ
@@ -36,7 +36,7 @@ fits front gradient brakes target speed =
     nat_le speed target.speed
     || (nat_lt way (distance_to front target)
     && nat_le (speed * speed)
-        (target.speed * target.speed + braked gradient brakes.deceleration (front +ℤ pos way) (distance_to front target - way)))
+    (target.speed * target.speed + braked gradient brakes.deceleration (front +ℤ pos way) (distance_to front target - way)))
 
 abbrev pub fits_all : ℤ → (ℤ → Option ℤ) → Brakes → List Target → ℕ → Bool
 fits_all front gradient brakes targets speed = list_all (λ target. fits front gradient brakes target speed) targets

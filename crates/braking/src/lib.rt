@@ -3,7 +3,9 @@
 
 mod brakes;
 mod slowing;
+mod speeds;
 mod target;
 
 pub use brakes::{Brakes, Deceleration, Reaction};
+pub use speeds::{fits, permitted};
 pub use target::Target;

@@ -9,7 +9,12 @@ use units::{Cm, Permille};
 
 // What a stretch from one place up to another takes off the square of the speed. It is gone through from one change of
 // the gradient to the next.
-pub fn taken_off<P: Profile<Permille>>(gradient: &P, deceleration: Deceleration, from: Cm, to: Cm) -> u64
+pub fn taken_off<P: Profile<Permille>>(
+    gradient: &P,
+    deceleration: Deceleration,
+    from: Cm,
+    to: Cm,
+) -> u64
     requires ordered { from ≤ℤ to }
     requires near { natural (to -ℤ from) ≤ 2 ^ 43 }
     ensures value { result ≡ braked (P.value gradient.now) deceleration from (natural (to -ℤ from)) }

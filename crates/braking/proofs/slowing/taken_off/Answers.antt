@@ -41,7 +41,7 @@ loop-deceleration-preserved g c =
     record {
       within = c.end_of_stretch-end.ensures.within;
       sum = omega (arith, part, stretch, c.loop-deceleration.invariant.sum);
-      small = omega (arith, small, whole, c.loop-deceleration.invariant.small)
+      small = omega (arith, small, whole, c.loop-deceleration.invariant.small);
     }
 
 pub returns-clause-value : goal.returns-clause-value

@@ -5,7 +5,6 @@ use Rattle.units.specs.Stretches.{natural}
 use Rattle.braking.proofs.Naturals.{absolute_is, apart, product_fits}
 use Rattle.braking.proofs.slowing.taken_off_evenly.Goals as goal
 
-
 pub overflow_mul-result-2 : goal.overflow_mul-result-2
 overflow_mul-result-2 c =
     let cast : to_z w64 (of_z w64 (to_z w64 (of_z w64 c.get.result) -ℤ to_z w64 (of_z w64 c.get-2.result))) ≡ c.args.to -ℤ c.args.from =

@@ -1,4 +1,4 @@
-use Rattle.std.proofs.Common.{◌≡◌, ◌≤◌, ◌<◌, ◌*◌, ◌+◌, ◌^◌, ◌-ℤ◌, ◌≤ℤ◌, ℕ, ℤ, sym, ap, ◌∙◌, arith, rules}
+use Rattle.std.proofs.Common.{◌≡◌, ◌≤◌, ◌<◌, ◌*◌, ◌+◌, ◌^◌, ◌-ℤ◌, ℕ, ℤ, ap, ◌∙◌, arith, rules}
 use Rattle.std.specs.Prelude.{Option}
 use Rattle.std.proofs.lemmas.Int.{ints}
 use Rattle.std.proofs.Math.Nat.{mul-le-mul_right}
@@ -14,6 +14,9 @@ stretch_small slowing n part a b =
     let factor : 2592 * slowing ≤ 1_423_008 = omega arith in
     let product : 2592 * slowing * n ≤ 1_423_008 * n = mul-le-mul_right n factor in
     omega (arith, product)
+
+same_slowing : (part slowing other n : ℕ) → part ≡ 2592 * slowing * n → slowing ≡ other → part ≡ 2592 * other * n
+same_slowing part slowing other n is same = rw (← same) is
 
 pub overflow_add-sum : goal.overflow_add-sum
 overflow_add-sum g c =
@@ -33,8 +36,8 @@ loop-deceleration-preserved g c =
     let end : ℤ = c.end_of_stretch-end.result in
     let n : ℕ = natural (end -ℤ place) in
     let part : c.taken_off_evenly-sum.result ≡ 2592 * slowing_on c.args.deceleration (gradient place) * n =
-    c.taken_off_evenly-sum.ensures
-    ∙ ap (λ (slowing : ℕ). 2592 * slowing * n) (c.slowing.ensures.value ∙ ap (slowing_on c.args.deceleration) c.at.ensures) in
+    same_slowing c.taken_off_evenly-sum.result c.slowing.result (slowing_on c.args.deceleration (gradient place)) n c.taken_off_evenly-sum.ensures
+    (c.slowing.ensures.value ∙ ap (slowing_on c.args.deceleration) c.at.ensures) in
     let small = stretch_small c.slowing.result n c.taken_off_evenly-sum.result c.slowing.ensures.small c.taken_off_evenly-sum.ensures in
     let whole = parts place end c.args.to (omega (arith, ints)) c.end_of_stretch-end.ensures.within in
     let stretch = braked_stretch gradient c.args.deceleration place end c.args.to (omega (arith, ints)) c.end_of_stretch-end.ensures.within c.end_of_stretch-end.ensures.same in

@@ -1,4 +1,4 @@
-use Rattle.std.proofs.Common.{◌≡◌, ◌≤◌, ◌+◌, sym, ◌∙◌, inr, arith}
+use Rattle.std.proofs.Common.{◌≤◌, ◌+◌, sym, ◌∙◌, inr, arith}
 use Rattle.braking.specs.Braking.{fits_all}
 use Rattle.braking.proofs.Slower.{faster_fails}
 use Rattle.braking.proofs.Greatest.{greatest_is}

@@ -1,0 +1,4 @@
+pub mod Naturals
+pub mod Braked
+pub mod Slower
+pub mod Greatest

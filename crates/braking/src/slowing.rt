@@ -1,0 +1,71 @@
+ghost use Rattle.std.specs.Prelude.{◌≡◌, ◌*◌, ◌^◌, ◌≤◌, ℤ, pos, ◌+ℤ◌, ◌-ℤ◌, ◌*ℤ◌, ◌≤ℤ◌, ◌<ℤ◌};
+ghost use Rattle.std.specs.Int.{int_div_euclid};
+ghost use Rattle.units.specs.Stretches.{natural};
+ghost use Rattle.braking.specs.Braking.{braked, slowing_on};
+
+use crate::Deceleration;
+use track_store::Profile;
+use units::{Cm, Permille};
+
+// What a stretch from one place up to another takes off the square of the speed. It is gone through from one change of
+// the gradient to the next.
+pub fn taken_off<P: Profile<Permille>>(
+    gradient: &P,
+    deceleration: Deceleration,
+    from: Cm,
+    to: Cm,
+) -> u64
+    requires ordered { from ≤ℤ to }
+    requires near { natural (to -ℤ from) ≤ 2 ^ 43 }
+    ensures value { result ≡ braked (P.value gradient.now) deceleration from (natural (to -ℤ from)) }
+    ensures small { result ≤ 1_423_008 * natural (to -ℤ from) }
+{
+    let mut sum = 0;
+    let mut place = from;
+    while place < to {
+        let end = end_of_stretch(gradient, place, to);
+        sum += taken_off_evenly(slowing(deceleration, gradient.at(place)), place, end);
+        place = end;
+    }
+    sum
+}
+
+// Where the gradient of a place ends, or an end before that.
+fn end_of_stretch<P: Profile<Permille>>(gradient: &P, place: Cm, end: Cm) -> Cm
+    requires { place <ℤ end }
+    ensures ahead { place <ℤ result }
+    ensures within { result ≤ℤ end }
+    ensures same { (later : ℤ) → place ≤ℤ later → later <ℤ result
+        → P.value gradient.now later ≡ P.value gradient.now place }
+{
+    match gradient.next(place) {
+        Some(next) if next < end => next,
+        _ => end,
+    }
+}
+
+// What a stretch with the same deceleration on each centimetre takes off the square of the speed.
+fn taken_off_evenly(slowing: u16, from: Cm, to: Cm) -> u64
+    requires small { slowing ≤ 549 }
+    requires ordered { from ≤ℤ to }
+    ensures { result ≡ 2592 * slowing * natural (to -ℤ from) }
+{
+    2592 * u64::from(slowing) * (to.get() - from.get()) as u64
+}
+
+// The deceleration on a gradient, in cm/s^2; 0 where none is known.
+fn slowing(deceleration: Deceleration, gradient: Option<Permille>) -> u16
+    ensures value { result ≡ slowing_on deceleration gradient }
+    ensures small { result ≤ 549 }
+{
+    gradient.map_or(0, |gradient| slowing_at(deceleration, gradient))
+}
+
+// The deceleration on a gradient, in cm/s^2.
+fn slowing_at(deceleration: Deceleration, gradient: Permille) -> u16
+    ensures value { result ≡ natural (pos deceleration +ℤ int_div_euclid (pos 981 *ℤ gradient) (pos 1000)) }
+    ensures small { result ≤ 549 }
+{
+    let change = (981 * i32::from(gradient.get())).div_euclid(1000);
+    (i32::from(deceleration.get()) + change).max(0) as u16
+}

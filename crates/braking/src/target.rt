@@ -1,0 +1,10 @@
+use units::{Cm, Mph};
+
+/// A place ahead that a train may reach at no more than a speed; 0 at a place where it must stop.
+#[derive(Clone, Copy, Debug, PartialEq, Eq)]
+pub struct Target {
+    /// The place.
+    pub place: Cm,
+    /// The greatest speed there.
+    pub speed: Mph,
+}

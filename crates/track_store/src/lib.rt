@@ -7,15 +7,12 @@ mod fact_store;
 mod profile;
 mod restriction;
 mod restrictions;
-<<<<<<< HEAD
-=======
+mod segment_store;
 mod stretches;
-#[cfg(test)]
-mod tests;
->>>>>>> 0b397d524d60c272f30ff6af3331bab7f8973247
 
 pub use fact_store::FactStore;
 pub use profile::{Profile, ProfileStore, Step};
 pub use restriction::Restriction;
 pub use restrictions::Restrictions;
+pub use segment_store::SegmentStore;
 pub use stretches::least_over;

@@ -1,7 +1,7 @@
 -- Some country is in force exactly once a packet 3 came into force.
-use Rattle.std.proofs.Common.{◌≡◌, ℕ, List, [], ◌∷◌, ◌++◌, Bool, true, false, refl, ap, sym, ◌∙◌}
-use Rattle.std.specs.Prelude.{Option, Some, None, not, ◌&&◌, ◌||◌, unwrap_or, option_map, is_some, if◌then◌else◌}
-use Rattle.national.specs.Values.{ValuesFor, values_for, defaults, told_by, is_any, is_among, is_foreign}
+use Rattle.std.proofs.Common.{◌≡◌, ℕ, List, [], ◌∷◌, ◌++◌, Bool, true, false, refl}
+use Rattle.std.specs.Prelude.{Option, Some, None, not, ◌||◌, unwrap_or, option_map, is_some, if◌then◌else◌}
+use Rattle.national.specs.Values.{ValuesFor, values_for, defaults, told_by, is_any, is_among}
 use Rattle.national.specs.InForce.{Entry, Fact, in_force, has_come, nothing_kept, coming, defaults_at}
 use Rattle.national.specs.InForce.Entry.{Announced, Entered, Reached}
 

@@ -1,4 +1,4 @@
--- National values and the countries that they are for (SUBSET-026, 3.18.2 and 7.4.2.1; the defaults and the order of the
+-- National values and the countries that they are for (SUBSET-026, 3.18.2 and 7.4.2; the defaults and the order of the
 -- countries: this project's profile).
 use Rattle.std.specs.Prelude.{ℕ, ◌*◌, ◌==◌, ℤ, pos, Bool, true, false, ◌&&◌, not, if◌then◌else◌, Option, Some, None, List, [], ◌∷◌, ◌++◌}
 use Rattle.std.specs.List.{list_any}

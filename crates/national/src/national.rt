@@ -44,7 +44,7 @@ impl National {
         }
     }
 
-    /// Takes packet 3 of a group of a country, in place of the one that is announced. Its start counts from the group's place.
+    /// Takes packet 3 of a group of a country, in place of the one that is announced. It starts from the group's place on.
     pub fn announce(&mut self, packet: &NationalValues, group_country: Country, place: Cm)
         requires { unsigned_abs place ≤ 3 * 2 ^ 40 }
         ensures { (kept : ValuesFor) → (entries : List Entry) → self.old ≡ known kept entries
@@ -53,7 +53,8 @@ impl National {
         self.announced = Some(Announcement::of(packet, group_country, place));
     }
 
-    /// Takes note of an accepted group of a country, before its packets are taken. A foreign one puts the defaults in force.
+    /// Takes note of an accepted group of a country, before its packets are taken. In a foreign country the defaults come
+    /// into force.
     pub fn enter(&mut self, country: Country)
         ensures stands { (kept : ValuesFor) → (entries : List Entry) → self.old ≡ known kept entries
             → self.new ≡ known kept (Entered country ∷ entries) }

@@ -1,4 +1,4 @@
-use Rattle.std.proofs.Common.{ap, sym, ◌∙◌}
+use Rattle.std.proofs.Common.{ap, ◌∙◌}
 use Rattle.national.specs.Values.{is_any}
 use Rattle.national.specs.InForce.{Known}
 use Rattle.national.proofs.Coming.{any_in_force}

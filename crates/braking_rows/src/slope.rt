@@ -1,0 +1,40 @@
+use track_store::Profile;
+use units::{Cm, Permille};
+
+/// A gradient that begins at one place, changes at another and ends at a third.
+#[derive(Clone, Copy)]
+pub struct Slope {
+    pub begins: Cm,
+    pub changes: Cm,
+    pub ends: Cm,
+    pub before: Permille,
+    pub after: Permille,
+}
+
+impl Profile<Permille> for Slope {
+    ghost use Rattle.braking_rows.specs.Slopes.{gradient_of};
+
+    ghost value = { gradient_of };
+
+    fn at(&self, place: Cm) -> Option<Permille> {
+        if place < self.begins || self.ends <= place {
+            None
+        } else if place < self.changes {
+            Some(self.before)
+        } else {
+            Some(self.after)
+        }
+    }
+
+    fn next(&self, place: Cm) -> Option<Cm> {
+        if place < self.begins {
+            Some(self.begins)
+        } else if self.ends <= place {
+            None
+        } else if place < self.changes && self.changes < self.ends {
+            Some(self.changes)
+        } else {
+            Some(self.ends)
+        }
+    }
+}

@@ -14,7 +14,8 @@ slowing_on deceleration None = 0
 slowing_on deceleration (Some gradient) =
     natural (pos deceleration +ℤ int_div_euclid (pos 981 *ℤ gradient) (pos 1000))
 
--- what so many centimetres from a place on take off the square of the speed. It doesn't unfold by itself: a way has
+-- what so many centimetres from a place on take off the square of the speed: twice the deceleration a centimetre, and
+-- 1 cm/s is 36 m/h, whose square is 1296. It doesn't unfold by itself: a way has
 -- thousands
 unfoldable pub braked : (ℤ → Option ℤ) → ℕ → ℤ → ℕ → ℕ
 braked gradient deceleration place zero = 0

@@ -4,7 +4,7 @@ use Rattle.std.specs.Prelude.{Option, None, Some}
 use Rattle.std.proofs.lemmas.Int.{ints, by_lt_z}
 use Rattle.units.specs.Stretches.{over, gathered, least, natural, count_between}
 use Rattle.units.proofs.Gathering.{IsIn, least_is, over_at, in_over}
-use Rattle.track_store.specs.Profiles.{Lasts, listed, lesser}
+use Rattle.track_store.specs.Profiles.{listed, lesser}
 
 least_below : (limit : ℕ) (vs : List ℕ) → least limit vs ≤ limit
 least_below limit [] = omega arith

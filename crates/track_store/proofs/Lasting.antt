@@ -1,10 +1,10 @@
 -- What was told gives the same up to the nearest place of a step, of a fact or of the mark.
-use Rattle.std.proofs.Common.{◌≡◌, ℤ, ◌≤ℤ◌, ◌<ℤ◌, List, [], ◌∷◌, Bool, true, false, cond, refl, ap, sym, ◌∙◌, arith}
+use Rattle.std.proofs.Common.{◌≡◌, ℤ, ◌≤ℤ◌, ◌<ℤ◌, List, [], ◌∷◌, Bool, true, false, cond, refl, ap, arith}
 use Rattle.std.specs.Prelude.{Option, None, Some, int_lt, not, ◌&&◌, is_none}
 use Rattle.std.specs.List.{list_any}
 use Rattle.std.proofs.lemmas.Int.{ints}
 use Rattle.track_store.specs.declared.profile.Step.{Step}
-use Rattle.track_store.specs.Facts.{Fact, Told, passed, given_by, latest, last_value, value_in}
+use Rattle.track_store.specs.Facts.{Fact, Told, passed, latest, last_value, value_in}
 use Rattle.track_store.specs.Changes.{nearer, nearest_step, nearest_fact}
 use Rattle.track_store.specs.Profiles.{Lasts}
 

@@ -1,6 +1,6 @@
 -- What steps give, and what is left of them.
-use Rattle.std.proofs.Common.{◌≡◌, ℤ, List, [], ◌∷◌, refl}
-use Rattle.std.specs.Prelude.{Option, None, Some, is_none, if◌then◌else◌}
+use Rattle.std.proofs.Common.{ℤ, List}
+use Rattle.std.specs.Prelude.{Option, None, is_none, if◌then◌else◌}
 use Rattle.std.specs.List.{list_any}
 use Rattle.track_store.specs.declared.profile.Step.{Step}
 use Rattle.track_store.specs.Facts.{passed, last_value}

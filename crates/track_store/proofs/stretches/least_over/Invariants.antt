@@ -1,4 +1,4 @@
-use Rattle.std.proofs.Common.{◌≡◌, ◌+ℤ◌, ◌-ℤ◌, ℤ, pos}
+use Rattle.std.proofs.Common.{◌≡◌}
 use Rattle.units.specs.Stretches.{over, least, count_between}
 use Rattle.track_store.specs.Profiles.{listed}
 use Rattle.track_store.proofs.stretches.least_over.Given as goal

@@ -87,7 +87,9 @@ impl State {
         ensures { (life : Life) → StandsForLife self.now life → result ≡ limit mode train.now life }
     {
         let stretch = self.place.stretch(train.length);
-        let speed = mode.speed(self.national.in_force().values()).min(train.maximum);
+        let speed = mode
+            .speed(self.national.in_force().values())
+            .min(train.maximum);
         self.restrictions.least(&stretch, speed)
     }
 }

@@ -5,7 +5,6 @@
 mod plain;
 #[cfg(test)]
 mod rows;
-#[cfg(test)]
 mod slope;
 #[cfg(test)]
 mod trains;

@@ -188,11 +188,11 @@ fn least_of_all<R: Abort, S: ProfileStore<Mph> + Drop>(
 #[test]
 fn of_facts(rt: HostRuntime) -> Result<(), Fail> {
     let alloc = rt.alloc();
-    equal_places(&rt, FactStore::new(alloc))?;
-    end_mark_first(&rt, FactStore::new(alloc))?;
-    replaced_in_the_middle(&rt, FactStore::new(alloc))?;
-    forgotten(&rt, FactStore::new(alloc))?;
-    copied_and_cleared(&rt, alloc, FactStore::new(alloc))?;
-    least_of_all(&rt, FactStore::new(alloc))?;
+    equal_places(&rt, FactStore::empty(alloc))?;
+    end_mark_first(&rt, FactStore::empty(alloc))?;
+    replaced_in_the_middle(&rt, FactStore::empty(alloc))?;
+    forgotten(&rt, FactStore::empty(alloc))?;
+    copied_and_cleared(&rt, alloc, FactStore::empty(alloc))?;
+    least_of_all(&rt, FactStore::empty(alloc))?;
     Ok(())
 }

@@ -1,4 +1,4 @@
-ghost use Rattle.std.specs.Prelude.{◌≡◌, ℤ, neg_ℤ, pos, ◌^◌, List, [], Option};
+ghost use Rattle.std.specs.Prelude.{ℤ, List, Option};
 ghost use Rattle.track_store.specs.Facts.{value_in};
 
 use crate::fact::{Fact, nearer_of};
@@ -22,18 +22,6 @@ impl<T> Model for FactStore<T> {
     ghost Value = { Told T };
 
     ghost view = { λ s. record { mark = s.mark; facts = s.facts.items } };
-}
-
-impl<T> FactStore<T> {
-    /// Nothing told, and nothing forgotten. Takes no memory.
-    pub fn new(alloc: Global) -> Self
-        ensures { result ≡ record { mark = neg_ℤ (pos (2 ^ 42)); facts = [] } }
-    {
-        FactStore {
-            mark: Cm::MIN,
-            facts: Vec::new(alloc),
-        }
-    }
 }
 
 impl<T: Copy> Profile<T> for FactStore<T> {
@@ -64,6 +52,13 @@ impl<T: Copy> Profile<T> for FactStore<T> {
 
 impl<T: Copy> ProfileStore<T> for FactStore<T> {
     ghost mark = { λ told. told.mark };
+
+    fn empty(alloc: Global) -> Self {
+        FactStore {
+            mark: Cm::MIN,
+            facts: Vec::new(alloc),
+        }
+    }
 
     fn replace_from(&mut self, start: Cm, steps: &[Step<T>]) -> Result<(), NoMemory> {
         let fact = Fact::new(*self.facts.allocator(), start, steps)?;

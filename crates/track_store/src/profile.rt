@@ -1,4 +1,4 @@
-ghost use Rattle.std.specs.Prelude.{◌≡◌, ℤ, Option, OnOk, OnErr, IfOk};
+ghost use Rattle.std.specs.Prelude.{◌≡◌, ◌^◌, ℤ, pos, neg_ℤ, Option, None, OnOk, OnErr, IfOk};
 ghost use Rattle.std.specs.Int.{int_max};
 ghost use Rattle.track_store.specs.Profiles.{Lasts};
 ghost use Rattle.track_store.specs.Facts.{from_mark, replaced};
@@ -34,6 +34,11 @@ pub trait Profile<T> {
 /// the forgetting mark: this project's profile).
 pub trait ProfileStore<T>: Profile<T> {
     ghost mark: { Self → ℤ };
+
+    /// No value anywhere, and nothing forgotten. Takes no memory.
+    fn empty(alloc: Global) -> Self
+        ensures value { (place : ℤ) → Self.value result place ≡ None }
+        ensures mark { mark result ≡ neg_ℤ (pos (2 ^ 42)) };
 
     /// Takes what is told from a first place on, in place of all that was told there before. The last of the steps at or
     /// below a centimetre holds there, and nothing where an end mark or no step is at or below it. Where memory is

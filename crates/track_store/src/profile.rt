@@ -15,6 +15,16 @@ pub struct Step<T> {
     pub value: Option<T>,
 }
 
+/// Fills room that isn't in use.
+impl<T> Default for Step<T> {
+    fn default() -> Step<T> {
+        Step {
+            place: Cm::ZERO,
+            value: None,
+        }
+    }
+}
+
 /// A value at each centimetre of the track, which changes now and then: a speed, a gradient (SUBSET-026, 3.11). Who
 /// reads it goes from change to change, and so need not visit each centimetre.
 pub trait Profile<T> {

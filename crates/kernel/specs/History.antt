@@ -1,11 +1,16 @@
 -- What each input of a life did, the newest first, and what each part of the kernel sees of it (this project's profile).
-use Rattle.std.specs.Prelude.{ℕ, ◌*◌, ℤ, pos, ◌+ℤ◌, Option, Some, None, List, [], ◌∷◌}
+use Rattle.std.specs.Prelude.{ℕ, ◌*◌, ◌^◌, ℤ, pos, neg_ℤ, ◌+ℤ◌, Option, Some, None, unwrap_or, List, [], ◌∷◌}
+use Rattle.std.specs.Int.{int_max}
 use Rattle.std.specs.Option.{option_map_or}
+use Rattle.units.specs.Stretches.{Span}
 use Rattle.vars.specs.declared.group.GroupIdentity.{GroupIdentity}
 use Rattle.vars.specs.Meanings.{centimetres_of}
 use Rattle.packets.specs.declared.packet.Packet.{Packet}
 use Rattle.packets.specs.declared.restrictions.SpeedRestriction.{SpeedRestriction}
-use Rattle.packets.specs.Packets.{as_national_values, as_linking, as_speed_restriction, as_revocation}
+use Rattle.packets.specs.Packets.{as_national_values, as_linking, as_movement_authority, as_gradients, as_static_speeds, as_speed_restriction, as_revocation}
+use Rattle.authority.specs.Entries as authority
+use Rattle.authority.specs.Entries.Entry.{Ticked, Accepted, Passed}
+use Rattle.authority.specs.Known.{known as known_authority, Known as Authority}
 use Rattle.balise_groups.specs.declared.message.Closed.{Closed}
 use Rattle.balise_groups.specs.declared.message.Closed.TheVariants.{Whole, Broken}
 use Rattle.balise_groups.specs.Groups as groups
@@ -19,15 +24,20 @@ use Rattle.linking.specs.Judging.{after_verdict, after_broken}
 use Rattle.national.specs.InForce as national
 use Rattle.national.specs.InForce.Entry.{Announced as Told, Entered, Reached}
 use Rattle.odometry.specs.Place as odometry
+use Rattle.speed_profile.specs.declared.told.CategorySpeeds.{CategorySpeeds}
+use Rattle.speed_profile.specs.Told.{gradient_fact, speed_fact}
 use Rattle.track_store.specs.declared.restriction.Restriction.{Restriction}
+use Rattle.track_store.specs.Facts as profiles
+use Rattle.track_store.specs.Profiles.{Profile}
 use Rattle.track_store.specs.Restrictions as track
 use Rattle.track_store.specs.Restrictions.Entry.{Restricted, Revoked, Forgotten}
 use Rattle.kernel.specs.Announcing.{announcements_of}
 
--- a packet that was used, its group, and the place from which its distances count
+-- a packet that was used, its group, the place from which its distances count, and the moment
 pub record Fact : Type 0 where
   pub group : GroupIdentity
   pub place : ℤ
+  pub moment : ℕ
   pub packet : Packet
 
 -- what came of a group that closed
@@ -40,12 +50,29 @@ pub record Outcome : Type 0 where
 
 -- what one input did: a field for each sentence of the order of one event
 pub record Entry : Type 0 where
+  pub clock : Option ℕ  -- the moment that the clock told
   pub movement : Option ℤ  -- what the odometer told
   pub heard : Option groups.Entry  -- a telegram that was read, or the path that the life has come to
   pub missed : List Announcement  -- the announced groups that the train has passed
   pub groups : List Outcome  -- of the groups that closed, the newest first
-  pub front : Option ℤ  -- where the greatest front is once the groups are used
+  pub train : Option Span  -- where the train stands once the groups are used
   pub mark : Option ℤ  -- the track before this place is forgotten
+
+-- ---- the moment: that of the last clock input, 0 before the first
+
+abbrev pub moment_of : List Entry → ℕ
+moment_of [] = 0
+moment_of (entry ∷ entries) = unwrap_or entry.clock (moment_of entries)
+
+-- ---- what facts tell a part, one after another, and what the groups of an event tell it
+
+abbrev pub after_facts : {A : Type 0} → (Fact → List A → List A) → List Fact → List A → List A
+after_facts tell [] told = told
+after_facts tell (fact ∷ facts) told = after_facts tell facts (tell fact told)
+
+abbrev pub after_told : {A : Type 0} → (Fact → List A → List A) → List Outcome → List A → List A
+after_told tell [] told = told
+after_told tell (outcome ∷ outcomes) told = after_facts tell outcome.facts (after_told tell outcomes told)
 
 -- ---- what bears on the place: movements, and fixes behind them
 
@@ -92,14 +119,10 @@ abbrev pub after_links : Fact → List linking.Entry → List linking.Entry
 after_links fact entries =
     option_map_or (λ p. Announced (announcements_of fact.group fact.place p) ∷ entries) (as_linking fact.packet) entries
 
-abbrev pub after_all_links : List Fact → List linking.Entry → List linking.Entry
-after_all_links [] entries = entries
-after_all_links (fact ∷ facts) entries = after_all_links facts (after_links fact entries)
-
 abbrev pub after_groups : List Outcome → List linking.Entry → List linking.Entry
 after_groups [] entries = entries
 after_groups (outcome ∷ outcomes) entries =
-    after_all_links outcome.facts (after_ruling outcome.closed outcome.verdict (after_groups outcomes entries))
+    after_facts after_links outcome.facts (after_ruling outcome.closed outcome.verdict (after_groups outcomes entries))
 
 abbrev pub links : List Entry → List linking.Entry
 links [] = []
@@ -124,22 +147,18 @@ abbrev pub after_values : Fact → List national.Entry → List national.Entry
 after_values fact entries =
     option_map_or (λ p. Told (national.fact_of p fact.group.country fact.place) ∷ entries) (as_national_values fact.packet) entries
 
-abbrev pub after_all_values : List Fact → List national.Entry → List national.Entry
-after_all_values [] entries = entries
-after_all_values (fact ∷ facts) entries = after_all_values facts (after_values fact entries)
-
 abbrev pub after_countries : List Outcome → List national.Entry → List national.Entry
 after_countries [] entries = entries
 after_countries (outcome ∷ outcomes) entries =
-    after_all_values outcome.facts (after_country outcome.closed outcome.verdict (after_countries outcomes entries))
+    after_facts after_values outcome.facts (after_country outcome.closed outcome.verdict (after_countries outcomes entries))
 
-abbrev pub after_front : Option ℤ → List national.Entry → List national.Entry
+abbrev pub after_front : Option Span → List national.Entry → List national.Entry
 after_front None entries = entries
-after_front (Some front) entries = Reached front ∷ entries
+after_front (Some train) entries = Reached train.max_front ∷ entries
 
 abbrev pub national_entries : List Entry → List national.Entry
 national_entries [] = []
-national_entries (entry ∷ entries) = after_front entry.front (after_countries entry.groups (national_entries entries))
+national_entries (entry ∷ entries) = after_front entry.train (after_countries entry.groups (national_entries entries))
 
 -- ---- what bears on the restrictions. Packets are taken in rising number, equal numbers in the order of the message:
 -- the restrictions (packet 65), then the revocations (packet 66); behind all groups the forgetting mark
@@ -158,21 +177,13 @@ abbrev pub after_restriction : Fact → List track.Entry → List track.Entry
 after_restriction fact entries =
     option_map_or (λ p. Restricted (restriction_of fact.place p) ∷ entries) (as_speed_restriction fact.packet) entries
 
-abbrev pub after_restrictions : List Fact → List track.Entry → List track.Entry
-after_restrictions [] entries = entries
-after_restrictions (fact ∷ facts) entries = after_restrictions facts (after_restriction fact entries)
-
 abbrev pub after_revocation : Fact → List track.Entry → List track.Entry
 after_revocation fact entries = option_map_or (λ p. Revoked p.number ∷ entries) (as_revocation fact.packet) entries
-
-abbrev pub after_revocations : List Fact → List track.Entry → List track.Entry
-after_revocations [] entries = entries
-after_revocations (fact ∷ facts) entries = after_revocations facts (after_revocation fact entries)
 
 abbrev pub after_messages : List Outcome → List track.Entry → List track.Entry
 after_messages [] entries = entries
 after_messages (outcome ∷ outcomes) entries =
-    after_revocations outcome.facts (after_restrictions outcome.facts (after_messages outcomes entries))
+    after_facts after_revocation outcome.facts (after_facts after_restriction outcome.facts (after_messages outcomes entries))
 
 abbrev pub after_mark : Option ℤ → List track.Entry → List track.Entry
 after_mark None entries = entries
@@ -181,3 +192,53 @@ after_mark (Some mark) entries = Forgotten mark ∷ entries
 abbrev pub restrictions : List Entry → List track.Entry
 restrictions [] = []
 restrictions (entry ∷ entries) = after_mark entry.mark (after_messages entry.groups (restrictions entries))
+
+-- ---- what bears on the authority: the clock; then the authorities that were told (packet 12); behind all groups where the
+-- train stands
+
+abbrev pub after_clock : Option ℕ → List authority.Entry → List authority.Entry
+after_clock None entries = entries
+after_clock (Some moment) entries = Ticked moment ∷ entries
+
+abbrev pub after_authority : Fact → List authority.Entry → List authority.Entry
+after_authority fact entries =
+    option_map_or (λ p. Accepted (authority.fact_of p fact.place fact.moment) ∷ entries) (as_movement_authority fact.packet) entries
+
+abbrev pub after_train : Option Span → List authority.Entry → List authority.Entry
+after_train None entries = entries
+after_train (Some train) entries = Passed train ∷ entries
+
+abbrev pub authorities : List Entry → List authority.Entry
+authorities [] = []
+authorities (entry ∷ entries) =
+    after_train entry.train (after_told after_authority entry.groups (after_clock entry.clock (authorities entries)))
+
+abbrev pub authority_of : List Entry → Authority
+authority_of entries = known_authority (authorities entries)
+
+-- ---- what bears on the gradient and the static speed: what was told of them (packets 21 and 27), and the forgetting mark
+
+abbrev pub after_gradients : Fact → List (profiles.Fact ℤ) → List (profiles.Fact ℤ)
+after_gradients fact told = option_map_or (λ p. gradient_fact fact.place p ∷ told) (as_gradients fact.packet) told
+
+abbrev pub gradients : List Entry → List (profiles.Fact ℤ)
+gradients [] = []
+gradients (entry ∷ entries) = after_told after_gradients entry.groups (gradients entries)
+
+abbrev pub after_speeds : Fact → List (profiles.Fact CategorySpeeds) → List (profiles.Fact CategorySpeeds)
+after_speeds fact told = option_map_or (λ p. speed_fact fact.place p ∷ told) (as_static_speeds fact.packet) told
+
+abbrev pub speeds : List Entry → List (profiles.Fact CategorySpeeds)
+speeds [] = []
+speeds (entry ∷ entries) = after_told after_speeds entry.groups (speeds entries)
+
+-- the greatest forgetting mark; without one, the least place that there is
+abbrev pub mark_of : List Entry → ℤ
+mark_of [] = neg_ℤ (pos (2 ^ 42))
+mark_of (entry ∷ entries) = option_map_or (λ mark. int_max mark (mark_of entries)) entry.mark (mark_of entries)
+
+abbrev pub gradients_of : List Entry → Profile ℤ
+gradients_of entries = profiles.profile_of (record { mark = mark_of entries; facts = gradients entries })
+
+abbrev pub speeds_of : List Entry → Profile CategorySpeeds
+speeds_of entries = profiles.profile_of (record { mark = mark_of entries; facts = speeds entries })

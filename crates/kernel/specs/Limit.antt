@@ -1,26 +1,47 @@
 -- The speed limit after each event (this project's profile).
 use Rattle.std.specs.Prelude.{ℕ, min, List, [], ◌∷◌}
+use Rattle.units.specs.Stretches.{Span}
 use Rattle.odometry.specs.Place.{stretch}
+use Rattle.authority.specs.Authority.{end_of, main_speed_of}
+use Rattle.speed_profile.specs.declared.limit.Bounds.{Bounds}
+use Rattle.speed_profile.specs.Limit.{limit_on}
 use Rattle.track_store.specs.Restrictions.{in_force, least_speed}
 use Rattle.kernel.specs.declared.events.Event.{Event}
 use Rattle.kernel.specs.declared.events.Event.TheVariants as event
 use Rattle.kernel.specs.declared.events.Input.{Input}
 use Rattle.kernel.specs.declared.train.Mode.{Mode}
-use Rattle.kernel.specs.declared.train.Mode.TheVariants.{StaffResponsible}
+use Rattle.kernel.specs.declared.train.Mode.TheVariants.{FullSupervision, StaffResponsible}
 use Rattle.kernel.specs.declared.train.TrainData.{TrainData}
-use Rattle.national.specs.declared.values.Values.{Values}
-use Rattle.kernel.specs.History.{place_of, restrictions}
+use Rattle.kernel.specs.History.{place_of, restrictions, authorities, speeds_of}
 use Rattle.kernel.specs.Lives.{Life, life_of, national_of}
 
--- the greatest speed that a mode allows, by the national values in force
-abbrev pub mode_speed : Mode → Values → ℕ
-mode_speed StaffResponsible values = values.staff_responsible
+-- where the train stands
+abbrev pub train_of : TrainData → Life → Span
+train_of train life = stretch (place_of life.entries) train.length
 
--- the least of the mode's speed, the train's maximum and the restrictions in force over the train's stretch
+-- in staff responsible: the least of the national value, the train's maximum and the restrictions in force over the train
+abbrev pub responsible_limit : TrainData → Life → ℕ
+responsible_limit train life =
+    least_speed (in_force (restrictions life.entries)) (train_of train life)
+    (min (national_of life).in_force.values.staff_responsible train.maximum)
+
+-- in full supervision: what the train, its authority, the static speeds and the restrictions over it allow
+abbrev pub bounds_of : TrainData → Life → Bounds
+bounds_of train life =
+    record {
+      maximum = train.maximum;
+      category = train.category;
+      main = main_speed_of (authorities life.entries);
+      end = end_of (authorities life.entries);
+    }
+
+abbrev pub supervised_limit : TrainData → Life → ℕ
+supervised_limit train life =
+    limit_on (train_of train life) (bounds_of train life) (speeds_of life.entries).value (in_force (restrictions life.entries))
+
 abbrev pub limit : Mode → TrainData → Life → ℕ
-limit mode train life =
-    least_speed (in_force (restrictions life.entries)) (stretch (place_of life.entries) train.length)
-    (min (mode_speed mode (national_of life).in_force.values) train.maximum)
+limit FullSupervision train life = supervised_limit train life
+limit StaffResponsible train life = responsible_limit train life
 
 abbrev pub limit_after : Mode → TrainData → List Event → ℕ
 limit_after mode train events = limit mode train (life_of train events)

@@ -1,6 +1,6 @@
 -- What an input does in a life, sentence by sentence in the order of one event (this project's profile; balise groups are
--- those of SUBSET-026, 3.4 and 3.16.2). So far the clock and the driver's actions do nothing.
-use Rattle.std.specs.Prelude.{ℕ, ◌*◌, ℤ, pos, ◌-ℤ◌, Bool, true, false, Option, Some, None, List, [], ◌∷◌, map, filter, if◌then◌else◌}
+-- those of SUBSET-026, 3.4 and 3.16.2). So far the driver's actions do nothing.
+use Rattle.std.specs.Prelude.{ℕ, ◌*◌, ℤ, pos, ◌-ℤ◌, Bool, true, false, not, ◌&&◌, Option, Some, None, is_some, List, [], ◌∷◌, map, filter, if◌then◌else◌}
 use Rattle.std.specs.Option.{option_map, option_or}
 use Rattle.vars.specs.declared.group.GroupIdentity.{GroupIdentity}
 use Rattle.vars.specs.declared.linking.LinkOrientation.{LinkOrientation}
@@ -26,13 +26,14 @@ use Rattle.kernel.specs.declared.events.Input as inputs
 use Rattle.kernel.specs.declared.events.Input.TheVariants.{Telegram, Odometer, Clock, Driver}
 use Rattle.kernel.specs.declared.train.TrainData.{TrainData}
 use Rattle.kernel.specs.Bytes.{telegram_in}
-use Rattle.kernel.specs.History.{Entry, Outcome, Fact, place_of, groups_of, links_of}
+use Rattle.track_store.specs.Profiles.{is_known}
+use Rattle.kernel.specs.History.{Entry, Outcome, Fact, place_of, groups_of, links_of, moment_of, authority_of, gradients_of, speeds_of}
 
 abbrev pub nothing : Entry
-nothing = record { movement = None; heard = None; missed = []; groups = []; front = None; mark = None }
+nothing = record { clock = None; movement = None; heard = None; missed = []; groups = []; train = None; mark = None }
 
 -- ---- first what the input itself does: a movement, then the path and the announced groups that the train has passed; or
--- a telegram
+-- a telegram; or a moment
 
 abbrev pub with_path : List Entry → Entry → Entry
 with_path entries entry = record entry { heard = Some (Went (place_of (entry ∷ entries)).path_sum) }
@@ -51,7 +52,7 @@ heard entries bytes =
 abbrev pub begun : List Entry → inputs.Input → Entry
 begun entries (Telegram bytes) = heard entries bytes.items
 begun entries (Odometer reading) = moved entries reading.movement
-begun entries (Clock moment) = nothing
+begun entries (Clock moment) = record nothing { clock = Some moment }
 begun entries (Driver action) = nothing
 
 -- ---- then the groups that closed: the one that was ended, and behind it the one that is whole. Each is judged by linking,
@@ -69,7 +70,8 @@ judged entries entry (Whole message) =
     record { closed = Whole message; verdict = Some j.verdict; effect = j.effect; fix = None; facts = [] }
 
 -- ---- an accepted group makes its fix: an announced one where it was announced, another one at its own place, but only
--- while linking isn't in use
+-- while the track is free of all that lies at known places: no group is announced, no authority is stored, and no centimetre has a
+-- gradient or a static speed
 
 abbrev pub added : Outcome → Entry → Entry
 added outcome entry = record entry { groups = outcome ∷ entry.groups }
@@ -81,20 +83,25 @@ abbrev pub fix_at : odometry.Known → Message → ℤ → ℕ → odometry.Fix
 fix_at place message at accuracy =
     odometry.fix_of at accuracy (odometry.moved_after place message.sums) (odometry.path_after place message.sums) message.missed
 
+abbrev pub is_free : List Entry → Bool
+is_free entries =
+    not (is_any (links_of entries).left) && not (is_some (authority_of entries).stored)
+    && not (is_known (gradients_of entries).value) && not (is_known (speeds_of entries).value)
+
 abbrev pub fix_of : odometry.Known → Bool → Message → Verdict → Option odometry.Fix
-fix_of place in_use message (Accept (Some a)) = Some (fix_at place message a.place (100 * a.accuracy))
-fix_of place in_use message (Accept None) = if in_use then None else Some (fix_at place message (own_place place message) 0)
-fix_of place in_use message Ignore = None
-fix_of place in_use message (Reaction a) = None
+fix_of place free message (Accept (Some a)) = Some (fix_at place message a.place (100 * a.accuracy))
+fix_of place free message (Accept None) = if free then Some (fix_at place message (own_place place message) 0) else None
+fix_of place free message Ignore = None
+fix_of place free message (Reaction a) = None
 
 abbrev pub fix_by : odometry.Known → Bool → Closed → Option Verdict → Option odometry.Fix
-fix_by place in_use (Broken b) verdict = None
-fix_by place in_use (Whole message) None = None
-fix_by place in_use (Whole message) (Some verdict) = fix_of place in_use message verdict
+fix_by place free (Broken b) verdict = None
+fix_by place free (Whole message) None = None
+fix_by place free (Whole message) (Some verdict) = fix_of place free message verdict
 
 abbrev pub with_fix : List Entry → Entry → Outcome → Outcome
 with_fix entries entry outcome =
-    record outcome { fix = fix_by (place_of (entry ∷ entries)) (is_any (links_of (added outcome entry ∷ entries)).left) outcome.closed outcome.verdict }
+    record outcome { fix = fix_by (place_of (entry ∷ entries)) (is_free (added outcome entry ∷ entries)) outcome.closed outcome.verdict }
 
 -- ---- then the packets of an accepted group are used that are valid in the direction in which it was passed. That is what
 -- its balises tell, or else what its announcement does
@@ -129,23 +136,24 @@ abbrev pub place_by : ℤ → Option odometry.Fix → ℤ
 place_by own None = own
 place_by own (Some fix) = if odometry.is_made fix then fix.at else own
 
-abbrev pub facts_of : GroupIdentity → ℤ → Option LinkOrientation → List Packet → List Fact
-facts_of group place direction ps = map (λ p. record { group = group; place = place; packet = p }) (filter (is_valid direction) ps)
+abbrev pub facts_of : GroupIdentity → ℤ → ℕ → Option LinkOrientation → List Packet → List Fact
+facts_of group place moment direction ps =
+    map (λ p. record { group = group; place = place; moment = moment; packet = p }) (filter (is_valid direction) ps)
 
-abbrev pub facts_in : odometry.Known → Option odometry.Fix → Message → Verdict → List Fact
-facts_in place fix message (Accept announced) =
-    facts_of message.group (place_by (own_place place message) fix) (direction_of message announced) message.packets
-facts_in place fix message Ignore = []
-facts_in place fix message (Reaction a) = []
+abbrev pub facts_in : odometry.Known → ℕ → Option odometry.Fix → Message → Verdict → List Fact
+facts_in place moment fix message (Accept announced) =
+    facts_of message.group (place_by (own_place place message) fix) moment (direction_of message announced) message.packets
+facts_in place moment fix message Ignore = []
+facts_in place moment fix message (Reaction a) = []
 
-abbrev pub facts_by : odometry.Known → Option odometry.Fix → Closed → Option Verdict → List Fact
-facts_by place fix (Broken b) verdict = []
-facts_by place fix (Whole message) None = []
-facts_by place fix (Whole message) (Some verdict) = facts_in place fix message verdict
+abbrev pub facts_by : odometry.Known → ℕ → Option odometry.Fix → Closed → Option Verdict → List Fact
+facts_by place moment fix (Broken b) verdict = []
+facts_by place moment fix (Whole message) None = []
+facts_by place moment fix (Whole message) (Some verdict) = facts_in place moment fix message verdict
 
 abbrev pub with_facts : List Entry → Entry → Outcome → Outcome
 with_facts entries entry outcome =
-    record outcome { facts = facts_by (place_of (entry ∷ entries)) outcome.fix outcome.closed outcome.verdict }
+    record outcome { facts = facts_by (place_of (entry ∷ entries)) (moment_of (entry ∷ entries)) outcome.fix outcome.closed outcome.verdict }
 
 abbrev pub outcome_of : List Entry → Entry → Closed → Outcome
 outcome_of entries entry closed = with_facts entries entry (with_fix entries entry (judged entries entry closed))
@@ -165,10 +173,11 @@ with_groups entries entry =
     let closed = closed_by (groups_of entries) entry.heard in
     with_closed entries closed.whole (with_closed entries closed.ended entry)
 
--- ---- then national values that are announced come into force where the greatest front has reached their place
+-- ---- then the timers of the authority see where the train stands, and national values that are announced come into force
+-- where the greatest front has reached their place
 
-abbrev pub with_front : List Entry → Entry → Entry
-with_front entries entry = record entry { front = Some (odometry.max_front (place_of (entry ∷ entries))) }
+abbrev pub with_train : TrainData → List Entry → Entry → Entry
+with_train train entries entry = record entry { train = Some (odometry.stretch (place_of (entry ∷ entries)) train.length) }
 
 -- ---- at last the track is forgotten that lies more than a kilometre behind the least rear
 
@@ -179,4 +188,4 @@ abbrev pub with_mark : TrainData → List Entry → Entry → Entry
 with_mark train entries entry = record entry { mark = Some (mark_at train (place_of (entry ∷ entries))) }
 
 abbrev pub entry_of : TrainData → List Entry → inputs.Input → Entry
-entry_of train entries input = with_mark train entries (with_front entries (with_groups entries (begun entries input)))
+entry_of train entries input = with_mark train entries (with_train train entries (with_groups entries (begun entries input)))

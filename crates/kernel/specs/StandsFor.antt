@@ -1,13 +1,16 @@
 -- What the kernel knows stands for a life, part by part, and so for a list of events.
-use Rattle.std.specs.Prelude.{◌≡◌, ℕ, List, ◌∷◌}
+use Rattle.std.specs.Prelude.{◌≡◌, ℕ, ℤ, List, ◌∷◌}
 use Rattle.balise_groups.specs.Groups as groups
 use Rattle.linking.specs.Linking as linking
 use Rattle.national.specs.InForce as national
 use Rattle.odometry.specs.Place as odometry
+use Rattle.authority.specs.Known.{Known as Authority}
+use Rattle.speed_profile.specs.declared.told.CategorySpeeds.{CategorySpeeds}
+use Rattle.track_store.specs.Profiles.{Profile}
 use Rattle.track_store.specs.Restrictions as track
 use Rattle.kernel.specs.declared.events.Event.{Event}
 use Rattle.kernel.specs.declared.train.TrainData.{TrainData}
-use Rattle.kernel.specs.History.{Entry, place_of, groups_of, links_of, restrictions}
+use Rattle.kernel.specs.History.{Entry, place_of, groups_of, links_of, restrictions, moment_of, authority_of, gradients_of, speeds_of}
 use Rattle.kernel.specs.Lives.{Life, life_of, national_of}
 
 -- what each part knows, and how many lives there were
@@ -17,6 +20,10 @@ pub record Knowledge : Type 0 where
   pub links : linking.Known
   pub national : national.Known
   pub restrictions : track.InForce
+  pub moment : ℕ
+  pub authority : Authority
+  pub gradients : Profile ℤ
+  pub speeds : Profile CategorySpeeds
   pub lives : ℕ
 
 pub record StandsForLife (known : Knowledge) (life : Life) : Type 0 where
@@ -25,6 +32,10 @@ pub record StandsForLife (known : Knowledge) (life : Life) : Type 0 where
   pub links_are : known.links ≡ links_of life.entries
   pub national_is : known.national ≡ national_of life
   pub restrictions_are : known.restrictions ≡ track.in_force (restrictions life.entries)
+  pub moment_is : known.moment ≡ moment_of life.entries
+  pub authority_is : known.authority ≡ authority_of life.entries
+  pub gradients_are : known.gradients ≡ gradients_of life.entries
+  pub speeds_are : known.speeds ≡ speeds_of life.entries
   pub lives_are : known.lives ≡ life.kept.lives
 
 -- a life with one entry more

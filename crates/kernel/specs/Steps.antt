@@ -21,15 +21,15 @@ accepted message announced effect = ruled message (Accept announced) effect
 
 -- a packet that is used so
 abbrev pub fact_of : Use → Packet → Fact
-fact_of used packet = record { group = used.group; place = used.place; packet = packet }
+fact_of used packet = record { group = used.group; place = used.place; moment = used.moment; packet = packet }
 
 abbrev pub facts : Use → List Packet → List Fact
-facts used packets = facts_of used.group used.place used.direction packets
+facts used packets = facts_of used.group used.place used.moment used.direction packets
 
 -- the place at which a fix is wanted, and how exactly it is known
 abbrev pub fix_wanted : Bool → ℤ → Option Announcement → Option Wanted
-fix_wanted in_use own (Some a) = Some (record { place = a.place; accuracy = 100 * a.accuracy })
-fix_wanted in_use own None = if in_use then None else Some (record { place = own; accuracy = 0 })
+fix_wanted free own (Some a) = Some (record { place = a.place; accuracy = 100 * a.accuracy })
+fix_wanted free own None = if free then Some (record { place = own; accuracy = 0 }) else None
 
 -- with these facts alone
 abbrev pub using : List Fact → Outcome → Outcome

@@ -3,21 +3,25 @@ ghost use Rattle.std.specs.Prelude.{◌≡◌, ◌≤◌, ◌*◌, ◌^◌, Some
 ghost use Rattle.std.specs.Int.RustNames.{unsigned_abs};
 ghost use Rattle.std.specs.Option.{option_map, option_or};
 ghost use Rattle.balise_groups.specs.declared.message.Closed.TheVariants as closed;
-ghost use Rattle.linking.specs.Linking.{is_any};
 ghost use Rattle.linking.specs.declared.effect.Effect.{Effect};
 ghost use Rattle.linking.specs.Judging.{judgement};
 ghost use Rattle.kernel.specs.History.{Entry, Outcome, place_of, links_of};
-ghost use Rattle.kernel.specs.Sentences.{group_read, judged, added, own_place, direction_of, place_by, with_fix, with_facts, outcome_of, with_closed};
+ghost use Rattle.kernel.specs.Sentences.{group_read, judged, added, own_place, direction_of, place_by, is_free, with_fix, with_facts, outcome_of, with_closed};
 ghost use Rattle.kernel.specs.Steps.{ruled, accepted, fix_wanted, facts, using};
 ghost use Rattle.kernel.specs.Lives.{Life};
 ghost use Rattle.kernel.specs.StandsFor.{StandsForLife, grown};
 
-use crate::messages::{Use, add_all, announce_all, revoke_all, take_all_values};
+use crate::messages::{
+    Use, accept_all, add_all, announce_all, replace_gradients, replace_speeds, revoke_all,
+    take_all_values,
+};
 use crate::state::State;
 use balise_groups::{Broken, Closed, GroupPackets, Message};
 use linking::{Announcement, GroupRead, Judgement, Verdict};
+use speed_profile::CategorySpeeds;
 use std::alloc::Global;
-use units::{Cm, Length, NoMemory};
+use track_store::{ProfileStore, is_known};
+use units::{Cm, Length, NoMemory, Permille};
 use vars::{LinkOrientation, Variable};
 
 // Where a group is to be fixed, and how exactly that is known.
@@ -27,12 +31,12 @@ struct Wanted {
     accuracy: Length,
 }
 
-impl State {
+impl<G: ProfileStore<Permille> + Drop, S: ProfileStore<CategorySpeeds> + Drop> State<G, S> {
     // Linking judges a group. One that is accepted counts for the national values by its country.
     fn judge(&mut self, message: &Message) -> Judgement
         ensures answer { (life : Life) (entry : Entry) → StandsForLife self.old (grown life entry)
             → result ≡ judgement (links_of (entry ∷ life.entries)) (group_read (place_of (entry ∷ life.entries)) message.now) }
-        ensures stands { (life : Life) (entry : Entry) → entry.front ≡ None → StandsForLife self.old (grown life entry)
+        ensures stands { (life : Life) (entry : Entry) → entry.train ≡ None → StandsForLife self.old (grown life entry)
             → StandsForLife self.new (grown life (added (ruled message.now result.verdict result.effect) entry)) }
     {
         let place = self.place.place_then(message.sums);
@@ -48,26 +52,14 @@ impl State {
         judgement
     }
 
-    // Where an accepted group is to be fixed: where it was announced, else at its own place, but only while linking isn't
-    // in use.
-    fn fix_wanted(&self, own: Cm, announced: &Option<Announcement>) -> Option<Wanted>
-        requires { unsigned_abs own ≤ 3 * 2 ^ 40 }
-        ensures { result ≡ fix_wanted (is_any self.now.links.left) own announced.now }
+    // Whether a group that wasn't announced makes a fix: nothing is known that lies at places of its own.
+    fn is_free(&self) -> bool
+        ensures { (life : Life) (entry : Entry) → StandsForLife self.now (grown life entry) → result ≡ is_free (entry ∷ life.entries) }
     {
-        match announced {
-            Some(announcement) => {
-                let accuracy = 100 * announcement.accuracy.number();
-                Some(Wanted {
-                    place: announcement.place,
-                    accuracy: Length::new(accuracy).unwrap(),
-                })
-            }
-            None if self.links.is_in_use() => None,
-            None => Some(Wanted {
-                place: own,
-                accuracy: Length::ZERO,
-            }),
-        }
+        !self.links.is_in_use()
+            && !self.authority.is_stored()
+            && !is_known(&self.gradients)
+            && !is_known(&self.speeds)
     }
 
     // An accepted group makes its fix: the place from which its distances count.
@@ -79,7 +71,7 @@ impl State {
         ensures near { unsigned_abs result ≤ 3 * 2 ^ 40 }
     {
         let own = self.place.place_then(message.sums).estimate;
-        let Some(wanted) = self.fix_wanted(own, announced) else {
+        let Some(wanted) = fix_wanted(self.is_free(), own, announced) else {
             return own;
         };
         let moved = self.place.moved_after(message.sums);
@@ -101,12 +93,15 @@ impl State {
         used: &Use,
     ) -> Result<(), NoMemory>
         requires { unsigned_abs used.now.place ≤ 3 * 2 ^ 40 }
-        ensures { OnOk result ((life : Life) (entry : Entry) (outcome : Outcome) → entry.front ≡ None → entry.mark ≡ None
+        ensures { OnOk result ((life : Life) (entry : Entry) (outcome : Outcome) → entry.train ≡ None → entry.mark ≡ None
             → StandsForLife self.old (grown life (added (using [] outcome) entry))
             → StandsForLife self.new (grown life (added (using (facts used.now packets.now) outcome) entry))) }
     {
         take_all_values(&mut self.national, packets, used);
         announce_all(&mut self.links, packets, used);
+        accept_all(&mut self.authority, packets, used);
+        replace_gradients(&mut self.gradients, packets, used)?;
+        replace_speeds(&mut self.speeds, packets, used)?;
         add_all(&mut self.restrictions, alloc, packets, used)?;
         revoke_all(&mut self.restrictions, packets, used);
         Ok(())
@@ -119,7 +114,7 @@ impl State {
         message: &Message,
         announced: &Option<Announcement>,
     ) -> Result<(), NoMemory>
-        ensures { OnOk result ((life : Life) (entry : Entry) (effect : Effect) → entry.front ≡ None → entry.mark ≡ None
+        ensures { OnOk result ((life : Life) (entry : Entry) (effect : Effect) → entry.train ≡ None → entry.mark ≡ None
             → StandsForLife self.old (grown life (added (accepted message.now announced.now effect) entry))
             → StandsForLife self.new (grown life (added (with_facts life.entries entry (with_fix life.entries entry (accepted message.now announced.now effect))) entry))) }
     {
@@ -127,6 +122,7 @@ impl State {
         let used = Use {
             group: message.group,
             place,
+            moment: self.moment,
             direction: direction_by(&message.direction, announced),
         };
         self.take_packets(alloc, &message.packets, &used)
@@ -134,7 +130,7 @@ impl State {
 
     // A whole group.
     fn close_whole(&mut self, alloc: Global, message: &Message) -> Result<(), NoMemory>
-        ensures { OnOk result ((life : Life) (entry : Entry) → entry.front ≡ None → entry.mark ≡ None → StandsForLife self.old (grown life entry)
+        ensures { OnOk result ((life : Life) (entry : Entry) → entry.train ≡ None → entry.mark ≡ None → StandsForLife self.old (grown life entry)
             → StandsForLife self.new (grown life (added (outcome_of life.entries entry (closed.Whole message.now)) entry))) }
     {
         match self.judge(message).verdict {
@@ -146,7 +142,7 @@ impl State {
 
     // A broken group.
     fn close_broken(&mut self, group: &Broken)
-        ensures { (life : Life) (entry : Entry) → entry.front ≡ None → entry.mark ≡ None → StandsForLife self.old (grown life entry)
+        ensures { (life : Life) (entry : Entry) → entry.train ≡ None → entry.mark ≡ None → StandsForLife self.old (grown life entry)
             → StandsForLife self.new (grown life (added (outcome_of life.entries entry (closed.Broken group.now)) entry)) }
     {
         self.links.broken(group.group, group.linked);
@@ -154,7 +150,7 @@ impl State {
 
     /// A group that closed, if one did.
     pub(crate) fn close(&mut self, alloc: Global, closed: &Option<Closed>) -> Result<(), NoMemory>
-        ensures { OnOk result ((life : Life) (entry : Entry) → entry.front ≡ None → entry.mark ≡ None → StandsForLife self.old (grown life entry)
+        ensures { OnOk result ((life : Life) (entry : Entry) → entry.train ≡ None → entry.mark ≡ None → StandsForLife self.old (grown life entry)
             → StandsForLife self.new (grown life (with_closed life.entries closed.now entry))) }
     {
         match closed {
@@ -163,6 +159,26 @@ impl State {
             Some(Closed::Broken(group)) => self.close_broken(group),
         }
         Ok(())
+    }
+}
+
+// Where an accepted group is to be fixed: where it was announced, else at its own place, but only while the track is free.
+fn fix_wanted(free: bool, own: Cm, announced: &Option<Announcement>) -> Option<Wanted>
+    ensures { result ≡ fix_wanted free own announced.now }
+{
+    match announced {
+        Some(announcement) => {
+            let accuracy = 100 * announcement.accuracy.number();
+            Some(Wanted {
+                place: announcement.place,
+                accuracy: Length::new(accuracy).unwrap(),
+            })
+        }
+        None if free => Some(Wanted {
+            place: own,
+            accuracy: Length::ZERO,
+        }),
+        None => None,
     }
 }
 

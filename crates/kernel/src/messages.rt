@@ -1,23 +1,30 @@
 //! How the packets of a group that was accepted are used.
-ghost use Rattle.std.specs.Prelude.{◌≡◌, ◌+◌, ◌-◌, ◌≤◌, ◌*◌, ◌^◌, List, ◌∷◌, OnOk, if◌then◌else◌};
+ghost use Rattle.std.specs.Prelude.{◌≡◌, ◌+◌, ◌-◌, ◌≤◌, ◌*◌, ◌^◌, ℤ, List, ◌∷◌, OnOk, if◌then◌else◌};
 ghost use Rattle.std.specs.Int.RustNames.{unsigned_abs};
+ghost use Rattle.authority.specs.Entries as authorities;
+ghost use Rattle.authority.specs.Known.{known as known_authority};
 ghost use Rattle.linking.specs.Linking as linking;
 ghost use Rattle.national.specs.InForce as values;
 ghost use Rattle.national.specs.Values.{ValuesFor};
+ghost use Rattle.speed_profile.specs.declared.told.CategorySpeeds.{CategorySpeeds};
+ghost use Rattle.track_store.specs.Facts.{Told, profile_of};
+ghost use Rattle.track_store.specs.Profiles.{profile_with};
 ghost use Rattle.track_store.specs.Restrictions as track;
 ghost use Rattle.kernel.specs.Announcing.{announced, announcements_of};
-ghost use Rattle.kernel.specs.History.{Fact, restriction_of, after_values, after_all_values, after_links, after_all_links, after_restriction, after_restrictions, after_revocation, after_revocations};
+ghost use Rattle.kernel.specs.History.{Fact, restriction_of, after_facts, after_values, after_links, after_authority, after_gradients, after_speeds, after_restriction, after_revocation};
 ghost use Rattle.kernel.specs.Sentences.{is_passed, is_valid};
 ghost use Rattle.kernel.specs.Steps.{fact_of, facts};
 
 use arrayvec::ArrayVec;
+use authority::Authority;
 use balise_groups::GroupPackets;
 use linking::{Announcement, Links};
 use national::National;
 use packets::{Link, Linking, Packet, SpeedRestriction};
+use speed_profile::{CategorySpeeds, gradients, static_speeds};
 use std::alloc::Global;
-use track_store::{Restriction, Restrictions};
-use units::{Cm, NoMemory};
+use track_store::{ProfileStore, Restriction, Restrictions};
+use units::{Cm, Ms, NoMemory, Permille};
 use vars::{Country, GroupIdentity, LinkOrientation, Scale, ValidityDirection};
 
 /// How the packets of a group are used.
@@ -27,6 +34,8 @@ pub struct Use {
     pub group: GroupIdentity,
     /// From where its distances count.
     pub place: Cm,
+    /// When it closed.
+    pub moment: Ms,
     /// The direction in which it was passed, where that is known.
     pub direction: Option<LinkOrientation>,
 }
@@ -132,6 +141,51 @@ fn announce(links: &mut Links, packet: &Packet<'_>, used: &Use)
     }
 }
 
+// Takes a packet, where it is an authority that is used.
+fn accept(authority: &mut Authority, packet: &Packet<'_>, used: &Use)
+    requires { unsigned_abs used.now.place ≤ 3 * 2 ^ 40 }
+    ensures { (entries : List authorities.Entry) → authority.old ≡ known_authority entries
+        → authority.new ≡ known_authority (if is_valid used.now.direction packet.now then after_authority (fact_of used.now packet.now) entries else entries) }
+{
+    if let Packet::MovementAuthority(packet) = packet {
+        if is_passed(packet.direction, &used.direction) {
+            authority.accept(packet, used.place, used.moment);
+        }
+    }
+}
+
+// Takes a packet, where it tells gradients and is used.
+fn replace_gradient<G: ProfileStore<Permille>>(store: &mut G, packet: &Packet<'_>, used: &Use) -> Result<(), NoMemory>
+    requires { unsigned_abs used.now.place ≤ 3 * 2 ^ 40 }
+    ensures { OnOk result ((told : Told ℤ) → profile_with G.value G.mark store.old ≡ profile_of told
+        → profile_with G.value G.mark store.new ≡ profile_of (record told { facts = if is_valid used.now.direction packet.now then after_gradients (fact_of used.now packet.now) told.facts else told.facts })) }
+{
+    let Packet::Gradients(packet) = packet else {
+        return Ok(());
+    };
+    if is_passed(packet.direction, &used.direction) {
+        let told = gradients(packet, used.place);
+        store.replace_from(told.start, told.steps.as_slice())?;
+    }
+    Ok(())
+}
+
+// Takes a packet, where it tells static speeds and is used.
+fn replace_speed<S: ProfileStore<CategorySpeeds>>(store: &mut S, packet: &Packet<'_>, used: &Use) -> Result<(), NoMemory>
+    requires { unsigned_abs used.now.place ≤ 3 * 2 ^ 40 }
+    ensures { OnOk result ((told : Told CategorySpeeds) → profile_with S.value S.mark store.old ≡ profile_of told
+        → profile_with S.value S.mark store.new ≡ profile_of (record told { facts = if is_valid used.now.direction packet.now then after_speeds (fact_of used.now packet.now) told.facts else told.facts })) }
+{
+    let Packet::StaticSpeeds(packet) = packet else {
+        return Ok(());
+    };
+    if is_passed(packet.direction, &used.direction) {
+        let told = static_speeds(packet, used.place);
+        store.replace_from(told.start, told.steps.as_slice())?;
+    }
+    Ok(())
+}
+
 // Takes a packet, where it is a restriction that is used.
 fn add(
     restrictions: &mut Restrictions,
@@ -168,7 +222,7 @@ fn revoke(restrictions: &mut Restrictions, packet: &Packet<'_>, used: &Use)
 pub fn take_all_values(national: &mut National, packets: &GroupPackets, used: &Use)
     requires { unsigned_abs used.now.place ≤ 3 * 2 ^ 40 }
     ensures { (kept : ValuesFor) (entries : List values.Entry) → national.old ≡ values.known kept entries
-        → national.new ≡ values.known kept (after_all_values (facts used.now packets.now) entries) }
+        → national.new ≡ values.known kept (after_facts after_values (facts used.now packets.now) entries) }
 {
     for item in packets.iter() {
         take_values(national, item.packet(), used);
@@ -179,11 +233,46 @@ pub fn take_all_values(national: &mut National, packets: &GroupPackets, used: &U
 pub fn announce_all(links: &mut Links, packets: &GroupPackets, used: &Use)
     requires { unsigned_abs used.now.place ≤ 3 * 2 ^ 40 }
     ensures { (entries : List linking.Entry) → links.old ≡ linking.known entries
-        → links.new ≡ linking.known (after_all_links (facts used.now packets.now) entries) }
+        → links.new ≡ linking.known (after_facts after_links (facts used.now packets.now) entries) }
 {
     for item in packets.iter() {
         announce(links, item.packet(), used);
     }
+}
+
+/// Takes the authorities (packet 12) of a group.
+pub fn accept_all(authority: &mut Authority, packets: &GroupPackets, used: &Use)
+    requires { unsigned_abs used.now.place ≤ 3 * 2 ^ 40 }
+    ensures { (entries : List authorities.Entry) → authority.old ≡ known_authority entries
+        → authority.new ≡ known_authority (after_facts after_authority (facts used.now packets.now) entries) }
+{
+    for item in packets.iter() {
+        accept(authority, item.packet(), used);
+    }
+}
+
+/// Takes the gradients (packet 21) of a group.
+pub fn replace_gradients<G: ProfileStore<Permille>>(store: &mut G, packets: &GroupPackets, used: &Use) -> Result<(), NoMemory>
+    requires { unsigned_abs used.now.place ≤ 3 * 2 ^ 40 }
+    ensures { OnOk result ((told : Told ℤ) → profile_with G.value G.mark store.old ≡ profile_of told
+        → profile_with G.value G.mark store.new ≡ profile_of (record told { facts = after_facts after_gradients (facts used.now packets.now) told.facts })) }
+{
+    for item in packets.iter() {
+        replace_gradient(store, item.packet(), used)?;
+    }
+    Ok(())
+}
+
+/// Takes the static speeds (packet 27) of a group.
+pub fn replace_speeds<S: ProfileStore<CategorySpeeds>>(store: &mut S, packets: &GroupPackets, used: &Use) -> Result<(), NoMemory>
+    requires { unsigned_abs used.now.place ≤ 3 * 2 ^ 40 }
+    ensures { OnOk result ((told : Told CategorySpeeds) → profile_with S.value S.mark store.old ≡ profile_of told
+        → profile_with S.value S.mark store.new ≡ profile_of (record told { facts = after_facts after_speeds (facts used.now packets.now) told.facts })) }
+{
+    for item in packets.iter() {
+        replace_speed(store, item.packet(), used)?;
+    }
+    Ok(())
 }
 
 /// Takes the restrictions (packet 65) of a group.
@@ -195,7 +284,7 @@ pub fn add_all(
 ) -> Result<(), NoMemory>
     requires { unsigned_abs used.now.place ≤ 3 * 2 ^ 40 }
     ensures { OnOk result ((entries : List track.Entry) → restrictions.old ≡ track.in_force entries
-        → restrictions.new ≡ track.in_force (after_restrictions (facts used.now packets.now) entries)) }
+        → restrictions.new ≡ track.in_force (after_facts after_restriction (facts used.now packets.now) entries)) }
 {
     for item in packets.iter() {
         add(restrictions, alloc, item.packet(), used)?;
@@ -206,7 +295,7 @@ pub fn add_all(
 /// Takes the revocations (packet 66) of a group.
 pub fn revoke_all(restrictions: &mut Restrictions, packets: &GroupPackets, used: &Use)
     ensures { (entries : List track.Entry) → restrictions.old ≡ track.in_force entries
-        → restrictions.new ≡ track.in_force (after_revocations (facts used.now packets.now) entries) }
+        → restrictions.new ≡ track.in_force (after_facts after_revocation (facts used.now packets.now) entries) }
 {
     for item in packets.iter() {
         revoke(restrictions, item.packet(), used);

@@ -2,9 +2,10 @@
 ghost use Rattle.std.specs.Prelude.{◌≡◌, ℕ, List, ◌∷◌, OnOk, Some, None};
 ghost use Rattle.kernel.specs.declared.events.Event.{Event};
 ghost use Rattle.kernel.specs.declared.events.Event.TheVariants as event;
+ghost use Rattle.kernel.specs.declared.events.Input.TheVariants as input;
 ghost use Rattle.kernel.specs.Bytes.{telegram_in};
 ghost use Rattle.kernel.specs.History.{Entry};
-ghost use Rattle.kernel.specs.Sentences.{moved, heard, begun, with_groups, with_front, with_mark};
+ghost use Rattle.kernel.specs.Sentences.{moved, heard, begun, with_groups, with_train, with_mark};
 ghost use Rattle.kernel.specs.Lives.{Life, life_after};
 ghost use Rattle.kernel.specs.StandsFor.{StandsForLife, StandsFor, grown};
 
@@ -12,14 +13,16 @@ use crate::events::{Event, Input};
 use crate::state::State;
 use crate::train::TrainData;
 use balise_groups::Reading as GroupReading;
+use speed_profile::CategorySpeeds;
 use std::alloc::Global;
 use telegram::Received;
-use units::{Cm, NoMemory};
+use track_store::ProfileStore;
+use units::{Cm, Ms, NoMemory, Permille, Stretch};
 
 /// How much track behind the least rear isn't forgotten, in centimetres.
 const REMEMBERED: i64 = 100_000;
 
-impl State {
+impl<G: ProfileStore<Permille> + Drop, S: ProfileStore<CategorySpeeds> + Drop> State<G, S> {
     // A movement: the group that is left by it closes, and announced groups are missed that the train has passed. A movement
     // that leads too far isn't added.
     fn move_by(&mut self, alloc: Global, movement: Cm) -> Result<(), NoMemory>
@@ -57,6 +60,15 @@ impl State {
         Ok(())
     }
 
+    // The clock tells a moment.
+    fn tick(&mut self, moment: Ms)
+        ensures { (life : Life) → StandsForLife self.old life
+            → StandsForLife self.new (grown life (with_groups life.entries (begun life.entries (input.Clock moment)))) }
+    {
+        self.moment = moment;
+        self.authority.tick(moment);
+    }
+
     // What the input itself does, and then the groups that it closed.
     fn begin(&mut self, alloc: Global, input: &Input) -> Result<(), NoMemory>
         ensures { OnOk result ((life : Life) → StandsForLife self.old life
@@ -65,27 +77,40 @@ impl State {
         match input {
             Input::Telegram(bytes) => self.listen(alloc, bytes.as_slice())?,
             Input::Odometer(reading) => self.move_by(alloc, reading.movement)?,
-            Input::Clock(_) | Input::Driver(_) => {}
+            Input::Clock(moment) => self.tick(*moment),
+            Input::Driver(_) => {}
         }
         Ok(())
     }
 
-    // National values come into force where the greatest front has reached their place.
-    fn look(&mut self)
-        ensures { (life : Life) (entry : Entry) → entry.front ≡ None → StandsForLife self.old (grown life entry)
-            → StandsForLife self.new (grown life (with_front life.entries entry)) }
+    // The authority's timers see where the train stands, and national values come into force where the greatest front has
+    // reached their place.
+    fn look(&mut self, train: &Stretch)
+        ensures { (life : Life) (entry : Entry) → entry.train ≡ None → entry.mark ≡ None → StandsForLife self.old (grown life entry)
+            → StandsForLife self.new (grown life (record entry { train = Some train.now })) }
     {
-        self.national.reach(self.place.max_front());
+        self.authority.pass(train);
+        self.national.reach(train.max_front());
     }
 
-    // The track that lies far behind the train is forgotten.
-    fn forget(&mut self, train: &TrainData)
+    // The track before a place is forgotten.
+    fn forget(&mut self, mark: Cm)
         ensures { (life : Life) (entry : Entry) → entry.mark ≡ None → StandsForLife self.old (grown life entry)
-            → StandsForLife self.new (grown life (with_mark train.now life.entries entry)) }
+            → StandsForLife self.new (grown life (record entry { mark = Some mark })) }
     {
-        let rear = self.place.stretch(train.length).rear();
-        self.restrictions
-            .drop_behind(Cm::new(rear.get() - REMEMBERED).unwrap());
+        self.restrictions.drop_behind(mark);
+        self.gradients.drop_behind(mark);
+        self.speeds.drop_behind(mark);
+    }
+
+    // What is seen of the train once the groups are used: the track that lies far behind it is forgotten.
+    fn observe(&mut self, train: &TrainData)
+        ensures { (life : Life) (entry : Entry) → entry.train ≡ None → entry.mark ≡ None → StandsForLife self.old (grown life entry)
+            → StandsForLife self.new (grown life (with_mark train.now life.entries (with_train train.now life.entries entry))) }
+    {
+        let stretch = self.place.stretch(train.length);
+        self.look(&stretch);
+        self.forget(Cm::new(stretch.rear().get() - REMEMBERED).unwrap());
     }
 
     /// All that an input does. Where memory is refused, the state is no longer of use.
@@ -99,8 +124,7 @@ impl State {
             → StandsForLife self.new (life_after train.now life (event.Input input.now))) }
     {
         self.begin(alloc, input)?;
-        self.look();
-        self.forget(train);
+        self.observe(train);
         Ok(())
     }
 

@@ -2,41 +2,59 @@ ghost use Rattle.std.specs.Prelude.{◌≡◌, List, [], IfOk};
 ghost use Rattle.kernel.specs.declared.events.Event.{Event};
 ghost use Rattle.kernel.specs.declared.train.TrainData.{TrainData};
 ghost use Rattle.kernel.specs.Lives.{Life};
-ghost use Rattle.kernel.specs.Limit.{limit};
+ghost use Rattle.kernel.specs.Limit.{train_of, responsible_limit, supervised_limit, limit};
 ghost use Rattle.kernel.specs.Forgetting.{kept};
 ghost use Rattle.kernel.specs.StandsFor.{StandsForLife, StandsFor};
 
 use crate::kept::Kept;
 use crate::train::{Mode, TrainData};
+use authority::Authority;
 use balise_groups::Assembler;
 use linking::Links;
 use national::National;
 use odometry::Place;
+use speed_profile::{Bounds, CategorySpeeds, limit_on};
 use std::alloc::Global;
 use std::marker::Model;
-use track_store::Restrictions;
-use units::{Mph, NoMemory};
+use track_store::{ProfileStore, Restrictions};
+use units::{Mph, Ms, NoMemory, Permille, Stretch};
 
-/// What the kernel knows.
+/// What the kernel knows, the gradient being kept in a store G and the static speeds in a store S.
 #[derive(Drop)]
-pub struct State {
+pub struct State<G: ProfileStore<Permille>, S: ProfileStore<CategorySpeeds>> {
     pub(crate) place: Place,
     pub(crate) groups: Assembler,
     pub(crate) links: Links,
     pub(crate) national: National,
     pub(crate) restrictions: Restrictions,
+    pub(crate) moment: Ms,
+    pub(crate) authority: Authority,
+    pub(crate) gradients: G,
+    pub(crate) speeds: S,
     pub(crate) lives: u32,
 }
 
-impl Model for State {
+impl<G: ProfileStore<Permille>, S: ProfileStore<CategorySpeeds>> Model for State<G, S> {
+    ghost use Rattle.track_store.specs.Profiles.{profile_with};
     ghost use Rattle.kernel.specs.StandsFor.{Knowledge};
 
     ghost Value = { Knowledge };
 
-    ghost view = { λ s. record { place = s.place; groups = s.groups; links = s.links; national = s.national; restrictions = s.restrictions; lives = s.lives } };
+    ghost view = { λ s. record {
+        place = s.place;
+        groups = s.groups;
+        links = s.links;
+        national = s.national;
+        restrictions = s.restrictions;
+        moment = s.moment;
+        authority = s.authority;
+        gradients = profile_with G.value G.mark s.gradients;
+        speeds = profile_with S.value S.mark s.speeds;
+        lives = s.lives;
+    } };
 }
 
-impl State {
+impl<G: ProfileStore<Permille> + Drop, S: ProfileStore<CategorySpeeds> + Drop> State<G, S> {
     /// What is known before the first power-up. Takes no memory.
     pub fn empty(alloc: Global) -> Self
         ensures { (train : TrainData) → StandsFor train result [] }
@@ -54,6 +72,10 @@ impl State {
             links: Links::new(),
             national: National::kept(kept.national),
             restrictions: Restrictions::new(alloc),
+            moment: Ms::new(0).unwrap(),
+            authority: Authority::new(),
+            gradients: G::empty(alloc),
+            speeds: S::empty(alloc),
             lives: kept.lives,
         }
     }
@@ -78,8 +100,33 @@ impl State {
             links: self.links.copy(),
             national: self.national.copy(),
             restrictions: self.restrictions.copy(alloc)?,
+            moment: self.moment,
+            authority: self.authority.copy(),
+            gradients: self.gradients.copy(alloc)?,
+            speeds: self.speeds.copy(alloc)?,
             lives: self.lives,
         })
+    }
+
+    // In staff responsible.
+    fn responsible_limit(&self, stretch: &Stretch, train: &TrainData) -> Mph
+        ensures { (life : Life) → StandsForLife self.now life → stretch.now ≡ train_of train.now life → result ≡ responsible_limit train.now life }
+    {
+        let speed = self.national.in_force().values().staff_responsible;
+        self.restrictions.least(stretch, speed.min(train.maximum))
+    }
+
+    // In full supervision.
+    fn supervised_limit(&self, stretch: &Stretch, train: &TrainData) -> Mph
+        ensures { (life : Life) → StandsForLife self.now life → stretch.now ≡ train_of train.now life → result ≡ supervised_limit train.now life }
+    {
+        let bounds = Bounds {
+            maximum: train.maximum,
+            category: train.category,
+            main: self.authority.main_speed(),
+            end: self.authority.end(),
+        };
+        limit_on(stretch, &bounds, &self.speeds, &self.restrictions)
     }
 
     /// The speed limit.
@@ -87,9 +134,9 @@ impl State {
         ensures { (life : Life) → StandsForLife self.now life → result ≡ limit mode train.now life }
     {
         let stretch = self.place.stretch(train.length);
-        let speed = mode
-            .speed(self.national.in_force().values())
-            .min(train.maximum);
-        self.restrictions.least(&stretch, speed)
+        match mode {
+            Mode::FullSupervision => self.supervised_limit(&stretch, train),
+            Mode::StaffResponsible => self.responsible_limit(&stretch, train),
+        }
     }
 }

@@ -1,12 +1,11 @@
-ghost use Rattle.std.specs.Prelude.{◌≡◌};
-ghost use Rattle.kernel.specs.Limit.{mode_speed};
-
-use national::Values;
 use units::{Length, Mph};
+use vars::TrainCategory;
 
 /// In which way the train is supervised (SUBSET-026, 4.4).
 #[derive(Clone, Copy, Debug, PartialEq, Eq)]
 pub enum Mode {
+    /// FS: the train runs on a movement authority over known track.
+    FullSupervision,
     /// SR: the driver is responsible, under a speed limit.
     StaffResponsible,
 }
@@ -18,15 +17,6 @@ pub struct TrainData {
     pub length: Length,
     /// The greatest speed that it may run.
     pub maximum: Mph,
-}
-
-impl Mode {
-    /// The greatest speed that it allows, by the national values in force.
-    pub fn speed(self, values: &Values) -> Mph
-        ensures { result ≡ mode_speed self values.now }
-    {
-        match self {
-            Mode::StaffResponsible => values.staff_responsible,
-        }
-    }
+    /// NC_TRAIN, by which it has speeds of its own; 15 is none.
+    pub category: TrainCategory,
 }

@@ -1,10 +1,10 @@
 -- Where a value lasts, it counts once for the least over a stretch.
 use Rattle.std.proofs.Common.{◌≡◌, ℕ, ◌<◌, ◌≤◌, min, ℤ, pos, negsuc, ◌+ℤ◌, ◌-ℤ◌, ◌≤ℤ◌, ◌<ℤ◌, List, [], ◌∷◌, ◌⊎◌, inl, inr, refl, ap, sym, subst, ◌∙◌, arith}
-use Rattle.std.specs.Prelude.{Option, None, Some}
+use Rattle.std.specs.Prelude.{Bool, true, false, Option, None, Some, is_some}
 use Rattle.std.proofs.lemmas.Int.{ints, by_lt_z}
 use Rattle.units.specs.Stretches.{over, gathered, least, natural, count_between}
 use Rattle.units.proofs.Gathering.{IsIn, least_is, over_at, in_over}
-use Rattle.track_store.specs.Profiles.{listed, lesser}
+use Rattle.track_store.specs.Profiles.{listed, lesser, is_any}
 
 least_below : (limit : ℕ) (vs : List ℕ) → least limit vs ≤ limit
 least_below limit [] = omega arith
@@ -103,3 +103,57 @@ module _ (value : ℤ → Option ℕ) (limit : ℕ) (place to : ℤ) (here : pla
         | inl k ↦ inl k
         | inr k ↦ inr (in_over (λ c. listed (value c)) place to (lesser limit (value place)) place (omega (arith, ints)) here k)
       ]))
+
+-- ---- whether a stretch gives anything
+
+any_in : {A : Type 0} (x : A) (xs : List A) → IsIn x xs → is_any xs ≡ true
+any_in x [] h = absurd h
+any_in x (y ∷ xs) h = refl
+
+one_of_any : {A : Type 0} (xs : List A) → is_any xs ≡ true → (x : A) × IsIn x xs
+one_of_any [] h = absurd cc
+one_of_any (x ∷ xs) h = (x, inl refl)
+
+one_of_some : {A : Type 0} (value : Option A) → is_some value ≡ true → (v : A) × IsIn v (listed value)
+one_of_some None h = absurd cc
+one_of_some (Some v) h = (v, inl refl)
+
+none_listed : {A : Type 0} (value : Option A) (v : A) → is_some value ≡ false → IsIn v (listed value) → ⊥
+none_listed None v h there = there
+none_listed (Some w) v h there = absurd cc
+
+none_of_not_any : {A : Type 0} (xs : List A) → ((x : A) → IsIn x xs → ⊥) → is_any xs ≡ false
+none_of_not_any [] h = refl
+none_of_not_any (x ∷ xs) h = absurd (h x (inl refl))
+
+same_any : {A : Type 0} (xs ys : List A) → ((x : A) → IsIn x xs → IsIn x ys) → ((y : A) → IsIn y ys → IsIn y xs) → is_any xs ≡ is_any ys
+same_any [] ys there back = sym (none_of_not_any ys back)
+same_any (x ∷ xs) ys there back = sym (any_in x ys (there x (inl refl)))
+
+module _ {A : Type 0} (value : ℤ → Option A) (place to : ℤ) (here : place ≤ℤ to) where
+  -- it gives something where its first centimetre does
+  pub found : is_some (value place) ≡ true → is_any (over (λ c. listed (value c)) place to) ≡ true
+  found some =
+      let v = one_of_some (value place) some in
+      any_in v.0 (over (λ c. listed (value c)) place to) (in_over (λ c. listed (value c)) place to v.0 place (omega (arith, ints)) here v.1)
+
+  -- where it doesn't, what gives something lies behind the next change
+  pub skipped : (next : ℤ) → place <ℤ next → ((later : ℤ) → place ≤ℤ later → later <ℤ next → value later ≡ value place) →
+      is_some (value place) ≡ false →
+      is_any (over (λ c. listed (value c)) next to) ≡ is_any (over (λ c. listed (value c)) place to)
+  skipped next ahead same none =
+      same_any (over (λ c. listed (value c)) next to) (over (λ c. listed (value c)) place to)
+      (λ v there. let at = over_at (λ c. listed (value c)) next to v there in
+      in_over (λ c. listed (value c)) place to v at.0 (omega (arith, ints, at.1, ahead)) at.2 at.3)
+      (λ v given. let at = over_at (λ c. listed (value c)) place to v given in
+      by_lt_z at.0 next
+      (λ (before : at.0 <ℤ next). absurd (none_listed (value place) v none (rw (same at.0 at.1 before) at at.3)))
+      (λ (behind : next ≤ℤ at.0). in_over (λ c. listed (value c)) next to v at.0 behind at.2 at.3))
+
+  -- and where it lasts, nothing does
+  pub nowhere : ((later : ℤ) → place ≤ℤ later → value later ≡ value place) → is_some (value place) ≡ false →
+      is_any (over (λ c. listed (value c)) place to) ≡ false
+  nowhere same none =
+      none_of_not_any (over (λ c. listed (value c)) place to)
+      (λ v given. let at = over_at (λ c. listed (value c)) place to v given in
+      none_listed (value place) v none (rw (same at.0 at.1) at at.3))

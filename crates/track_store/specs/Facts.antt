@@ -3,6 +3,7 @@
 use Rattle.std.specs.Prelude.{ℤ, not, int_lt, Option, None, is_none, if◌then◌else◌, List, [], ◌∷◌, filter}
 use Rattle.std.specs.List.{list_any}
 use Rattle.track_store.specs.declared.profile.Step.{Step}
+use Rattle.track_store.specs.Profiles.{Profile}
 
 -- the steps at or below a place
 abbrev pub passed : {A : Type 0} → ℤ → List (Step A) → List (Step A)
@@ -41,6 +42,9 @@ from_mark mark value place = if int_lt place mark then None else value place
 -- the value that counts at a place
 abbrev pub value_in : {A : Type 0} → Told A → ℤ → Option A
 value_in told = from_mark told.mark (latest told.facts)
+
+abbrev pub profile_of : {A : Type 0} → Told A → Profile A
+profile_of told = record { value = value_in told; mark = told.mark }
 
 -- a profile that steps replace from a first place on
 abbrev pub replaced : {A : Type 0} → (ℤ → Option A) → ℤ → List (Step A) → ℤ → Option A

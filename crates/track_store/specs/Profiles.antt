@@ -1,5 +1,15 @@
 -- A value at each centimetre of the track, which changes now and then (SUBSET-026, 3.11; 7.4.2, packets 21 and 27).
-use Rattle.std.specs.Prelude.{◌≡◌, ℕ, min, ℤ, ◌≤ℤ◌, ◌<ℤ◌, Option, None, Some, List, [], ◌∷◌}
+use Rattle.std.specs.Prelude.{◌≡◌, ℕ, min, ◌^◌, ℤ, pos, neg_ℤ, ◌≤ℤ◌, ◌<ℤ◌, Bool, true, false, Option, None, Some, List, [], ◌∷◌}
+use Rattle.units.specs.Stretches.{over}
+
+-- what a profile gives at each centimetre, and the place before which no track counts
+pub record Profile (A : Type 0) : Type 0 where
+  pub value : ℤ → Option A
+  pub mark : ℤ
+
+-- that of a store, whose values and mark are read so
+abbrev pub profile_with : {S A : Type 0} → (S → ℤ → Option A) → (S → ℤ) → S → Profile A
+profile_with value mark store = record { value = value store; mark = mark store }
 
 -- the value of a place stays the same up to a place ahead, that one not included; where none is told, for ever
 abbrev pub Lasts : {A : Type 0} → (ℤ → Option A) → ℤ → Option ℤ → Type 0
@@ -16,3 +26,15 @@ listed (Some value) = value ∷ []
 abbrev pub lesser : ℕ → Option ℕ → ℕ
 lesser limit None = limit
 lesser limit (Some value) = min value limit
+
+abbrev pub is_any : {A : Type 0} → List A → Bool
+is_any [] = false
+is_any (value ∷ values) = true
+
+-- a value is known at a centimetre from one to another, both included
+abbrev pub is_known_over : {A : Type 0} → (ℤ → Option A) → ℤ → ℤ → Bool
+is_known_over value from to = is_any (over (λ place. listed (value place)) from to)
+
+-- .. at any centimetre that there is
+abbrev pub is_known : {A : Type 0} → (ℤ → Option A) → Bool
+is_known value = is_known_over value (neg_ℤ (pos (2 ^ 42))) (pos (2 ^ 42))

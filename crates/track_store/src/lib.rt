@@ -4,6 +4,7 @@
 
 mod fact;
 mod fact_store;
+mod knowing;
 mod profile;
 mod restriction;
 mod restrictions;
@@ -13,4 +14,5 @@ pub use fact_store::FactStore;
 pub use profile::{Profile, ProfileStore, Step};
 pub use restriction::Restriction;
 pub use restrictions::Restrictions;
+pub use knowing::{is_known, is_known_over};
 pub use stretches::least_over;

@@ -1,0 +1,58 @@
+-- A profile that is read off what was told of it stays so.
+use Rattle.std.proofs.Common.{◌≡◌, ℤ, Bool, true, false, List, ◌∷◌, cond, refl, ap, sym, ◌∙◌, arith}
+use Rattle.std.proofs.Math.Path.{fun_ext}
+use Rattle.std.proofs.lemmas.Int.{ints}
+use Rattle.std.specs.Prelude.{int_lt, Option, None}
+use Rattle.std.specs.Int.{int_max}
+use Rattle.track_store.specs.Profiles.{Profile}
+use Rattle.track_store.specs.Facts.{Told, Fact, latest, given_by, from_mark, value_in, replaced, profile_of}
+
+same_profile : {A : Type 0} (p q : Profile A) → p.value ≡ q.value → p.mark ≡ q.mark → p ≡ q
+same_profile p q value mark = λ i. record { value = value i; mark = mark i }
+
+marked_once : {A : Type 0} (below before : Bool) (old new : Option A) →
+    cond below None (cond before (cond below None old) new) ≡ cond below None (cond before old new)
+marked_once true before old new = refl
+marked_once false before old new = refl
+
+marked_twice : {A : Type 0} (below before after : Bool) (value : Option A) → after ≡ cond below true before →
+    cond below None (cond before None value) ≡ cond after None value
+marked_twice true before after value is = rw is refl
+marked_twice false before after value is = rw is refl
+
+below_greater : (place a b : ℤ) → int_lt place (int_max a b) ≡ cond (int_lt place a) true (int_lt place b)
+below_greater place a b = grind (arith, ints)
+
+module _ {A : Type 0} (old new : Profile A) (told : Told A) (is : old ≡ profile_of told) where
+  -- one fact more
+  pub one_more : (fact : Fact A) →
+      ((place : ℤ) → new.value place ≡ from_mark old.mark (replaced old.value fact.start fact.steps) place) → new.mark ≡ old.mark →
+      new ≡ profile_of (record told { facts = fact ∷ told.facts })
+  one_more fact values mark =
+      same_profile new (profile_of (record told { facts = fact ∷ told.facts }))
+      (fun_ext (λ place. values place
+      ∙ ap (λ (p : Profile A). from_mark p.mark (replaced p.value fact.start fact.steps) place) is
+      ∙ marked_once (int_lt place told.mark) (int_lt place fact.start) (latest told.facts place) (given_by fact.steps place)))
+      (mark ∙ ap (λ (p : Profile A). p.mark) is)
+
+  -- a mark ahead
+  pub marked_at : (mark : ℤ) → ((place : ℤ) → new.value place ≡ from_mark mark old.value place) → new.mark ≡ int_max mark old.mark →
+      new ≡ profile_of (record told { mark = int_max mark told.mark })
+  marked_at mark values raised =
+      same_profile new (profile_of (record told { mark = int_max mark told.mark }))
+      (fun_ext (λ place. values place
+      ∙ ap (λ (p : Profile A). from_mark mark p.value place) is
+      ∙ marked_twice (int_lt place mark) (int_lt place told.mark) (int_lt place (int_max mark told.mark)) (latest told.facts place)
+      (below_greater place mark told.mark)))
+      (raised ∙ ap (λ (p : Profile A). int_max mark p.mark) is)
+
+-- nothing told
+pub none_told : {A : Type 0} (new : Profile A) (mark : ℤ) → ((place : ℤ) → new.value place ≡ None) → new.mark ≡ mark →
+    new ≡ profile_of (record { mark = mark; facts = [] })
+none_told {A} new mark values is =
+    same_profile new (profile_of (record { mark = mark; facts = [] }))
+    (fun_ext (λ place. values place ∙ sym (same_none (int_lt place mark)))) is
+  where
+    same_none : (b : Bool) → cond b None None ≡ None {A}
+    same_none true = refl
+    same_none false = refl

@@ -1,0 +1,30 @@
+ghost use Rattle.std.specs.Prelude.{◌≡◌};
+ghost use Rattle.track_store.specs.Profiles.{is_known, is_known_over};
+
+use crate::Profile;
+use units::Cm;
+
+/// Whether a profile has a value at a centimetre from one to another, both included. It goes from change to change, and
+/// takes no memory.
+pub fn is_known_over<T: Copy, P: Profile<T>>(profile: &P, from: Cm, to: Cm) -> bool
+    ensures { result ≡ is_known_over (P.value profile.now) from to }
+{
+    let mut place = from;
+    while place <= to {
+        if profile.at(place).is_some() {
+            return true;
+        }
+        match profile.next(place) {
+            Some(next) => place = next,
+            None => return false,
+        }
+    }
+    false
+}
+
+/// Whether a profile has a value at any centimetre of the track. It goes from change to change, and takes no memory.
+pub fn is_known<T: Copy, P: Profile<T>>(profile: &P) -> bool
+    ensures { result ≡ is_known (P.value profile.now) }
+{
+    is_known_over(profile, Cm::MIN, Cm::new(1 << 42).unwrap())
+}

@@ -3,4 +3,4 @@
 
 mod told;
 
-pub use told::CategorySpeeds;
+pub use told::{CategorySpeeds, Told, gradients, static_speeds};

@@ -1,10 +1,16 @@
-ghost use Rattle.std.specs.Prelude.{◌≡◌};
-ghost use Rattle.speed_profile.specs.Told.{speed_of};
+//! What packets 21 and 27 tell.
+ghost use Rattle.std.specs.Prelude.{◌≡◌, ℕ, ◌+◌, ◌-◌, ◌*◌, ◌^◌, ◌<◌, ◌≤◌, ◌+ℤ◌, pos, min, length, take, drop};
+ghost use Rattle.std.specs.Int.RustNames.{unsigned_abs};
+ghost use Rattle.vars.specs.Meanings.{centimetres_of};
+ghost use Rattle.speed_profile.specs.Told.{speed_of, speed_for, speeds_for, first_place, gradient_value, gradient_fact, speed_value, speed_fact};
 
-use units::Mph;
-use vars::{TrainCategory, TrainLengthDelay, Variable};
+use arrayvec::ArrayVec;
+use packets::{Difference, Gradient, Gradients, StaticSpeeds, StaticStep};
+use track_store::Step;
+use units::{Cm, Mph, Permille};
+use vars::{Distance, Scale, StaticSpeed, TrainCategory, TrainLengthDelay, Variable};
 
-/// A static speed from a place on, with what holds for each category of trains.
+/// A static speed, with what holds for each category of trains.
 #[derive(Clone, Copy, Debug, PartialEq, Eq)]
 pub struct CategorySpeeds {
     /// The speed for each category (NC_DIFF) from 0 to 15.
@@ -20,4 +26,139 @@ impl CategorySpeeds {
     {
         self.speeds[category.number() as usize]
     }
+}
+
+/// A profile as one packet tells it.
+#[derive(Drop)]
+pub struct Told<T> {
+    /// The first place that it tells of.
+    pub start: Cm,
+    /// The values, the nearest first.
+    pub steps: ArrayVec<Step<T>, 32>,
+}
+
+/// The gradients that packet 21 tells, in per mille, uphill positive. Its distances count from a place.
+pub fn gradients(packet: &Gradients, place: Cm) -> Told<Permille>
+    requires { unsigned_abs place ≤ 3 * 2 ^ 40 }
+    ensures start { result.start ≡ (gradient_fact place packet.now).start }
+    ensures steps { result.steps.items ≡ (gradient_fact place packet.now).steps }
+{
+    let mut steps: ArrayVec<Step<Permille>, 32> = ArrayVec::new();
+    let mut at = place;
+    for gradient in packet.gradients.as_slice() {
+        at = ahead(at, gradient.distance, packet.scale);
+        steps.push(Step {
+            place: at,
+            value: gradient_value(gradient),
+        });
+    }
+    let start = first_place(place, steps.as_slice());
+    Told { start, steps }
+}
+
+/// The static speeds that packet 27 tells. Its distances count from a place.
+pub fn static_speeds(packet: &StaticSpeeds, place: Cm) -> Told<CategorySpeeds>
+    requires { unsigned_abs place ≤ 3 * 2 ^ 40 }
+    ensures start { result.start ≡ (speed_fact place packet.now).start }
+    ensures steps { result.steps.items ≡ (speed_fact place packet.now).steps }
+{
+    let mut steps: ArrayVec<Step<CategorySpeeds>, 32> = ArrayVec::new();
+    let mut at = place;
+    let mut left = packet.differences.as_slice();
+    for step in packet.steps.as_slice() {
+        at = ahead(at, step.distance, packet.scale);
+        steps.push(Step {
+            place: at,
+            value: speed_value(step, own_part(step, left)),
+        });
+        left = others_part(step, left);
+    }
+    let start = first_place(place, steps.as_slice());
+    Told { start, steps }
+}
+
+// The place so far ahead.
+fn ahead(place: Cm, by: Distance, scale: Scale) -> Cm
+    requires { unsigned_abs place ≤ 2 ^ 42 - 2 ^ 25 }
+    ensures value { result ≡ place +ℤ pos (by * centimetres_of scale) }
+    ensures near { unsigned_abs result ≤ unsigned_abs place + 2 ^ 25 }
+{
+    Cm::new(place.get() + by.in_scale(scale).get()).unwrap()
+}
+
+// The place of the first step; without one, another place.
+fn first_place<T>(place: Cm, steps: &[Step<T>]) -> Cm
+    ensures { result ≡ first_place place steps.now }
+{
+    match steps.first() {
+        Some(step) => step.place,
+        None => place,
+    }
+}
+
+// The gradient of an element; None where it ends the profile.
+fn gradient_value(element: &Gradient) -> Option<Permille>
+    ensures { result ≡ gradient_value element.now }
+{
+    element.steepness.gradient(element.direction)
+}
+
+// The static speed of an element with its own differences; None where it ends the profile.
+fn speed_value(element: &StaticStep, differences: &[Difference]) -> Option<CategorySpeeds>
+    ensures { result ≡ speed_value element.now differences.now }
+{
+    match element.speed {
+        StaticSpeed::End => None,
+        StaticSpeed::Speed(step) => Some(CategorySpeeds {
+            speeds: speeds_for(step.speed(), differences),
+            delay: element.delay,
+        }),
+    }
+}
+
+// The speeds for the categories from 0 to 15.
+fn speeds_for(basic: Mph, differences: &[Difference]) -> [Mph; 16]
+    ensures { result ≡ speeds_for basic differences.now }
+{
+    let mut speeds = [basic; 16];
+    for category in 0..16 {
+        speeds[category] = speed_for(basic, differences, category as u64);
+    }
+    speeds
+}
+
+// The speed for a category: that of its first difference, else the basic one.
+fn speed_for(basic: Mph, differences: &[Difference], category: u64) -> Mph
+    ensures { result ≡ speed_for basic differences.now category }
+{
+    for difference in differences {
+        if category != NO_CATEGORY && difference.category.number() == category {
+            return difference.speed.speed();
+        }
+    }
+    basic
+}
+
+// NC_DIFF 15 stands for no category.
+const NO_CATEGORY: u64 = 15;
+
+// An element's own differences, of those that are left.
+fn own_part<'a>(element: &StaticStep, left: &'a [Difference]) -> &'a [Difference]
+    ensures { result.now ≡ take element.now.differences left.now }
+{
+    &left[..own_count(element, left)]
+}
+
+// The differences behind an element's own.
+fn others_part<'a>(element: &StaticStep, left: &'a [Difference]) -> &'a [Difference]
+    ensures { result.now ≡ drop element.now.differences left.now }
+{
+    &left[own_count(element, left)..]
+}
+
+// The number of an element's own differences, of those that are left.
+fn own_count(element: &StaticStep, left: &[Difference]) -> usize
+    ensures value { result ≡ min element.now.differences (length left.now) }
+{
+    usize::from(element.differences.count()).min(left.len())
 }

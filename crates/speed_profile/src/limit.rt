@@ -1,0 +1,72 @@
+//! The speed that holds where the train stands.
+ghost use Rattle.std.specs.Prelude.{◌≡◌};
+ghost use Rattle.track_store.specs.Profiles.{lesser};
+ghost use Rattle.speed_profile.specs.Limit.{speed_at_end, bound_speed, limit_on};
+
+use crate::CategorySpeeds;
+use crate::limiting::Limiting;
+use authority::End;
+use track_store::{Profile, Restrictions, least_over};
+use units::{Cm, Mph, Stretch};
+use vars::TrainCategory;
+
+/// What limits the train's speed wherever it stands.
+#[derive(Clone, Copy, Debug, PartialEq, Eq)]
+pub struct Bounds {
+    /// The train's greatest speed.
+    pub maximum: Mph,
+    /// The train's category (NC_TRAIN).
+    pub category: TrainCategory,
+    /// V_MAIN of the stored authority; None without one.
+    pub main: Option<Mph>,
+    /// The end of the stored authority; None without one.
+    pub end: Option<End>,
+}
+
+/// The greatest speed that a train that may stand on this stretch may have there: the least of its greatest speed, of
+/// V_MAIN, of V_LOA once its greatest front is at the end, of the static speeds and of the restrictions. Takes no memory.
+pub fn limit_on<S: Profile<CategorySpeeds>>(
+    train: &Stretch,
+    bounds: &Bounds,
+    speeds: &S,
+    restrictions: &Restrictions,
+) -> Mph
+    ensures { result ≡ limit_on train.now bounds.now (S.value speeds.now) restrictions.now }
+{
+    let limiting = Limiting {
+        speeds,
+        category: bounds.category,
+        min_front: train.min_front(),
+    };
+    let bound = bound_speed(train.max_front(), bounds);
+    let least = least_over(&limiting, train.rear(), train.max_front(), bound);
+    restrictions.least(train, least)
+}
+
+// The least of what holds wherever the train stands, its greatest front being at a place.
+fn bound_speed(front: Cm, bounds: &Bounds) -> Mph
+    ensures { result ≡ bound_speed front bounds.now }
+{
+    let limit = lesser_of(bounds.maximum, bounds.main);
+    lesser_of(limit, speed_at_end(front, &bounds.end))
+}
+
+// V_LOA, where it limits.
+fn speed_at_end(front: Cm, end: &Option<End>) -> Option<Mph>
+    ensures { result ≡ speed_at_end front end.now }
+{
+    match end {
+        Some(end) if end.end <= front && end.speed.get() > 0 => Some(end.speed),
+        _ => None,
+    }
+}
+
+// The lesser of a speed and of another one, if there is one.
+fn lesser_of(limit: Mph, value: Option<Mph>) -> Mph
+    ensures { result ≡ lesser limit value }
+{
+    match value {
+        Some(speed) if speed < limit => speed,
+        _ => limit,
+    }
+}

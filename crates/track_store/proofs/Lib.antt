@@ -3,3 +3,4 @@ pub mod Limiting
 pub mod Reading
 pub mod Lasting
 pub mod Jumps
+pub mod Segmenting

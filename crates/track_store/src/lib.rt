@@ -7,10 +7,13 @@ mod fact_store;
 mod profile;
 mod restriction;
 mod restrictions;
+mod segment_store;
+mod segments;
 mod stretches;
 
 pub use fact_store::FactStore;
 pub use profile::{Profile, ProfileStore, Step};
 pub use restriction::Restriction;
 pub use restrictions::Restrictions;
+pub use segment_store::SegmentStore;
 pub use stretches::least_over;

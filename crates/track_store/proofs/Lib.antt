@@ -4,3 +4,4 @@ pub mod Reading
 pub mod Lasting
 pub mod Jumps
 pub mod Telling
+pub mod Segmenting

@@ -3,3 +3,4 @@ pub mod Meeting
 pub mod Profiles
 pub mod Facts
 pub mod Changes
+pub mod Segments

@@ -8,11 +8,14 @@ mod knowing;
 mod profile;
 mod restriction;
 mod restrictions;
+mod segment_store;
+mod segments;
 mod stretches;
 
 pub use fact_store::FactStore;
+pub use knowing::{is_known, is_known_over};
 pub use profile::{Profile, ProfileStore, Step};
 pub use restriction::Restriction;
 pub use restrictions::Restrictions;
-pub use knowing::{is_known, is_known_over};
+pub use segment_store::SegmentStore;
 pub use stretches::least_over;

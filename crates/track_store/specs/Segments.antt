@@ -1,0 +1,55 @@
+-- A profile as segments of one value each (SUBSET-026, 3.11; 7.4.2, packets 21 and 27; the forgetting mark and how the segments
+-- are kept: this project's profile).
+use Rattle.std.specs.Prelude.{◌≡◌, ℤ, ◌<ℤ◌, Bool, false, not, int_lt, Option, None, Some, if◌then◌else◌, List, [], ◌∷◌}
+use Rattle.track_store.specs.declared.segments.Segment.{Segment}
+use Rattle.track_store.specs.Facts.{from_mark}
+
+-- the value of the last segment that starts at or below a place; without one, another value
+abbrev pub value_among : {A : Type 0} → Option A → List (Segment A) → ℤ → Option A
+value_among otherwise [] place = otherwise
+value_among otherwise (segment ∷ segments) place =
+    value_among (if int_lt place segment.start then otherwise else segment.value) segments place
+
+-- the value that segments give at a place; before the first start there is none
+abbrev pub value_of_segments : {A : Type 0} → List (Segment A) → ℤ → Option A
+value_of_segments segments = value_among None segments
+
+-- the segments that are kept, and the forgetting mark
+pub record Kept (A : Type 0) : Type 0 where
+  pub mark : ℤ
+  pub segments : List (Segment A)
+
+-- the value that counts at a place
+abbrev pub value_kept : {A : Type 0} → Kept A → ℤ → Option A
+value_kept kept = from_mark kept.mark (value_of_segments kept.segments)
+
+-- segments that start behind a place, each behind the one before it
+abbrev pub IsRisingFrom : {A : Type 0} → ℤ → List (Segment A) → Type 0
+IsRisingFrom low [] = Unit {0}
+IsRisingFrom low (segment ∷ segments) = (low <ℤ segment.start) × IsRisingFrom segment.start segments
+
+-- each segment starts behind the one before it
+abbrev pub IsRising : {A : Type 0} → List (Segment A) → Type 0
+IsRising [] = Unit {0}
+IsRising (segment ∷ segments) = IsRisingFrom segment.start segments
+
+-- the first segment lies wholly before a mark: the second one starts at or below it
+abbrev pub is_first_passed : {A : Type 0} → ℤ → List (Segment A) → Bool
+is_first_passed mark [] = false
+is_first_passed mark (first ∷ []) = false
+is_first_passed mark (first ∷ second ∷ segments) = not (int_lt mark second.start)
+
+-- the segments rise, and none of them lies wholly before the mark
+abbrev pub IsKept : {A : Type 0} → ℤ → List (Segment A) → Type 0
+IsKept mark segments = IsRising segments × (is_first_passed mark segments ≡ false)
+
+-- the start of the first segment ahead of a place
+abbrev pub next_among : {A : Type 0} → ℤ → List (Segment A) → Option ℤ
+next_among place [] = None
+next_among place (segment ∷ segments) =
+    if int_lt place segment.start then Some segment.start else next_among place segments
+
+-- a place lies at or behind an end, if there is one
+abbrev pub is_reached : ℤ → Option ℤ → Bool
+is_reached place None = false
+is_reached place (Some end) = not (int_lt place end)

@@ -1,0 +1,122 @@
+ghost use Rattle.std.specs.Prelude.{◌≡◌, ◌+◌, ◌<◌, ◌≤◌, ℤ, false, if◌then◌else◌, int_lt, is_none, Some, ◌||◌, length, vec_len, vec_capacity};
+ghost use Rattle.std.specs.List.{list_any};
+ghost use Rattle.track_store.specs.Facts.{from_mark, passed, replaced};
+ghost use Rattle.track_store.specs.Segments.{value_of_segments, next_among, IsRising, is_first_passed, is_reached};
+
+use crate::Step;
+use units::Cm;
+
+/// A piece of a profile with one value: from its start up to the next one's start, the last one without end
+/// (SUBSET-026, 3.11; packets 21 and 27 of 7.4.2 tell profiles so).
+#[derive(Clone, Copy)]
+pub struct Segment<T> {
+    /// Where it begins.
+    pub start: Cm,
+    /// The value; None where nothing is known.
+    pub value: Option<T>,
+}
+
+// The value of the last segment that starts at or below a place.
+pub(crate) fn value_at<T: Copy>(segments: &[Segment<T>], place: Cm) -> Option<T>
+    ensures { result ≡ value_of_segments segments.now place }
+{
+    let mut value = None;
+    for segment in segments {
+        if segment.start <= place {
+            value = segment.value;
+        }
+    }
+    value
+}
+
+// The start of the first segment ahead of a place.
+pub(crate) fn next_start<T: Copy>(segments: &[Segment<T>], place: Cm) -> Option<Cm>
+    ensures { result ≡ next_among place segments.now }
+{
+    for segment in segments {
+        if place < segment.start {
+            return Some(segment.start);
+        }
+    }
+    None
+}
+
+// Takes one value from a place on, in place of all segments there.
+fn hold_from<T: Copy>(segments: &mut Vec<Segment<T>>, place: Cm, value: Option<T>)
+    requires { vec_len segments.old < vec_capacity segments.old }
+    ensures value { (there : ℤ) → value_of_segments segments.new.items there
+        ≡ (if int_lt there place then value_of_segments segments.old.items there else value) }
+    ensures rising { IsRising segments.old.items → IsRising segments.new.items }
+    ensures len { vec_len segments.new ≤ vec_len segments.old + 1 }
+    ensures capacity { vec_capacity segments.new ≡ vec_capacity segments.old }
+{
+    segments.retain(|segment| segment.start < place);
+    segments.push_reserved(Segment {
+        start: place,
+        value,
+    });
+}
+
+// The first place of end marks; None where there is none.
+fn first_end<T: Copy>(steps: &[Step<T>]) -> Option<Cm>
+    ensures { (place : ℤ) → list_any (λ step. is_none step.value) (passed place steps.now)
+        ≡ is_reached place result }
+{
+    let mut first = None;
+    for step in steps {
+        if step.value.is_none() {
+            first = Some(first_of(first, step.place));
+        }
+    }
+    first
+}
+
+// The first of a place and of another one, if there is one.
+fn first_of(first: Option<Cm>, place: Cm) -> Cm
+    ensures { (there : ℤ) → is_reached there (Some result)
+        ≡ (is_reached there first || is_reached there (Some place)) }
+{
+    match first {
+        Some(first) if first < place => first,
+        _ => place,
+    }
+}
+
+// Takes what steps give from a first place on, in place of all segments there. Each step holds from its place on,
+// whatever the order of their places, and the first place of end marks ends them all.
+pub(crate) fn hold_steps<T: Copy>(segments: &mut Vec<Segment<T>>, start: Cm, steps: &[Step<T>])
+    requires { vec_len segments.old + length steps.now + 2 ≤ vec_capacity segments.old }
+    ensures value { (place : ℤ) → value_of_segments segments.new.items place
+        ≡ replaced (value_of_segments segments.old.items) start steps.now place }
+    ensures rising { IsRising segments.old.items → IsRising segments.new.items }
+{
+    hold_from(segments, start, None);
+    for step in steps {
+        hold_from(segments, start.max(step.place), step.value);
+    }
+    if let Some(end) = first_end(steps) {
+        hold_from(segments, start.max(end), None);
+    }
+}
+
+// Whether the first segment lies wholly before a mark.
+fn is_first_passed<T: Copy>(segments: &[Segment<T>], mark: Cm) -> bool
+    ensures { result ≡ is_first_passed mark segments.now }
+{
+    match segments {
+        [_, second, ..] => second.start <= mark,
+        _ => false,
+    }
+}
+
+// Drops the segments that lie wholly before a mark. Where it follows the train these are mostly none or one.
+pub(crate) fn drop_passed<T: Copy>(segments: &mut Vec<Segment<T>>, mark: Cm)
+    ensures value { (place : ℤ) → from_mark mark (value_of_segments segments.new.items) place
+        ≡ from_mark mark (value_of_segments segments.old.items) place }
+    ensures rising { IsRising segments.old.items → IsRising segments.new.items }
+    ensures none { is_first_passed mark segments.new.items ≡ false }
+{
+    while is_first_passed(segments, mark) {
+        segments.remove(0);
+    }
+}

@@ -12,9 +12,9 @@ use Rattle.kernel.specs.Steps.{fix_wanted}
 abbrev pub wanted_at : odometry.Known → Message → Wanted → odometry.Fix
 wanted_at place message wanted = fix_at place message wanted.place wanted.accuracy
 
-pub fix_as_wanted : (place : odometry.Known) (in_use : Bool) (message : Message) (announced : Option Announcement) →
-    fix_of place in_use message (Accept announced) ≡ option_map (wanted_at place message) (fix_wanted in_use (own_place place message) announced)
-fix_as_wanted place in_use message (Some a) = refl
+pub fix_as_wanted : (place : odometry.Known) (free : Bool) (message : Message) (announced : Option Announcement) →
+    fix_of place free message (Accept announced) ≡ option_map (wanted_at place message) (fix_wanted free (own_place place message) announced)
+fix_as_wanted place free message (Some a) = refl
 fix_as_wanted place true message None = refl
 fix_as_wanted place false message None = refl
 

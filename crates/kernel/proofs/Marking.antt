@@ -1,4 +1,4 @@
--- Nothing looks at the front or marks the track before the last sentences.
+-- Nothing sees where the train stands or marks the track before the last sentences.
 use Rattle.std.proofs.Common.{◌≡◌, List, Option, Some, None, refl}
 use Rattle.balise_groups.specs.declared.message.Closed.{Closed}
 use Rattle.kernel.specs.declared.events.Input.{Input}
@@ -10,17 +10,17 @@ pub closed_unmarked : (entries : List Entry) (closed : Option Closed) (entry : E
 closed_unmarked entries None entry unmarked = unmarked
 closed_unmarked entries (Some c) entry unmarked = unmarked
 
-pub closed_unlooked : (entries : List Entry) (closed : Option Closed) (entry : Entry) → entry.front ≡ None → (with_closed entries closed entry).front ≡ None
+pub closed_unlooked : (entries : List Entry) (closed : Option Closed) (entry : Entry) → entry.train ≡ None → (with_closed entries closed entry).train ≡ None
 closed_unlooked entries None entry unlooked = unlooked
 closed_unlooked entries (Some c) entry unlooked = unlooked
 
-begun_unlooked : (entries : List Entry) (i : Input) → (begun entries i).front ≡ None
+begun_unlooked : (entries : List Entry) (i : Input) → (begun entries i).train ≡ None
 begun_unlooked entries (input.Telegram bytes) = refl
 begun_unlooked entries (input.Odometer reading) = refl
 begun_unlooked entries (input.Clock moment) = refl
 begun_unlooked entries (input.Driver action) = refl
 
-pub unlooked : (entries : List Entry) (i : Input) → (with_groups entries (begun entries i)).front ≡ None
+pub unlooked : (entries : List Entry) (i : Input) → (with_groups entries (begun entries i)).train ≡ None
 unlooked entries i =
     let entry : Entry = begun entries i in
     let closed = closed_by (groups_of entries) entry.heard in

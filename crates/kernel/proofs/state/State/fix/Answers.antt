@@ -2,24 +2,24 @@ use Rattle.std.proofs.Common.{◌≡◌, ◌∷◌, Bool, true, false, Option, S
 use Rattle.std.specs.Option.{option_map}
 use Rattle.linking.specs.declared.effect.Effect.{Effect}
 use Rattle.linking.specs.declared.judgement.Verdict.TheVariants.{Accept}
-use Rattle.linking.specs.Linking.{is_any}
 use Rattle.odometry.specs.Place as odometry
-use Rattle.kernel.specs.History.{Entry, places, place_of, links_of, after_fix}
-use Rattle.kernel.specs.Sentences.{added, fix_of, own_place, place_by}
+use Rattle.kernel.specs.History.{Entry, places, place_of, after_fix}
+use Rattle.kernel.specs.Sentences.{added, is_free, fix_of, own_place, place_by}
 use Rattle.kernel.specs.Steps.{accepted, fix_wanted}
 use Rattle.kernel.specs.Lives.{Life}
 use Rattle.kernel.specs.StandsFor.{Knowledge, StandsForLife, grown}
 use Rattle.kernel.proofs.Fixing.{wanted_at, fix_as_wanted, counted_from}
+use Rattle.kernel.proofs.state.State.fix.Given as given
 use Rattle.kernel.proofs.state.State.fix.Goals as goal
 use Rattle.kernel.proofs.state.State.fix.Goals.{in-Ok, in-Err}
 
-module _ (c : goal.Joined-fix) (life : Life) (entry : Entry) (effect : Effect)
+module _ (g : given.Over) (c : goal.Joined-fix g) (life : Life) (entry : Entry) (effect : Effect)
     (s : StandsForLife c.args.self.now (grown life (added (accepted c.args.message.now c.args.announced.now effect) entry))) where
   abbrev here : odometry.Known
   here = place_of (entry ∷ life.entries)
 
-  abbrev in_use : Bool
-  in_use = is_any (links_of (added (accepted c.args.message.now c.args.announced.now effect) entry ∷ life.entries)).left
+  abbrev free : Bool
+  free = is_free (added (accepted c.args.message.now c.args.announced.now effect) entry ∷ life.entries)
 
   place_is : c.self.inside.place ≡ here
   place_is = ap (λ (k : Knowledge). k.place) c.self.view_is ∙ s.place_is
@@ -27,11 +27,11 @@ module _ (c : goal.Joined-fix) (life : Life) (entry : Entry) (effect : Effect)
   own_is : c.place_then.result.estimate ≡ own_place here c.args.message.now
   own_is = ap (λ e. e.estimate) c.place_then.ensures.value ∙ ap (λ (k : odometry.Known). own_place k c.args.message.now) place_is
 
-  wanted : fix_wanted in_use (own_place here c.args.message.now) c.args.announced.now ≡ Some c.in-Some.wanted
-  wanted = sym (c.in-Some.ensures ∙ (λ i. fix_wanted (is_any (s.links_are i).left) (own_is i) c.args.announced.now))
+  wanted : fix_wanted free (own_place here c.args.message.now) c.args.announced.now ≡ Some c.in-Some.wanted
+  wanted = sym (c.in-Some.ensures ∙ (λ i. fix_wanted (c.is_free.ensures life (added (accepted c.args.message.now c.args.announced.now effect) entry) s i) (own_is i) c.args.announced.now))
 
-  fix_is : fix_of here in_use c.args.message.now (Accept c.args.announced.now) ≡ Some (wanted_at here c.args.message.now c.in-Some.wanted)
-  fix_is = fix_as_wanted here in_use c.args.message.now c.args.announced.now ∙ ap (option_map (wanted_at here c.args.message.now)) wanted
+  fix_is : fix_of here free c.args.message.now (Accept c.args.announced.now) ≡ Some (wanted_at here c.args.message.now c.in-Some.wanted)
+  fix_is = fix_as_wanted here free c.args.message.now c.args.announced.now ∙ ap (option_map (wanted_at here c.args.message.now)) wanted
 
   same_fix : odometry.fix_of c.in-Some.wanted.place c.in-Some.wanted.accuracy c.moved_after-moved.result c.path_after-path.result c.args.message.now.missed ≡ wanted_at here c.args.message.now c.in-Some.wanted
   same_fix =
@@ -40,7 +40,7 @@ module _ (c : goal.Joined-fix) (life : Life) (entry : Entry) (effect : Effect)
       λ i. odometry.fix_of c.in-Some.wanted.place c.in-Some.wanted.accuracy (moved i) (path i) c.args.message.now.missed
 
   counted : (made : Bool) → odometry.is_made (odometry.fix_of c.in-Some.wanted.place c.in-Some.wanted.accuracy c.moved_after-moved.result c.path_after-path.result c.args.message.now.missed) ≡ made
-      → place_by (own_place here c.args.message.now) (fix_of here in_use c.args.message.now (Accept c.args.announced.now)) ≡ cond made c.in-Some.wanted.place (own_place here c.args.message.now)
+      → place_by (own_place here c.args.message.now) (fix_of here free c.args.message.now (Accept c.args.announced.now)) ≡ cond made c.in-Some.wanted.place (own_place here c.args.message.now)
   counted made is =
       ap (place_by (own_place here c.args.message.now)) fix_is
       ∙ counted_from (own_place here c.args.message.now) here c.args.message.now c.in-Some.wanted made (sym (ap odometry.is_made same_fix) ∙ is)
@@ -50,22 +50,26 @@ not_made true only = let never = only refl in absurd cc
 not_made false only = refl
 
 pub returns-clause-answer : goal.returns-clause-answer
-returns-clause-answer c life entry effect s =
+returns-clause-answer g c life entry effect s =
     elim c.match-fix.branch [
-      | in-Ok w ↦ w.result-is ∙ sym (counted c life entry effect s true (w.in-Ok.ensures.made.0 refl))
-      | in-Err w ↦ w.result-is ∙ own_is c life entry effect s ∙ sym (counted c life entry effect s false (not_made _ w.in-Err.ensures.made.1))
+      | in-Ok w ↦ w.result-is ∙ sym (counted g c life entry effect s true (w.in-Ok.ensures.made.0 refl))
+      | in-Err w ↦ w.result-is ∙ own_is g c life entry effect s ∙ sym (counted g c life entry effect s false (not_made _ w.in-Err.ensures.made.1))
     ]
 
 pub returns-clause-stands : goal.returns-clause-stands
-returns-clause-stands c life entry effect s =
+returns-clause-stands g c life entry effect s =
     record {
       place_is =
-          c.fix.ensures.stands (places (entry ∷ life.entries)) (place_is c life entry effect s)
-          ∙ ap (λ (fix : odometry.Fix). odometry.known (odometry.after_fix (places (entry ∷ life.entries)) fix)) (same_fix c life entry effect s)
-          ∙ sym (ap (λ (fix : Option odometry.Fix). odometry.known (after_fix fix (places (entry ∷ life.entries)))) (fix_is c life entry effect s));
+          c.fix.ensures.stands (places (entry ∷ life.entries)) (place_is g c life entry effect s)
+          ∙ ap (λ (fix : odometry.Fix). odometry.known (odometry.after_fix (places (entry ∷ life.entries)) fix)) (same_fix g c life entry effect s)
+          ∙ sym (ap (λ (fix : Option odometry.Fix). odometry.known (after_fix fix (places (entry ∷ life.entries)))) (fix_is g c life entry effect s));
       groups_are = ap (λ (k : Knowledge). k.groups) c.self.view_is ∙ s.groups_are;
       links_are = ap (λ (k : Knowledge). k.links) c.self.view_is ∙ s.links_are;
       national_is = ap (λ (k : Knowledge). k.national) c.self.view_is ∙ s.national_is;
       restrictions_are = ap (λ (k : Knowledge). k.restrictions) c.self.view_is ∙ s.restrictions_are;
+      moment_is = ap (λ (k : Knowledge). k.moment) c.self.view_is ∙ s.moment_is;
+      authority_is = ap (λ (k : Knowledge). k.authority) c.self.view_is ∙ s.authority_is;
+      gradients_are = ap (λ (k : Knowledge). k.gradients) c.self.view_is ∙ s.gradients_are;
+      speeds_are = ap (λ (k : Knowledge). k.speeds) c.self.view_is ∙ s.speeds_are;
       lives_are = ap (λ (k : Knowledge). k.lives) c.self.view_is ∙ s.lives_are;
     }

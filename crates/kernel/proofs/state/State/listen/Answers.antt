@@ -10,15 +10,15 @@ use Rattle.kernel.proofs.Carrying.{carried_in, refused_none}
 use Rattle.kernel.proofs.state.State.listen.Goals as goal
 
 pub returns-in_ok-take-in-Ok : goal.returns-in_ok-take-in-Ok
-returns-in_ok-take-in-Ok c life s =
+returns-in_ok-take-in-Ok g c life s =
     c.in_ok-take-in-Ok.ensures life c.args.bytes.now s (carried_in _ _ ((c.in-Ok.ensures.found _).0 refl))
 
 pub returns-in-Err : goal.returns-in-Err
-returns-in-Err c life s =
+returns-in-Err g c life s =
     let none = refused_none _ _ ((c.in-Err.ensures.fault _).0 refl) in
     subst
     (λ (o : Option Telegram). StandsForLife c.args.self.now
     (grown life
     (with_groups life.entries (record nothing { heard = option_map (λ t. Read (record { telegram = t; sums = odometry.sums (place_of life.entries) })) o }))))
     (sym none)
-    (record { place_is = s.place_is; groups_are = s.groups_are; links_are = s.links_are; national_is = s.national_is; restrictions_are = s.restrictions_are; lives_are = s.lives_are })
+    (record { place_is = s.place_is; groups_are = s.groups_are; links_are = s.links_are; national_is = s.national_is; restrictions_are = s.restrictions_are; moment_is = s.moment_is; authority_is = s.authority_is; gradients_are = s.gradients_are; speeds_are = s.speeds_are; lives_are = s.lives_are })

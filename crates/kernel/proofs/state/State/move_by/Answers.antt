@@ -11,7 +11,7 @@ use Rattle.kernel.specs.StandsFor.{Knowledge, StandsForLife, grown}
 use Rattle.kernel.proofs.state.State.move_by.Goals as goal
 
 pub returns : goal.returns
-returns c =
+returns g c =
     on_ok_weaker c.close.result
     (λ closed life s.
     (let entry : Entry = moved life.entries c.args.movement in
@@ -28,6 +28,10 @@ returns c =
           ∙ (λ i. linking.known (linking.after_misses (filter (linking.is_passed_by (front_is i)) (links_before i).left) (links life.entries)));
       national_is = ap (λ (k : Knowledge). k.national) c.self.view_is ∙ s.national_is;
       restrictions_are = ap (λ (k : Knowledge). k.restrictions) c.self.view_is ∙ s.restrictions_are;
+      moment_is = ap (λ (k : Knowledge). k.moment) c.self.view_is ∙ s.moment_is;
+      authority_is = ap (λ (k : Knowledge). k.authority) c.self.view_is ∙ s.authority_is;
+      gradients_are = ap (λ (k : Knowledge). k.gradients) c.self.view_is ∙ s.gradients_are;
+      speeds_are = ap (λ (k : Knowledge). k.speeds) c.self.view_is ∙ s.speeds_are;
       lives_are = ap (λ (k : Knowledge). k.lives) c.self.view_is ∙ s.lives_are;
     } in
     subst (λ (o : Option Closed). StandsForLife c.close.new.self (grown life (with_closed life.entries o entry))) ended (closed life entry refl refl all)))

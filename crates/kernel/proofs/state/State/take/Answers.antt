@@ -14,7 +14,7 @@ use Rattle.kernel.proofs.Marking.{closed_unlooked, closed_unmarked}
 use Rattle.kernel.proofs.state.State.take.Goals as goal
 
 pub returns : goal.returns
-returns c =
+returns g c =
     on_ok_weaker c.close-2.result
     (λ closed life bytes s told.
     (let before = life.entries in
@@ -33,6 +33,10 @@ returns c =
       links_are = ap (λ (k : Knowledge). k.links) c.self.view_is ∙ s.links_are;
       national_is = ap (λ (k : Knowledge). k.national) c.self.view_is ∙ s.national_is;
       restrictions_are = ap (λ (k : Knowledge). k.restrictions) c.self.view_is ∙ s.restrictions_are;
+      moment_is = ap (λ (k : Knowledge). k.moment) c.self.view_is ∙ s.moment_is;
+      authority_is = ap (λ (k : Knowledge). k.authority) c.self.view_is ∙ s.authority_is;
+      gradients_are = ap (λ (k : Knowledge). k.gradients) c.self.view_is ∙ s.gradients_are;
+      speeds_are = ap (λ (k : Knowledge). k.speeds) c.self.view_is ∙ s.speeds_are;
       lives_are = ap (λ (k : Knowledge). k.lives) c.self.view_is ∙ s.lives_are;
     } in
     let first = c.in_ok-close.ensures life entry refl refl all in

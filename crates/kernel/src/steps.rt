@@ -9,7 +9,7 @@ use crate::state::State;
 use crate::train::{Mode, TrainData};
 use speed_profile::CategorySpeeds;
 use std::alloc::Global;
-use track_store::{FactStore, ProfileStore};
+use track_store::{SegmentStore, ProfileStore};
 use units::{Mph, NoMemory, Permille};
 
 /// One event: what is known after it, and the speed limit. The old state is unchanged.
@@ -60,6 +60,6 @@ pub fn limits(
 ) -> Result<Vec<Mph>, NoMemory>
     ensures { IfOk result (λ limits. limits.items ≡ limits_of mode train.now inputs.now) }
 {
-    let empty: State<FactStore<Permille>, FactStore<CategorySpeeds>> = State::empty(alloc);
+    let empty: State<SegmentStore<Permille>, SegmentStore<CategorySpeeds>> = State::empty(alloc);
     limits_in(alloc, mode, train, inputs, &empty)
 }

@@ -1,5 +1,4 @@
--- The speed that holds where the train stands (SUBSET-026, 3.11.3.1 and 3.11.11; that the speed at the end of the authority
--- holds once the greatest front is there: this project's profile).
+-- The speed that holds where the train stands (this project's profile).
 use Rattle.std.specs.Prelude.{ℕ, nat_lt, ℤ, int_lt, Bool, true, not, ◌&&◌, if◌then◌else◌, Option, None, Some, List}
 use Rattle.units.specs.Stretches.{Span, over, least}
 use Rattle.vars.specs.declared.restriction.TrainLengthDelay.{TrainLengthDelay}

@@ -9,6 +9,7 @@ use Rattle.braking.specs.declared.target.Target.{Target}
 use Rattle.braking.specs.Braking.{fits, fits_all, greatest}
 use Rattle.braking.proofs.Slower.{slower_fits}
 use Rattle.braking.proofs.Greatest.{greatest_is}
+use Rattle.speed_profile.specs.Ahead.{permitted_by}
 use Rattle.speed_profile.proofs.Farther.{IsNoNearer, farther_fits}
 
 at_most_or_above : (a b : ℕ) → (a ≤ b) ⊎ (b < a)
@@ -104,8 +105,8 @@ module _ (front : ℤ) (gradient : ℤ → Option ℤ) (brakes : Brakes) where
   still_fits : (targets : List Target) → fits_all front gradient brakes targets 0 ≡ true
   still_fits targets = fit_all targets 0 (λ t there. either_true (nat_le 0 t.speed) _ (none_greater t.speed))
 
-  abbrev pub permitted : List Target → ℕ → ℕ
-  permitted targets limit = greatest (fits_all front gradient brakes targets) limit
+  abbrev permitted : List Target → ℕ → ℕ
+  permitted targets limit = permitted_by front gradient brakes targets limit
 
   pub none_asked : (limit : ℕ) → permitted [] limit ≡ limit
   none_asked limit =

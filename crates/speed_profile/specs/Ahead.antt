@@ -1,5 +1,5 @@
--- What ahead of a train asks for a speed, and the greatest speed from which it can still brake for all of it (this project's
--- profile). Each centimetre ahead is looked at, up to the last one that there is.
+-- What lies ahead of a train and asks for a speed, and the greatest speed from which the train can still brake for all of it
+-- (this project's profile). Each centimetre ahead is looked at, up to the last one that there is.
 use Rattle.std.specs.Prelude.{ℕ, ◌^◌, ℤ, pos, ◌+ℤ◌, int_lt, if◌then◌else◌, Option, None, Some, List, ◌++◌, filter, map}
 use Rattle.units.specs.Stretches.{over}
 use Rattle.track_store.specs.Profiles.{listed}
@@ -39,11 +39,18 @@ abbrev pub targets_at : Bounds → (ℤ → Option CategorySpeeds) → InForce �
 targets_at bounds profile track place =
     static_targets bounds profile place ++ restriction_targets track.mark track.restrictions place
 
--- the targets at each centimetre ahead of a front
-abbrev pub targets_ahead : ℤ → Bounds → (ℤ → Option CategorySpeeds) → InForce → List Target
-targets_ahead front bounds profile track = over (targets_at bounds profile track) (front +ℤ pos 1) greatest_place
+-- what each centimetre ahead of a front gives
+abbrev pub over_ahead : ℤ → (ℤ → List Target) → List Target
+over_ahead front f = over f (front +ℤ pos 1) greatest_place
 
--- the greatest speed up to a limit that fits all of them, and a last target where one is given
+abbrev pub targets_ahead : ℤ → Bounds → (ℤ → Option CategorySpeeds) → InForce → List Target
+targets_ahead front bounds profile track = over_ahead front (targets_at bounds profile track)
+
+-- the greatest speed up to a limit that fits some targets
+abbrev pub permitted_by : ℤ → (ℤ → Option ℤ) → Brakes → List Target → ℕ → ℕ
+permitted_by front gradient brakes targets limit = greatest (fits_all front gradient brakes targets) limit
+
+-- .. that fits those ahead, and a last one where it is given
 abbrev pub permitted_ahead : ℤ → ℕ → Option Target → Bounds → (ℤ → Option CategorySpeeds) → InForce → (ℤ → Option ℤ) → Brakes → ℕ
 permitted_ahead front limit last bounds profile track gradient brakes =
-    greatest (fits_all front gradient brakes (targets_ahead front bounds profile track ++ listed last)) limit
+    permitted_by front gradient brakes (targets_ahead front bounds profile track ++ listed last) limit

@@ -24,7 +24,8 @@ limiting_value category min_front place (Some speeds) =
 abbrev pub speeds_at : (ℤ → Option CategorySpeeds) → ℕ → Span → ℤ → List ℕ
 speeds_at profile category train place = listed (limiting_value category train.min_front place (profile place))
 
--- the least of a speed and of the static speeds that limit a train at a centimetre from its least rear to its greatest front
+-- the least of a speed and of the static speeds that limit a train at a centimetre from its least rear to its greatest
+-- front
 abbrev pub least_static : (ℤ → Option CategorySpeeds) → ℕ → Span → ℕ → ℕ
 least_static profile category train otherwise =
     least otherwise (over (speeds_at profile category train) train.rear train.max_front)

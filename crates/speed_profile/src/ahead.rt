@@ -1,9 +1,7 @@
 //! The speed that holds for what lies ahead.
 ghost use Rattle.std.specs.Prelude.{◌≡◌, ℤ, ◌+ℤ◌, ◌<ℤ◌, pos, MatchOption};
-ghost use Rattle.units.specs.Stretches.{over};
 ghost use Rattle.track_store.specs.Profiles.{listed};
-ghost use Rattle.braking.specs.Braking.{fits_all, greatest};
-ghost use Rattle.speed_profile.specs.Ahead.{greatest_place, unknown_target, static_target, static_targets, restriction_targets, permitted_ahead};
+ghost use Rattle.speed_profile.specs.Ahead.{greatest_place, unknown_target, static_target, static_targets, restriction_targets, over_ahead, permitted_by, permitted_ahead};
 ghost use Rattle.speed_profile.specs.Starts.{first_covered, first_target};
 
 use crate::{Bounds, CategorySpeeds};
@@ -30,10 +28,10 @@ pub struct Ahead<'a, S, G> {
 }
 
 impl<'a, S: Profile<CategorySpeeds>, G: Profile<Permille>> Ahead<'a, S, G> {
-    /// The greatest speed up to a limit from which the train can brake for all that lies ahead: for each static speed and
-    /// each restriction where it begins or goes on, to a stop where no static speed is known before the end of the
-    /// authority, and for a last target. Takes no memory; its cost counts the changes of the profiles and the
-    /// restrictions, each some twenty times, and no centimetres.
+    /// The greatest speed up to a limit from which the train can brake for all that lies ahead (this project's profile):
+    /// for each static speed and each restriction, whatever its Q_FRONT; to a stop at a centimetre without a static speed
+    /// before the end of the authority, where one is known; and for a last target. Takes no memory; its cost counts the
+    /// changes of the profiles and the restrictions, each some twenty times, and no centimetres.
     pub fn permitted(&self, limit: Mph, last: Option<Target>) -> Mph
         ensures { result ≡ permitted_ahead self.now.front limit last self.now.bounds.now (S.value self.now.speeds.now)
             self.now.restrictions.now (G.value self.now.gradient.now) self.now.brakes.now }
@@ -45,8 +43,8 @@ impl<'a, S: Profile<CategorySpeeds>, G: Profile<Permille>> Ahead<'a, S, G> {
 
     // The greatest speed up to a limit that fits the static speeds ahead.
     fn for_static_speeds(&self, limit: Mph) -> Mph
-        ensures { result ≡ greatest (fits_all self.now.front (G.value self.now.gradient.now) self.now.brakes.now
-            (over (static_targets self.now.bounds.now (S.value self.now.speeds.now)) (self.now.front +ℤ pos 1) greatest_place)) limit }
+        ensures { result ≡ permitted_by self.now.front (G.value self.now.gradient.now) self.now.brakes.now
+            (over_ahead self.now.front (static_targets self.now.bounds.now (S.value self.now.speeds.now))) limit }
     {
         let mut speed = limit;
         let mut start = next_after(self.front);
@@ -59,8 +57,9 @@ impl<'a, S: Profile<CategorySpeeds>, G: Profile<Permille>> Ahead<'a, S, G> {
 
     // .. that fits the restrictions ahead.
     fn for_restrictions(&self, limit: Mph) -> Mph
-        ensures { result ≡ greatest (fits_all self.now.front (G.value self.now.gradient.now) self.now.brakes.now
-            (over (restriction_targets self.now.restrictions.now.mark self.now.restrictions.now.restrictions) (self.now.front +ℤ pos 1) greatest_place)) limit }
+        ensures { let track = self.now.restrictions.now in
+            result ≡ permitted_by self.now.front (G.value self.now.gradient.now) self.now.brakes.now
+            (over_ahead self.now.front (restriction_targets track.mark track.restrictions)) limit }
     {
         let mark = self.restrictions.mark();
         let mut speed = limit;
@@ -72,7 +71,7 @@ impl<'a, S: Profile<CategorySpeeds>, G: Profile<Permille>> Ahead<'a, S, G> {
 
     // .. that fits a target, if there is one.
     fn for_target(&self, limit: Mph, target: Option<Target>) -> Mph
-        ensures { result ≡ greatest (fits_all self.now.front (G.value self.now.gradient.now) self.now.brakes.now (listed target)) limit }
+        ensures { result ≡ permitted_by self.now.front (G.value self.now.gradient.now) self.now.brakes.now (listed target) limit }
     {
         match target {
             Some(target) => permitted(self.front, limit, &[target], self.gradient, self.brakes),

@@ -1,4 +1,5 @@
-//! What the track and the authority ask of a train's speed at each centimetre (SUBSET-026, 3.11; this project's profile).
+//! What the track and the authority ask of a train's speed at each centimetre (SUBSET-026, 3.11; this project's
+//! profile).
 #![tactic(auto)]
 
 mod ahead;

@@ -37,8 +37,8 @@ pub struct Told<T> {
     pub steps: ArrayVec<Step<T>, 32>,
 }
 
-/// The gradients that packet 21 tells (SUBSET-026, 7.4.2), in per mille, uphill positive; a steepness of 255 is an end mark.
-/// Its first distance counts from a place.
+/// The gradients that packet 21 tells (SUBSET-026, 7.4.2), in per mille, uphill positive; a steepness of 255 is an end
+/// mark. Its first distance counts from a place.
 pub fn gradients(packet: &Gradients, place: Cm) -> Told<Permille>
     requires { unsigned_abs place ≤ 3 * 2 ^ 40 }
     ensures start { result.start ≡ (gradient_fact place packet.now).start }
@@ -57,8 +57,8 @@ pub fn gradients(packet: &Gradients, place: Cm) -> Told<Permille>
     Told { start, steps }
 }
 
-/// The static speeds that packet 27 tells (SUBSET-026, 7.4.2); a V_STATIC of 127 is an end mark. Its first distance counts
-/// from a place.
+/// The static speeds that packet 27 tells (SUBSET-026, 7.4.2); a V_STATIC of 127 is an end mark. Its first distance
+/// counts from a place.
 pub fn static_speeds(packet: &StaticSpeeds, place: Cm) -> Told<CategorySpeeds>
     requires { unsigned_abs place ≤ 3 * 2 ^ 40 }
     ensures start { result.start ≡ (speed_fact place packet.now).start }

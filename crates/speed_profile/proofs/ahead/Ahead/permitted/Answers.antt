@@ -2,8 +2,8 @@ use Rattle.std.proofs.Common.{◌≡◌, ℤ, pos, ◌+ℤ◌, List, ◌++◌, r
 use Rattle.units.specs.Stretches.{over}
 use Rattle.track_store.specs.Profiles.{listed}
 use Rattle.braking.specs.declared.target.Target.{Target}
-use Rattle.speed_profile.specs.Ahead.{greatest_place, static_targets, restriction_targets, targets_ahead}
-use Rattle.speed_profile.proofs.Passes.{permitted, goes_on}
+use Rattle.speed_profile.specs.Ahead.{permitted_by, greatest_place, static_targets, restriction_targets, targets_ahead}
+use Rattle.speed_profile.proofs.Passes.{goes_on}
 use Rattle.speed_profile.proofs.Starting.{both_covered, appended_covered}
 use Rattle.speed_profile.proofs.ahead.Ahead.permitted.Goals as goal
 
@@ -17,11 +17,11 @@ returns g c =
     let restricted = restriction_targets track.mark track.restrictions in
     let first : ℤ = self.front +ℤ pos 1 in
     let ahead : List Target = targets_ahead self.front self.bounds.now profile track in
-    let both : permitted self.front gradient self.brakes.now (over restricted first greatest_place) c.for_static_speeds-limit.result
-    ≡ permitted self.front gradient self.brakes.now ahead c.args.limit =
+    let both : permitted_by self.front gradient self.brakes.now (over restricted first greatest_place) c.for_static_speeds-limit.result
+    ≡ permitted_by self.front gradient self.brakes.now ahead c.args.limit =
     goes_on self.front gradient self.brakes.now (over static first greatest_place) (over restricted first greatest_place) ahead c.args.limit
     c.for_static_speeds-limit.result _ (both_covered static restricted first greatest_place) c.for_static_speeds-limit.ensures refl in
-    let middle : c.for_restrictions-limit.result ≡ permitted self.front gradient self.brakes.now ahead c.args.limit =
+    let middle : c.for_restrictions-limit.result ≡ permitted_by self.front gradient self.brakes.now ahead c.args.limit =
     c.for_restrictions-limit.ensures ∙ both in
     c.for_target.ensures
     ∙ goes_on self.front gradient self.brakes.now ahead (listed c.args.last) (ahead ++ listed c.args.last) c.args.limit

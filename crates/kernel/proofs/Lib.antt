@@ -2,3 +2,4 @@ pub mod Carrying
 pub mod Fixing
 pub mod Marking
 pub mod OneInput
+pub mod Walking

@@ -27,7 +27,8 @@ use Rattle.kernel.specs.declared.events.Input.TheVariants.{Telegram, Odometer, C
 use Rattle.kernel.specs.declared.train.TrainData.{TrainData}
 use Rattle.kernel.specs.Bytes.{telegram_in}
 use Rattle.track_store.specs.Profiles.{is_known}
-use Rattle.kernel.specs.History.{Entry, Outcome, Fact, place_of, groups_of, links_of, moment_of, authority_of, gradients_of, speeds_of}
+use Rattle.authority.specs.Entries.{accepted}
+use Rattle.kernel.specs.History.{Entry, Outcome, Fact, place_of, groups_of, links_of, moment_of, authorities, gradients_of, speeds_of}
 
 abbrev pub nothing : Entry
 nothing = record { clock = None; movement = None; heard = None; missed = []; groups = []; train = None; mark = None }
@@ -85,7 +86,7 @@ fix_at place message at accuracy =
 
 abbrev pub is_free : List Entry → Bool
 is_free entries =
-    not (is_any (links_of entries).left) && not (is_some (authority_of entries).stored)
+    not (is_any (links_of entries).left) && not (is_some (accepted (authorities entries)))
     && not (is_known (gradients_of entries).value) && not (is_known (speeds_of entries).value)
 
 abbrev pub fix_of : odometry.Known → Bool → Message → Verdict → Option odometry.Fix

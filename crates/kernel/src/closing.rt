@@ -1,5 +1,5 @@
 //! What a balise group does that closed: it is judged, it makes its fix, its packets are used.
-ghost use Rattle.std.specs.Prelude.{◌≡◌, ◌≤◌, ◌*◌, ◌^◌, Some, None, List, [], ◌∷◌, OnOk, Option};
+ghost use Rattle.std.specs.Prelude.{◌≡◌, not, ◌&&◌, ◌≤◌, ◌*◌, ◌^◌, Some, None, List, [], ◌∷◌, OnOk, Option};
 ghost use Rattle.std.specs.Int.RustNames.{unsigned_abs};
 ghost use Rattle.std.specs.Option.{option_map, option_or};
 ghost use Rattle.balise_groups.specs.declared.message.Closed.TheVariants as closed;
@@ -55,10 +55,11 @@ impl State {
     fn is_free(&self) -> bool
         ensures { (life : Life) (entry : Entry) → StandsForLife self.now (grown life entry) → result ≡ is_free (entry ∷ life.entries) }
     {
-        !self.links.is_in_use()
-            && !self.authority.is_stored()
-            && !is_known(&self.gradients)
-            && !is_known(&self.speeds)
+        let announced = self.links.is_in_use();
+        let authorised = self.authority.is_stored();
+        let gradient = is_known(&self.gradients);
+        let speed = is_known(&self.speeds);
+        is_none(announced, authorised, gradient, speed)
     }
 
     // An accepted group makes its fix: the place from which its distances count.
@@ -147,6 +148,18 @@ impl State {
         self.links.broken(group.group, group.linked);
     }
 
+    // A group that closed.
+    fn close_one(&mut self, alloc: Global, closed: &Closed) -> Result<(), NoMemory>
+        ensures { OnOk result ((life : Life) (entry : Entry) → entry.train ≡ None → entry.mark ≡ None → StandsForLife self.old (grown life entry)
+            → StandsForLife self.new (grown life (added (outcome_of life.entries entry closed.now) entry))) }
+    {
+        match closed {
+            Closed::Whole(message) => self.close_whole(alloc, message)?,
+            Closed::Broken(group) => self.close_broken(group),
+        }
+        Ok(())
+    }
+
     /// A group that closed, if one did.
     pub(crate) fn close(&mut self, alloc: Global, closed: &Option<Closed>) -> Result<(), NoMemory>
         ensures { OnOk result ((life : Life) (entry : Entry) → entry.train ≡ None → entry.mark ≡ None → StandsForLife self.old (grown life entry)
@@ -154,11 +167,17 @@ impl State {
     {
         match closed {
             None => {}
-            Some(Closed::Whole(message)) => self.close_whole(alloc, message)?,
-            Some(Closed::Broken(group)) => self.close_broken(group),
+            Some(closed) => self.close_one(alloc, closed)?,
         }
         Ok(())
     }
+}
+
+// Whether none of these is so.
+fn is_none(announced: bool, authorised: bool, gradient: bool, speed: bool) -> bool
+    ensures { result ≡ (not announced && not authorised && not gradient && not speed) }
+{
+    !announced && !authorised && !gradient && !speed
 }
 
 // Where an accepted group is to be fixed: where it was announced, else at its own place, but only while the track is free.

@@ -155,7 +155,11 @@ fn accept(authority: &mut Authority, packet: &Packet<'_>, used: &Use)
 }
 
 // Takes a packet, where it tells gradients and is used.
-fn replace_gradient<G: ProfileStore<Permille>>(store: &mut G, packet: &Packet<'_>, used: &Use) -> Result<(), NoMemory>
+fn replace_gradient<G: ProfileStore<Permille>>(
+    store: &mut G,
+    packet: &Packet<'_>,
+    used: &Use,
+) -> Result<(), NoMemory>
     requires { unsigned_abs used.now.place ≤ 3 * 2 ^ 40 }
     ensures { OnOk result ((told : Told ℤ) → profile_with G.value G.mark store.old ≡ profile_of told
         → profile_with G.value G.mark store.new ≡ profile_of (record told { facts = if is_valid used.now.direction packet.now then after_gradients (fact_of used.now packet.now) told.facts else told.facts })) }
@@ -171,7 +175,11 @@ fn replace_gradient<G: ProfileStore<Permille>>(store: &mut G, packet: &Packet<'_
 }
 
 // Takes a packet, where it tells static speeds and is used.
-fn replace_speed<S: ProfileStore<CategorySpeeds>>(store: &mut S, packet: &Packet<'_>, used: &Use) -> Result<(), NoMemory>
+fn replace_speed<S: ProfileStore<CategorySpeeds>>(
+    store: &mut S,
+    packet: &Packet<'_>,
+    used: &Use,
+) -> Result<(), NoMemory>
     requires { unsigned_abs used.now.place ≤ 3 * 2 ^ 40 }
     ensures { OnOk result ((told : Told CategorySpeeds) → profile_with S.value S.mark store.old ≡ profile_of told
         → profile_with S.value S.mark store.new ≡ profile_of (record told { facts = if is_valid used.now.direction packet.now then after_speeds (fact_of used.now packet.now) told.facts else told.facts })) }
@@ -252,7 +260,11 @@ pub fn accept_all(authority: &mut Authority, packets: &GroupPackets, used: &Use)
 }
 
 /// Takes the gradients (packet 21) of a group.
-pub fn replace_gradients<G: ProfileStore<Permille>>(store: &mut G, packets: &GroupPackets, used: &Use) -> Result<(), NoMemory>
+pub fn replace_gradients<G: ProfileStore<Permille>>(
+    store: &mut G,
+    packets: &GroupPackets,
+    used: &Use,
+) -> Result<(), NoMemory>
     requires { unsigned_abs used.now.place ≤ 3 * 2 ^ 40 }
     ensures { OnOk result ((told : Told ℤ) → profile_with G.value G.mark store.old ≡ profile_of told
         → profile_with G.value G.mark store.new ≡ profile_of (record told { facts = after_facts after_gradients (facts used.now packets.now) told.facts })) }
@@ -264,7 +276,11 @@ pub fn replace_gradients<G: ProfileStore<Permille>>(store: &mut G, packets: &Gro
 }
 
 /// Takes the static speeds (packet 27) of a group.
-pub fn replace_speeds<S: ProfileStore<CategorySpeeds>>(store: &mut S, packets: &GroupPackets, used: &Use) -> Result<(), NoMemory>
+pub fn replace_speeds<S: ProfileStore<CategorySpeeds>>(
+    store: &mut S,
+    packets: &GroupPackets,
+    used: &Use,
+) -> Result<(), NoMemory>
     requires { unsigned_abs used.now.place ≤ 3 * 2 ^ 40 }
     ensures { OnOk result ((told : Told CategorySpeeds) → profile_with S.value S.mark store.old ≡ profile_of told
         → profile_with S.value S.mark store.new ≡ profile_of (record told { facts = after_facts after_speeds (facts used.now packets.now) told.facts })) }

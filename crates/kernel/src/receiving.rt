@@ -1,5 +1,6 @@
 //! What an input does, sentence by sentence in the order of one event.
-ghost use Rattle.std.specs.Prelude.{◌≡◌, ℕ, List, ◌∷◌, OnOk, Some, None};
+ghost use Rattle.std.specs.Prelude.{◌≡◌, ◌≤◌, ◌^◌, ◌-◌, ℕ, pos, ◌-ℤ◌, List, ◌∷◌, OnOk, Some, None};
+ghost use Rattle.std.specs.Int.RustNames.{unsigned_abs};
 ghost use Rattle.kernel.specs.declared.events.Event.{Event};
 ghost use Rattle.kernel.specs.declared.events.Event.TheVariants as event;
 ghost use Rattle.kernel.specs.declared.events.Input.TheVariants as input;
@@ -20,6 +21,14 @@ use units::{Cm, Ms, NoMemory, Stretch};
 
 /// How much track behind the least rear isn't forgotten, in centimetres.
 const REMEMBERED: i64 = 100_000;
+
+// The track before this place is forgotten, where the train's least rear is there.
+fn mark_behind(rear: Cm) -> Cm
+    requires { unsigned_abs rear ≤ 2 ^ 42 - 2 ^ 25 }
+    ensures { result ≡ rear -ℤ pos 100_000 }
+{
+    Cm::new(rear.get() - REMEMBERED).unwrap()
+}
 
 impl State {
     // A movement: the group that is left by it closes, and announced groups are missed that the train has passed. A movement
@@ -109,7 +118,7 @@ impl State {
     {
         let stretch = self.place.stretch(train.length);
         self.look(&stretch);
-        self.forget(Cm::new(stretch.rear().get() - REMEMBERED).unwrap());
+        self.forget(mark_behind(stretch.rear()));
     }
 
     /// All that an input does. Where memory is refused, the state is no longer of use.

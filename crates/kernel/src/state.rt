@@ -40,16 +40,16 @@ impl Model for State {
     ghost Value = { Knowledge };
 
     ghost view = { λ s. record {
-        place = s.place;
-        groups = s.groups;
-        links = s.links;
-        national = s.national;
-        restrictions = s.restrictions;
-        moment = s.moment;
-        authority = s.authority;
-        gradients = s.gradients;
-        speeds = s.speeds;
-        lives = s.lives;
+      place = s.place;
+      groups = s.groups;
+      links = s.links;
+      national = s.national;
+      restrictions = s.restrictions;
+      moment = s.moment;
+      authority = s.authority;
+      gradients = s.gradients;
+      speeds = s.speeds;
+      lives = s.lives;
     } };
 }
 

@@ -69,8 +69,7 @@ pub trait ProfileStore<T>: Profile<T> {
         ensures value { (place : ℤ) → Self.value self.new place ≡ None }
         ensures mark { mark self.new ≡ mark self.old };
 
-    /// An equal profile with an equal mark.
+    /// An equal value: an equal profile with an equal mark.
     fn copy(&self, alloc: Global) -> Result<Self, NoMemory>
-        ensures value { IfOk result (λ copy. Self.value copy ≡ Self.value self.now) }
-        ensures mark { IfOk result (λ copy. mark copy ≡ mark self.now) };
+        ensures { IfOk result (λ copy. copy ≡ self.now) };
 }

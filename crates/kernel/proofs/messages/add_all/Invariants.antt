@@ -8,4 +8,4 @@ use Rattle.kernel.proofs.messages.add_all.Given as goal
 abbrev pub invariant-loop-item : goal.invariant-loop-item
 invariant-loop-item l =
     (entries : List Entry) → l.fn.restrictions ≡ in_force entries → (now : List Entry) × (l.restrictions ≡ in_force now)
-    × (after_facts after_restriction (facts l.used l.item-iterator) now ≡ after_restrictions (facts l.used l.fn.packets) entries)
+    × (after_facts after_restriction (facts l.used l.item-iterator) now ≡ after_facts after_restriction (facts l.used l.fn.packets) entries)

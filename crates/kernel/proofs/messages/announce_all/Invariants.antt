@@ -8,4 +8,4 @@ use Rattle.kernel.proofs.messages.announce_all.Given as goal
 abbrev pub invariant-loop-item : goal.invariant-loop-item
 invariant-loop-item l =
     (entries : List Entry) → l.fn.links ≡ known entries → (now : List Entry) × (l.links ≡ known now)
-    × (after_facts after_links (facts l.used l.item-iterator) now ≡ after_all_links (facts l.used l.fn.packets) entries)
+    × (after_facts after_links (facts l.used l.item-iterator) now ≡ after_facts after_links (facts l.used l.fn.packets) entries)

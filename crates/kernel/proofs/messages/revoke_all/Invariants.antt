@@ -8,4 +8,4 @@ use Rattle.kernel.proofs.messages.revoke_all.Given as goal
 abbrev pub invariant-loop-item : goal.invariant-loop-item
 invariant-loop-item l =
     (entries : List Entry) → l.fn.restrictions ≡ in_force entries → (now : List Entry) × (l.restrictions ≡ in_force now)
-    × (after_facts after_revocation (facts l.used l.item-iterator) now ≡ after_revocations (facts l.used l.fn.packets) entries)
+    × (after_facts after_revocation (facts l.used l.item-iterator) now ≡ after_facts after_revocation (facts l.used l.fn.packets) entries)

@@ -9,4 +9,4 @@ use Rattle.kernel.proofs.messages.take_all_values.Given as goal
 abbrev pub invariant-loop-item : goal.invariant-loop-item
 invariant-loop-item l =
     (kept : ValuesFor) (entries : List Entry) → l.fn.national ≡ known kept entries → (now : List Entry) × (l.national ≡ known kept now)
-    × (after_facts after_values (facts l.used l.item-iterator) now ≡ after_all_values (facts l.used l.fn.packets) entries)
+    × (after_facts after_values (facts l.used l.item-iterator) now ≡ after_facts after_values (facts l.used l.fn.packets) entries)

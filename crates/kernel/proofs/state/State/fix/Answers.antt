@@ -1,4 +1,4 @@
-use Rattle.std.proofs.Common.{◌≡◌, ◌∷◌, Bool, true, false, Option, Some, cond, refl, sym, ap, ◌∙◌}
+use Rattle.std.proofs.Common.{◌≡◌, ◌∷◌, Bool, true, false, Option, Some, None, cond, refl, sym, ap, subst, ◌∙◌}
 use Rattle.std.specs.Option.{option_map}
 use Rattle.linking.specs.declared.effect.Effect.{Effect}
 use Rattle.linking.specs.declared.judgement.Verdict.TheVariants.{Accept}
@@ -72,3 +72,17 @@ returns-clause-stands c life entry effect s =
       speeds_are = ap (λ (k : Knowledge). profile_in k.speeds) c.self.view_is ∙ s.speeds_are;
       lives_are = ap (λ (k : Knowledge). k.lives) c.self.view_is ∙ s.lives_are;
     }
+
+pub returns-in_default-clause-stands : goal.returns-in_default-clause-stands
+returns-in_default-clause-stands c life entry effect s =
+    let m = c.args.message.now in
+    let a = c.args.announced.now in
+    let outcome = accepted m a effect in
+    let here = place_of (entry ∷ life.entries) in
+    let free = is_free (added outcome entry ∷ life.entries) in
+    let place = ap (λ (k : Knowledge). k.place) c.self.view_is ∙ s.place_is in
+    let own = ap (λ e. e.estimate) c.place_then.ensures.value ∙ ap (λ (k : odometry.Known). own_place k m) place in
+    let none : None ≡ fix_wanted free (own_place here m) a =
+    c.in_default.ensures ∙ (λ i. fix_wanted (c.is_free.ensures life (added outcome entry) s i) (own i) a) in
+    let same = fix_as_wanted here free m a ∙ ap (option_map (wanted_at here m)) (sym none) in
+    subst (λ (f : Option odometry.Fix). StandsForLife c.args.self.now (grown life (added (record outcome { fix = f }) entry))) (sym same) s

@@ -6,7 +6,8 @@ use Rattle.national.specs.InForce as national
 use Rattle.odometry.specs.Place as odometry
 use Rattle.authority.specs.Known.{Known as Authority}
 use Rattle.speed_profile.specs.declared.told.CategorySpeeds.{CategorySpeeds}
-use Rattle.track_store.specs.Profiles.{Profile}
+use Rattle.track_store.specs.Profiles.{Profile, profile_with}
+use Rattle.track_store.specs.Segments.{Kept, value_kept}
 use Rattle.track_store.specs.Restrictions as track
 use Rattle.kernel.specs.declared.events.Event.{Event}
 use Rattle.kernel.specs.declared.train.TrainData.{TrainData}
@@ -22,9 +23,13 @@ pub record Knowledge : Type 0 where
   pub restrictions : track.InForce
   pub moment : ℕ
   pub authority : Authority
-  pub gradients : Profile ℤ
-  pub speeds : Profile CategorySpeeds
+  pub gradients : Kept ℤ
+  pub speeds : Kept CategorySpeeds
   pub lives : ℕ
+
+-- what a store gives
+abbrev pub profile_in : {A : Type 0} → Kept A → Profile A
+profile_in = profile_with value_kept (λ kept. kept.mark)
 
 pub record StandsForLife (known : Knowledge) (life : Life) : Type 0 where
   pub place_is : known.place ≡ place_of life.entries
@@ -34,8 +39,8 @@ pub record StandsForLife (known : Knowledge) (life : Life) : Type 0 where
   pub restrictions_are : known.restrictions ≡ track.in_force (restrictions life.entries)
   pub moment_is : known.moment ≡ moment_of life.entries
   pub authority_is : known.authority ≡ authority_of life.entries
-  pub gradients_are : known.gradients ≡ gradients_of life.entries
-  pub speeds_are : known.speeds ≡ speeds_of life.entries
+  pub gradients_are : profile_in known.gradients ≡ gradients_of life.entries
+  pub speeds_are : profile_in known.speeds ≡ speeds_of life.entries
   pub lives_are : known.lives ≡ life.kept.lives
 
 -- a life with one entry more

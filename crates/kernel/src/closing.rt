@@ -18,10 +18,9 @@ use crate::messages::{
 use crate::state::State;
 use balise_groups::{Broken, Closed, GroupPackets, Message};
 use linking::{Announcement, GroupRead, Judgement, Verdict};
-use speed_profile::CategorySpeeds;
 use std::alloc::Global;
-use track_store::{ProfileStore, is_known};
-use units::{Cm, Length, NoMemory, Permille};
+use track_store::is_known;
+use units::{Cm, Length, NoMemory};
 use vars::{LinkOrientation, Variable};
 
 // Where a group is to be fixed, and how exactly that is known.
@@ -31,7 +30,7 @@ struct Wanted {
     accuracy: Length,
 }
 
-impl<G: ProfileStore<Permille> + Drop, S: ProfileStore<CategorySpeeds> + Drop> State<G, S> {
+impl State {
     // Linking judges a group. One that is accepted counts for the national values by its country.
     fn judge(&mut self, message: &Message) -> Judgement
         ensures answer { (life : Life) (entry : Entry) → StandsForLife self.old (grown life entry)

@@ -13,16 +13,15 @@ use crate::events::{Event, Input};
 use crate::state::State;
 use crate::train::TrainData;
 use balise_groups::Reading as GroupReading;
-use speed_profile::CategorySpeeds;
 use std::alloc::Global;
 use telegram::Received;
 use track_store::ProfileStore;
-use units::{Cm, Ms, NoMemory, Permille, Stretch};
+use units::{Cm, Ms, NoMemory, Stretch};
 
 /// How much track behind the least rear isn't forgotten, in centimetres.
 const REMEMBERED: i64 = 100_000;
 
-impl<G: ProfileStore<Permille> + Drop, S: ProfileStore<CategorySpeeds> + Drop> State<G, S> {
+impl State {
     // A movement: the group that is left by it closes, and announced groups are missed that the train has passed. A movement
     // that leads too far isn't added.
     fn move_by(&mut self, alloc: Global, movement: Cm) -> Result<(), NoMemory>

@@ -16,12 +16,12 @@ use odometry::Place;
 use speed_profile::{Bounds, CategorySpeeds, limit_on};
 use std::alloc::Global;
 use std::marker::Model;
-use track_store::{ProfileStore, Restrictions};
+use track_store::{ProfileStore, Restrictions, SegmentStore};
 use units::{Mph, Ms, NoMemory, Permille, Stretch};
 
-/// What the kernel knows, the gradient being kept in a store G and the static speeds in a store S.
+/// What the kernel knows.
 #[derive(Drop)]
-pub struct State<G: ProfileStore<Permille>, S: ProfileStore<CategorySpeeds>> {
+pub struct State {
     pub(crate) place: Place,
     pub(crate) groups: Assembler,
     pub(crate) links: Links,
@@ -29,13 +29,12 @@ pub struct State<G: ProfileStore<Permille>, S: ProfileStore<CategorySpeeds>> {
     pub(crate) restrictions: Restrictions,
     pub(crate) moment: Ms,
     pub(crate) authority: Authority,
-    pub(crate) gradients: G,
-    pub(crate) speeds: S,
+    pub(crate) gradients: SegmentStore<Permille>,
+    pub(crate) speeds: SegmentStore<CategorySpeeds>,
     pub(crate) lives: u32,
 }
 
-impl<G: ProfileStore<Permille>, S: ProfileStore<CategorySpeeds>> Model for State<G, S> {
-    ghost use Rattle.track_store.specs.Profiles.{profile_with};
+impl Model for State {
     ghost use Rattle.kernel.specs.StandsFor.{Knowledge};
 
     ghost Value = { Knowledge };
@@ -48,13 +47,13 @@ impl<G: ProfileStore<Permille>, S: ProfileStore<CategorySpeeds>> Model for State
         restrictions = s.restrictions;
         moment = s.moment;
         authority = s.authority;
-        gradients = profile_with G.value G.mark s.gradients;
-        speeds = profile_with S.value S.mark s.speeds;
+        gradients = s.gradients;
+        speeds = s.speeds;
         lives = s.lives;
     } };
 }
 
-impl<G: ProfileStore<Permille> + Drop, S: ProfileStore<CategorySpeeds> + Drop> State<G, S> {
+impl State {
     /// What is known before the first power-up. Takes no memory.
     pub fn empty(alloc: Global) -> Self
         ensures { (train : TrainData) → StandsFor train result [] }
@@ -74,8 +73,8 @@ impl<G: ProfileStore<Permille> + Drop, S: ProfileStore<CategorySpeeds> + Drop> S
             restrictions: Restrictions::new(alloc),
             moment: Ms::new(0).unwrap(),
             authority: Authority::new(),
-            gradients: G::empty(alloc),
-            speeds: S::empty(alloc),
+            gradients: SegmentStore::empty(alloc),
+            speeds: SegmentStore::empty(alloc),
             lives: kept.lives,
         }
     }

@@ -1,0 +1,4 @@
+pub mod Members
+pub mod Farther
+pub mod Passes
+pub mod Starting

@@ -1,2 +1,4 @@
 pub mod Told
 pub mod Limit
+pub mod Ahead
+pub mod Starts

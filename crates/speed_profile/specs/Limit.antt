@@ -1,5 +1,4 @@
--- The speed that holds where the train stands (SUBSET-026, 3.11.3.1 and 3.11.11; that the speed at the end of the authority
--- holds once the greatest front is there: this project's profile).
+-- The speed that holds where the train stands (this project's profile).
 use Rattle.std.specs.Prelude.{ℕ, nat_lt, ℤ, int_lt, Bool, true, not, ◌&&◌, if◌then◌else◌, Option, None, Some, List}
 use Rattle.units.specs.Stretches.{Span, over, least}
 use Rattle.vars.specs.declared.restriction.TrainLengthDelay.{TrainLengthDelay}
@@ -25,7 +24,8 @@ limiting_value category min_front place (Some speeds) =
 abbrev pub speeds_at : (ℤ → Option CategorySpeeds) → ℕ → Span → ℤ → List ℕ
 speeds_at profile category train place = listed (limiting_value category train.min_front place (profile place))
 
--- the least of a speed and of the static speeds that limit a train at a centimetre from its least rear to its greatest front
+-- the least of a speed and of the static speeds that limit a train at a centimetre from its least rear to its greatest
+-- front
 abbrev pub least_static : (ℤ → Option CategorySpeeds) → ℕ → Span → ℕ → ℕ
 least_static profile category train otherwise =
     least otherwise (over (speeds_at profile category train) train.rear train.max_front)

@@ -68,8 +68,8 @@ speed_told (Speed step) differences delay = Some (record { speeds = speeds_for (
 abbrev pub speed_value : StaticStep → List Difference → Option CategorySpeeds
 speed_value element differences = speed_told element.speed differences element.delay
 
--- each distance counts from the element before, and each element takes its own from the front of the differences that are
--- left
+-- each distance counts from the element before, and each element takes its own differences from the front of those that
+-- are left
 abbrev pub speed_steps_from : Scale → ℤ → List StaticStep → List Difference → List (Step CategorySpeeds)
 speed_steps_from scale place [] differences = []
 speed_steps_from scale place (element ∷ elements) differences =

@@ -1,9 +1,12 @@
-//! What the track and the authority ask of a train's speed at each centimetre (SUBSET-026, 3.11; this project's profile).
+//! What the track and the authority ask of a train's speed at each centimetre (SUBSET-026, 3.11; this project's
+//! profile).
 #![tactic(auto)]
 
+mod ahead;
 mod limit;
 mod limiting;
 mod told;
 
+pub use ahead::Ahead;
 pub use limit::{Bounds, limit_on};
 pub use told::{CategorySpeeds, Told, gradients, static_speeds};

@@ -23,8 +23,9 @@ pub struct Bounds {
     pub end: Option<End>,
 }
 
-/// The greatest speed that a train that may stand on this stretch may have there: the least of its greatest speed, of
-/// V_MAIN, of V_LOA once its greatest front is at the end, of the static speeds and of the restrictions. Takes no memory.
+/// The greatest speed that a train which may stand on this stretch may have there (this project's profile): the least of
+/// its greatest speed, of V_MAIN, of V_LOA once its greatest front is at the end, of the static speeds and of the
+/// restrictions. Takes no memory.
 pub fn limit_on<S: Profile<CategorySpeeds>>(
     train: &Stretch,
     bounds: &Bounds,

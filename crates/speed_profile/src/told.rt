@@ -10,7 +10,7 @@ use track_store::Step;
 use units::{Cm, Mph, Permille};
 use vars::{Distance, Scale, StaticSpeed, TrainCategory, TrainLengthDelay, Variable};
 
-/// A static speed, with what holds for each category of trains.
+/// A static speed, with what holds for each category of trains (SUBSET-026, 3.11.3; 7.4.2, packet 27).
 #[derive(Clone, Copy, Debug, PartialEq, Eq)]
 pub struct CategorySpeeds {
     /// The speed for each category (NC_DIFF) from 0 to 15.
@@ -28,7 +28,7 @@ impl CategorySpeeds {
     }
 }
 
-/// A profile as one packet tells it.
+/// A profile as one packet tells it (SUBSET-026, 7.4.2, packets 21 and 27).
 #[derive(Drop)]
 pub struct Told<T> {
     /// The first place that it tells of.
@@ -37,7 +37,8 @@ pub struct Told<T> {
     pub steps: ArrayVec<Step<T>, 32>,
 }
 
-/// The gradients that packet 21 tells, in per mille, uphill positive. Its distances count from a place.
+/// The gradients that packet 21 tells (SUBSET-026, 7.4.2), in per mille, uphill positive; a steepness of 255 is an end
+/// mark. Its first distance counts from a place.
 pub fn gradients(packet: &Gradients, place: Cm) -> Told<Permille>
     requires { unsigned_abs place ≤ 3 * 2 ^ 40 }
     ensures start { result.start ≡ (gradient_fact place packet.now).start }
@@ -56,7 +57,8 @@ pub fn gradients(packet: &Gradients, place: Cm) -> Told<Permille>
     Told { start, steps }
 }
 
-/// The static speeds that packet 27 tells. Its distances count from a place.
+/// The static speeds that packet 27 tells (SUBSET-026, 7.4.2); a V_STATIC of 127 is an end mark. Its first distance
+/// counts from a place.
 pub fn static_speeds(packet: &StaticSpeeds, place: Cm) -> Told<CategorySpeeds>
     requires { unsigned_abs place ≤ 3 * 2 ^ 40 }
     ensures start { result.start ≡ (speed_fact place packet.now).start }

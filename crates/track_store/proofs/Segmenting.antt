@@ -1,14 +1,14 @@
 -- What segments give once some are dropped, and one or more are put behind them.
 use Rattle.std.proofs.Common.{◌≡◌, ℤ, ◌≤ℤ◌, ◌<ℤ◌, List, [], ◌∷◌, ◌++◌, Bool, true, false, cond, refl, ap, sym, subst, ◌∙◌, arith}
-use Rattle.std.specs.Prelude.{Option, None, Some, int_lt, not, ◌&&◌, ◌||◌, is_none, filter}
+use Rattle.std.specs.Prelude.{Option, None, Some, int_lt, not, is_none, filter}
 use Rattle.std.specs.List.{list_any, remove}
 use Rattle.std.specs.Int.{int_max}
 use Rattle.std.proofs.lemmas.Int.{ints, by_lt_z}
 use Rattle.track_store.specs.declared.profile.Step.{Step}
 use Rattle.track_store.specs.declared.segments.Segment.{Segment}
-use Rattle.track_store.specs.Facts.{passed, last_value, given_by, from_mark, replaced}
+use Rattle.track_store.specs.Facts.{passed, last_value, from_mark, replaced}
 use Rattle.track_store.specs.Profiles.{Lasts}
-use Rattle.track_store.specs.Segments.{value_among, value_of_segments, IsRisingFrom, IsRising, is_first_passed, next_among, is_reached, Kept, value_kept}
+use Rattle.track_store.specs.Segments.{value_among, value_of_segments, IsRisingFrom, IsRising, is_first_passed, next_among, Kept, value_kept}
 
 below : (a b : ℤ) → a <ℤ b → int_lt a b ≡ true
 below a b h = grind (arith, ints)
@@ -200,15 +200,3 @@ module _ {A : Type 0} where
       (λ (h : place ≤ℤ there). by_lt_z there mark
       (λ (l : there <ℤ mark). (let k : there <ℤ raised = grind (arith, ints) in rw (below there raised k, below there mark l, not_below there place h)))
       (λ (l : mark ≤ℤ there). (let k : raised ≤ℤ there = grind (arith, ints) in rw (not_below there raised k, not_below there mark l, not_below there place h)))))
-
-  -- the same where steps replace what was kept
-  pub kept_replaced : (mark start there : ℤ) (steps : List (Step A)) (segments told rest : List (Segment A)) (kept : Kept A) →
-      record { mark = mark; segments = segments } ≡ kept →
-      value_of_segments told there ≡ replaced (value_of_segments segments) start steps there →
-      from_mark mark (value_of_segments rest) there ≡ from_mark mark (value_of_segments told) there →
-      from_mark mark (value_of_segments rest) there ≡ from_mark kept.mark (replaced (value_kept kept) start steps) there
-  kept_replaced mark start there steps segments told rest kept is given same =
-      subst (λ (k : Kept A). from_mark mark (value_of_segments rest) there ≡ from_mark k.mark (replaced (value_kept k) start steps) there) is
-      (same ∙ by_lt_z there mark
-      (λ (h : there <ℤ mark). rw (below there mark h))
-      (λ (h : mark ≤ℤ there). rw (not_below there mark h) given))

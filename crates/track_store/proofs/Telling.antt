@@ -46,13 +46,13 @@ module _ {A : Type 0} (old new : Profile A) (told : Told A) (is : old ≡ profil
       (below_greater place mark told.mark)))
       (raised ∙ ap (λ (p : Profile A). int_max mark p.mark) is)
 
+same_none : {A : Type 0} (below : Bool) (value : Option A) → value ≡ None → value ≡ cond below None None
+same_none true value is = is
+same_none false value is = is
+
 -- nothing told
 pub none_told : {A : Type 0} (new : Profile A) (mark : ℤ) → ((place : ℤ) → new.value place ≡ None) → new.mark ≡ mark →
     new ≡ profile_of (record { mark = mark; facts = [] })
-none_told {A} new mark values is =
+none_told new mark values is =
     same_profile new (profile_of (record { mark = mark; facts = [] }))
-    (fun_ext (λ place. values place ∙ sym (same_none (int_lt place mark)))) is
-  where
-    same_none : (b : Bool) → cond b None None ≡ None {A}
-    same_none true = refl
-    same_none false = refl
+    (fun_ext (λ place. same_none (int_lt place mark) (new.value place) (values place))) is

@@ -1,5 +1,5 @@
--- A profile as segments of one value each (SUBSET-026, 3.11; 7.4.2, packets 21 and 27; the forgetting mark and how the segments
--- are kept: this project's profile).
+-- A profile as segments of one value each (SUBSET-026, 3.11; 7.4.2, packets 21 and 27; the forgetting mark and how the
+-- segments are kept: this project's profile).
 use Rattle.std.specs.Prelude.{◌≡◌, ℤ, ◌<ℤ◌, Bool, false, not, int_lt, Option, None, Some, if◌then◌else◌, List, [], ◌∷◌}
 use Rattle.track_store.specs.declared.segments.Segment.{Segment}
 use Rattle.track_store.specs.Facts.{from_mark}

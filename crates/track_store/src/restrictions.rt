@@ -3,6 +3,8 @@ ghost use Rattle.track_store.specs.Restrictions.{Entry, ends, in_force, least_sp
 ghost use Rattle.track_store.specs.Restrictions.Entry.{Restricted, Revoked, Forgotten};
 ghost use Rattle.track_store.specs.Meeting.{meets};
 
+mod walk;
+
 use crate::Restriction;
 use std::alloc::Global;
 use std::marker::Model;

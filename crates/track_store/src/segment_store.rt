@@ -7,8 +7,8 @@ use std::alloc::Global;
 use std::marker::Model;
 use units::{Cm, NoMemory};
 
-/// A profile as segments of one value each. What is replaced or lies wholly before the mark takes no place in it, so that it
-/// stays short however long the life.
+/// A profile as segments of one value each (SUBSET-026, 3.11; the forgetting mark: this project's profile). What is
+/// replaced or lies wholly before the mark takes no place in it, so that it stays short however long the life.
 #[derive(Drop)]
 pub struct SegmentStore<T> {
     // No track before this place counts.

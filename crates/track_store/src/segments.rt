@@ -41,7 +41,7 @@ pub(crate) fn next_start<T: Copy>(segments: &[Segment<T>], place: Cm) -> Option<
     None
 }
 
-// Takes one value from a place on, in place of all segments there.
+// Takes one value from a place on, in place of all segments there. The list has room for one more.
 fn hold_from<T: Copy>(segments: &mut Vec<Segment<T>>, place: Cm, value: Option<T>)
     requires { vec_len segments.old < vec_capacity segments.old }
     ensures value { (there : ℤ) → value_of_segments segments.new.items there
@@ -83,7 +83,7 @@ fn first_of(first: Option<Cm>, place: Cm) -> Cm
 }
 
 // Takes what steps give from a first place on, in place of all segments there. Each step holds from its place on,
-// whatever the order of their places, and the first place of end marks ends them all.
+// whatever the order of their places, and the first place of end marks ends them all. The list has room for them all.
 pub(crate) fn hold_steps<T: Copy>(segments: &mut Vec<Segment<T>>, start: Cm, steps: &[Step<T>])
     requires { vec_len segments.old + length steps.now + 2 ≤ vec_capacity segments.old }
     ensures value { (place : ℤ) → value_of_segments segments.new.items place

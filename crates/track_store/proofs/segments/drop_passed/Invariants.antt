@@ -1,4 +1,4 @@
-use Rattle.std.proofs.Common.{◌≡◌, ℕ, ℤ, length}
+use Rattle.std.proofs.Common.{◌≡◌, ℤ}
 use Rattle.std.specs.Prelude.{vec_len}
 use Rattle.track_store.specs.Facts.{from_mark}
 use Rattle.track_store.specs.Segments.{value_of_segments, IsRising}

@@ -1,5 +1,5 @@
-use Rattle.std.proofs.Common.{◌≡◌, List, [], ◌∷◌, ◌++◌, ap, sym, subst, ◌∙◌, rules}
-use Rattle.std.specs.Prelude.{filter, int_lt}
+use Rattle.std.proofs.Common.{[], ◌∷◌, ◌++◌, ap, sym, subst, ◌∙◌, rules}
+use Rattle.std.specs.Prelude.{int_lt}
 use Rattle.std.proofs.lemmas.Fn.{filter_same}
 use Rattle.track_store.specs.Segments.{value_of_segments, IsRising}
 use Rattle.track_store.proofs.Segmenting.{value_of_cut, rising_cut}

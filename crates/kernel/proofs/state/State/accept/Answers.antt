@@ -7,7 +7,7 @@ use Rattle.kernel.specs.StandsFor.{StandsForLife, grown}
 use Rattle.kernel.proofs.state.State.accept.Goals as goal
 
 pub returns : goal.returns
-returns g c =
+returns c =
     on_ok_weaker c.take_packets.result
     (λ taken life entry effect unlooked unmarked s.
     (let before = c.fix-place.ensures.stands life entry effect s in

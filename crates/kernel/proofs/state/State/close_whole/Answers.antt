@@ -11,7 +11,7 @@ use Rattle.kernel.specs.StandsFor.{StandsForLife, grown}
 use Rattle.kernel.proofs.state.State.close_whole.Goals as goal
 
 pub returns-in_ok-accept-in-Accept : goal.returns-in_ok-accept-in-Accept
-returns-in_ok-accept-in-Accept g c life entry unlooked unmarked s =
+returns-in_ok-accept-in-Accept c life entry unlooked unmarked s =
     let m = c.args.message.now in
     let answer = c.judge.ensures.answer life entry s in
     let effect : Effect = c.judge.result.effect in

@@ -7,13 +7,12 @@ use Rattle.kernel.specs.History.{Entry, places, place_of, after_fix}
 use Rattle.kernel.specs.Sentences.{added, is_free, fix_of, own_place, place_by}
 use Rattle.kernel.specs.Steps.{accepted, fix_wanted}
 use Rattle.kernel.specs.Lives.{Life}
-use Rattle.kernel.specs.StandsFor.{Knowledge, StandsForLife, grown}
+use Rattle.kernel.specs.StandsFor.{Knowledge, profile_in, StandsForLife, grown}
 use Rattle.kernel.proofs.Fixing.{wanted_at, fix_as_wanted, counted_from}
-use Rattle.kernel.proofs.state.State.fix.Given as given
 use Rattle.kernel.proofs.state.State.fix.Goals as goal
 use Rattle.kernel.proofs.state.State.fix.Goals.{in-Ok, in-Err}
 
-module _ (g : given.Over) (c : goal.Joined-fix g) (life : Life) (entry : Entry) (effect : Effect)
+module _ (c : goal.Joined-fix) (life : Life) (entry : Entry) (effect : Effect)
     (s : StandsForLife c.args.self.now (grown life (added (accepted c.args.message.now c.args.announced.now effect) entry))) where
   abbrev here : odometry.Known
   here = place_of (entry ∷ life.entries)
@@ -50,26 +49,26 @@ not_made true only = let never = only refl in absurd cc
 not_made false only = refl
 
 pub returns-clause-answer : goal.returns-clause-answer
-returns-clause-answer g c life entry effect s =
+returns-clause-answer c life entry effect s =
     elim c.match-fix.branch [
-      | in-Ok w ↦ w.result-is ∙ sym (counted g c life entry effect s true (w.in-Ok.ensures.made.0 refl))
-      | in-Err w ↦ w.result-is ∙ own_is g c life entry effect s ∙ sym (counted g c life entry effect s false (not_made _ w.in-Err.ensures.made.1))
+      | in-Ok w ↦ w.result-is ∙ sym (counted c life entry effect s true (w.in-Ok.ensures.made.0 refl))
+      | in-Err w ↦ w.result-is ∙ own_is c life entry effect s ∙ sym (counted c life entry effect s false (not_made _ w.in-Err.ensures.made.1))
     ]
 
 pub returns-clause-stands : goal.returns-clause-stands
-returns-clause-stands g c life entry effect s =
+returns-clause-stands c life entry effect s =
     record {
       place_is =
-          c.fix.ensures.stands (places (entry ∷ life.entries)) (place_is g c life entry effect s)
-          ∙ ap (λ (fix : odometry.Fix). odometry.known (odometry.after_fix (places (entry ∷ life.entries)) fix)) (same_fix g c life entry effect s)
-          ∙ sym (ap (λ (fix : Option odometry.Fix). odometry.known (after_fix fix (places (entry ∷ life.entries)))) (fix_is g c life entry effect s));
+          c.fix.ensures.stands (places (entry ∷ life.entries)) (place_is c life entry effect s)
+          ∙ ap (λ (fix : odometry.Fix). odometry.known (odometry.after_fix (places (entry ∷ life.entries)) fix)) (same_fix c life entry effect s)
+          ∙ sym (ap (λ (fix : Option odometry.Fix). odometry.known (after_fix fix (places (entry ∷ life.entries)))) (fix_is c life entry effect s));
       groups_are = ap (λ (k : Knowledge). k.groups) c.self.view_is ∙ s.groups_are;
       links_are = ap (λ (k : Knowledge). k.links) c.self.view_is ∙ s.links_are;
       national_is = ap (λ (k : Knowledge). k.national) c.self.view_is ∙ s.national_is;
       restrictions_are = ap (λ (k : Knowledge). k.restrictions) c.self.view_is ∙ s.restrictions_are;
       moment_is = ap (λ (k : Knowledge). k.moment) c.self.view_is ∙ s.moment_is;
       authority_is = ap (λ (k : Knowledge). k.authority) c.self.view_is ∙ s.authority_is;
-      gradients_are = ap (λ (k : Knowledge). k.gradients) c.self.view_is ∙ s.gradients_are;
-      speeds_are = ap (λ (k : Knowledge). k.speeds) c.self.view_is ∙ s.speeds_are;
+      gradients_are = ap (λ (k : Knowledge). profile_in k.gradients) c.self.view_is ∙ s.gradients_are;
+      speeds_are = ap (λ (k : Knowledge). profile_in k.speeds) c.self.view_is ∙ s.speeds_are;
       lives_are = ap (λ (k : Knowledge). k.lives) c.self.view_is ∙ s.lives_are;
     }

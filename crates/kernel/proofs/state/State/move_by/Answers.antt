@@ -7,11 +7,11 @@ use Rattle.linking.specs.Linking as linking
 use Rattle.odometry.specs.Place as odometry
 use Rattle.kernel.specs.History.{Entry, places, all_heard, links}
 use Rattle.kernel.specs.Sentences.{moved, with_closed}
-use Rattle.kernel.specs.StandsFor.{Knowledge, StandsForLife, grown}
+use Rattle.kernel.specs.StandsFor.{Knowledge, profile_in, StandsForLife, grown}
 use Rattle.kernel.proofs.state.State.move_by.Goals as goal
 
 pub returns : goal.returns
-returns g c =
+returns c =
     on_ok_weaker c.close.result
     (λ closed life s.
     (let entry : Entry = moved life.entries c.args.movement in
@@ -30,8 +30,8 @@ returns g c =
       restrictions_are = ap (λ (k : Knowledge). k.restrictions) c.self.view_is ∙ s.restrictions_are;
       moment_is = ap (λ (k : Knowledge). k.moment) c.self.view_is ∙ s.moment_is;
       authority_is = ap (λ (k : Knowledge). k.authority) c.self.view_is ∙ s.authority_is;
-      gradients_are = ap (λ (k : Knowledge). k.gradients) c.self.view_is ∙ s.gradients_are;
-      speeds_are = ap (λ (k : Knowledge). k.speeds) c.self.view_is ∙ s.speeds_are;
+      gradients_are = ap (λ (k : Knowledge). profile_in k.gradients) c.self.view_is ∙ s.gradients_are;
+      speeds_are = ap (λ (k : Knowledge). profile_in k.speeds) c.self.view_is ∙ s.speeds_are;
       lives_are = ap (λ (k : Knowledge). k.lives) c.self.view_is ∙ s.lives_are;
     } in
     subst (λ (o : Option Closed). StandsForLife c.close.new.self (grown life (with_closed life.entries o entry))) ended (closed life entry refl refl all)))

@@ -4,6 +4,6 @@ use Rattle.kernel.proofs.Marking.{unlooked, unmarked}
 use Rattle.kernel.proofs.state.State.receive.Goals as goal
 
 pub returns : goal.returns
-returns g c life s =
+returns c life s =
     let entry : Entry = with_groups life.entries (begun life.entries c.args.input.now) in
     c.observe.ensures life entry (unlooked life.entries c.args.input.now) (unmarked life.entries c.args.input.now) (c.in_ok-begin.ensures life s)

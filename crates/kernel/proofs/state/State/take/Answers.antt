@@ -9,12 +9,12 @@ use Rattle.balise_groups.specs.Groups as groups
 use Rattle.balise_groups.specs.Groups.Entry.{Read}
 use Rattle.kernel.specs.History.{Entry, place_of, all_heard}
 use Rattle.kernel.specs.Sentences.{nothing, heard, with_closed, with_groups}
-use Rattle.kernel.specs.StandsFor.{Knowledge, StandsForLife, grown}
+use Rattle.kernel.specs.StandsFor.{Knowledge, profile_in, StandsForLife, grown}
 use Rattle.kernel.proofs.Marking.{closed_unlooked, closed_unmarked}
 use Rattle.kernel.proofs.state.State.take.Goals as goal
 
 pub returns : goal.returns
-returns g c =
+returns c =
     on_ok_weaker c.close-2.result
     (λ closed life bytes s told.
     (let before = life.entries in
@@ -35,8 +35,8 @@ returns g c =
       restrictions_are = ap (λ (k : Knowledge). k.restrictions) c.self.view_is ∙ s.restrictions_are;
       moment_is = ap (λ (k : Knowledge). k.moment) c.self.view_is ∙ s.moment_is;
       authority_is = ap (λ (k : Knowledge). k.authority) c.self.view_is ∙ s.authority_is;
-      gradients_are = ap (λ (k : Knowledge). k.gradients) c.self.view_is ∙ s.gradients_are;
-      speeds_are = ap (λ (k : Knowledge). k.speeds) c.self.view_is ∙ s.speeds_are;
+      gradients_are = ap (λ (k : Knowledge). profile_in k.gradients) c.self.view_is ∙ s.gradients_are;
+      speeds_are = ap (λ (k : Knowledge). profile_in k.speeds) c.self.view_is ∙ s.speeds_are;
       lives_are = ap (λ (k : Knowledge). k.lives) c.self.view_is ∙ s.lives_are;
     } in
     let first = c.in_ok-close.ensures life entry refl refl all in

@@ -5,18 +5,18 @@ use Rattle.kernel.specs.Lives.{life_of}
 use Rattle.kernel.specs.StandsFor.{StandsForLife}
 use Rattle.kernel.specs.Limit.{limits_behind}
 use Rattle.kernel.proofs.OneInput.{one_input}
-use Rattle.kernel.proofs.steps.limits_in.Goals as goal
+use Rattle.kernel.proofs.steps.limits.Goals as goal
 
 pub loop-input-init : goal.loop-input-init
-loop-input-init g c = (
+loop-input-init c = (
   event.PowerUp ∷ [],
   subst (λ (k : Kept). StandsForLife c.power_up-state.result (record { kept = k; entries = [] }))
-      (c.kept-kept.ensures c.args.train.now [] (c.requires c.args.train.now)) c.power_up-state.ensures,
+      (c.kept-kept.ensures c.args.train.now [] (c.empty-empty.ensures c.args.train.now)) c.power_up-state.ensures,
   ap (λ (xs : List ℕ). xs ++ limits_behind c.args.mode c.args.train.now (event.PowerUp ∷ []) c.args.inputs.now) c.new-limits.ensures.items,
 )
 
 pub loop-input-preserved : goal.loop-input-preserved
-loop-input-preserved g c =
+loop-input-preserved c =
     let so_far = c.loop-input.invariant in
     let now = c.in_ok-receive.ensures (life_of c.args.train.now so_far.0) so_far.1 in
     let value = c.limit.ensures (life_of c.args.train.now (event.Input c.input-item.result ∷ so_far.0)) now in (

@@ -1,0 +1,56 @@
+-- What lies ahead of a train and asks for a speed, and the greatest speed from which the train can still brake for all of it
+-- (this project's profile). Each centimetre ahead is looked at, up to the last one that there is.
+use Rattle.std.specs.Prelude.{ℕ, ◌^◌, ℤ, pos, ◌+ℤ◌, int_lt, if◌then◌else◌, Option, None, Some, List, ◌++◌, filter, map}
+use Rattle.units.specs.Stretches.{over}
+use Rattle.track_store.specs.Profiles.{listed}
+use Rattle.track_store.specs.declared.restriction.Restriction.{Restriction}
+use Rattle.track_store.specs.Restrictions.{InForce, covers}
+use Rattle.authority.specs.declared.answers.End.{End}
+use Rattle.braking.specs.declared.brakes.Brakes.{Brakes}
+use Rattle.braking.specs.declared.target.Target.{Target}
+use Rattle.braking.specs.Braking.{fits_all, greatest}
+use Rattle.speed_profile.specs.declared.told.CategorySpeeds.{CategorySpeeds}
+use Rattle.speed_profile.specs.declared.limit.Bounds.{Bounds}
+use Rattle.speed_profile.specs.Told.{speed_of}
+
+-- the greatest place that there is
+abbrev pub greatest_place : ℤ
+greatest_place = pos (2 ^ 42)
+
+-- a centimetre without a static speed, before the end of the authority where one is known, is to be reached at speed 0
+abbrev pub unknown_target : Option End → ℤ → Option Target
+unknown_target None place = None
+unknown_target (Some end) place = if int_lt place end.end then Some (record { place = place; speed = 0 }) else None
+
+-- the static speed of a centimetre for the train's category, whatever its Q_FRONT
+abbrev pub static_target : Bounds → ℤ → Option CategorySpeeds → Option Target
+static_target bounds place None = unknown_target bounds.end place
+static_target bounds place (Some speeds) = Some (record { place = place; speed = speed_of speeds bounds.category })
+
+abbrev pub static_targets : Bounds → (ℤ → Option CategorySpeeds) → ℤ → List Target
+static_targets bounds profile place = listed (static_target bounds place (profile place))
+
+-- the speeds of the restrictions that cover a centimetre, whatever their Q_FRONT
+abbrev pub restriction_targets : ℤ → List Restriction → ℤ → List Target
+restriction_targets mark restrictions place =
+    map (λ restriction. record { place = place; speed = restriction.speed }) (filter (covers mark place) restrictions)
+
+abbrev pub targets_at : Bounds → (ℤ → Option CategorySpeeds) → InForce → ℤ → List Target
+targets_at bounds profile track place =
+    static_targets bounds profile place ++ restriction_targets track.mark track.restrictions place
+
+-- what each centimetre ahead of a front gives
+abbrev pub over_ahead : ℤ → (ℤ → List Target) → List Target
+over_ahead front f = over f (front +ℤ pos 1) greatest_place
+
+abbrev pub targets_ahead : ℤ → Bounds → (ℤ → Option CategorySpeeds) → InForce → List Target
+targets_ahead front bounds profile track = over_ahead front (targets_at bounds profile track)
+
+-- the greatest speed up to a limit that fits some targets
+abbrev pub permitted_by : ℤ → (ℤ → Option ℤ) → Brakes → List Target → ℕ → ℕ
+permitted_by front gradient brakes targets limit = greatest (fits_all front gradient brakes targets) limit
+
+-- .. that fits those ahead, and a last one where it is given
+abbrev pub permitted_ahead : ℤ → ℕ → Option Target → Bounds → (ℤ → Option CategorySpeeds) → InForce → (ℤ → Option ℤ) → Brakes → ℕ
+permitted_ahead front limit last bounds profile track gradient brakes =
+    permitted_by front gradient brakes (targets_ahead front bounds profile track ++ listed last) limit

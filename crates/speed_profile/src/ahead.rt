@@ -1,0 +1,136 @@
+//! The speed that holds for what lies ahead.
+ghost use Rattle.std.specs.Prelude.{◌≡◌, ℤ, ◌+ℤ◌, ◌<ℤ◌, pos, MatchOption};
+ghost use Rattle.track_store.specs.Profiles.{listed};
+ghost use Rattle.speed_profile.specs.Ahead.{greatest_place, unknown_target, static_target, static_targets, restriction_targets, over_ahead, permitted_by, permitted_ahead};
+ghost use Rattle.speed_profile.specs.Starts.{first_covered, first_target};
+
+use crate::{Bounds, CategorySpeeds};
+use authority::End;
+use braking::{Brakes, Target, permitted};
+use track_store::{Profile, Restriction, Restrictions};
+use units::{Cm, Mph, Permille};
+
+/// What lies ahead of a train, and how it brakes.
+#[derive(Clone, Copy)]
+pub struct Ahead<'a, S, G> {
+    /// The train's greatest front.
+    pub front: Cm,
+    /// What limits the train wherever it stands.
+    pub bounds: &'a Bounds,
+    /// The static speeds.
+    pub speeds: &'a S,
+    /// The temporary speed restrictions.
+    pub restrictions: &'a Restrictions,
+    /// The gradients.
+    pub gradient: &'a G,
+    /// What is known of the train's brakes.
+    pub brakes: &'a Brakes,
+}
+
+impl<'a, S: Profile<CategorySpeeds>, G: Profile<Permille>> Ahead<'a, S, G> {
+    /// The greatest speed up to a limit from which the train can brake for all that lies ahead (this project's profile):
+    /// for each static speed and each restriction, whatever its Q_FRONT; to a stop at a centimetre without a static speed
+    /// before the end of the authority, where one is known; and for a last target. Takes no memory; its cost counts the
+    /// changes of the profiles and the restrictions, each some twenty times, and no centimetres.
+    pub fn permitted(&self, limit: Mph, last: Option<Target>) -> Mph
+        ensures { result ≡ permitted_ahead self.now.front limit last self.now.bounds.now (S.value self.now.speeds.now)
+            self.now.restrictions.now (G.value self.now.gradient.now) self.now.brakes.now }
+    {
+        let limit = self.for_static_speeds(limit);
+        let limit = self.for_restrictions(limit);
+        self.for_target(limit, last)
+    }
+
+    // The greatest speed up to a limit that fits the static speeds ahead.
+    fn for_static_speeds(&self, limit: Mph) -> Mph
+        ensures { result ≡ permitted_by self.now.front (G.value self.now.gradient.now) self.now.brakes.now
+            (over_ahead self.now.front (static_targets self.now.bounds.now (S.value self.now.speeds.now))) limit }
+    {
+        let mut speed = limit;
+        let mut start = next_after(self.front);
+        while let Some(place) = start {
+            speed = self.for_target(speed, self.static_target(place));
+            start = self.speeds.next(place);
+        }
+        speed
+    }
+
+    // .. that fits the restrictions ahead.
+    fn for_restrictions(&self, limit: Mph) -> Mph
+        ensures { let track = self.now.restrictions.now in
+            result ≡ permitted_by self.now.front (G.value self.now.gradient.now) self.now.brakes.now
+            (over_ahead self.now.front (restriction_targets track.mark track.restrictions)) limit }
+    {
+        let mark = self.restrictions.mark();
+        let mut speed = limit;
+        for restriction in self.restrictions.as_slice() {
+            speed = self.for_target(speed, first_target(self.front, mark, restriction));
+        }
+        speed
+    }
+
+    // .. that fits a target, if there is one.
+    fn for_target(&self, limit: Mph, target: Option<Target>) -> Mph
+        ensures { result ≡ permitted_by self.now.front (G.value self.now.gradient.now) self.now.brakes.now (listed target) limit }
+    {
+        match target {
+            Some(target) => permitted(self.front, limit, &[target], self.gradient, self.brakes),
+            None => limit,
+        }
+    }
+
+    // What the static speed of a centimetre asks for.
+    fn static_target(&self, place: Cm) -> Option<Target>
+        ensures { result ≡ static_target self.now.bounds.now place (S.value self.now.speeds.now place) }
+    {
+        match self.speeds.at(place) {
+            Some(speeds) => Some(Target {
+                place,
+                speed: speeds.for_category(self.bounds.category),
+            }),
+            None => unknown_target(&self.bounds.end, place),
+        }
+    }
+}
+
+// The centimetre after another one; None after the last one that there is.
+fn next_after(place: Cm) -> Option<Cm>
+    ensures { MatchOption result (greatest_place <ℤ (place +ℤ pos 1)) (λ next. next ≡ place +ℤ pos 1) }
+{
+    Cm::new(place.get() + 1)
+}
+
+// What a centimetre without a static speed asks for: a stop, where it lies before the end of the authority.
+fn unknown_target(end: &Option<End>, place: Cm) -> Option<Target>
+    ensures { result ≡ unknown_target end.now place }
+{
+    match end {
+        Some(end) if place < end.end => Some(Target {
+            place,
+            speed: Mph::new(0).unwrap(),
+        }),
+        _ => None,
+    }
+}
+
+// The first centimetre ahead of a front that a restriction may cover, where no track before a mark counts.
+fn first_covered(front: Cm, mark: Cm, restriction: &Restriction) -> i64
+    ensures { result ≡ first_covered front mark restriction.now }
+{
+    let first = (front.get() + 1).max(mark.get());
+    first.max(restriction.start.get())
+}
+
+// What a restriction asks for there, if it covers that centimetre.
+fn first_target(front: Cm, mark: Cm, restriction: &Restriction) -> Option<Target>
+    ensures { result ≡ first_target front mark restriction.now }
+{
+    let first = first_covered(front, mark, restriction);
+    match Cm::new(first) {
+        Some(place) if first < restriction.start.get() + restriction.length.get() => Some(Target {
+            place,
+            speed: restriction.speed,
+        }),
+        _ => None,
+    }
+}

@@ -190,7 +190,7 @@ fn same_limits<R: Abort + AllocGlobal>(
         moment: 0,
     };
     let train = train(rt, 300, 3);
-    for round in 0..80 {
+    for round in 0..50 {
         let inputs = list(rt, &mut numbers, telegrams, count)?;
         for mode in [Mode::StaffResponsible, Mode::FullSupervision] {
             let plain = plain::limits(rt.alloc(), mode, &train, &inputs)?;

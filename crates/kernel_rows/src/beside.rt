@@ -2,9 +2,9 @@
 ghost use Rattle.std.specs.Prelude.{◌<◌, length};
 
 use crate::plain;
-use crate::told::Told::{self, Hear, Move};
+use crate::told::Told::{self, At, Hear, Move};
 use crate::told::{input, kernel_limits, train};
-use kernel::Input;
+use kernel::{Input, Mode};
 use std::process::Abort;
 use std::test::Fail;
 
@@ -42,8 +42,8 @@ const TELEGRAMS: [&str; 15] = [
 
 /// Telegrams of groups of one, two and three balises and of linking.
 const GROUP_TELEGRAMS: [&str; 18] = [
-    // Group 2 announces group 3 in its nominal direction, 10 m ahead, to 5 m, and group 4 in its reverse direction, 15 m
-    // behind it, to 10 m.
+    // Group 2 announces group 3 in its nominal direction, 10 m ahead, to 5 m, and group 4 in its reverse direction, 15
+    // m behind it, to 10 m.
     "90007F80200141603620028001E142003C00222BFC",
     // Group 5 announces group 6 in its nominal direction, 8 m ahead, to 2 m.
     "90007F802002C16022A00200036081FE",
@@ -52,27 +52,72 @@ const GROUP_TELEGRAMS: [&str; 18] = [
     "90007F002001D06023A0E000000A417F80",
     // Group 4: restrictions of 5, 10 and 15 km/h for 5, 10 and 15 m with Q_DIR 0, 1 and 2.
     "90007F802002504023A020000002C0A0A047408000000A8241808E818000001F07FE",
-    // The two balises of group 6: restriction 8 of 20 km/h, 5 m ahead for 5 m, and restriction 9 of 25 km/h from the group on
-    // for 10 m, until the rear has left it. Place 0 also with M_DUP 1 and with Q_LINK 0, place 1 also with M_DUP 2 and with
-    // counter 3.
+    // The two balises of group 6: restriction 8 of 20 km/h, 5 m ahead for 5 m, and restriction 9 of 25 km/h from the
+    // group on for 10 m, until the rear has left it. Place 0 also with M_DUP 1 and with Q_LINK 0, place 1 also with
+    // M_DUP 2 and with counter 3.
     "90027F802003506023A100014002C27F80",
     "90127F802003506023A12000000502FF80",
     "9002FF802003506023A100014002C27F80",
     "90027F802003106023A100014002C27F80",
     "90137F802003506023A12000000502FF80",
     "901201802003506023A12000000502FF80",
-    // Group 7 with Q_LINK 0: restriction 255 of 30 km/h for 4 m. With Q_LINK 1: 7 is revoked, restriction 10 of 35 km/h for
-    // 6 m.
+    // Group 7 with Q_LINK 0: restriction 255 of 30 km/h for 4 m. With Q_LINK 1: 7 is revoked, restriction 10 of 35 km/h
+    // for 6 m.
     "90007F802003906023BFE0000002437F80",
     "90007F802003D0A00F83A0C047428000000687FF",
-    // The three balises of group 8: group 9 is announced 12 m ahead, to 3 m; restriction 11 of 5 km/h, 2 m ahead for 2 m, in
-    // the nominal direction; 8 and 9 are revoked in the reverse direction.
+    // The three balises of group 8: group 9 is announced 12 m ahead, to 3 m; restriction 11 of 5 km/h, 2 m ahead for 2
+    // m, in the nominal direction; 8 and 9 are revoked in the reverse direction.
     "90047F802004416022A0030004E0C1FE",
     "9014FF802004505023A16000800140FF80",
     "90257F80200450800F8421001F09FF",
     // No packet: group 9, and group 10.
     "90007F802004FFC0",
     "90007F8020057FC0",
+];
+
+/// Telegrams of national values, authorities, gradients and static speeds.
+const FULL_TELEGRAMS: [&str; 19] = [
+    // Group 2: an authority of 40 km/h over 20 m, 15 km/h at its end for 5 s; 50 km/h.
+    "90007F802001432024A20180A0002803700E9000028007F8",
+    // Group 3: 30 km/h, after 10 m 10 km/h, an end mark 15 m behind that.
+    "90007F802001C6E0392000030020014080001FFC0FF0",
+    // Group 4: 25 km/h from 8 m ahead on, of category 3 20 km/h; 6 m behind that 45 km/h, of category 3 35 km/h; both
+    // until the front has left them.
+    "90007F80200246E03BA00202C2610200184C5E04C3FF80",
+    // Group 5: an authority of 60 km/h over 10 m and 15 m, 25 km/h at its end; timers of 6 s and 9 s, that stop 8 m and
+    // 10 m behind the entries.
+    "90007F802002C32045A302FFE10015018004000F81200287F8",
+    // Group 6: an authority of 80 km/h over 12 m, 10 km/h at its end; a timer of 4 s from 6 m before the end; a danger
+    // point and an overlap.
+    "90007F802003432053A4017FE00018808001A000C24002806001BFFF80",
+    // Group 7: a gradient for 4 m.
+    "90007F802003C56027200020A10008FFFF",
+    // Group 8: gradients from 2 m ahead and from 10 m behind that on, in steps of 10 cm.
+    "90007F802004456027000500A100C9FAFF",
+    // Group 9: national values at once, also for country 2: 30 km/h.
+    "90007F802004C0E04EBFFFC201060C18A08000400300C83CFFFFFE",
+    // Group 10: national values from 15 m ahead on: 20 km/h.
+    "90007F80200540E049A003C0182062820001000C0320F3FFFFF8",
+    // Groups of country 2 and of country 3, with no packets.
+    "90007F8040057FC0",
+    "90007F806005FFC0",
+    // Group 2 announces group 3 in its nominal direction, 10 m ahead, to 5 m, and group 4 in its reverse direction, 15
+    // m behind it, to 10 m.
+    "90007F80200141603620028001E142003C00222BFC",
+    // Group 3: restriction 7 of 10 km/h, 5 m ahead for 10 m; in its nominal direction 35 km/h.
+    "90007F802001D06023A0E0014005010DA03A400007001FE0",
+    // Group 4: an authority of 100 km/h over 30 m in its reverse direction, and one of 5 km/h in its nominal direction.
+    "90007F802002430024A5007FE0003C01881250203FF0001E0FF0",
+    // Group 12: 7 is revoked, restriction 8 of 5 km/h, 3 m ahead for 2 m, until the front has left it.
+    "90007F80200650A00F83A0C047420001800281FF",
+    // Group 13: end marks for the gradient and for the static speed.
+    "90007F802006C5601B20001FE01B80748000FE003FC0",
+    // Group 14: 70 km/h; behind packet 136 5 km/h.
+    "90007F80200746E01D20000700088802E3700E9000004007F8",
+    // The two balises of group 15: an authority of 50 km/h over 5 m in the nominal direction, 20 km/h at its end for 3
+    // s; in the reverse direction 15 km/h until the front has left it, and 45 km/h from 5 m ahead on.
+    "90027F802007C31024A2820060000A1FE0",
+    "90127F802007C6C02B200001C01000A240FF",
 ];
 
 /// Movements that lead to the bounds.
@@ -82,6 +127,8 @@ const MOVEMENTS: [i64; 8] = [-2_000, -600, -1, 0, 1, 500, 1_300, 1_301];
 #[derive(Drop)]
 struct Numbers {
     last: u64,
+    /// The last moment, in milliseconds.
+    moment: u64,
 }
 
 impl Numbers {
@@ -98,13 +145,17 @@ impl Numbers {
     }
 }
 
-/// One of these telegrams, a movement near the bounds, or any one from -2,000 to 3,000 cm.
+/// One of these telegrams, a movement near the bounds, any one from -2,000 to 3,000 cm, or a moment up to 4 s later.
 fn told(numbers: &mut Numbers, telegrams: &[&'static str]) -> Told
     requires { 0 < length telegrams.now }
 {
-    match numbers.below(4) {
+    match numbers.below(5) {
         0 => Move(numbers.below(5_001) as i64 - 2_000),
         1 => Move(MOVEMENTS[numbers.below(8) as usize]),
+        2 => {
+            numbers.moment = numbers.moment.saturating_add(numbers.below(4_001));
+            At(numbers.moment)
+        }
         _ => Hear(telegrams[numbers.below(telegrams.len() as u64) as usize]),
     }
 }
@@ -118,6 +169,7 @@ fn list<R: Abort + AllocGlobal>(
 ) -> Result<Vec<Input>, Fail>
     requires { 0 < length telegrams.now }
 {
+    numbers.moment = 0;
     let mut inputs = Vec::new(rt.alloc());
     for _ in 0..count {
         inputs.push(input(rt, told(numbers, telegrams)))?;
@@ -125,7 +177,7 @@ fn list<R: Abort + AllocGlobal>(
     Ok(inputs)
 }
 
-/// The kernel and the plain program give the same limits over lists of so many inputs.
+/// The kernel and the plain program give the same limits over lists of so many inputs, in both modes.
 fn same_limits<R: Abort + AllocGlobal>(
     rt: &R,
     telegrams: &[&'static str],
@@ -133,13 +185,18 @@ fn same_limits<R: Abort + AllocGlobal>(
 ) -> Result<(), Fail>
     requires { 0 < length telegrams.now }
 {
-    let mut numbers = Numbers { last: 2026 };
-    let train = train(rt, 300);
-    for round in 0..80 {
+    let mut numbers = Numbers {
+        last: 2026,
+        moment: 0,
+    };
+    let train = train(rt, 300, 3);
+    for round in 0..50 {
         let inputs = list(rt, &mut numbers, telegrams, count)?;
-        let plain = plain::limits(rt.alloc(), &train, &inputs)?;
-        let answer = kernel_limits(rt, &train, &inputs)?;
-        assert_eq!(rt; answer.as_slice(), plain.as_slice(), "round {round}");
+        for mode in [Mode::StaffResponsible, Mode::FullSupervision] {
+            let plain = plain::limits(rt.alloc(), mode, &train, &inputs)?;
+            let answer = kernel_limits(rt, mode, &train, &inputs)?;
+            assert_eq!(rt; answer.as_slice(), plain.as_slice(), "round {round}");
+        }
     }
     Ok(())
 }
@@ -152,4 +209,9 @@ fn random_inputs(rt: HostRuntime) -> Result<(), Fail> {
 #[test]
 fn random_groups(rt: HostRuntime) -> Result<(), Fail> {
     same_limits(&rt, &GROUP_TELEGRAMS, 24)
+}
+
+#[test]
+fn random_full_supervision(rt: HostRuntime) -> Result<(), Fail> {
+    same_limits(&rt, &FULL_TELEGRAMS, 24)
 }

@@ -1,8 +1,6 @@
 // Rows of groups of several balises and of linking. The train is 20,000 cm long; announcements ask for no reaction.
-use crate::plain;
-use crate::told::Told::{self, Hear, Move};
-use crate::told::{input, kernel_limits, train};
-use std::process::Abort;
+use crate::told::Told::{Hear, Move};
+use crate::told::row;
 use std::test::Fail;
 
 /// Group 2 announces group 3, 1,000 m ahead, in its nominal direction, to 10 m.
@@ -63,25 +61,6 @@ const TWO_SECOND_OF_THREE: &str = "90147F802001506023A06000001941FF80";
 const TWO_SECOND_UNLINKED: &str = "90127F802001106023A06000001941FF80";
 
 const TWO_SECOND_COUNTED: &str = "901202002001506023A06000001941FF80";
-
-/// The kernel and the plain program give this limit after each input, in metres per hour.
-fn row<R: Abort + AllocGlobal>(rt: &R, row: &[(Told, u32)]) -> Result<(), Fail> {
-    let mut inputs = Vec::new(rt.alloc());
-    let mut expected = Vec::new(rt.alloc());
-    for (told, limit) in row {
-        inputs.push(input(rt, *told))?;
-        expected.push(*limit)?;
-    }
-    let train = train(rt, 20_000);
-    assert_eq!(rt;
-        kernel_limits(rt, &train, &inputs)?.as_slice(),
-        expected.as_slice(),
-        "kernel"
-    );
-    let plain = plain::limits(rt.alloc(), &train, &inputs)?;
-    assert_eq!(rt; plain.as_slice(), expected.as_slice(), "plain program");
-    Ok(())
-}
 
 // A group that isn't announced is ignored while another one is, but for Q_LINK 0.
 #[test]

@@ -4,6 +4,8 @@
 #[cfg(test)]
 mod beside;
 #[cfg(test)]
+mod full_supervision;
+#[cfg(test)]
 mod groups;
 #[cfg(test)]
 mod limits;

@@ -1,8 +1,6 @@
-use crate::plain;
-use crate::told::Told::{self, At, Do, Hear, Move};
-use crate::told::{input, kernel_limits, train};
+use crate::told::Told::{At, Do, Hear, Move};
+use crate::told::{input, row, train};
 use kernel::{Action, Event, Mode, State, step};
-use std::process::Abort;
 use std::test::Fail;
 
 /// Restriction 7 of 20 km/h from 10,000 cm on for 5,000 cm, until the front has left it; group 2.
@@ -13,25 +11,6 @@ const AHEAD_OF_THE_REAR: &str = "90007F802001506023A0E0190019027F80";
 const HERE: &str = "90007F802001506023A0E0000019417F80";
 
 const HERE_SLOWER: &str = "90007F802001506023A0E000001940FF80";
-
-/// The kernel and the plain program give this limit after each input, in metres per hour.
-fn row<R: Abort + AllocGlobal>(rt: &R, row: &[(Told, u32)]) -> Result<(), Fail> {
-    let mut inputs = Vec::new(rt.alloc());
-    let mut expected = Vec::new(rt.alloc());
-    for (told, limit) in row {
-        inputs.push(input(rt, *told))?;
-        expected.push(*limit)?;
-    }
-    let train = train(rt, 20_000);
-    assert_eq!(rt;
-        kernel_limits(rt, &train, &inputs)?.as_slice(),
-        expected.as_slice(),
-        "kernel"
-    );
-    let plain = plain::limits(rt.alloc(), &train, &inputs)?;
-    assert_eq!(rt; plain.as_slice(), expected.as_slice(), "plain program");
-    Ok(())
-}
 
 #[test]
 fn restriction_ahead(rt: HostRuntime) -> Result<(), Fail> {
@@ -240,7 +219,7 @@ fn a_life_forgets_the_one_before(rt: HostRuntime) -> Result<(), Fail> {
         let (next, limit) = step(
             rt.alloc(),
             Mode::StaffResponsible,
-            &train(&rt, 20_000),
+            &train(&rt, 20_000, 15),
             &state,
             &event,
         )?;

@@ -1,7 +1,6 @@
 // Limits by the national values in force.
-use crate::told::Told::{self, Hear, Move};
-use crate::told::{input, kernel_limits, train};
-use std::process::Abort;
+use crate::told::Told::{Hear, Move};
+use crate::told::row;
 use std::test::Fail;
 
 /// A group of country 1: values from 10,000 cm on, V_NVSTFF 30 km/h.
@@ -15,22 +14,6 @@ const TWO_AT_ONCE: &str =
 const AT_HOME: &str = "90007F802002FFC0";
 
 const ABROAD: &str = "90007F804001FFC0";
-
-/// The kernel gives this limit after each input, in metres per hour.
-fn row<R: Abort + AllocGlobal>(rt: &R, row: &[(Told, u32)]) -> Result<(), Fail> {
-    let mut inputs = Vec::new(rt.alloc());
-    let mut expected = Vec::new(rt.alloc());
-    for (told, limit) in row {
-        inputs.push(input(rt, *told))?;
-        expected.push(*limit)?;
-    }
-    let train = train(rt, 20_000);
-    assert_eq!(rt;
-        kernel_limits(rt, &train, &inputs)?.as_slice(),
-        expected.as_slice()
-    );
-    Ok(())
-}
 
 #[test]
 fn values_ahead(rt: HostRuntime) -> Result<(), Fail> {

@@ -1,19 +1,21 @@
 // The speed limits as they are defined, computed with no cleverness: after each input the lists of what all inputs so
 // far told and then the limit are worked out anew, centimetre by centimetre.
+mod granted;
 mod group;
 mod life;
 mod link;
 mod message;
 mod place;
+mod profile;
 mod track;
+mod values;
 
-use kernel::{Input, TrainData};
+use kernel::{Input, Mode, TrainData};
+use life::Life;
 use place::Step;
 use std::alloc::{AllocError, Global};
 use track::{Telling, Train};
 
-/// V_NVSTFF, in metres per hour.
-const STAFF_RESPONSIBLE: u32 = 40_000;
 /// How much track behind the least rear isn't forgotten, in centimetres.
 const REMEMBERED: i64 = 100_000;
 
@@ -27,38 +29,72 @@ fn stretch(steps: &[Step], train: &TrainData) -> Train {
     }
 }
 
-/// The track before this place, far behind the train, is forgotten.
-fn mark(steps: &[Step], train: &TrainData) -> i64 {
-    stretch(steps, train).rear.saturating_sub(REMEMBERED)
+/// The end of an event: the timers and the announced values see the train, and the track far behind it is forgotten.
+fn look(life: &mut Life, train: &TrainData) -> Result<(), AllocError> {
+    let standing = stretch(&life.steps, train);
+    life.facts.authority.push(granted::Word::Seen {
+        moment: life.facts.moment,
+        min_front: standing.min_front,
+        max_front: standing.max_front,
+    })?;
+    life.facts.values.reach(standing.max_front);
+    let mark = standing.rear.saturating_sub(REMEMBERED);
+    life.facts.tellings.push(Telling::Forgotten(mark))?;
+    Ok(())
 }
 
-/// The limit, by all that bears on the place and on the restrictions.
-fn limit(
-    alloc: Global,
-    steps: &[Step],
-    tellings: &[Telling],
-    train: &TrainData,
-) -> Result<u32, AllocError> {
-    let speed = train.maximum.get().min(STAFF_RESPONSIBLE);
-    track::least(alloc, tellings, &stretch(steps, train), speed)
+/// The limit in full supervision, but for the restrictions.
+fn supervised(life: &Life, train: &TrainData) -> u32 {
+    let standing = stretch(&life.steps, train);
+    let facts = &life.facts;
+    let speed = granted::least(
+        &facts.authority,
+        facts.moment,
+        standing.max_front,
+        train.maximum.get(),
+    );
+    profile::least(
+        &facts.speeds,
+        track::mark(&facts.tellings),
+        &standing,
+        speed,
+    )
 }
 
 /// The limit after the last of these inputs.
-fn limit_after(alloc: Global, train: &TrainData, inputs: &[Input]) -> Result<u32, AllocError> {
-    let mut life = life::Life::new(alloc);
+fn limit_after(
+    alloc: Global,
+    mode: Mode,
+    train: &TrainData,
+    inputs: &[Input],
+) -> Result<u32, AllocError> {
+    let mut life = Life::new(alloc, train.category);
     for number in 0..inputs.len() {
         life::tell(alloc, &mut life, inputs, number)?;
-        let mark = mark(&life.steps, train);
-        life.tellings.push(Telling::Forgotten(mark))?;
+        look(&mut life, train)?;
     }
-    limit(alloc, &life.steps, &life.tellings, train)
+    let speed = match mode {
+        Mode::FullSupervision => supervised(&life, train),
+        Mode::StaffResponsible => train.maximum.get().min(life.facts.values.staff_responsible),
+    };
+    track::least(
+        alloc,
+        &life.facts.tellings,
+        &stretch(&life.steps, train),
+        speed,
+    )
 }
 
-/// The limit after each input of a life in staff responsible, in metres per hour.
-pub fn limits(alloc: Global, train: &TrainData, inputs: &[Input]) -> Result<Vec<u32>, AllocError> {
+/// The limit after each input of a life, in metres per hour.
+pub fn limits(
+    alloc: Global,
+    mode: Mode,
+    train: &TrainData,
+    inputs: &[Input],
+) -> Result<Vec<u32>, AllocError> {
     let mut limits = Vec::new(alloc);
     for last in 0..inputs.len() {
-        limits.push(limit_after(alloc, train, &inputs[..=last])?)?;
+        limits.push(limit_after(alloc, mode, train, &inputs[..=last])?)?;
     }
     Ok(limits)
 }

@@ -1,9 +1,11 @@
-// What comes in, as the rows write it.
+// What comes in and what comes out, as the rows write it.
+use crate::plain;
 use arrayvec::ArrayVec;
 use kernel::{Action, Input, Mode, Reading, TrainData, limits};
 use std::process::Abort;
 use std::test::Fail;
 use units::{Cm, Length, Mph, Ms};
+use vars::{TrainCategory, Variable};
 
 /// One input.
 #[derive(Clone, Copy)]
@@ -20,11 +22,15 @@ pub enum Told {
 
 use Told::{At, Do, Hear, Move};
 
-/// A train of this length in centimetres, that may run 160 km/h.
-pub fn train<R: Abort>(rt: &R, length: u64) -> TrainData {
+/// A train of this length in centimetres and of a category, that may run 160 km/h.
+pub fn train<R: Abort>(rt: &R, length: u64, category: u8) -> TrainData {
+    assert!(rt; category < 16, "a category");
     TrainData {
         length: Length::new(length).expect(rt, "a length"),
         maximum: Mph::new(160_000).expect(rt, "a speed"),
+        category: TrainCategory::of_number(u64::from(category))
+            .ok()
+            .expect(rt, "a category"),
     }
 }
 
@@ -49,12 +55,42 @@ pub fn input<R: Abort + AllocGlobal>(rt: &R, told: Told) -> Input {
 /// The kernel's limit after each input, in metres per hour.
 pub fn kernel_limits<R: AllocGlobal>(
     rt: &R,
+    mode: Mode,
     train: &TrainData,
     inputs: &[Input],
 ) -> Result<Vec<u32>, Fail> {
     let mut speeds = Vec::new(rt.alloc());
-    for speed in &limits(rt.alloc(), Mode::StaffResponsible, train, inputs)? {
+    for speed in &limits(rt.alloc(), mode, train, inputs)? {
         speeds.push(speed.get())?;
     }
     Ok(speeds)
+}
+
+/// The kernel and the plain program give this limit after each input, in metres per hour.
+pub fn row_of<R: Abort + AllocGlobal>(
+    rt: &R,
+    mode: Mode,
+    category: u8,
+    row: &[(Told, u32)],
+) -> Result<(), Fail> {
+    let mut inputs = Vec::new(rt.alloc());
+    let mut expected = Vec::new(rt.alloc());
+    for (told, limit) in row {
+        inputs.push(input(rt, *told))?;
+        expected.push(*limit)?;
+    }
+    let train = train(rt, 20_000, category);
+    assert_eq!(rt;
+        kernel_limits(rt, mode, &train, &inputs)?.as_slice(),
+        expected.as_slice(),
+        "kernel"
+    );
+    let plain = plain::limits(rt.alloc(), mode, &train, &inputs)?;
+    assert_eq!(rt; plain.as_slice(), expected.as_slice(), "plain program");
+    Ok(())
+}
+
+/// A row in staff responsible.
+pub fn row<R: Abort + AllocGlobal>(rt: &R, row: &[(Told, u32)]) -> Result<(), Fail> {
+    row_of(rt, Mode::StaffResponsible, 15, row)
 }

@@ -1,14 +1,13 @@
 // What the inputs of a life told, groups of several balises and linking included, in the order of each event.
 use crate::plain::group::{self, Reading};
 use crate::plain::link::{self, Announcement, Verdict, Word};
-use crate::plain::message;
+use crate::plain::message::{self, Facts};
 use crate::plain::place::{self, Fix, Step};
-use crate::plain::track::Telling;
 use kernel::Input;
 use std::alloc::{AllocError, Global};
 use std::mem;
 use telegram::{Header, decode};
-use vars::{GroupIdentity, LinkOrientation};
+use vars::{GroupIdentity, LinkOrientation, TrainCategory};
 
 /// How far behind its last telegram a group is still the same one, in centimetres of path.
 const GROUP_PATH: u64 = 1_300;
@@ -25,10 +24,8 @@ struct Heard {
 pub struct Life {
     /// Movements and fixes.
     pub steps: Vec<Step>,
-    /// What bears on the restrictions.
-    pub tellings: Vec<Telling>,
-    /// What bears on the announcements.
-    words: Vec<Word>,
+    /// What the packets and the clock told.
+    pub facts: Facts,
     /// The telegrams of the group that is being read.
     readings: Vec<Reading>,
     /// The telegrams of closed groups, of each from its last before it closed on.
@@ -36,11 +33,10 @@ pub struct Life {
 }
 
 impl Life {
-    pub fn new(alloc: Global) -> Life {
+    pub fn new(alloc: Global, category: TrainCategory) -> Life {
         Life {
             steps: Vec::new(alloc),
-            tellings: Vec::new(alloc),
-            words: Vec::new(alloc),
+            facts: Facts::new(alloc, category),
             readings: Vec::new(alloc),
             heard: Vec::new(alloc),
         }
@@ -67,8 +63,9 @@ fn bytes_of(inputs: &[Input], number: usize) -> &[u8] {
     }
 }
 
-/// Uses the packets of a group at a place: the lists of links, the restrictions, the revocations.
+/// Uses the packets of a group at a place, the revocations at last.
 fn use_packets(
+    alloc: Global,
     life: &mut Life,
     inputs: &[Input],
     group: &[Reading],
@@ -78,29 +75,22 @@ fn use_packets(
     for position in 0..8 {
         if let Some(reading) = group::at(group, position) {
             if let Ok(telegram) = decode(bytes_of(inputs, reading.input)) {
-                message::add_links(&mut life.words, &telegram, at, running)?;
+                message::add_packets(alloc, &mut life.facts, &telegram, at, running)?;
             }
         }
     }
     for position in 0..8 {
         if let Some(reading) = group::at(group, position) {
             if let Ok(telegram) = decode(bytes_of(inputs, reading.input)) {
-                message::add_restrictions(&mut life.tellings, &telegram, at, running)?;
-            }
-        }
-    }
-    for position in 0..8 {
-        if let Some(reading) = group::at(group, position) {
-            if let Ok(telegram) = decode(bytes_of(inputs, reading.input)) {
-                message::add_revocations(&mut life.tellings, &telegram, running)?;
+                message::add_revocations(&mut life.facts.tellings, &telegram, running)?;
             }
         }
     }
     Ok(())
 }
 
-/// A place and its accuracy that an accepted group tells: as it was announced, or its own, exactly, where no announced
-/// group is left.
+/// A place and its accuracy that an accepted group tells: as it was announced, or its own, exactly, where nothing lies
+/// at a known place.
 fn told_place(
     alloc: Global,
     life: &Life,
@@ -110,7 +100,7 @@ fn told_place(
     if let Some(announcement) = announcement {
         return Ok(Some((announcement.place, announcement.accuracy)));
     }
-    if link::left(alloc, &life.words)?.is_empty() {
+    if life.facts.is_free(alloc)? {
         Ok(Some((own, 0)))
     } else {
         Ok(None)
@@ -127,8 +117,9 @@ fn accept(
     announcement: Option<&Announcement>,
 ) -> Result<(), AllocError> {
     if let Some(announcement) = announcement {
-        life.words.push(Word::Accepted(announcement.number))?;
+        life.facts.links.push(Word::Accepted(announcement.number))?;
     }
+    life.facts.values.enter(reading.header.group.country)?;
     let own = place::estimate_at(&life.steps, reading.moved);
     let mut from = own;
     if let Some((at, accuracy)) = told_place(alloc, life, own, announcement)? {
@@ -145,14 +136,14 @@ fn accept(
     }
     let announced = announcement.map(|announcement| announcement.direction);
     let running = group::direction(group).or(announced);
-    use_packets(life, inputs, group, from, running)
+    use_packets(alloc, life, inputs, group, from, running)
 }
 
 /// A group is broken: where it may be announced, it no longer is.
 fn give_up(life: &mut Life, left: &[Announcement], header: &Header) -> Result<(), AllocError> {
     if header.linked {
         if let Some(announcement) = link::first_of(left, header.group) {
-            life.words.push(Word::Gone(announcement.number))?;
+            life.facts.links.push(Word::Gone(announcement.number))?;
         }
     }
     Ok(())
@@ -168,7 +159,7 @@ fn judge(
     let Some(first) = group.first() else {
         return Ok(());
     };
-    let left = link::left(alloc, &life.words)?;
+    let left = link::left(alloc, &life.facts.links)?;
     if group::is_broken(group, &first.header) {
         return give_up(life, &left, &first.header);
     }
@@ -176,7 +167,7 @@ fn judge(
     let max_front = place::max_front_at(&life.steps, reading.moved, reading.path);
     match link::verdict_on(&left, &first.header, group::direction(group), max_front) {
         Verdict::Ignored => {}
-        Verdict::Rejected(announcement) => life.words.push(Word::Gone(announcement.number))?,
+        Verdict::Rejected(announcement) => life.facts.links.push(Word::Gone(announcement.number))?,
         Verdict::Accepted(announcement) => {
             accept(alloc, life, inputs, group, reading, announcement.as_ref())?;
         }
@@ -250,10 +241,10 @@ fn go(alloc: Global, life: &mut Life, inputs: &[Input], movement: i64) -> Result
     let min_front = place::min_front(&life.steps);
     if is_left(life) {
         let ended = end(alloc, life)?;
-        link::look_for_missed(alloc, &mut life.words, min_front)?;
+        link::look_for_missed(alloc, &mut life.facts.links, min_front)?;
         judge(alloc, life, inputs, &ended)
     } else {
-        link::look_for_missed(alloc, &mut life.words, min_front)
+        link::look_for_missed(alloc, &mut life.facts.links, min_front)
     }
 }
 
@@ -270,6 +261,10 @@ pub fn tell(
             Err(_) => Ok(()),
         },
         Some(Input::Odometer(reading)) => go(alloc, life, inputs, reading.movement.get()),
+        Some(Input::Clock(moment)) => {
+            life.facts.moment = moment.get();
+            Ok(())
+        }
         _ => Ok(()),
     }
 }

@@ -69,7 +69,7 @@ fn standing(alloc: Global, tellings: &[Telling]) -> Result<Vec<Area>, AllocError
 }
 
 /// The greatest mark before which the track is forgotten.
-fn mark(tellings: &[Telling]) -> i64 {
+pub fn mark(tellings: &[Telling]) -> i64 {
     let mut greatest = i64::MIN;
     for telling in tellings {
         if let Telling::Forgotten(mark) = telling {

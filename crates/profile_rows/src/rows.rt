@@ -1,7 +1,7 @@
 use std::alloc::Global;
 use std::process::Abort;
 use std::test::Fail;
-use track_store::{FactStore, Profile, ProfileStore, Step, least_over};
+use track_store::{FactStore, Profile, ProfileStore, SegmentStore, Step, least_over};
 use units::{Cm, Mph, NoMemory};
 
 fn cm<R: Abort>(rt: &R, number: i64) -> Cm {
@@ -185,14 +185,90 @@ fn least_of_all<R: Abort, S: ProfileStore<Mph> + Drop>(
     Ok(())
 }
 
+/// Steps whose places don't rise: the last in the list counts of those at or below a place, and an end mark ends also what
+/// stands before it in the list.
+fn unsorted<R: Abort, S: ProfileStore<Mph> + Drop>(rt: &R, mut store: S) -> Result<(), NoMemory> {
+    let steps = [
+        step(rt, 3_000, 140),
+        step(rt, 1_000, 100),
+        end_mark(rt, 4_000),
+        step(rt, -500, 40),
+        step(rt, 2_000, 60),
+        step(rt, 5_000, 80),
+    ];
+    store.replace_from(cm(rt, 0), &steps)?;
+    let expected = [
+        (-1, 0),
+        (0, 40),
+        (1_000, 40),
+        (1_999, 40),
+        (2_000, 60),
+        (3_000, 60),
+        (3_999, 60),
+        (4_000, 0),
+        (5_000, 0),
+    ];
+    assert!(rt; gives(rt, &store, &expected));
+    store.replace_from(cm(rt, 2_500), &[end_mark(rt, 3_500), end_mark(rt, 2_800)])?;
+    store.replace_from(cm(rt, 2_600), &[step(rt, 3_200, 120), step(rt, 2_700, 20)])?;
+    assert!(rt;
+        gives(
+            rt,
+            &store,
+            &[
+                (2_499, 60),
+                (2_500, 0),
+                (2_699, 0),
+                (2_700, 20),
+                (3_500, 20)
+            ]
+        )
+    );
+    Ok(())
+}
+
+/// Where the mark falls on the place of a step, that step counts from the mark on, and the one before it nowhere.
+fn forgotten_up_to_a_step<R: Abort, S: ProfileStore<Mph> + Drop>(
+    rt: &R,
+    mut store: S,
+) -> Result<(), NoMemory> {
+    let steps = [step(rt, 0, 80), step(rt, 1_000, 100), step(rt, 2_000, 120)];
+    store.replace_from(cm(rt, 0), &steps)?;
+    store.drop_behind(cm(rt, 999));
+    assert!(rt; gives(rt, &store, &[(998, 0), (999, 80), (1_000, 100)]));
+    store.drop_behind(cm(rt, 1_000));
+    assert!(rt; gives(rt, &store, &[(999, 0), (1_000, 100), (2_000, 120)]));
+    assert!(rt; lasts(rt, &store, 999, 1_000));
+    assert!(rt; lasts(rt, &store, 1_000, 2_000));
+    store.drop_behind(cm(rt, 2_000));
+    assert!(rt; gives(rt, &store, &[(1_999, 0), (2_000, 120), (90_000, 120)]));
+    assert!(rt; store.next(cm(rt, 2_000)).is_none());
+    store.replace_from(cm(rt, 2_000), &[step(rt, 2_000, 60)])?;
+    assert!(rt; gives(rt, &store, &[(1_999, 0), (2_000, 60)]));
+    Ok(())
+}
+
+/// All rows, for one kind of store.
+fn all<R: Abort, S: ProfileStore<Mph> + Drop>(rt: &R, alloc: Global) -> Result<(), NoMemory> {
+    equal_places(rt, S::empty(alloc))?;
+    end_mark_first(rt, S::empty(alloc))?;
+    replaced_in_the_middle(rt, S::empty(alloc))?;
+    unsorted(rt, S::empty(alloc))?;
+    forgotten(rt, S::empty(alloc))?;
+    forgotten_up_to_a_step(rt, S::empty(alloc))?;
+    copied_and_cleared(rt, alloc, S::empty(alloc))?;
+    least_of_all(rt, S::empty(alloc))?;
+    Ok(())
+}
+
 #[test]
 fn of_facts(rt: HostRuntime) -> Result<(), Fail> {
-    let alloc = rt.alloc();
-    equal_places(&rt, FactStore::empty(alloc))?;
-    end_mark_first(&rt, FactStore::empty(alloc))?;
-    replaced_in_the_middle(&rt, FactStore::empty(alloc))?;
-    forgotten(&rt, FactStore::empty(alloc))?;
-    copied_and_cleared(&rt, alloc, FactStore::empty(alloc))?;
-    least_of_all(&rt, FactStore::empty(alloc))?;
+    all::<HostRuntime, FactStore<Mph>>(&rt, rt.alloc())?;
+    Ok(())
+}
+
+#[test]
+fn of_segments(rt: HostRuntime) -> Result<(), Fail> {
+    all::<HostRuntime, SegmentStore<Mph>>(&rt, rt.alloc())?;
     Ok(())
 }

@@ -1,15 +1,9 @@
-use crate::slope::Slope;
+// Trains, targets and gradients made of plain numbers.
+use crate::numbers::{cm, mph};
+use crate::permitted_speed::slope::Slope;
 use braking::{Brakes, Deceleration, Reaction, Target, permitted};
 use std::process::Abort;
-use units::{Cm, Mph, Permille};
-
-pub fn cm<R: Abort>(rt: &R, number: i64) -> Cm {
-    Cm::new(number).expect(rt, "a place")
-}
-
-pub fn mph<R: Abort>(rt: &R, number: u32) -> Mph {
-    Mph::new(number).expect(rt, "a speed")
-}
+use units::Permille;
 
 pub fn permille<R: Abort>(rt: &R, number: i16) -> Permille {
     Permille::new(number).expect(rt, "a gradient")

@@ -1,5 +1,7 @@
+// Worked rows of linking.
 ghost use Rattle.std.specs.Prelude.{◌≤◌, length};
 
+use crate::numbers::cm;
 use linking::{Announcement, Effect, GroupRead, Links, Verdict};
 use odometry::EarlierPlace;
 use std::process::Abort;
@@ -29,10 +31,6 @@ fn told_by(verdict: &Verdict) -> Told {
         Verdict::Ignore => Told::Ignored,
         Verdict::Reaction(announcement) => Told::Reacted(announcement.number),
     }
-}
-
-fn cm<R: Abort>(rt: &R, number: i64) -> Cm {
-    Cm::new(number).expect(rt, "a place")
 }
 
 fn group<R: Abort>(rt: &R, nid_bg: u8) -> GroupIdentity {

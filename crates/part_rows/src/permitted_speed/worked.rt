@@ -1,5 +1,7 @@
-use crate::slope::Slope;
-use crate::trains::{brakes, cm, even, everywhere, mph, permille, speed, target};
+// The permitted speed before stops and slower track, worked out by hand.
+use crate::numbers::{cm, mph};
+use crate::permitted_speed::slope::Slope;
+use crate::permitted_speed::trains::{brakes, even, everywhere, permille, speed, target};
 use braking::{Deceleration, Reaction, fits, permitted};
 
 #[test]

@@ -1,5 +1,5 @@
 // What is stored.
-use crate::calls::{accepted, after, bare, ms, packet, section, told};
+use crate::movement_authority::calls::{accepted, after, bare, ms, packet, section, told};
 use authority::Authority;
 use units::Cm;
 use vars::Scale;

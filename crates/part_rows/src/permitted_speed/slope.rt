@@ -12,7 +12,7 @@ pub struct Slope {
 }
 
 impl Profile<Permille> for Slope {
-    ghost use Rattle.braking_rows.specs.Slopes.{gradient_of};
+    ghost use Rattle.part_rows.specs.Slopes.{gradient_of};
 
     ghost value = { gradient_of };
 

@@ -1,5 +1,8 @@
 // What is behind the end, and the speed there.
-use crate::calls::{accepted, after, bare, danger_point, overlap, packet, seconds, section, speed};
+use crate::movement_authority::calls::{
+    accepted, after, bare, danger_point, overlap, packet, seconds, section,
+};
+use crate::numbers::speed_step;
 
 /// An end section of 1000 m, a danger point and an overlap; each with the number of its release speed, the overlap with its
 /// time. Each event has a moment, the greatest front, the supervised location and the release speed.
@@ -111,7 +114,7 @@ fn speed_at_the_end(rt: HostRuntime) {
         (0, 1_023, 0, 0, 20_000),
     ] {
         let mut packet = packet(&rt, &[], section(&rt, 1_000, None));
-        packet.end_speed = speed(&rt, steps);
+        packet.end_speed = speed_step(&rt, steps);
         packet.end_time = seconds(&rt, time);
         packet.danger_point = Some(danger_point(&rt, 4));
         let want = (100_000, at_end, 103_000, Some(released));
@@ -124,7 +127,7 @@ fn speed_at_the_end(rt: HostRuntime) {
 fn taken_back(rt: HostRuntime) {
     let before = [section(&rt, 300, None)];
     let mut packet = packet(&rt, &before, section(&rt, 700, Some((60, 700))));
-    packet.end_speed = speed(&rt, 8);
+    packet.end_speed = speed_step(&rt, 8);
     packet.end_time = seconds(&rt, 1_023);
     packet.danger_point = Some(danger_point(&rt, 4));
     packet.overlap = Some(overlap(&rt, 1_023, 127));

@@ -1,5 +1,6 @@
 // Timers that run out, and where the end is taken back to.
-use crate::calls::{accepted, after, bare, metres, packet, seconds, section};
+use crate::movement_authority::calls::{accepted, after, bare, packet, seconds, section};
+use crate::numbers::distance;
 use packets::EndTimer;
 
 /// Sections of 300, 200 and 500 m, some with a timer. Each event has a moment, the least and the greatest front, and the end
@@ -131,7 +132,7 @@ fn end_timer(rt: HostRuntime) {
         let mut packet = packet(&rt, &before, section(&rt, 700, None));
         packet.end_timer = Some(EndTimer {
             time: seconds(&rt, time),
-            start: metres(&rt, 200),
+            start: distance(&rt, 200),
         });
         let mut authority = accepted(&rt, &packet);
         for (moment, front, end) in events {

@@ -1,6 +1,6 @@
--- A gradient that begins at one place, changes at another and ends at a third.
+-- A gradient that begins at one place, changes at another and ends at a third (this project's profile of tests).
 use Rattle.std.specs.Prelude.{ℤ, Option, None, Some, ◌||◌, if◌then◌else◌, int_lt, not}
-use Rattle.braking_rows.specs.declared.slope.Slope.{Slope}
+use Rattle.part_rows.specs.declared.permitted_speed.slope.Slope.{Slope}
 
 abbrev pub gradient_of : Slope → ℤ → Option ℤ
 gradient_of slope place =

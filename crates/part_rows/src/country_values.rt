@@ -1,44 +1,17 @@
-ghost use Rattle.std.specs.Prelude.{◌≡◌};
-
+// Worked rows of national values.
+use crate::numbers::{cm, distance, kmh, speed_step};
 use arrayvec::ArrayVec;
 use national::{CountryValues, National, Values};
 use packets::NationalValues;
 use std::process::Abort;
-use units::{Cm, Mph, Ms};
-use vars::{
-    Country, Distance, OpenLength, OverrideTime, Scale, SpeedStep, StartPlace, ValidityDirection,
-    Variable,
-};
-
-fn cm<R: Abort>(rt: &R, number: i64) -> Cm
-    ensures { result ≡ number }
-{
-    Cm::new(number).expect(rt, "a place")
-}
-
-fn kmh<R: Abort>(rt: &R, speed: u32) -> Mph {
-    Mph::new(speed.checked_mul(1_000).expect(rt, "a speed")).expect(rt, "a speed")
-}
+use units::{Cm, Ms};
+use vars::{Country, OpenLength, OverrideTime, Scale, StartPlace, ValidityDirection, Variable};
 
 fn country<R: Abort>(rt: &R, nid_c: u16) -> Country {
     assert!(rt; nid_c < 1_024);
     Country::of_number(u64::from(nid_c))
         .ok()
         .expect(rt, "a country")
-}
-
-fn step<R: Abort>(rt: &R, number: u8) -> SpeedStep {
-    assert!(rt; number < 128);
-    SpeedStep::of_number(u64::from(number))
-        .ok()
-        .expect(rt, "a speed")
-}
-
-fn distance<R: Abort>(rt: &R, number: u16) -> Distance {
-    assert!(rt; number < 32_768);
-    Distance::of_number(u64::from(number))
-        .ok()
-        .expect(rt, "a distance")
 }
 
 fn start<R: Abort>(rt: &R, d_validnv: u16) -> StartPlace {
@@ -68,14 +41,14 @@ fn packet<R: Abort>(rt: &R, d_validnv: u16, v_nvstff: u8) -> NationalValues {
         scale: Scale::OneMetre,
         start: start(rt, d_validnv),
         countries: ArrayVec::new(),
-        shunting: step(rt, 1),
-        staff_responsible: step(rt, v_nvstff),
-        on_sight: step(rt, 3),
-        unfitted: step(rt, 120),
-        release: step(rt, 5),
+        shunting: speed_step(rt, 1),
+        staff_responsible: speed_step(rt, v_nvstff),
+        on_sight: speed_step(rt, 3),
+        unfitted: speed_step(rt, 120),
+        release: speed_step(rt, 5),
         roll: distance(rt, 3),
-        override_allowed: step(rt, 7),
-        override_speed: step(rt, 8),
+        override_allowed: speed_step(rt, 7),
+        override_speed: speed_step(rt, 8),
         override_distance: distance(rt, 150),
         override_time: time(rt, 254),
         staff_responsible_distance: open_length(rt, 32_766),

@@ -1,7 +1,7 @@
 // What a group closes to: its message, or the first cause that holds.
-use crate::rows::End::{Broken, Nothing, Whole};
-use crate::rows::Step::{Go, Hear};
-use crate::rows::{Balise, FIRST, OTHER, SECOND, TOLD, Told, row};
+use crate::groups::rows::End::{Broken, Nothing, Whole};
+use crate::groups::rows::Step::{Go, Hear};
+use crate::groups::rows::{Balise, FIRST, OTHER, SECOND, TOLD, Told, row};
 use balise_groups::Cause;
 use vars::LinkOrientation;
 

@@ -1,7 +1,7 @@
 // When a group ends, and which telegrams count.
-use crate::rows::End::{Broken, Nothing, Whole};
-use crate::rows::Step::{Go, Hear};
-use crate::rows::{Balise, FIRST, OTHER, SECOND, TOLD, Told, row};
+use crate::groups::rows::End::{Broken, Nothing, Whole};
+use crate::groups::rows::Step::{Go, Hear};
+use crate::groups::rows::{Balise, FIRST, OTHER, SECOND, TOLD, Told, row};
 use balise_groups::Cause;
 
 /// Of group 6, read with one balise.

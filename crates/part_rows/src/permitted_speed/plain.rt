@@ -1,5 +1,6 @@
-use crate::slope::Slope;
-use crate::trains::{brakes, cm, mph, permille, target};
+use crate::numbers::{cm, mph};
+use crate::permitted_speed::slope::Slope;
+use crate::permitted_speed::trains::{brakes, permille, target};
 use braking::{Brakes, Target, permitted};
 use track_store::Profile;
 use units::{Cm, Permille};

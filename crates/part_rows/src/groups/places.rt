@@ -1,6 +1,6 @@
 // Groups of one to eight balises, with one of them missed or none.
-use crate::rows::End::{Broken, Nothing, Whole};
-use crate::rows::{Balise, FIRST, TOLD, Told, closes, reading};
+use crate::groups::rows::End::{Broken, Nothing, Whole};
+use crate::groups::rows::{Balise, FIRST, TOLD, Told, closes, reading};
 use balise_groups::{Assembler, Cause};
 use odometry::Place;
 use std::process::Abort;

@@ -1,30 +1,17 @@
 // Authorities made of plain numbers, and what they answer, in plain numbers.
+use crate::numbers::{cm, distance, speed_step};
 use arrayvec::ArrayVec;
 use authority::{Authority, Release};
 use packets::{DangerPoint, MovementAuthority, Overlap, Section, SectionTimer};
 use std::process::Abort;
 use units::{Cm, Ms, Stretch};
-use vars::{Distance, ReleaseSpeed, Scale, SpeedStep, Timer, ValidityDirection, Variable};
-
-pub fn metres<R: Abort>(rt: &R, number: u16) -> Distance {
-    assert!(rt; number < 1 << 15, "a distance");
-    Distance::of_number(u64::from(number))
-        .ok()
-        .expect(rt, "a distance")
-}
+use vars::{ReleaseSpeed, Scale, Timer, ValidityDirection, Variable};
 
 pub fn seconds<R: Abort>(rt: &R, number: u16) -> Timer {
     assert!(rt; number < 1 << 10, "a time");
     Timer::of_number(u64::from(number))
         .ok()
         .expect(rt, "a time")
-}
-
-pub fn speed<R: Abort>(rt: &R, steps: u8) -> SpeedStep {
-    assert!(rt; steps < 128, "a speed");
-    SpeedStep::of_number(u64::from(steps))
-        .ok()
-        .expect(rt, "a speed")
 }
 
 pub fn release<R: Abort>(rt: &R, number: u8) -> ReleaseSpeed {
@@ -37,12 +24,12 @@ pub fn release<R: Abort>(rt: &R, number: u8) -> ReleaseSpeed {
 /// A section of so many metres, with a timer of so many seconds that stops so many metres behind its entry.
 pub fn section<R: Abort>(rt: &R, length: u16, timer: Option<(u16, u16)>) -> Section {
     Section {
-        length: metres(rt, length),
+        length: distance(rt, length),
         timer: match timer {
             None => None,
             Some((time, stop)) => Some(SectionTimer {
                 time: seconds(rt, time),
-                stop: metres(rt, stop),
+                stop: distance(rt, stop),
             }),
         },
     }
@@ -51,7 +38,7 @@ pub fn section<R: Abort>(rt: &R, length: u16, timer: Option<(u16, u16)>) -> Sect
 /// A danger point 30 m behind the end.
 pub fn danger_point<R: Abort>(rt: &R, number: u8) -> DangerPoint {
     DangerPoint {
-        distance: metres(rt, 30),
+        distance: distance(rt, 30),
         release: release(rt, number),
     }
 }
@@ -59,9 +46,9 @@ pub fn danger_point<R: Abort>(rt: &R, number: u8) -> DangerPoint {
 /// An overlap of 50 m, whose timer starts 100 m before the end.
 pub fn overlap<R: Abort>(rt: &R, time: u16, number: u8) -> Overlap {
     Overlap {
-        start: metres(rt, 100),
+        start: distance(rt, 100),
         time: seconds(rt, time),
-        distance: metres(rt, 50),
+        distance: distance(rt, 50),
         release: release(rt, number),
     }
 }
@@ -75,8 +62,8 @@ pub fn packet<R: Abort>(rt: &R, before: &[Section], end_section: Section) -> Mov
     MovementAuthority {
         direction: ValidityDirection::Both,
         scale: Scale::OneMetre,
-        speed: speed(rt, 32),
-        end_speed: speed(rt, 0),
+        speed: speed_step(rt, 32),
+        end_speed: speed_step(rt, 0),
         end_time: seconds(rt, 0),
         sections,
         end_section,
@@ -123,9 +110,7 @@ pub fn after<R: Abort>(
     greatest: i64,
     want: Told,
 ) {
-    let least = Cm::new(least).expect(rt, "a place");
-    let greatest = Cm::new(greatest).expect(rt, "a place");
     authority.tick(ms(rt, moment));
-    authority.pass(&Stretch::new(Cm::MIN, least, greatest).expect(rt, "a stretch"));
+    authority.pass(&Stretch::new(Cm::MIN, cm(rt, least), cm(rt, greatest)).expect(rt, "a stretch"));
     assert_eq!(rt; told(rt, authority), want, "at {moment}");
 }

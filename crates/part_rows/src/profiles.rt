@@ -1,16 +1,10 @@
+// Worked rows of profiles, for both stores.
+use crate::numbers::{cm, kmh};
 use std::alloc::Global;
 use std::process::Abort;
 use std::test::Fail;
 use track_store::{FactStore, Profile, ProfileStore, SegmentStore, Step, least_over};
-use units::{Cm, Mph, NoMemory};
-
-fn cm<R: Abort>(rt: &R, number: i64) -> Cm {
-    Cm::new(number).expect(rt, "a place")
-}
-
-fn kmh<R: Abort>(rt: &R, speed: u32) -> Mph {
-    Mph::new(speed.checked_mul(1_000).expect(rt, "a speed")).expect(rt, "a speed")
-}
+use units::{Mph, NoMemory};
 
 /// A step to a speed in km/h.
 fn step<R: Abort>(rt: &R, place: i64, speed: u32) -> Step<Mph> {

@@ -1,5 +1,0 @@
-//! Worked rows of linking.
-#![tactic(auto)]
-
-#[cfg(test)]
-mod links;

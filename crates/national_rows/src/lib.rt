@@ -1,5 +1,0 @@
-//! Worked rows of national values.
-#![tactic(auto)]
-
-#[cfg(test)]
-mod rows;

@@ -1,0 +1,5 @@
+// Worked rows of balise groups.
+mod closing;
+mod places;
+mod rows;
+mod turns;

@@ -1,0 +1,16 @@
+//! Worked rows of the parts that the kernel is made of.
+#![tactic(auto)]
+
+#[cfg(test)]
+mod country_values;
+#[cfg(test)]
+mod groups;
+#[cfg(test)]
+mod links;
+#[cfg(test)]
+mod movement_authority;
+#[cfg(test)]
+mod numbers;
+mod permitted_speed;
+#[cfg(test)]
+mod profiles;

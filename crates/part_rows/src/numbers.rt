@@ -1,0 +1,34 @@
+// Quantities and variables made of plain numbers.
+ghost use Rattle.std.specs.Prelude.{◌≡◌};
+
+use std::process::Abort;
+use units::{Cm, Mph};
+use vars::{Distance, SpeedStep, Variable};
+
+pub fn cm<R: Abort>(rt: &R, number: i64) -> Cm
+    ensures { result ≡ number }
+{
+    Cm::new(number).expect(rt, "a place")
+}
+
+pub fn mph<R: Abort>(rt: &R, number: u32) -> Mph {
+    Mph::new(number).expect(rt, "a speed")
+}
+
+pub fn kmh<R: Abort>(rt: &R, speed: u32) -> Mph {
+    mph(rt, speed.checked_mul(1_000).expect(rt, "a speed"))
+}
+
+pub fn speed_step<R: Abort>(rt: &R, number: u8) -> SpeedStep {
+    assert!(rt; number < 128, "a speed");
+    SpeedStep::of_number(u64::from(number))
+        .ok()
+        .expect(rt, "a speed")
+}
+
+pub fn distance<R: Abort>(rt: &R, number: u16) -> Distance {
+    assert!(rt; number < 32_768, "a distance");
+    Distance::of_number(u64::from(number))
+        .ok()
+        .expect(rt, "a distance")
+}

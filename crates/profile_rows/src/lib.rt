@@ -1,5 +1,0 @@
-//! Worked rows of profiles.
-#![tactic(auto)]
-
-#[cfg(test)]
-mod rows;

@@ -1,0 +1,163 @@
+/* Runs the kernel over so many readings of the odometer, or the permitted speed so many times, and prints the sum of
+ * the results, so that every result is used.
+ *
+ * The track: 30 km with an authority to its end; a static speed and a gradient for each kilometre; ten temporary
+ * restrictions, one every 3 km. All is told at the start, by groups of one balise each. */
+#include <stdint.h>
+#include <stdio.h>
+#include <stdlib.h>
+#include <string.h>
+
+/* TELEGRAM: the room of a telegram, in bytes. STRETCHES: those of one gradient before the stop. */
+enum { TELEGRAM = 104, TELEGRAMS = 5, SEGMENTS = 30, RESTRICTIONS = 10, STRETCHES = 32 };
+
+/* What the permitted speed is asked for, as crates/kernel_bench has it. */
+struct stop {
+    int64_t place;
+    uint32_t limit;
+    uint16_t deceleration;
+    uint16_t reaction;
+};
+
+/* The exports of crates/kernel_bench. Each answers a sum, or all ones where it could not run. */
+uint64_t bench_limits(const uint8_t *telegrams, size_t len, int64_t movement, uint32_t readings);
+uint64_t bench_permitted(const int16_t *gradients, size_t len, const struct stop *stop, uint32_t runs);
+
+/* A telegram as it is written: its bytes, and how many bits stand in them. */
+struct writer {
+    uint8_t *bytes;
+    size_t bits;
+};
+
+static void put(struct writer *out, uint32_t number, unsigned width) {
+    while (width-- > 0) {
+        out->bytes[out->bits / 8] |= (uint8_t)((number >> width & 1) << (7 - out->bits % 8));
+        out->bits++;
+    }
+}
+
+/* The header of a group of one balise: an up-link telegram of version 1.0, linked. */
+static void put_header(struct writer *out, uint32_t group) {
+    put(out, 1, 1);      /* Q_UPDOWN */
+    put(out, 16, 7);     /* M_VERSION */
+    put(out, 0, 1);      /* Q_MEDIA */
+    put(out, 0, 3);      /* N_PIG */
+    put(out, 0, 3);      /* N_TOTAL */
+    put(out, 0, 2);      /* M_DUP */
+    put(out, 255, 8);    /* M_MCOUNT */
+    put(out, 1, 10);     /* NID_C */
+    put(out, group, 14); /* NID_BG */
+    put(out, 1, 1);      /* Q_LINK */
+}
+
+/* The end mark. A telegram that has no room for it isn't one. */
+static void put_end(struct writer *out) {
+    put(out, 255, 8);
+    if (out->bits > 8 * TELEGRAM) {
+        fprintf(stderr, "a telegram of %zu bits\n", out->bits);
+        exit(2);
+    }
+}
+
+/* The head of a packet of so many bits that is valid in both directions; distances in 10 m. */
+static void put_packet(struct writer *out, uint32_t number, uint32_t bits) {
+    put(out, number, 8);
+    put(out, 2, 2); /* Q_DIR */
+    put(out, bits, 13);
+    put(out, 2, 2); /* Q_SCALE */
+}
+
+/* Packet 12: up to 160 km/h, one section of 30 km, no timers, no danger point, no overlap. */
+static void put_authority(struct writer *out) {
+    put_packet(out, 12, 25 + 7 + 7 + 10 + 5 + 15 + 4);
+    put(out, 32, 7);              /* V_MAIN */
+    put(out, 0, 7);               /* V_LOA */
+    put(out, 1023, 10);           /* T_LOA: no limit */
+    put(out, 0, 5);               /* N_ITER */
+    put(out, 100 * SEGMENTS, 15); /* L_ENDSECTION */
+    put(out, 0, 4);               /* Q_SECTIONTIMER, Q_ENDTIMER, Q_DANGERPOINT, Q_OVERLAP */
+}
+
+/* Packet 21: a gradient for each kilometre, uphill and downhill in turn. */
+static void put_gradients(struct writer *out) {
+    put_packet(out, 21, 25 + 24 + 5 + 24 * (SEGMENTS - 1));
+    for (uint32_t i = 0; i < SEGMENTS; i++) {
+        put(out, i > 0 ? 100 : 0, 15); /* D_GRADIENT */
+        put(out, i % 2, 1);            /* Q_GDIR */
+        put(out, i % 12, 8);           /* G_A */
+        if (i == 0) {
+            put(out, SEGMENTS - 1, 5); /* N_ITER */
+        }
+    }
+}
+
+/* Packet 27: a static speed from 100 to 145 km/h for each of so many kilometres from one on, for the front and for the
+ * whole train in turn. */
+static void put_speeds(struct writer *out, uint32_t first, uint32_t count) {
+    put_packet(out, 27, 25 + 28 + 5 + 28 * (count - 1));
+    for (uint32_t i = 0; i < count; i++) {
+        put(out, i > 0 ? 100 : 100 * first, 15); /* D_STATIC */
+        put(out, 20 + (first + i) * 7 % 10, 7);  /* V_STATIC */
+        put(out, i % 2, 1);                      /* Q_FRONT */
+        put(out, 0, 5);                          /* N_ITER of differences */
+        if (i == 0) {
+            put(out, count - 1, 5); /* N_ITER */
+        }
+    }
+}
+
+/* Packet 65, for each of the restrictions: 500 m from 2 km on in each 3 km, of 60 to 105 km/h. */
+static void put_restrictions(struct writer *out) {
+    for (uint32_t i = 0; i < RESTRICTIONS; i++) {
+        put_packet(out, 65, 71);
+        put(out, i, 8);              /* NID_TSR */
+        put(out, 200 + 300 * i, 15); /* D_TSR */
+        put(out, 50, 15);            /* L_TSR */
+        put(out, i % 2, 1);          /* Q_FRONT */
+        put(out, 12 + i, 7);         /* V_TSR */
+    }
+}
+
+static void tell_track(uint8_t *telegrams) {
+    for (uint32_t i = 0; i < TELEGRAMS; i++) {
+        struct writer out = {telegrams + TELEGRAM * i, 0};
+        put_header(&out, 2 + i);
+        switch (i) {
+        case 0: put_authority(&out); break;
+        case 1: put_gradients(&out); break;
+        case 2: put_speeds(&out, 0, SEGMENTS / 2); break;
+        case 3: put_speeds(&out, SEGMENTS / 2, SEGMENTS / 2); break;
+        default: put_restrictions(&out); break;
+        }
+        put_end(&out);
+    }
+}
+
+/* A stop 20 km ahead, on stretches whose gradients are one per mille apart in turn. */
+static uint64_t permitted(int16_t gradient, uint32_t runs) {
+    int16_t gradients[STRETCHES];
+    const struct stop stop = {2000000, 160000, 70, 0};
+    for (int i = 0; i < STRETCHES; i++) {
+        gradients[i] = (int16_t)(gradient + i % 2);
+    }
+    return bench_permitted(gradients, STRETCHES, &stop, runs);
+}
+
+int main(int argc, char **argv) {
+    if (argc == 4) {
+        long number = strtol(argv[2], NULL, 10);
+        uint32_t count = (uint32_t)strtoul(argv[3], NULL, 10);
+        if (strcmp(argv[1], "limits") == 0) {
+            uint8_t telegrams[TELEGRAM * TELEGRAMS] = {0};
+            tell_track(telegrams);
+            printf("%llu\n", (unsigned long long)bench_limits(telegrams, sizeof telegrams, number, count));
+            return 0;
+        }
+        if (strcmp(argv[1], "permitted") == 0) {
+            printf("%llu\n", (unsigned long long)permitted((int16_t)number, count));
+            return 0;
+        }
+    }
+    fprintf(stderr, "usage: kernel limits MOVEMENT READINGS | kernel permitted GRADIENT RUNS\n");
+    return 2;
+}

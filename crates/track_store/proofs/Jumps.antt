@@ -1,6 +1,6 @@
 -- Where a value lasts, it counts once for the least over a stretch.
 use Rattle.std.proofs.Common.{◌≡◌, ℕ, ◌<◌, ◌≤◌, min, ℤ, pos, negsuc, ◌+ℤ◌, ◌-ℤ◌, ◌≤ℤ◌, ◌<ℤ◌, List, [], ◌∷◌, ◌⊎◌, inl, inr, refl, ap, sym, subst, ◌∙◌, arith}
-use Rattle.std.specs.Prelude.{Bool, true, false, Option, None, Some, is_some}
+use Rattle.std.specs.Prelude.{true, false, Option, None, Some, is_some}
 use Rattle.std.proofs.lemmas.Int.{ints, by_lt_z}
 use Rattle.units.specs.Stretches.{over, gathered, least, natural, count_between}
 use Rattle.units.proofs.Gathering.{IsIn, least_is, over_at, in_over}

@@ -1,11 +1,11 @@
 -- A profile that is read off what was told of it stays so.
-use Rattle.std.proofs.Common.{◌≡◌, ℤ, Bool, true, false, List, ◌∷◌, [], cond, refl, ap, sym, ◌∙◌, arith}
+use Rattle.std.proofs.Common.{◌≡◌, ℤ, Bool, true, false, ◌∷◌, [], cond, refl, ap, ◌∙◌, arith}
 use Rattle.std.proofs.Math.Path.{fun_ext}
 use Rattle.std.proofs.lemmas.Int.{ints}
 use Rattle.std.specs.Prelude.{int_lt, Option, None}
 use Rattle.std.specs.Int.{int_max}
 use Rattle.track_store.specs.Profiles.{Profile}
-use Rattle.track_store.specs.Facts.{Told, Fact, latest, given_by, from_mark, value_in, replaced, profile_of}
+use Rattle.track_store.specs.Facts.{Told, Fact, latest, given_by, from_mark, replaced, profile_of}
 
 same_profile : {A : Type 0} (p q : Profile A) → p.value ≡ q.value → p.mark ≡ q.mark → p ≡ q
 same_profile p q value mark = λ i. record { value = value i; mark = mark i }

@@ -1,4 +1,4 @@
-use Rattle.std.proofs.Common.{◌≡◌, List, ◌∷◌, ap, sym, ◌∙◌}
+use Rattle.std.proofs.Common.{List, ◌∷◌, ap, sym, ◌∙◌}
 use Rattle.packets.specs.declared.packet.Packet.{Packet}
 use Rattle.track_store.specs.Facts.{profile_of}
 use Rattle.kernel.specs.History.{after_facts, after_gradients}

@@ -1,4 +1,4 @@
-use Rattle.std.proofs.Common.{◌≡◌, ℤ, List}
+use Rattle.std.proofs.Common.{◌≡◌, List}
 use Rattle.speed_profile.specs.declared.told.CategorySpeeds.{CategorySpeeds}
 use Rattle.track_store.specs.Facts.{Fact, Told, profile_of}
 use Rattle.track_store.specs.Profiles.{profile_with}

@@ -1,7 +1,6 @@
 use Rattle.std.proofs.Common.{◌≡◌, ◌≤ℤ◌, ◌<ℤ◌, true, false, ap, sym, ◌∙◌, arith}
 use Rattle.std.specs.Prelude.{Some, None, is_some}
 use Rattle.std.proofs.lemmas.Int.{ints}
-use Rattle.units.specs.Stretches.{over}
 use Rattle.track_store.specs.Profiles.{Lasts, listed, is_any}
 use Rattle.track_store.proofs.Jumps.{found, skipped, nowhere, none_over, fewer_left}
 use Rattle.track_store.proofs.knowing.is_known_over.Goals as goal

@@ -1,4 +1,4 @@
-use Rattle.std.proofs.Common.{◌≡◌, ◌∷◌, ℤ, Option, ap, ◌∙◌}
+use Rattle.std.proofs.Common.{◌∷◌, ℤ, Option, ap, ◌∙◌}
 use Rattle.track_store.specs.Restrictions.{in_force}
 use Rattle.track_store.proofs.Telling.{marked_at}
 use Rattle.kernel.specs.History.{after_mark, after_messages, restrictions, mark_of, gradients, speeds}

@@ -1,7 +1,7 @@
-use Rattle.std.proofs.Common.{◌≡◌, ◌∷◌, pos, ◌-ℤ◌, ℤ, Some, ap, subst, ◌∙◌}
+use Rattle.std.proofs.Common.{pos, ◌-ℤ◌, ℤ, Some, ap, subst, ◌∙◌}
 use Rattle.units.specs.Stretches.{Span}
 use Rattle.odometry.specs.Place as odometry
-use Rattle.kernel.specs.History.{Entry, place_of}
+use Rattle.kernel.specs.History.{Entry}
 use Rattle.kernel.specs.StandsFor.{Knowledge, StandsForLife, grown}
 use Rattle.kernel.proofs.state.State.observe.Goals as goal
 

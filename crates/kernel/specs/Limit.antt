@@ -1,10 +1,15 @@
 -- The speed limit after each event (this project's profile).
-use Rattle.std.specs.Prelude.{ℕ, min, List, [], ◌∷◌}
+use Rattle.std.specs.Prelude.{ℕ, min, max, Option, Some, None, List, [], ◌∷◌}
 use Rattle.units.specs.Stretches.{Span}
 use Rattle.odometry.specs.Place.{stretch}
 use Rattle.authority.specs.Authority.{end_of, main_speed_of}
+use Rattle.authority.specs.declared.answers.End.{End}
+use Rattle.authority.specs.declared.answers.Release.{Release}
+use Rattle.authority.specs.declared.answers.Release.TheVariants.{Speed, National}
 use Rattle.speed_profile.specs.declared.limit.Bounds.{Bounds}
 use Rattle.speed_profile.specs.Limit.{limit_on}
+use Rattle.speed_profile.specs.Ahead.{permitted_ahead}
+use Rattle.braking.specs.declared.target.Target.{Target}
 use Rattle.track_store.specs.Restrictions.{in_force, least_speed}
 use Rattle.kernel.specs.declared.events.Event.{Event}
 use Rattle.kernel.specs.declared.events.Event.TheVariants as event
@@ -12,7 +17,7 @@ use Rattle.kernel.specs.declared.events.Input.{Input}
 use Rattle.kernel.specs.declared.train.Mode.{Mode}
 use Rattle.kernel.specs.declared.train.Mode.TheVariants.{FullSupervision, StaffResponsible}
 use Rattle.kernel.specs.declared.train.TrainData.{TrainData}
-use Rattle.kernel.specs.History.{place_of, restrictions, authorities, speeds_of}
+use Rattle.kernel.specs.History.{place_of, restrictions, authorities, gradients_of, speeds_of}
 use Rattle.kernel.specs.Lives.{Life, life_of, national_of}
 
 -- where the train stands
@@ -39,8 +44,35 @@ abbrev pub supervised_limit : TrainData → Life → ℕ
 supervised_limit train life =
     limit_on (train_of train life) (bounds_of train life) (speeds_of life.entries).value (in_force (restrictions life.entries))
 
+-- .. and up to that the greatest speed from which the train can still brake for all that lies ahead, and for a last target
+abbrev pub permitted_to : TrainData → Life → Option Target → ℕ
+permitted_to train life last =
+    permitted_ahead (train_of train life).max_front (supervised_limit train life) last (bounds_of train life)
+    (speeds_of life.entries).value (in_force (restrictions life.entries)) (gradients_of life.entries).value train.brakes
+
+-- the release speed, which may be the national value
+abbrev pub release_speed : Release → ℕ → ℕ
+release_speed (Speed speed) national = speed
+release_speed National national = national
+
+-- the release rule: the end of authority is the last target; or else a stop at the supervised location is, but then the release
+-- speed isn't passed
+abbrev pub released : (Option Target → ℕ) → End → ℕ → ℕ
+released permitted end national =
+    max (permitted (Some (record { place = end.end; speed = end.speed })))
+    (min (release_speed end.release national) (permitted (Some (record { place = end.location; speed = 0 }))))
+
+-- without an authority there is no last target
+abbrev pub released_by : (Option Target → ℕ) → Option End → ℕ → ℕ
+released_by permitted None national = permitted None
+released_by permitted (Some end) national = released permitted end national
+
+abbrev pub permitted_speed : TrainData → Life → ℕ
+permitted_speed train life =
+    released_by (permitted_to train life) (end_of (authorities life.entries)) (national_of life).in_force.values.release
+
 abbrev pub limit : Mode → TrainData → Life → ℕ
-limit FullSupervision train life = supervised_limit train life
+limit FullSupervision train life = permitted_speed train life
 limit StaffResponsible train life = responsible_limit train life
 
 abbrev pub limit_after : Mode → TrainData → List Event → ℕ

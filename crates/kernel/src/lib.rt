@@ -5,6 +5,7 @@ mod closing;
 mod events;
 mod kept;
 mod laws;
+mod limiting;
 mod messages;
 mod receiving;
 mod state;

@@ -1,23 +1,20 @@
 ghost use Rattle.std.specs.Prelude.{◌≡◌, List, [], IfOk};
 ghost use Rattle.kernel.specs.declared.events.Event.{Event};
 ghost use Rattle.kernel.specs.declared.train.TrainData.{TrainData};
-ghost use Rattle.kernel.specs.Lives.{Life};
-ghost use Rattle.kernel.specs.Limit.{train_of, responsible_limit, supervised_limit, limit};
 ghost use Rattle.kernel.specs.Forgetting.{kept};
 ghost use Rattle.kernel.specs.StandsFor.{StandsForLife, StandsFor};
 
 use crate::kept::Kept;
-use crate::train::{Mode, TrainData};
 use authority::Authority;
 use balise_groups::Assembler;
 use linking::Links;
 use national::National;
 use odometry::Place;
-use speed_profile::{Bounds, CategorySpeeds, limit_on};
+use speed_profile::CategorySpeeds;
 use std::alloc::Global;
 use std::marker::Model;
 use track_store::{ProfileStore, Restrictions, SegmentStore};
-use units::{Mph, Ms, NoMemory, Permille, Stretch};
+use units::{Ms, NoMemory, Permille};
 
 /// What the kernel knows.
 #[derive(Drop)]
@@ -105,37 +102,5 @@ impl State {
             speeds: self.speeds.copy(alloc)?,
             lives: self.lives,
         })
-    }
-
-    // In staff responsible.
-    fn responsible_limit(&self, stretch: &Stretch, train: &TrainData) -> Mph
-        ensures { (life : Life) → StandsForLife self.now life → stretch.now ≡ train_of train.now life → result ≡ responsible_limit train.now life }
-    {
-        let speed = self.national.in_force().values().staff_responsible;
-        self.restrictions.least(stretch, speed.min(train.maximum))
-    }
-
-    // In full supervision.
-    fn supervised_limit(&self, stretch: &Stretch, train: &TrainData) -> Mph
-        ensures { (life : Life) → StandsForLife self.now life → stretch.now ≡ train_of train.now life → result ≡ supervised_limit train.now life }
-    {
-        let bounds = Bounds {
-            maximum: train.maximum,
-            category: train.category,
-            main: self.authority.main_speed(),
-            end: self.authority.end(),
-        };
-        limit_on(stretch, &bounds, &self.speeds, &self.restrictions)
-    }
-
-    /// The speed limit.
-    pub(crate) fn limit(&self, mode: Mode, train: &TrainData) -> Mph
-        ensures { (life : Life) → StandsForLife self.now life → result ≡ limit mode train.now life }
-    {
-        let stretch = self.place.stretch(train.length);
-        match mode {
-            Mode::FullSupervision => self.supervised_limit(&stretch, train),
-            Mode::StaffResponsible => self.responsible_limit(&stretch, train),
-        }
     }
 }

@@ -1,3 +1,4 @@
+use braking::Brakes;
 use units::{Length, Mph};
 use vars::TrainCategory;
 
@@ -19,4 +20,6 @@ pub struct TrainData {
     pub maximum: Mph,
     /// NC_TRAIN, by which it has speeds of its own; 15 is none.
     pub category: TrainCategory,
+    /// How it brakes.
+    pub brakes: Brakes,
 }

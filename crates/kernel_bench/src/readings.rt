@@ -1,6 +1,7 @@
 //! The limits after the telegrams of balises and then readings of the odometer.
 use crate::FAULT;
 use arrayvec::ArrayVec;
+use braking::{Brakes, Deceleration, Reaction};
 use kernel::{Input, Mode, Reading, TrainData, limits};
 use std::alloc::Global;
 use units::{Cm, Length, Mph, NoMemory};
@@ -9,12 +10,16 @@ use vars::{TrainCategory, Variable};
 /// The room of each telegram, in bytes.
 const TELEGRAM: usize = 104;
 
-/// A train of 200 m that may run 160 km/h; no category is its own.
+/// A train of 200 m that may run 160 km/h and brakes with 70 cm/s^2 at once; no category is its own.
 fn train() -> Option<TrainData> {
     Some(TrainData {
         length: Length::new(20_000)?,
         maximum: Mph::new(160_000)?,
         category: TrainCategory::of_number(15).ok()?,
+        brakes: Brakes {
+            deceleration: Deceleration::new(70)?,
+            reaction: Reaction::new(0)?,
+        },
     })
 }
 

@@ -3,8 +3,8 @@ ghost use Rattle.std.specs.Prelude.{◌<◌, length};
 
 use crate::plain;
 use crate::told::Told::{self, At, Hear, Move};
-use crate::told::{input, kernel_limits, train};
-use kernel::{Input, Mode};
+use crate::told::{brakes, input, kernel_limits, train};
+use kernel::{Input, Mode, TrainData};
 use std::process::Abort;
 use std::test::Fail;
 
@@ -77,27 +77,29 @@ const GROUP_TELEGRAMS: [&str; 18] = [
 
 /// Telegrams of national values, authorities, gradients and static speeds.
 const FULL_TELEGRAMS: [&str; 19] = [
-    // Group 2: an authority of 40 km/h over 20 m, 15 km/h at its end for 5 s; 50 km/h.
-    "90007F802001432024A20180A0002803700E9000028007F8",
+    // Group 2: an authority of 40 km/h over 20 m, 15 km/h at its end for 5 s, a danger point 4 m behind it with 10
+    // km/h; level track; 50 km/h.
+    "90007F80200143202FA20180A000284002020AC036400040003700E9000028007F80",
     // Group 3: 30 km/h, after 10 m 10 km/h, an end mark 15 m behind that.
     "90007F802001C6E0392000030020014080001FFC0FF0",
     // Group 4: 25 km/h from 8 m ahead on, of category 3 20 km/h; 6 m behind that 45 km/h, of category 3 35 km/h; both
     // until the front has left them.
     "90007F80200246E03BA00202C2610200184C5E04C3FF80",
-    // Group 5: an authority of 60 km/h over 10 m and 15 m, 25 km/h at its end; timers of 6 s and 9 s, that stop 8 m and
-    // 10 m behind the entries.
-    "90007F802002C32045A302FFE10015018004000F81200287F8",
-    // Group 6: an authority of 80 km/h over 12 m, 10 km/h at its end; a timer of 4 s from 6 m before the end; a danger
-    // point and an overlap.
-    "90007F802003432053A4017FE00018808001A000C24002806001BFFF80",
-    // Group 7: a gradient for 4 m.
-    "90007F802003C56027200020A10008FFFF",
-    // Group 8: gradients from 2 m ahead and from 10 m behind that on, in steps of 10 cm.
-    "90007F802004456027000500A100C9FAFF",
-    // Group 9: national values at once, also for country 2: 30 km/h.
-    "90007F802004C0E04EBFFFC201060C18A08000400300C83CFFFFFE",
-    // Group 10: national values from 15 m ahead on: 20 km/h.
-    "90007F80200540E049A003C0182062820001000C0320F3FFFFF8",
+    // Group 5: an authority of 60 km/h over 10 m and 15 m; timers of 6 s and 9 s, that stop 8 m and 10 m behind the
+    // entries; an overlap of 6 m with V_NVREL, for 5 s from 12 m before the end on.
+    "90007F802002C3205D230000010015018004000F8120028800C0140037FFF0",
+    // Group 6: an authority of 80 km/h over 7 m and 5 m, 10 km/h at its end for 3 s; a timer of 4 s from 6 m before the
+    // end; a danger point 3 m behind it with 5 km/h, and an overlap of 6 m with 10 km/h, for 3 s from 9 m before the
+    // end.
+    "90007F80200343205BA4010061000E000A808001A000C0C004806001817F80",
+    // Group 7: 20 per mille uphill for 14 m.
+    "90007F802003C5602720002281001CFFFF",
+    // Group 8: 30 per mille downhill from 2 m ahead and 25 uphill from 10 m behind that on, in steps of 10 cm.
+    "90007F802004456027000503C100C919FF",
+    // Group 9: national values at once, also for country 2: 30 km/h, and 5 km/h to release.
+    "90007F802004C0E04EBFFFC201060C18A01000400300C83CFFFFFE",
+    // Group 10: national values from 15 m ahead on: 20 km/h, and 15 km/h to release.
+    "90007F80200540E049A003C018206280C001000C0320F3FFFFF8",
     // Groups of country 2 and of country 3, with no packets.
     "90007F8040057FC0",
     "90007F806005FFC0",
@@ -109,11 +111,11 @@ const FULL_TELEGRAMS: [&str; 19] = [
     // Group 4: an authority of 100 km/h over 30 m in its reverse direction, and one of 5 km/h in its nominal direction.
     "90007F802002430024A5007FE0003C01881250203FF0001E0FF0",
     // Group 12: 7 is revoked, restriction 8 of 5 km/h, 3 m ahead for 2 m, until the front has left it.
-    "90007F80200650A00F83A0C047420001800281FF",
+    "90007F802006506023A10000C00140A1401F07FF",
     // Group 13: end marks for the gradient and for the static speed.
     "90007F802006C5601B20001FE01B80748000FE003FC0",
-    // Group 14: 70 km/h; behind packet 136 5 km/h.
-    "90007F80200746E01D20000700088802E3700E9000004007F8",
+    // Group 14: 10 per mille uphill, 70 km/h; behind packet 136 5 km/h.
+    "90007F80200745601B200021401B807480001C0022200B8DC03A400001001FE0",
     // The two balises of group 15: an authority of 50 km/h over 5 m in the nominal direction, 20 km/h at its end for 3
     // s; in the reverse direction 15 km/h until the front has left it, and 45 km/h from 5 m ahead on.
     "90027F802007C31024A2820060000A1FE0",
@@ -177,10 +179,25 @@ fn list<R: Abort + AllocGlobal>(
     Ok(inputs)
 }
 
-/// The kernel and the plain program give the same limits over lists of so many inputs, in both modes.
+/// The kernel and the plain program give the same limits in a mode.
+fn same<R: Abort + AllocGlobal>(
+    rt: &R,
+    mode: Mode,
+    train: &TrainData,
+    inputs: &[Input],
+) -> Result<(), Fail> {
+    let plain = plain::limits(rt.alloc(), mode, train, inputs)?;
+    let answer = kernel_limits(rt, mode, train, inputs)?;
+    assert_eq!(rt; answer.as_slice(), plain.as_slice());
+    Ok(())
+}
+
+/// .. over so many lists of so many inputs.
 fn same_limits<R: Abort + AllocGlobal>(
     rt: &R,
+    modes: &[Mode],
     telegrams: &[&'static str],
+    rounds: u32,
     count: u32,
 ) -> Result<(), Fail>
     requires { 0 < length telegrams.now }
@@ -189,13 +206,12 @@ fn same_limits<R: Abort + AllocGlobal>(
         last: 2026,
         moment: 0,
     };
-    let train = train(rt, 300, 3);
-    for round in 0..50 {
+    let mut train = train(rt, 300, 3);
+    for _ in 0..rounds {
         let inputs = list(rt, &mut numbers, telegrams, count)?;
-        for mode in [Mode::StaffResponsible, Mode::FullSupervision] {
-            let plain = plain::limits(rt.alloc(), mode, &train, &inputs)?;
-            let answer = kernel_limits(rt, mode, &train, &inputs)?;
-            assert_eq!(rt; answer.as_slice(), plain.as_slice(), "round {round}");
+        train.brakes = brakes(rt, numbers.below(1_001) as u16);
+        for mode in modes {
+            same(rt, *mode, &train, &inputs)?;
         }
     }
     Ok(())
@@ -203,15 +219,16 @@ fn same_limits<R: Abort + AllocGlobal>(
 
 #[test]
 fn random_inputs(rt: HostRuntime) -> Result<(), Fail> {
-    same_limits(&rt, &TELEGRAMS, 16)
+    same_limits(&rt, &[Mode::StaffResponsible], &TELEGRAMS, 50, 16)
 }
 
 #[test]
 fn random_groups(rt: HostRuntime) -> Result<(), Fail> {
-    same_limits(&rt, &GROUP_TELEGRAMS, 24)
+    same_limits(&rt, &[Mode::StaffResponsible], &GROUP_TELEGRAMS, 50, 24)
 }
 
 #[test]
 fn random_full_supervision(rt: HostRuntime) -> Result<(), Fail> {
-    same_limits(&rt, &FULL_TELEGRAMS, 24)
+    let modes = [Mode::StaffResponsible, Mode::FullSupervision];
+    same_limits(&rt, &modes, &FULL_TELEGRAMS, 30, 24)
 }

@@ -235,9 +235,9 @@ fn fix_at_its_own_place(rt: HostRuntime) -> Result<(), Fail> {
     )
 }
 
-// The reading of 1,301 cm ends the group, but its announcement is missed before: 107,301 - 500 - 5,366 = 101,435. So the
-// fix is made at its own place, 106,000, and the restriction begins at 110,100. 2,284 / 20 = 115: the greatest front is
-// 106,000 + 2,284 + 500 + 115 + 1,200 = 110,099.
+// The reading of 1,301 cm ends the group, but its announcement is missed before: 107,301 - 500 - 5,366 = 101,435. So
+// the fix is made at its own place, 106,000, and the restriction begins at 110,100. 2,284 / 20 = 115: the greatest
+// front is 106,000 + 2,284 + 500 + 115 + 1,200 = 110,099.
 #[test]
 fn missed_where_it_ends(rt: HostRuntime) -> Result<(), Fail> {
     row(

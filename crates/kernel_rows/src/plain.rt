@@ -1,5 +1,6 @@
 // The speed limits as they are defined, computed with no cleverness: after each input the lists of what all inputs so
 // far told and then the limit are worked out anew, centimetre by centimetre.
+mod ahead;
 mod granted;
 mod group;
 mod life;
@@ -10,6 +11,8 @@ mod profile;
 mod track;
 mod values;
 
+use ahead::{Ahead, Known, Target};
+use granted::{End, Release};
 use kernel::{Input, Mode, TrainData};
 use life::Life;
 use place::Step;
@@ -43,8 +46,8 @@ fn look(life: &mut Life, train: &TrainData) -> Result<(), AllocError> {
     Ok(())
 }
 
-/// The limit in full supervision, but for the restrictions.
-fn supervised(life: &Life, train: &TrainData) -> u32 {
+/// The least of all that limits the train where it stands in full supervision.
+fn here(alloc: Global, life: &Life, train: &TrainData) -> Result<u32, AllocError> {
     let standing = stretch(&life.steps, train);
     let facts = &life.facts;
     let speed = granted::least(
@@ -53,12 +56,40 @@ fn supervised(life: &Life, train: &TrainData) -> u32 {
         standing.max_front,
         train.maximum.get(),
     );
-    profile::least(
-        &facts.speeds,
-        track::mark(&facts.tellings),
-        &standing,
-        speed,
-    )
+    let mark = track::mark(&facts.tellings);
+    let speed = profile::least(&facts.speeds, mark, &standing, speed);
+    track::least(alloc, &facts.tellings, &standing, speed)
+}
+
+/// The greatest speed up to a limit from which the train can brake for what lies ahead and for the end of authority,
+/// or, no faster than the release speed, for the supervised location.
+fn released(ahead: &Ahead, limit: u32, end: Option<End>, national: u32) -> u32 {
+    let Some(end) = end else {
+        return ahead.greatest(limit, None);
+    };
+    let release = match end.release {
+        Release::Speed(speed) => speed,
+        Release::National => national,
+    };
+    let to_end = ahead.greatest(limit, Some(Target::new(end.place, end.speed)));
+    let to_location = ahead.greatest(limit, Some(Target::new(end.location, 0)));
+    to_end.max(release.min(to_location))
+}
+
+/// The permitted speed in full supervision.
+fn permitted(alloc: Global, life: &Life, train: &TrainData) -> Result<u32, AllocError> {
+    let facts = &life.facts;
+    let areas = track::standing(alloc, &facts.tellings)?;
+    let known = Known {
+        facts,
+        areas: &areas,
+        mark: track::mark(&facts.tellings),
+        end: granted::end_now(&facts.authority, facts.moment),
+    };
+    let front = place::max_front(&life.steps);
+    let ahead = Ahead::of(alloc, &known, front, train.brakes)?;
+    let limit = here(alloc, life, train)?;
+    Ok(released(&ahead, limit, known.end, facts.values.speeds.release))
 }
 
 /// The limit after the last of these inputs.
@@ -73,16 +104,18 @@ fn limit_after(
         life::tell(alloc, &mut life, inputs, number)?;
         look(&mut life, train)?;
     }
-    let speed = match mode {
-        Mode::FullSupervision => supervised(&life, train),
-        Mode::StaffResponsible => train.maximum.get().min(life.facts.values.staff_responsible),
-    };
-    track::least(
-        alloc,
-        &life.facts.tellings,
-        &stretch(&life.steps, train),
-        speed,
-    )
+    match mode {
+        Mode::FullSupervision => permitted(alloc, &life, train),
+        Mode::StaffResponsible => {
+            let national = life.facts.values.speeds.staff_responsible;
+            track::least(
+                alloc,
+                &life.facts.tellings,
+                &stretch(&life.steps, train),
+                train.maximum.get().min(national),
+            )
+        }
+    }
 }
 
 /// The limit after each input of a life, in metres per hour.

@@ -1,6 +1,7 @@
 // What comes in and what comes out, as the rows write it.
 use crate::plain;
 use arrayvec::ArrayVec;
+use braking::{Brakes, Deceleration, Reaction};
 use kernel::{Action, Input, Mode, Reading, TrainData, limits};
 use std::process::Abort;
 use std::test::Fail;
@@ -22,7 +23,7 @@ pub enum Told {
 
 use Told::{At, Do, Hear, Move};
 
-/// A train of this length in centimetres and of a category, that may run 160 km/h.
+/// A train of this length in centimetres and of a category, that may run 160 km/h and brakes at once.
 pub fn train<R: Abort>(rt: &R, length: u64, category: u8) -> TrainData {
     assert!(rt; category < 16, "a category");
     TrainData {
@@ -31,6 +32,15 @@ pub fn train<R: Abort>(rt: &R, length: u64, category: u8) -> TrainData {
         category: TrainCategory::of_number(u64::from(category))
             .ok()
             .expect(rt, "a category"),
+        brakes: brakes(rt, 0),
+    }
+}
+
+/// Brakes that slow a train down by 70 cm/s^2 on level track, after so many milliseconds.
+pub fn brakes<R: Abort>(rt: &R, reaction: u16) -> Brakes {
+    Brakes {
+        deceleration: Deceleration::new(70).expect(rt, "a deceleration"),
+        reaction: Reaction::new(reaction).expect(rt, "a reaction"),
     }
 }
 
@@ -70,7 +80,7 @@ pub fn kernel_limits<R: AllocGlobal>(
 pub fn row_of<R: Abort + AllocGlobal>(
     rt: &R,
     mode: Mode,
-    category: u8,
+    train: &TrainData,
     row: &[(Told, u32)],
 ) -> Result<(), Fail> {
     let mut inputs = Vec::new(rt.alloc());
@@ -79,18 +89,17 @@ pub fn row_of<R: Abort + AllocGlobal>(
         inputs.push(input(rt, *told))?;
         expected.push(*limit)?;
     }
-    let train = train(rt, 20_000, category);
     assert_eq!(rt;
-        kernel_limits(rt, mode, &train, &inputs)?.as_slice(),
+        kernel_limits(rt, mode, train, &inputs)?.as_slice(),
         expected.as_slice(),
         "kernel"
     );
-    let plain = plain::limits(rt.alloc(), mode, &train, &inputs)?;
+    let plain = plain::limits(rt.alloc(), mode, train, &inputs)?;
     assert_eq!(rt; plain.as_slice(), expected.as_slice(), "plain program");
     Ok(())
 }
 
 /// A row in staff responsible.
 pub fn row<R: Abort + AllocGlobal>(rt: &R, row: &[(Told, u32)]) -> Result<(), Fail> {
-    row_of(rt, Mode::StaffResponsible, 15, row)
+    row_of(rt, Mode::StaffResponsible, &train(rt, 20_000, 15), row)
 }

@@ -2,7 +2,37 @@
 // times in milliseconds; no time is one that never runs out.
 use packets::{MovementAuthority, Section};
 use std::alloc::AllocError;
-use vars::{Distance, Scale, Timer};
+use vars::{Distance, ReleaseSpeed, Scale, Timer};
+
+/// A release speed.
+#[derive(Clone, Copy)]
+pub enum Release {
+    /// This one, in metres per hour.
+    Speed(u32),
+    /// V_NVREL.
+    National,
+}
+
+/// No release speed.
+const NO_RELEASE: Release = Release::Speed(0);
+
+/// A place behind the end that is supervised.
+#[derive(Clone, Copy)]
+pub struct Point {
+    location: i64,
+    release: Release,
+}
+
+/// The end of authority.
+#[derive(Clone, Copy)]
+pub struct End {
+    pub place: i64,
+    /// The speed that is allowed there, in metres per hour.
+    pub speed: u32,
+    /// The supervised location.
+    pub location: i64,
+    pub release: Release,
+}
 
 /// An authority (packet 12).
 #[derive(Clone, Copy)]
@@ -15,6 +45,7 @@ pub struct Grant {
     end_speed: u32,
     /// T_LOA.
     end_time: Option<u64>,
+    danger_point: Option<Point>,
 }
 
 /// What bears on the authority.
@@ -23,12 +54,21 @@ pub enum Word {
     Granted(Grant),
     /// A section of the last grant: its timer starts at a moment, and stops where the least front is at a place.
     Section {
+        entry: i64,
         start: u64,
         stop: i64,
         time: Option<u64>,
     },
-    /// The end timer of the last grant: it starts where the greatest front is at a place.
+    /// The end timer of the last grant, whose end section has this entry: it starts where the greatest front is at a
+    /// place.
     EndTimer {
+        entry: i64,
+        start: i64,
+        time: Option<u64>,
+    },
+    /// The overlap of the last grant: its timer starts where the greatest front is at a place.
+    Overlap {
+        point: Point,
         start: i64,
         time: Option<u64>,
     },
@@ -59,12 +99,81 @@ fn add_section(
 ) -> Result<(), AllocError> {
     if let Some(timer) = &section.timer {
         words.push(Word::Section {
+            entry: from,
             start: moment,
             stop: behind(from, timer.stop, scale),
             time: time_of(timer.time),
         })?;
     }
     Ok(())
+}
+
+/// A place so far behind the end, with its release speed; one that is reckoned on board is 0.
+fn point_of(end: i64, distance: Distance, release: ReleaseSpeed, scale: Scale) -> Point {
+    Point {
+        location: behind(end, distance, scale),
+        release: match release {
+            ReleaseSpeed::Speed(speed) => Release::Speed(speed.speed().get()),
+            ReleaseSpeed::Onboard => NO_RELEASE,
+            ReleaseSpeed::National => Release::National,
+        },
+    }
+}
+
+/// Takes the sections of an authority of a group at a place, the end section being the last. Its entry.
+fn add_sections(
+    words: &mut Vec<Word>,
+    packet: &MovementAuthority,
+    at: i64,
+    moment: u64,
+) -> Result<i64, AllocError> {
+    let mut from = at;
+    for section in &packet.sections {
+        add_section(words, section, from, packet.scale, moment)?;
+        from = behind(from, section.length, packet.scale);
+    }
+    add_section(words, &packet.end_section, from, packet.scale, moment)?;
+    Ok(from)
+}
+
+/// Takes the end timer and the overlap of an authority with this end.
+fn add_end(
+    words: &mut Vec<Word>,
+    packet: &MovementAuthority,
+    entry: i64,
+    end: i64,
+) -> Result<(), AllocError> {
+    let scale = packet.scale;
+    if let Some(timer) = &packet.end_timer {
+        words.push(Word::EndTimer {
+            entry,
+            start: end.saturating_sub(timer.start.in_scale(scale).get()),
+            time: time_of(timer.time),
+        })?;
+    }
+    if let Some(overlap) = &packet.overlap {
+        words.push(Word::Overlap {
+            point: point_of(end, overlap.distance, overlap.release, scale),
+            start: end.saturating_sub(overlap.start.in_scale(scale).get()),
+            time: time_of(overlap.time),
+        })?;
+    }
+    Ok(())
+}
+
+/// The end of an authority of a group at a place.
+fn end_of(packet: &MovementAuthority, at: i64) -> i64 {
+    let mut end = at;
+    for section in &packet.sections {
+        end = behind(end, section.length, packet.scale);
+    }
+    behind(end, packet.end_section.length, packet.scale)
+}
+
+/// The danger point of an authority with this end.
+fn danger_point_of(packet: &MovementAuthority, end: i64) -> Option<Point> {
+    let point = packet.danger_point?;
+    Some(point_of(end, point.distance, point.release, packet.scale))
 }
 
 /// Takes an authority of a group at a place, in place of the one before.
@@ -74,32 +183,17 @@ pub fn accept(
     at: i64,
     moment: u64,
 ) -> Result<(), AllocError> {
-    let scale = packet.scale;
-    let mut end = at;
-    for section in &packet.sections {
-        end = behind(end, section.length, scale);
-    }
-    end = behind(end, packet.end_section.length, scale);
+    let end = end_of(packet, at);
     words.push(Word::Granted(Grant {
         moment,
         speed: packet.speed.speed().get(),
         end,
         end_speed: packet.end_speed.speed().get(),
         end_time: time_of(packet.end_time),
+        danger_point: danger_point_of(packet, end),
     }))?;
-    let mut from = at;
-    for section in &packet.sections {
-        add_section(words, section, from, scale, moment)?;
-        from = behind(from, section.length, scale);
-    }
-    add_section(words, &packet.end_section, from, scale, moment)?;
-    if let Some(timer) = &packet.end_timer {
-        words.push(Word::EndTimer {
-            start: end.saturating_sub(timer.start.in_scale(scale).get()),
-            time: time_of(timer.time),
-        })?;
-    }
-    Ok(())
+    let entry = add_sections(words, packet, at, moment)?;
+    add_end(words, packet, entry, end)
 }
 
 /// The authority that is stored.
@@ -150,41 +244,112 @@ fn first_at(place: i64, later: &[Word]) -> Option<u64> {
     None
 }
 
-/// Whether a word is a timer of the stored authority that has run out, by what was told later.
-fn has_run_out(word: &Word, later: &[Word], now: u64) -> bool {
-    let is_stored = last_grant(later).is_none();
-    match word {
-        Word::Section { start, stop, time } => {
-            is_stored && is_over(*start, *time, now) && !was_stopped(*start, *stop, *time, later)
-        }
-        Word::EndTimer { start, time } => match first_at(*start, later) {
-            None => false,
-            Some(moment) => is_stored && is_over(moment, *time, now),
-        },
-        _ => false,
+/// Whether a time is over that starts where the greatest front is at a place.
+fn is_over_from(start: i64, time: Option<u64>, later: &[Word], now: u64) -> bool {
+    match first_at(start, later) {
+        None => false,
+        Some(moment) => is_over(moment, time, now),
     }
 }
 
-/// Whether the end is taken back to the entry of a section, where no speed is allowed.
-fn is_taken_back(words: &[Word], now: u64) -> bool {
+/// The entry of a section of the stored authority that a word takes the end back to, by what was told later.
+fn entry_by(word: &Word, later: &[Word], now: u64) -> Option<i64> {
+    if last_grant(later).is_some() {
+        return None;
+    }
+    match word {
+        Word::Section {
+            entry,
+            start,
+            stop,
+            time,
+        } if is_over(*start, *time, now) && !was_stopped(*start, *stop, *time, later) => {
+            Some(*entry)
+        }
+        Word::EndTimer { entry, start, time } if is_over_from(*start, *time, later, now) => Some(
+            *entry,
+        ),
+        _ => None,
+    }
+}
+
+/// Where the end is taken back to: the entry of the first section that ran out.
+fn taken_back(words: &[Word], now: u64) -> Option<i64> {
     for (place, word) in words.iter().enumerate() {
-        if has_run_out(word, &words[place + 1..], now) {
-            return true;
+        let entry = entry_by(word, &words[place + 1..], now);
+        if entry.is_some() {
+            return entry;
         }
     }
-    false
+    None
+}
+
+/// The overlap of the stored authority, until its timer runs out.
+fn overlap(words: &[Word], now: u64) -> Option<Point> {
+    for (place, word) in words.iter().enumerate() {
+        let later = &words[place + 1..];
+        if let Word::Overlap { point, start, time } = word {
+            if last_grant(later).is_none() && !is_over_from(*start, *time, later, now) {
+                return Some(*point);
+            }
+        }
+    }
+    None
+}
+
+/// What a grant supervises: the overlap, or else the danger point, or else the end.
+fn supervised(words: &[Word], grant: &Grant, now: u64) -> Point {
+    let end = Point {
+        location: grant.end,
+        release: NO_RELEASE,
+    };
+    overlap(words, now).or(grant.danger_point).unwrap_or(end)
+}
+
+/// The end as it was granted. While a speed is allowed there, there is no release speed.
+fn end_by(words: &[Word], grant: &Grant, now: u64) -> End {
+    let point = supervised(words, grant, now);
+    let end = End {
+        place: grant.end,
+        speed: grant.end_speed,
+        location: point.location,
+        release: NO_RELEASE,
+    };
+    if grant.end_speed == 0 || is_over(grant.moment, grant.end_time, now) {
+        End {
+            speed: 0,
+            release: point.release,
+            ..end
+        }
+    } else {
+        end
+    }
+}
+
+/// The end of the stored authority now. One that is taken back is an end at speed 0 with nothing behind it.
+pub fn end_now(words: &[Word], now: u64) -> Option<End> {
+    let grant = last_grant(words)?;
+    match taken_back(words, now) {
+        None => Some(end_by(words, &grant, now)),
+        Some(place) => Some(End {
+            place,
+            speed: 0,
+            location: place,
+            release: NO_RELEASE,
+        }),
+    }
 }
 
 /// The least of a speed, of V_MAIN, and of V_LOA where the greatest front is at the end, in metres per hour.
 pub fn least(words: &[Word], now: u64, max_front: i64, otherwise: u32) -> u32 {
-    let Some(grant) = last_grant(words) else {
-        return otherwise;
-    };
-    let speed = otherwise.min(grant.speed);
-    let is_allowed = grant.end_speed > 0 && !is_over(grant.moment, grant.end_time, now);
-    if is_allowed && grant.end <= max_front && !is_taken_back(words, now) {
-        speed.min(grant.end_speed)
-    } else {
-        speed
+    let mut speed = otherwise;
+    if let Some(grant) = last_grant(words) {
+        speed = speed.min(grant.speed);
     }
+    if let Some(end) = end_now(words, now) {
+        if end.speed > 0 && end.place <= max_front {
+            speed = speed.min(end.speed);
+        }
+    }
+    speed
 }

@@ -1,4 +1,5 @@
-// Where the front is, by all movements and fixes of a life, the oldest first. Places, movements and paths in centimetres.
+// Where the front is, by all movements and fixes of a life, the oldest first. Places, movements and paths in
+// centimetres.
 use std::alloc::AllocError;
 
 /// The farthest place, and the longest path.

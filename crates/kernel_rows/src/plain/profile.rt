@@ -22,7 +22,7 @@ pub struct Element<V> {
 #[derive(Clone, Copy)]
 pub struct Static {
     /// In metres per hour.
-    speed: u32,
+    pub speed: u32,
     delay: TrainLengthDelay,
 }
 
@@ -116,10 +116,28 @@ fn value_at<V: Copy>(elements: &[Element<V>], place: i64) -> Option<V> {
     value
 }
 
+/// The value at a place, unless its track is forgotten: that before a mark is.
+pub fn value_from<V: Copy>(elements: &[Element<V>], mark: i64, place: i64) -> Option<V> {
+    if place < mark {
+        None
+    } else {
+        value_at(elements, place)
+    }
+}
+
 /// Whether there is a value at any centimetre that isn't forgotten: then there is one where an element begins, or at
 /// the mark.
 pub fn is_anywhere<V: Copy>(elements: &[Element<V>], mark: i64) -> bool {
     elements.iter().any(|element| value_at(elements, element.place.max(mark)).is_some())
+}
+
+/// The last place where an element begins, or another one behind it.
+pub fn last_change<V>(elements: &[Element<V>], otherwise: i64) -> i64 {
+    let mut last = otherwise;
+    for element in elements {
+        last = last.max(element.place);
+    }
+    last
 }
 
 /// The least of a speed and of the static speeds that limit the train, in metres per hour.

@@ -53,7 +53,7 @@ fn is_ended(area: &Area, later: &Telling) -> bool {
 }
 
 /// The restrictions that nothing later ended.
-fn standing(alloc: Global, tellings: &[Telling]) -> Result<Vec<Area>, AllocError> {
+pub fn standing(alloc: Global, tellings: &[Telling]) -> Result<Vec<Area>, AllocError> {
     let mut areas = Vec::new(alloc);
     for (place, telling) in tellings.iter().enumerate() {
         if let Telling::Restricted(area) = telling {
@@ -92,6 +92,27 @@ fn limits_at(area: &Area, mark: i64, train: &Train, place: i64) -> bool {
 fn limits(area: &Area, mark: i64, train: &Train) -> bool {
     let end = area.start.saturating_add(area.length);
     (area.start..end).any(|place| limits_at(area, mark, train, place))
+}
+
+/// The least speed of the restrictions that cover a place which isn't forgotten, in metres per hour.
+pub fn least_at(areas: &[Area], mark: i64, place: i64) -> Option<u32> {
+    let mut least: Option<u32> = None;
+    for area in areas {
+        let end = area.start.saturating_add(area.length);
+        if mark <= place && area.start <= place && place < end {
+            least = Some(area.speed.min(least.unwrap_or(area.speed)));
+        }
+    }
+    least
+}
+
+/// The last place where a restriction begins, or another one behind it.
+pub fn last_change(areas: &[Area], otherwise: i64) -> i64 {
+    let mut last = otherwise;
+    for area in areas {
+        last = last.max(area.start);
+    }
+    last
 }
 
 /// The least of a speed and of the restrictions that limit the train, in metres per hour.

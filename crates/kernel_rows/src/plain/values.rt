@@ -3,24 +3,34 @@ use packets::NationalValues;
 use std::alloc::{AllocError, Global};
 use vars::{Country, StartPlace};
 
-/// V_NVSTFF of the defaults, in metres per hour.
-const DEFAULT: u32 = 40_000;
+/// The national speeds that the limits go by, in metres per hour.
+#[derive(Clone, Copy)]
+pub struct Speeds {
+    /// V_NVSTFF.
+    pub staff_responsible: u32,
+    /// V_NVREL.
+    pub release: u32,
+}
+
+/// Those of the defaults.
+const DEFAULTS: Speeds = Speeds {
+    staff_responsible: 40_000,
+    release: 40_000,
+};
 
 /// A packet 3 that isn't in force so far.
 #[derive(Drop)]
 struct Announced {
     /// From where on; None is at once.
     start: Option<i64>,
-    /// V_NVSTFF, in metres per hour.
-    staff_responsible: u32,
+    speeds: Speeds,
     countries: Vec<Country>,
 }
 
 /// The national values.
 #[derive(Drop)]
 pub struct Values {
-    /// V_NVSTFF, in metres per hour.
-    pub staff_responsible: u32,
+    pub speeds: Speeds,
     /// The countries that the values in force are for.
     countries: Vec<Country>,
     announced: Option<Announced>,
@@ -29,7 +39,7 @@ pub struct Values {
 impl Values {
     pub fn new(alloc: Global) -> Values {
         Values {
-            staff_responsible: DEFAULT,
+            speeds: DEFAULTS,
             countries: Vec::new(alloc),
             announced: None,
         }
@@ -38,7 +48,7 @@ impl Values {
     /// A group of a country is accepted. A country that the values in force aren't for has the defaults.
     pub fn enter(&mut self, country: Country) -> Result<(), AllocError> {
         if !self.countries.is_empty() && !self.countries.iter().any(|other| *other == country) {
-            self.staff_responsible = DEFAULT;
+            self.speeds = DEFAULTS;
             self.countries.clear();
             self.countries.push(country)?;
         }
@@ -65,7 +75,10 @@ impl Values {
                     Some(at.saturating_add(distance.in_scale(packet.scale).get()))
                 }
             },
-            staff_responsible: packet.staff_responsible.speed().get(),
+            speeds: Speeds {
+                staff_responsible: packet.staff_responsible.speed().get(),
+                release: packet.release.speed().get(),
+            },
             countries,
         });
         Ok(())
@@ -79,7 +92,7 @@ impl Values {
         };
         if is_reached {
             if let Some(announced) = self.announced.take() {
-                self.staff_responsible = announced.staff_responsible;
+                self.speeds = announced.speeds;
                 self.countries = announced.countries;
             }
         }

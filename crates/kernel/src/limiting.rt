@@ -1,0 +1,99 @@
+//! The speed limit, by what is known.
+ghost use Rattle.std.specs.Prelude.{◌≡◌, Some};
+ghost use Rattle.speed_profile.specs.Ahead.{permitted_ahead};
+ghost use Rattle.kernel.specs.Lives.{Life};
+ghost use Rattle.kernel.specs.Limit.{train_of, responsible_limit, bounds_of, permitted_speed, release_speed, released_by, limit};
+ghost use Rattle.kernel.specs.StandsFor.{StandsForLife};
+
+use crate::state::State;
+use crate::train::{Mode, TrainData};
+use authority::{End, Release};
+use braking::Target;
+use speed_profile::{Ahead, Bounds, CategorySpeeds, limit_on};
+use track_store::Profile;
+use units::{Cm, Mph, Permille, Stretch};
+
+impl State {
+    // In staff responsible.
+    fn responsible_limit(&self, stretch: &Stretch, train: &TrainData) -> Mph
+        ensures { (life : Life) → StandsForLife self.now life → stretch.now ≡ train_of train.now life → result ≡ responsible_limit train.now life }
+    {
+        let speed = self.national.in_force().values().staff_responsible;
+        self.restrictions.least(stretch, speed.min(train.maximum))
+    }
+
+    // What limits the train wherever it stands.
+    fn bounds(&self, train: &TrainData) -> Bounds
+        ensures { (life : Life) → StandsForLife self.now life → result ≡ bounds_of train.now life }
+    {
+        Bounds {
+            maximum: train.maximum,
+            category: train.category,
+            main: self.authority.main_speed(),
+            end: self.authority.end(),
+        }
+    }
+
+    // In full supervision.
+    fn permitted_speed(&self, stretch: &Stretch, train: &TrainData) -> Mph
+        ensures { (life : Life) → StandsForLife self.now life → stretch.now ≡ train_of train.now life → result ≡ permitted_speed train.now life }
+    {
+        let bounds = self.bounds(train);
+        let ahead = Ahead {
+            front: stretch.max_front(),
+            bounds: &bounds,
+            speeds: &self.speeds,
+            restrictions: &self.restrictions,
+            gradient: &self.gradients,
+            brakes: &train.brakes,
+        };
+        let limit = limit_on(stretch, &bounds, &self.speeds, &self.restrictions);
+        let national = self.national.in_force().values().release;
+        released_by(&ahead, limit, &bounds.end, national)
+    }
+
+    /// The speed limit.
+    pub(crate) fn limit(&self, mode: Mode, train: &TrainData) -> Mph
+        ensures { (life : Life) → StandsForLife self.now life → result ≡ limit mode train.now life }
+    {
+        let stretch = self.place.stretch(train.length);
+        match mode {
+            Mode::FullSupervision => self.permitted_speed(&stretch, train),
+            Mode::StaffResponsible => self.responsible_limit(&stretch, train),
+        }
+    }
+}
+
+// The permitted speed up to a limit, by the release rule.
+fn released_by<S: Profile<CategorySpeeds>, G: Profile<Permille>>(
+    ahead: &Ahead<'_, S, G>,
+    limit: Mph,
+    end: &Option<End>,
+    national: Mph,
+) -> Mph
+    ensures { result ≡ released_by (λ last. permitted_ahead ahead.now.front limit last ahead.now.bounds.now (S.value ahead.now.speeds.now)
+        ahead.now.restrictions.now (G.value ahead.now.gradient.now) ahead.now.brakes.now) end.now national }
+{
+    let Some(end) = end else {
+        return ahead.permitted(limit, None);
+    };
+    let to_end = ahead.permitted(limit, target(end.end, end.speed));
+    let to_location = ahead.permitted(limit, target(end.location, Mph::new(0).unwrap()));
+    to_end.max(to_location.min(release_speed(end.release, national)))
+}
+
+fn target(place: Cm, speed: Mph) -> Option<Target>
+    ensures { result ≡ Some (record { place = place; speed = speed }) }
+{
+    Some(Target { place, speed })
+}
+
+// The release speed that holds.
+fn release_speed(release: Release, national: Mph) -> Mph
+    ensures { result ≡ release_speed release national }
+{
+    match release {
+        Release::Speed(speed) => speed,
+        Release::National => national,
+    }
+}

@@ -3,6 +3,7 @@
 use Rattle.std.specs.Prelude.{◌≡◌, ℤ, ◌<ℤ◌, Bool, false, not, int_lt, Option, None, Some, if◌then◌else◌, List, [], ◌∷◌}
 use Rattle.track_store.specs.declared.segments.Segment.{Segment}
 use Rattle.track_store.specs.Facts.{from_mark}
+use Rattle.track_store.specs.Profiles.{Profile}
 
 -- the value of the last segment that starts at or below a place; without one, another value
 abbrev pub value_among : {A : Type 0} → Option A → List (Segment A) → ℤ → Option A
@@ -22,6 +23,9 @@ pub record Kept (A : Type 0) : Type 0 where
 -- the value that counts at a place
 abbrev pub value_kept : {A : Type 0} → Kept A → ℤ → Option A
 value_kept kept = from_mark kept.mark (value_of_segments kept.segments)
+
+abbrev pub profile_kept : {A : Type 0} → Kept A → Profile A
+profile_kept kept = record { value = value_kept kept; mark = kept.mark }
 
 -- segments that start behind a place, each behind the one before it
 abbrev pub IsRisingFrom : {A : Type 0} → ℤ → List (Segment A) → Type 0

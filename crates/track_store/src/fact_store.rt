@@ -51,7 +51,14 @@ impl<T: Copy> Profile<T> for FactStore<T> {
 }
 
 impl<T: Copy> ProfileStore<T> for FactStore<T> {
+    ghost use Rattle.std.specs.Prelude.{refl};
+    ghost use Rattle.track_store.specs.Facts.{profile_of};
+
     ghost mark = { λ told. told.mark };
+
+    ghost profile = { profile_of };
+
+    ghost profile_is = { λ _. refl };
 
     fn empty(alloc: Global) -> Self {
         FactStore {

@@ -1,6 +1,7 @@
 ghost use Rattle.std.specs.Prelude.{◌≡◌, ◌^◌, ℤ, pos, neg_ℤ, Option, None, OnOk, OnErr, IfOk};
 ghost use Rattle.std.specs.Int.{int_max};
-ghost use Rattle.track_store.specs.Profiles.{Lasts};
+ghost use Rattle.track_store.specs.Profiles as profiles;
+ghost use Rattle.track_store.specs.Profiles.{Lasts, profile_with};
 ghost use Rattle.track_store.specs.Facts.{from_mark, replaced};
 
 use std::alloc::Global;
@@ -45,6 +46,8 @@ pub trait Profile<T> {
 pub trait ProfileStore<T>: Profile<T> {
     ghost mark: { Self → ℤ };
 
+    ghost profile: { Self → profiles.Profile T };
+
     /// No value anywhere, and nothing forgotten. Takes no memory.
     fn empty(alloc: Global) -> Self
         ensures value { (place : ℤ) → Self.value result place ≡ None }
@@ -72,4 +75,6 @@ pub trait ProfileStore<T>: Profile<T> {
     /// An equal value: an equal profile with an equal mark.
     fn copy(&self, alloc: Global) -> Result<Self, NoMemory>
         ensures { IfOk result (λ copy. copy ≡ self.now) };
+
+    ghost profile_is: { (store : Self) → profile store ≡ profile_with Self.value mark store };
 }

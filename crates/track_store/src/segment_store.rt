@@ -48,7 +48,14 @@ impl<T: Copy> Profile<T> for SegmentStore<T> {
 }
 
 impl<T: Copy> ProfileStore<T> for SegmentStore<T> {
+    ghost use Rattle.std.specs.Prelude.{refl};
+    ghost use Rattle.track_store.specs.Segments.{profile_kept};
+
     ghost mark = { λ kept. kept.mark };
+
+    ghost profile = { profile_kept };
+
+    ghost profile_is = { λ _. refl };
 
     fn empty(alloc: Global) -> Self {
         SegmentStore {

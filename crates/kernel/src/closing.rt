@@ -15,12 +15,13 @@ use crate::messages::{
     Use, accept_all, add_all, announce_all, replace_gradients, replace_speeds, revoke_all,
     take_all_values,
 };
-use crate::state::State;
+use crate::state::StateOver;
 use balise_groups::{Broken, Closed, GroupPackets, Message};
 use linking::{Announcement, GroupRead, Judgement, Verdict};
+use speed_profile::CategorySpeeds;
 use std::alloc::Global;
-use track_store::is_known;
-use units::{Cm, Length, NoMemory};
+use track_store::{ProfileStore, is_known};
+use units::{Cm, Length, NoMemory, Permille};
 use vars::{LinkOrientation, Variable};
 
 // Where a group is to be fixed, and how exactly that is known.
@@ -30,13 +31,13 @@ struct Wanted {
     accuracy: Length,
 }
 
-impl State {
+impl<G: ProfileStore<Permille> + Drop, S: ProfileStore<CategorySpeeds> + Drop> StateOver<G, S> {
     // Linking judges a group. One that is accepted counts for the national values by its country.
     fn judge(&mut self, message: &Message) -> Judgement
-        ensures answer { (life : Life) (entry : Entry) → StandsForLife self.old (grown life entry)
+        ensures answer { (life : Life) (entry : Entry) → StandsForLife G.profile S.profile self.old (grown life entry)
             → result ≡ judgement (links_of (entry ∷ life.entries)) (group_read (place_of (entry ∷ life.entries)) message.now) }
-        ensures stands { (life : Life) (entry : Entry) → entry.train ≡ None → StandsForLife self.old (grown life entry)
-            → StandsForLife self.new (grown life (added (ruled message.now result.verdict result.effect) entry)) }
+        ensures stands { (life : Life) (entry : Entry) → entry.train ≡ None → StandsForLife G.profile S.profile self.old (grown life entry)
+            → StandsForLife G.profile S.profile self.new (grown life (added (ruled message.now result.verdict result.effect) entry)) }
     {
         let place = self.place.place_then(message.sums);
         let judgement = self.links.judge(&GroupRead {
@@ -53,7 +54,7 @@ impl State {
 
     // Whether a group that wasn't announced makes a fix: nothing is known that lies at places of its own.
     fn is_free(&self) -> bool
-        ensures { (life : Life) (entry : Entry) → StandsForLife self.now (grown life entry) → result ≡ is_free (entry ∷ life.entries) }
+        ensures { (life : Life) (entry : Entry) → StandsForLife G.profile S.profile self.now (grown life entry) → result ≡ is_free (entry ∷ life.entries) }
     {
         let announced = self.links.is_in_use();
         let authorised = self.authority.is_stored();
@@ -64,10 +65,10 @@ impl State {
 
     // An accepted group makes its fix: the place from which its distances count.
     fn fix(&mut self, message: &Message, announced: &Option<Announcement>) -> Cm
-        ensures answer { (life : Life) (entry : Entry) (effect : Effect) → StandsForLife self.old (grown life (added (accepted message.now announced.now effect) entry))
+        ensures answer { (life : Life) (entry : Entry) (effect : Effect) → StandsForLife G.profile S.profile self.old (grown life (added (accepted message.now announced.now effect) entry))
             → result ≡ place_by (own_place (place_of (entry ∷ life.entries)) message.now) (with_fix life.entries entry (accepted message.now announced.now effect)).fix }
-        ensures stands { (life : Life) (entry : Entry) (effect : Effect) → StandsForLife self.old (grown life (added (accepted message.now announced.now effect) entry))
-            → StandsForLife self.new (grown life (added (with_fix life.entries entry (accepted message.now announced.now effect)) entry)) }
+        ensures stands { (life : Life) (entry : Entry) (effect : Effect) → StandsForLife G.profile S.profile self.old (grown life (added (accepted message.now announced.now effect) entry))
+            → StandsForLife G.profile S.profile self.new (grown life (added (with_fix life.entries entry (accepted message.now announced.now effect)) entry)) }
         ensures near { unsigned_abs result ≤ 3 * 2 ^ 40 }
     {
         let own = self.place.place_then(message.sums).estimate;
@@ -94,8 +95,8 @@ impl State {
     ) -> Result<(), NoMemory>
         requires { unsigned_abs used.now.place ≤ 3 * 2 ^ 40 }
         ensures { OnOk result ((life : Life) (entry : Entry) (outcome : Outcome) → entry.train ≡ None → entry.mark ≡ None
-            → StandsForLife self.old (grown life (added (using [] outcome) entry))
-            → StandsForLife self.new (grown life (added (using (facts used.now packets.now) outcome) entry))) }
+            → StandsForLife G.profile S.profile self.old (grown life (added (using [] outcome) entry))
+            → StandsForLife G.profile S.profile self.new (grown life (added (using (facts used.now packets.now) outcome) entry))) }
     {
         take_all_values(&mut self.national, packets, used);
         announce_all(&mut self.links, packets, used);
@@ -115,8 +116,8 @@ impl State {
         announced: &Option<Announcement>,
     ) -> Result<(), NoMemory>
         ensures { OnOk result ((life : Life) (entry : Entry) (effect : Effect) → entry.train ≡ None → entry.mark ≡ None
-            → StandsForLife self.old (grown life (added (accepted message.now announced.now effect) entry))
-            → StandsForLife self.new (grown life (added (with_facts life.entries entry (with_fix life.entries entry (accepted message.now announced.now effect))) entry))) }
+            → StandsForLife G.profile S.profile self.old (grown life (added (accepted message.now announced.now effect) entry))
+            → StandsForLife G.profile S.profile self.new (grown life (added (with_facts life.entries entry (with_fix life.entries entry (accepted message.now announced.now effect))) entry))) }
     {
         let place = self.fix(message, announced);
         let used = Use {
@@ -130,8 +131,8 @@ impl State {
 
     // A whole group.
     fn close_whole(&mut self, alloc: Global, message: &Message) -> Result<(), NoMemory>
-        ensures { OnOk result ((life : Life) (entry : Entry) → entry.train ≡ None → entry.mark ≡ None → StandsForLife self.old (grown life entry)
-            → StandsForLife self.new (grown life (added (outcome_of life.entries entry (closed.Whole message.now)) entry))) }
+        ensures { OnOk result ((life : Life) (entry : Entry) → entry.train ≡ None → entry.mark ≡ None → StandsForLife G.profile S.profile self.old (grown life entry)
+            → StandsForLife G.profile S.profile self.new (grown life (added (outcome_of life.entries entry (closed.Whole message.now)) entry))) }
     {
         match self.judge(message).verdict {
             Verdict::Accept(announced) => self.accept(alloc, message, &announced)?,
@@ -142,16 +143,16 @@ impl State {
 
     // A broken group.
     fn close_broken(&mut self, group: &Broken)
-        ensures { (life : Life) (entry : Entry) → entry.train ≡ None → entry.mark ≡ None → StandsForLife self.old (grown life entry)
-            → StandsForLife self.new (grown life (added (outcome_of life.entries entry (closed.Broken group.now)) entry)) }
+        ensures { (life : Life) (entry : Entry) → entry.train ≡ None → entry.mark ≡ None → StandsForLife G.profile S.profile self.old (grown life entry)
+            → StandsForLife G.profile S.profile self.new (grown life (added (outcome_of life.entries entry (closed.Broken group.now)) entry)) }
     {
         self.links.broken(group.group, group.linked);
     }
 
     // A group that closed.
     fn close_one(&mut self, alloc: Global, closed: &Closed) -> Result<(), NoMemory>
-        ensures { OnOk result ((life : Life) (entry : Entry) → entry.train ≡ None → entry.mark ≡ None → StandsForLife self.old (grown life entry)
-            → StandsForLife self.new (grown life (added (outcome_of life.entries entry closed.now) entry))) }
+        ensures { OnOk result ((life : Life) (entry : Entry) → entry.train ≡ None → entry.mark ≡ None → StandsForLife G.profile S.profile self.old (grown life entry)
+            → StandsForLife G.profile S.profile self.new (grown life (added (outcome_of life.entries entry closed.now) entry))) }
     {
         match closed {
             Closed::Whole(message) => self.close_whole(alloc, message)?,
@@ -162,8 +163,8 @@ impl State {
 
     /// A group that closed, if one did.
     pub(crate) fn close(&mut self, alloc: Global, closed: &Option<Closed>) -> Result<(), NoMemory>
-        ensures { OnOk result ((life : Life) (entry : Entry) → entry.train ≡ None → entry.mark ≡ None → StandsForLife self.old (grown life entry)
-            → StandsForLife self.new (grown life (with_closed life.entries closed.now entry))) }
+        ensures { OnOk result ((life : Life) (entry : Entry) → entry.train ≡ None → entry.mark ≡ None → StandsForLife G.profile S.profile self.old (grown life entry)
+            → StandsForLife G.profile S.profile self.new (grown life (with_closed life.entries closed.now entry))) }
     {
         match closed {
             None => {}

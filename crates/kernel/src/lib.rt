@@ -15,6 +15,6 @@ mod train;
 pub use events::{Action, Event, Input, Reading};
 pub use kept::Kept;
 pub use laws::{kept_is_the_last, power_up_forgets, telegrams_are_carried};
-pub use state::State;
+pub use state::{State, StateOver};
 pub use steps::{limits, step};
 pub use train::{Mode, TrainData};

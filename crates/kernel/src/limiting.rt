@@ -5,18 +5,18 @@ ghost use Rattle.kernel.specs.Lives.{Life};
 ghost use Rattle.kernel.specs.Limit.{train_of, responsible_limit, bounds_of, permitted_speed, release_speed, released_by, limit};
 ghost use Rattle.kernel.specs.StandsFor.{StandsForLife};
 
-use crate::state::State;
+use crate::state::StateOver;
 use crate::train::{Mode, TrainData};
 use authority::{End, Release};
 use braking::Target;
 use speed_profile::{Ahead, Bounds, CategorySpeeds, limit_on};
-use track_store::Profile;
+use track_store::{Profile, ProfileStore};
 use units::{Cm, Mph, Permille, Stretch};
 
-impl State {
+impl<G: ProfileStore<Permille> + Drop, S: ProfileStore<CategorySpeeds> + Drop> StateOver<G, S> {
     // In staff responsible.
     fn responsible_limit(&self, stretch: &Stretch, train: &TrainData) -> Mph
-        ensures { (life : Life) → StandsForLife self.now life → stretch.now ≡ train_of train.now life → result ≡ responsible_limit train.now life }
+        ensures { (life : Life) → StandsForLife G.profile S.profile self.now life → stretch.now ≡ train_of train.now life → result ≡ responsible_limit train.now life }
     {
         let speed = self.national.in_force().values().staff_responsible;
         self.restrictions.least(stretch, speed.min(train.maximum))
@@ -24,7 +24,7 @@ impl State {
 
     // What limits the train wherever it stands.
     fn bounds(&self, train: &TrainData) -> Bounds
-        ensures { (life : Life) → StandsForLife self.now life → result ≡ bounds_of train.now life }
+        ensures { (life : Life) → StandsForLife G.profile S.profile self.now life → result ≡ bounds_of train.now life }
     {
         Bounds {
             maximum: train.maximum,
@@ -36,7 +36,7 @@ impl State {
 
     // In full supervision.
     fn permitted_speed(&self, stretch: &Stretch, train: &TrainData) -> Mph
-        ensures { (life : Life) → StandsForLife self.now life → stretch.now ≡ train_of train.now life → result ≡ permitted_speed train.now life }
+        ensures { (life : Life) → StandsForLife G.profile S.profile self.now life → stretch.now ≡ train_of train.now life → result ≡ permitted_speed train.now life }
     {
         let bounds = self.bounds(train);
         let ahead = Ahead {
@@ -54,7 +54,7 @@ impl State {
 
     /// The speed limit.
     pub(crate) fn limit(&self, mode: Mode, train: &TrainData) -> Mph
-        ensures { (life : Life) → StandsForLife self.now life → result ≡ limit mode train.now life }
+        ensures { (life : Life) → StandsForLife G.profile S.profile self.now life → result ≡ limit mode train.now life }
     {
         let stretch = self.place.stretch(train.length);
         match mode {

@@ -11,13 +11,14 @@ ghost use Rattle.kernel.specs.Lives.{Life, life_after};
 ghost use Rattle.kernel.specs.StandsFor.{StandsForLife, StandsFor, grown};
 
 use crate::events::{Event, Input};
-use crate::state::State;
+use crate::state::StateOver;
 use crate::train::TrainData;
 use balise_groups::Reading as GroupReading;
+use speed_profile::CategorySpeeds;
 use std::alloc::Global;
 use telegram::Received;
 use track_store::ProfileStore;
-use units::{Cm, Ms, NoMemory, Stretch};
+use units::{Cm, Ms, NoMemory, Permille, Stretch};
 
 /// How much track behind the least rear isn't forgotten, in centimetres.
 const REMEMBERED: i64 = 100_000;
@@ -30,12 +31,12 @@ fn mark_behind(rear: Cm) -> Cm
     Cm::new(rear.get() - REMEMBERED).unwrap()
 }
 
-impl State {
+impl<G: ProfileStore<Permille> + Drop, S: ProfileStore<CategorySpeeds> + Drop> StateOver<G, S> {
     // A movement: the group that is left by it closes, and announced groups are missed that the train has passed. A movement
     // that leads too far isn't added.
     fn move_by(&mut self, alloc: Global, movement: Cm) -> Result<(), NoMemory>
-        ensures { OnOk result ((life : Life) → StandsForLife self.old life
-            → StandsForLife self.new (grown life (with_groups life.entries (moved life.entries movement)))) }
+        ensures { OnOk result ((life : Life) → StandsForLife G.profile S.profile self.old life
+            → StandsForLife G.profile S.profile self.new (grown life (with_groups life.entries (moved life.entries movement)))) }
     {
         let _ = self.place.moved(movement);
         let ended = self.groups.moved(self.place.path_sum());
@@ -45,8 +46,8 @@ impl State {
 
     // A telegram: the group that it ends closes, and behind that its own where that is whole now.
     fn take(&mut self, alloc: Global, telegram: Received) -> Result<(), NoMemory>
-        ensures { OnOk result ((life : Life) (bytes : List ℕ) → StandsForLife self.old life → telegram_in bytes ≡ Some telegram
-            → StandsForLife self.new (grown life (with_groups life.entries (heard life.entries bytes)))) }
+        ensures { OnOk result ((life : Life) (bytes : List ℕ) → StandsForLife G.profile S.profile self.old life → telegram_in bytes ≡ Some telegram
+            → StandsForLife G.profile S.profile self.new (grown life (with_groups life.entries (heard life.entries bytes)))) }
     {
         let taken = self.groups.take(GroupReading {
             telegram,
@@ -58,8 +59,8 @@ impl State {
 
     // The bytes of a balise. Those that carry no telegram do nothing.
     fn listen(&mut self, alloc: Global, bytes: &[u8]) -> Result<(), NoMemory>
-        ensures { OnOk result ((life : Life) → StandsForLife self.old life
-            → StandsForLife self.new (grown life (with_groups life.entries (heard life.entries bytes.now)))) }
+        ensures { OnOk result ((life : Life) → StandsForLife G.profile S.profile self.old life
+            → StandsForLife G.profile S.profile self.new (grown life (with_groups life.entries (heard life.entries bytes.now)))) }
     {
         match Received::new(bytes) {
             Ok(telegram) => self.take(alloc, telegram)?,
@@ -70,8 +71,8 @@ impl State {
 
     // The clock tells a moment.
     fn tick(&mut self, moment: Ms)
-        ensures { (life : Life) → StandsForLife self.old life
-            → StandsForLife self.new (grown life (with_groups life.entries (begun life.entries (input.Clock moment)))) }
+        ensures { (life : Life) → StandsForLife G.profile S.profile self.old life
+            → StandsForLife G.profile S.profile self.new (grown life (with_groups life.entries (begun life.entries (input.Clock moment)))) }
     {
         self.moment = moment;
         self.authority.tick(moment);
@@ -79,8 +80,8 @@ impl State {
 
     // What the input itself does, and then the groups that it closed.
     fn begin(&mut self, alloc: Global, input: &Input) -> Result<(), NoMemory>
-        ensures { OnOk result ((life : Life) → StandsForLife self.old life
-            → StandsForLife self.new (grown life (with_groups life.entries (begun life.entries input.now)))) }
+        ensures { OnOk result ((life : Life) → StandsForLife G.profile S.profile self.old life
+            → StandsForLife G.profile S.profile self.new (grown life (with_groups life.entries (begun life.entries input.now)))) }
     {
         match input {
             Input::Telegram(bytes) => self.listen(alloc, bytes.as_slice())?,
@@ -94,8 +95,8 @@ impl State {
     // The authority's timers see where the train stands, and national values come into force where the greatest front has
     // reached their place.
     fn look(&mut self, train: &Stretch)
-        ensures { (life : Life) (entry : Entry) → entry.train ≡ None → entry.mark ≡ None → StandsForLife self.old (grown life entry)
-            → StandsForLife self.new (grown life (record entry { train = Some train.now })) }
+        ensures { (life : Life) (entry : Entry) → entry.train ≡ None → entry.mark ≡ None → StandsForLife G.profile S.profile self.old (grown life entry)
+            → StandsForLife G.profile S.profile self.new (grown life (record entry { train = Some train.now })) }
     {
         self.authority.pass(train);
         self.national.reach(train.max_front());
@@ -103,8 +104,8 @@ impl State {
 
     // The track before a place is forgotten.
     fn forget(&mut self, mark: Cm)
-        ensures { (life : Life) (entry : Entry) → entry.mark ≡ None → StandsForLife self.old (grown life entry)
-            → StandsForLife self.new (grown life (record entry { mark = Some mark })) }
+        ensures { (life : Life) (entry : Entry) → entry.mark ≡ None → StandsForLife G.profile S.profile self.old (grown life entry)
+            → StandsForLife G.profile S.profile self.new (grown life (record entry { mark = Some mark })) }
     {
         self.restrictions.drop_behind(mark);
         self.gradients.drop_behind(mark);
@@ -113,8 +114,8 @@ impl State {
 
     // What is seen of the train once the groups are used: the track that lies far behind it is forgotten.
     fn observe(&mut self, train: &TrainData)
-        ensures { (life : Life) (entry : Entry) → entry.train ≡ None → entry.mark ≡ None → StandsForLife self.old (grown life entry)
-            → StandsForLife self.new (grown life (with_mark train.now life.entries (with_train train.now life.entries entry))) }
+        ensures { (life : Life) (entry : Entry) → entry.train ≡ None → entry.mark ≡ None → StandsForLife G.profile S.profile self.old (grown life entry)
+            → StandsForLife G.profile S.profile self.new (grown life (with_mark train.now life.entries (with_train train.now life.entries entry))) }
     {
         let stretch = self.place.stretch(train.length);
         self.look(&stretch);
@@ -128,8 +129,8 @@ impl State {
         train: &TrainData,
         input: &Input,
     ) -> Result<(), NoMemory>
-        ensures { OnOk result ((life : Life) → StandsForLife self.old life
-            → StandsForLife self.new (life_after train.now life (event.Input input.now))) }
+        ensures { OnOk result ((life : Life) → StandsForLife G.profile S.profile self.old life
+            → StandsForLife G.profile S.profile self.new (life_after train.now life (event.Input input.now))) }
     {
         self.begin(alloc, input)?;
         self.observe(train);
@@ -143,11 +144,11 @@ impl State {
         train: &TrainData,
         event: &Event,
     ) -> Result<(), NoMemory>
-        ensures { OnOk result ((events : List Event) → StandsFor train.now self.old events
-            → StandsFor train.now self.new (event.now ∷ events)) }
+        ensures { OnOk result ((events : List Event) → StandsFor G.profile S.profile train.now self.old events
+            → StandsFor G.profile S.profile train.now self.new (event.now ∷ events)) }
     {
         match event {
-            Event::PowerUp => *self = State::power_up(alloc, self.kept()),
+            Event::PowerUp => *self = StateOver::power_up(alloc, self.kept()),
             Event::Input(input) => self.receive(alloc, train, input)?,
         }
         Ok(())

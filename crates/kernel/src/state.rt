@@ -16,9 +16,9 @@ use std::marker::Model;
 use track_store::{ProfileStore, Restrictions, SegmentStore};
 use units::{Ms, NoMemory, Permille};
 
-/// What the kernel knows.
+/// What the kernel knows, with stores for the gradients and the static speeds.
 #[derive(Drop)]
-pub struct State {
+pub struct StateOver<G, S> {
     pub(crate) place: Place,
     pub(crate) groups: Assembler,
     pub(crate) links: Links,
@@ -26,15 +26,18 @@ pub struct State {
     pub(crate) restrictions: Restrictions,
     pub(crate) moment: Ms,
     pub(crate) authority: Authority,
-    pub(crate) gradients: SegmentStore<Permille>,
-    pub(crate) speeds: SegmentStore<CategorySpeeds>,
+    pub(crate) gradients: G,
+    pub(crate) speeds: S,
     pub(crate) lives: u32,
 }
 
-impl Model for State {
+/// What the kernel knows, with stores that stay short however long the life.
+pub type State = StateOver<SegmentStore<Permille>, SegmentStore<CategorySpeeds>>;
+
+impl<G, S> Model for StateOver<G, S> {
     ghost use Rattle.kernel.specs.StandsFor.{Knowledge};
 
-    ghost Value = { Knowledge };
+    ghost Value = { Knowledge G S };
 
     ghost view = { λ s. record {
       place = s.place;
@@ -50,19 +53,19 @@ impl Model for State {
     } };
 }
 
-impl State {
+impl<G: ProfileStore<Permille> + Drop, S: ProfileStore<CategorySpeeds> + Drop> StateOver<G, S> {
     /// What is known before the first power-up. Takes no memory.
     pub fn empty(alloc: Global) -> Self
-        ensures { (train : TrainData) → StandsFor train result [] }
+        ensures { (train : TrainData) → StandsFor G.profile S.profile train result [] }
     {
-        State::power_up(alloc, Kept::nothing())
+        StateOver::power_up(alloc, Kept::nothing())
     }
 
     /// A life begins, and nothing is known but what was kept. Takes no memory.
     pub(crate) fn power_up(alloc: Global, kept: Kept) -> Self
-        ensures { StandsForLife result (record { kept = kept; entries = [] }) }
+        ensures { StandsForLife G.profile S.profile result (record { kept = kept; entries = [] }) }
     {
-        State {
+        StateOver {
             place: Place::new(),
             groups: Assembler::new(),
             links: Links::new(),
@@ -70,15 +73,15 @@ impl State {
             restrictions: Restrictions::new(alloc),
             moment: Ms::new(0).unwrap(),
             authority: Authority::new(),
-            gradients: SegmentStore::empty(alloc),
-            speeds: SegmentStore::empty(alloc),
+            gradients: G::empty(alloc),
+            speeds: S::empty(alloc),
             lives: kept.lives,
         }
     }
 
     /// What a power-up keeps.
     pub fn kept(&self) -> Kept
-        ensures { (train : TrainData) (events : List Event) → StandsFor train self.now events → result ≡ kept train events }
+        ensures { (train : TrainData) (events : List Event) → StandsFor G.profile S.profile train self.now events → result ≡ kept train events }
     {
         Kept {
             lives: self.lives.saturating_add(1),
@@ -90,7 +93,7 @@ impl State {
     pub fn copy(&self, alloc: Global) -> Result<Self, NoMemory>
         ensures { IfOk result (λ copy. copy ≡ self.now) }
     {
-        Ok(State {
+        Ok(StateOver {
             place: self.place,
             groups: self.groups.copy(),
             links: self.links.copy(),

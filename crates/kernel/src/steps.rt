@@ -4,22 +4,24 @@ ghost use Rattle.kernel.specs.Limit.{limit_after, limits_of};
 ghost use Rattle.kernel.specs.StandsFor.{StandsFor};
 
 use crate::events::{Event, Input};
-use crate::state::State;
+use crate::state::{State, StateOver};
 use crate::train::{Mode, TrainData};
+use speed_profile::CategorySpeeds;
 use std::alloc::Global;
-use units::{Mph, NoMemory};
+use track_store::ProfileStore;
+use units::{Mph, NoMemory, Permille};
 
 /// One event: what is known after it, and the speed limit. The old state is unchanged.
-pub fn step(
+pub fn step<G: ProfileStore<Permille> + Drop, S: ProfileStore<CategorySpeeds> + Drop>(
     alloc: Global,
     mode: Mode,
     train: &TrainData,
-    state: &State,
+    state: &StateOver<G, S>,
     event: &Event,
-) -> Result<(State, Mph), NoMemory>
-    ensures stands { IfOk result (λ answer. (events : List Event) → StandsFor train.now state.now events
-        → StandsFor train.now answer.0 (event.now ∷ events)) }
-    ensures limit { IfOk result (λ answer. (events : List Event) → StandsFor train.now state.now events
+) -> Result<(StateOver<G, S>, Mph), NoMemory>
+    ensures stands { IfOk result (λ answer. (events : List Event) → StandsFor G.profile S.profile train.now state.now events
+        → StandsFor G.profile S.profile train.now answer.0 (event.now ∷ events)) }
+    ensures limit { IfOk result (λ answer. (events : List Event) → StandsFor G.profile S.profile train.now state.now events
         → answer.1 ≡ limit_after mode train.now (event.now ∷ events)) }
 {
     let mut next = state.copy(alloc)?;

@@ -2,6 +2,7 @@ use Rattle.std.proofs.Common.{◌∷◌, [], sym, subst, ap, ◌++◌, List, ℕ
 use Rattle.kernel.specs.declared.events.Event.TheVariants as event
 use Rattle.kernel.specs.declared.kept.Kept.{Kept}
 use Rattle.kernel.specs.Lives.{life_of}
+use Rattle.track_store.specs.Segments.{profile_kept}
 use Rattle.kernel.specs.StandsFor.{StandsForLife}
 use Rattle.kernel.specs.Limit.{limits_behind}
 use Rattle.kernel.proofs.OneInput.{one_input}
@@ -10,7 +11,7 @@ use Rattle.kernel.proofs.steps.limits.Goals as goal
 pub loop-input-init : goal.loop-input-init
 loop-input-init c = (
   event.PowerUp ∷ [],
-  subst (λ (k : Kept). StandsForLife c.power_up-state.result (record { kept = k; entries = [] }))
+  subst (λ (k : Kept). StandsForLife profile_kept profile_kept c.power_up-state.result (record { kept = k; entries = [] }))
       (c.kept-kept.ensures c.args.train.now [] (c.empty-empty.ensures c.args.train.now)) c.power_up-state.ensures,
   ap (λ (xs : List ℕ). xs ++ limits_behind c.args.mode c.args.train.now (event.PowerUp ∷ []) c.args.inputs.now) c.new-limits.ensures.items,
 )

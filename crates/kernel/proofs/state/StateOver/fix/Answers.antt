@@ -7,13 +7,15 @@ use Rattle.kernel.specs.History.{Entry, places, place_of, after_fix}
 use Rattle.kernel.specs.Sentences.{added, is_free, fix_of, own_place, place_by}
 use Rattle.kernel.specs.Steps.{accepted, fix_wanted}
 use Rattle.kernel.specs.Lives.{Life}
-use Rattle.kernel.specs.StandsFor.{Knowledge, profile_in, StandsForLife, grown}
+use Rattle.kernel.specs.StandsFor.{StandsForLife, grown}
 use Rattle.kernel.proofs.Fixing.{wanted_at, fix_as_wanted, counted_from}
-use Rattle.kernel.proofs.state.State.fix.Goals as goal
-use Rattle.kernel.proofs.state.State.fix.Goals.{in-Ok, in-Err}
+use Rattle.kernel.proofs.Standing.{seen}
+use Rattle.kernel.proofs.state.StateOver.fix.Given.{Over}
+use Rattle.kernel.proofs.state.StateOver.fix.Goals as goal
+use Rattle.kernel.proofs.state.StateOver.fix.Goals.{in-Ok, in-Err}
 
-module _ (c : goal.Joined-fix) (life : Life) (entry : Entry) (effect : Effect)
-    (s : StandsForLife c.args.self.now (grown life (added (accepted c.args.message.now c.args.announced.now effect) entry))) where
+module _ (g : Over) (c : goal.Joined-fix g) (life : Life) (entry : Entry) (effect : Effect)
+    (s : StandsForLife g.G.ProfileStore.profile g.S.ProfileStore.profile c.args.self.now (grown life (added (accepted c.args.message.now c.args.announced.now effect) entry))) where
   abbrev here : odometry.Known
   here = place_of (entry ∷ life.entries)
 
@@ -21,7 +23,7 @@ module _ (c : goal.Joined-fix) (life : Life) (entry : Entry) (effect : Effect)
   free = is_free (added (accepted c.args.message.now c.args.announced.now effect) entry ∷ life.entries)
 
   place_is : c.self.inside.place ≡ here
-  place_is = ap (λ (k : Knowledge). k.place) c.self.view_is ∙ s.place_is
+  place_is = (seen c.self.view_is s).place_is
 
   own_is : c.place_then.result.estimate ≡ own_place here c.args.message.now
   own_is = ap (λ e. e.estimate) c.place_then.ensures.value ∙ ap (λ (k : odometry.Known). own_place k c.args.message.now) place_is
@@ -49,40 +51,40 @@ not_made true only = let never = only refl in absurd cc
 not_made false only = refl
 
 pub returns-clause-answer : goal.returns-clause-answer
-returns-clause-answer c life entry effect s =
+returns-clause-answer g c life entry effect s =
     elim c.match-fix.branch [
-      | in-Ok w ↦ w.result-is ∙ sym (counted c life entry effect s true (w.in-Ok.ensures.made.0 refl))
-      | in-Err w ↦ w.result-is ∙ own_is c life entry effect s ∙ sym (counted c life entry effect s false (not_made _ w.in-Err.ensures.made.1))
+      | in-Ok w ↦ w.result-is ∙ sym (counted g c life entry effect s true (w.in-Ok.ensures.made.0 refl))
+      | in-Err w ↦ w.result-is ∙ own_is g c life entry effect s ∙ sym (counted g c life entry effect s false (not_made _ w.in-Err.ensures.made.1))
     ]
 
 pub returns-clause-stands : goal.returns-clause-stands
-returns-clause-stands c life entry effect s =
+returns-clause-stands g c life entry effect s =
     record {
       place_is =
-          c.fix.ensures.stands (places (entry ∷ life.entries)) (place_is c life entry effect s)
-          ∙ ap (λ (fix : odometry.Fix). odometry.known (odometry.after_fix (places (entry ∷ life.entries)) fix)) (same_fix c life entry effect s)
-          ∙ sym (ap (λ (fix : Option odometry.Fix). odometry.known (after_fix fix (places (entry ∷ life.entries)))) (fix_is c life entry effect s));
-      groups_are = ap (λ (k : Knowledge). k.groups) c.self.view_is ∙ s.groups_are;
-      links_are = ap (λ (k : Knowledge). k.links) c.self.view_is ∙ s.links_are;
-      national_is = ap (λ (k : Knowledge). k.national) c.self.view_is ∙ s.national_is;
-      restrictions_are = ap (λ (k : Knowledge). k.restrictions) c.self.view_is ∙ s.restrictions_are;
-      moment_is = ap (λ (k : Knowledge). k.moment) c.self.view_is ∙ s.moment_is;
-      authority_is = ap (λ (k : Knowledge). k.authority) c.self.view_is ∙ s.authority_is;
-      gradients_are = ap (λ (k : Knowledge). profile_in k.gradients) c.self.view_is ∙ s.gradients_are;
-      speeds_are = ap (λ (k : Knowledge). profile_in k.speeds) c.self.view_is ∙ s.speeds_are;
-      lives_are = ap (λ (k : Knowledge). k.lives) c.self.view_is ∙ s.lives_are;
+          c.fix.ensures.stands (places (entry ∷ life.entries)) (place_is g c life entry effect s)
+          ∙ ap (λ (fix : odometry.Fix). odometry.known (odometry.after_fix (places (entry ∷ life.entries)) fix)) (same_fix g c life entry effect s)
+          ∙ sym (ap (λ (fix : Option odometry.Fix). odometry.known (after_fix fix (places (entry ∷ life.entries)))) (fix_is g c life entry effect s));
+      groups_are = (seen c.self.view_is s).groups_are;
+      links_are = (seen c.self.view_is s).links_are;
+      national_is = (seen c.self.view_is s).national_is;
+      restrictions_are = (seen c.self.view_is s).restrictions_are;
+      moment_is = (seen c.self.view_is s).moment_is;
+      authority_is = (seen c.self.view_is s).authority_is;
+      gradients_are = (seen c.self.view_is s).gradients_are;
+      speeds_are = (seen c.self.view_is s).speeds_are;
+      lives_are = (seen c.self.view_is s).lives_are;
     }
 
 pub returns-in_default-clause-stands : goal.returns-in_default-clause-stands
-returns-in_default-clause-stands c life entry effect s =
+returns-in_default-clause-stands g c life entry effect s =
     let m = c.args.message.now in
     let a = c.args.announced.now in
     let outcome = accepted m a effect in
     let here = place_of (entry ∷ life.entries) in
     let free = is_free (added outcome entry ∷ life.entries) in
-    let place = ap (λ (k : Knowledge). k.place) c.self.view_is ∙ s.place_is in
+    let place = (seen c.self.view_is s).place_is in
     let own = ap (λ e. e.estimate) c.place_then.ensures.value ∙ ap (λ (k : odometry.Known). own_place k m) place in
     let none : None ≡ fix_wanted free (own_place here m) a =
     c.in_default.ensures ∙ (λ i. fix_wanted (c.is_free.ensures life (added outcome entry) s i) (own i) a) in
     let same = fix_as_wanted here free m a ∙ ap (option_map (wanted_at here m)) (sym none) in
-    subst (λ (f : Option odometry.Fix). StandsForLife c.args.self.now (grown life (added (record outcome { fix = f }) entry))) (sym same) s
+    subst (λ (f : Option odometry.Fix). StandsForLife g.G.ProfileStore.profile g.S.ProfileStore.profile c.args.self.now (grown life (added (record outcome { fix = f }) entry))) (sym same) s

@@ -7,17 +7,17 @@ use Rattle.kernel.specs.History.{place_of}
 use Rattle.kernel.specs.Sentences.{nothing, with_groups}
 use Rattle.kernel.specs.StandsFor.{StandsForLife, grown}
 use Rattle.kernel.proofs.Carrying.{carried_in, refused_none}
-use Rattle.kernel.proofs.state.State.listen.Goals as goal
+use Rattle.kernel.proofs.state.StateOver.listen.Goals as goal
 
 pub returns-in_ok-take-in-Ok : goal.returns-in_ok-take-in-Ok
-returns-in_ok-take-in-Ok c life s =
+returns-in_ok-take-in-Ok g c life s =
     c.in_ok-take-in-Ok.ensures life c.args.bytes.now s (carried_in _ _ ((c.in-Ok.ensures.found _).0 refl))
 
 pub returns-in-Err : goal.returns-in-Err
-returns-in-Err c life s =
+returns-in-Err g c life s =
     let none = refused_none _ _ ((c.in-Err.ensures.fault _).0 refl) in
     subst
-    (λ (o : Option Telegram). StandsForLife c.args.self.now
+    (λ (o : Option Telegram). StandsForLife g.G.ProfileStore.profile g.S.ProfileStore.profile c.args.self.now
     (grown life
     (with_groups life.entries (record nothing { heard = option_map (λ t. Read (record { telegram = t; sums = odometry.sums (place_of life.entries) })) o }))))
     (sym none)

@@ -6,42 +6,42 @@ use Rattle.national.specs.InForce as national
 use Rattle.kernel.specs.History.{links, after_facts, after_values, after_front, after_countries, national_entries, after_authority, after_train, after_told, after_clock, authorities, after_restriction, after_revocation, after_mark, after_messages, restrictions, mark_of, gradients, speeds}
 use Rattle.kernel.specs.Sentences.{added}
 use Rattle.kernel.specs.Steps.{facts, using}
-use Rattle.kernel.specs.StandsFor.{Knowledge, profile_in}
 use Rattle.kernel.proofs.Marking.{unmarked_gradients, unmarked_speeds}
-use Rattle.kernel.proofs.state.State.take_packets.Goals as goal
+use Rattle.kernel.proofs.Standing.{seen}
+use Rattle.kernel.proofs.state.StateOver.take_packets.Goals as goal
 
 pub returns : goal.returns
-returns c life entry outcome unlooked unmarked s =
+returns g c life entry outcome unlooked unmarked s =
     let told = facts c.args.used.now c.args.packets.now in
     let bare = added (using [] outcome) entry in
     let full = added (using told outcome) entry in
     let entries = life.entries in
     let kept = life.kept.national in
     let values = after_countries bare.groups (national_entries entries) in
-    let values_before = ap (λ (k : Knowledge). k.national) c.self.view_is ∙ s.national_is
+    let values_before = (seen c.self.view_is s).national_is
     ∙ ap (λ (t : Option Span). national.known kept (after_front t values)) unlooked in
     let grants = after_told after_authority bare.groups (after_clock entry.clock (authorities entries)) in
-    let grants_before = ap (λ (k : Knowledge). k.authority) c.self.view_is ∙ s.authority_is
+    let grants_before = (seen c.self.view_is s).authority_is
     ∙ ap (λ (t : Option Span). known_authority (after_train t grants)) unlooked in
     let limits = after_messages bare.groups (restrictions entries) in
-    let limits_before = ap (λ (k : Knowledge). k.restrictions) c.self.view_is ∙ s.restrictions_are
+    let limits_before = (seen c.self.view_is s).restrictions_are
     ∙ ap (λ (o : Option ℤ). track.in_force (after_mark o limits)) unmarked in
-    let gradients_before = ap (λ (k : Knowledge). profile_in k.gradients) c.self.view_is ∙ s.gradients_are ∙ unmarked_gradients bare entries unmarked in
-    let speeds_before = ap (λ (k : Knowledge). profile_in k.speeds) c.self.view_is ∙ s.speeds_are ∙ unmarked_speeds bare entries unmarked in
+    let gradients_before = sym (g.met.G.ProfileStore.profile_is c.self.inside.gradients) ∙ (seen c.self.view_is s).gradients_are ∙ unmarked_gradients bare entries unmarked in
+    let speeds_before = sym (g.met.S.ProfileStore.profile_is c.self.inside.speeds) ∙ (seen c.self.view_is s).speeds_are ∙ unmarked_speeds bare entries unmarked in
     record {
-      place_is = ap (λ (k : Knowledge). k.place) c.self.view_is ∙ s.place_is;
-      groups_are = ap (λ (k : Knowledge). k.groups) c.self.view_is ∙ s.groups_are;
-      links_are = c.announce_all.ensures (links (bare ∷ entries)) (ap (λ (k : Knowledge). k.links) c.self.view_is ∙ s.links_are);
+      place_is = (seen c.self.view_is s).place_is;
+      groups_are = (seen c.self.view_is s).groups_are;
+      links_are = c.announce_all.ensures (links (bare ∷ entries)) ((seen c.self.view_is s).links_are);
       national_is = c.take_all_values.ensures kept values values_before
           ∙ sym (ap (λ (t : Option Span). national.known kept (after_front t (after_facts after_values told values))) unlooked);
       restrictions_are = c.revoke_all.ensures (after_facts after_restriction told limits) (c.in_ok-add_all.ensures limits limits_before)
           ∙ sym (ap (λ (o : Option ℤ). track.in_force (after_mark o (after_facts after_revocation told (after_facts after_restriction told limits)))) unmarked);
-      moment_is = ap (λ (k : Knowledge). k.moment) c.self.view_is ∙ s.moment_is;
+      moment_is = (seen c.self.view_is s).moment_is;
       authority_is = c.accept_all.ensures grants grants_before
           ∙ sym (ap (λ (t : Option Span). known_authority (after_train t (after_facts after_authority told grants))) unlooked);
-      gradients_are = c.in_ok-replace_gradients.ensures (record { mark = mark_of entries; facts = gradients (bare ∷ entries) }) gradients_before
+      gradients_are = g.met.G.ProfileStore.profile_is _ ∙ c.in_ok-replace_gradients.ensures (record { mark = mark_of entries; facts = gradients (bare ∷ entries) }) gradients_before
           ∙ sym (unmarked_gradients full entries unmarked);
-      speeds_are = c.in_ok-replace_speeds.ensures (record { mark = mark_of entries; facts = speeds (bare ∷ entries) }) speeds_before
+      speeds_are = g.met.S.ProfileStore.profile_is _ ∙ c.in_ok-replace_speeds.ensures (record { mark = mark_of entries; facts = speeds (bare ∷ entries) }) speeds_before
           ∙ sym (unmarked_speeds full entries unmarked);
-      lives_are = ap (λ (k : Knowledge). k.lives) c.self.view_is ∙ s.lives_are;
+      lives_are = (seen c.self.view_is s).lives_are;
     }

@@ -99,10 +99,18 @@ pub fn read_numbered<'a>(
     let before = reader.remaining();
     let told = read_body(reader, number, out)?;
     let taken = before.saturating_sub(reader.remaining());
-    if u128::from(told.bits()) != 8 + taken {
-        return Err(PacketFault::WrongLength);
+    if is_length(told, taken) {
+        Ok(())
+    } else {
+        Err(PacketFault::WrongLength)
     }
-    Ok(())
+}
+
+// Whether a told length is that of a packet that has so many bits behind its number.
+fn is_length(told: PacketLength, taken: u128) -> bool
+    ensures { result ≡ (told == 8 + taken) }
+{
+    u128::from(told.bits()) == 8 + taken
 }
 
 #[tactic(auto, unfolding(crate::specs::Packets::packet))]

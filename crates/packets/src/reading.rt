@@ -1,4 +1,4 @@
-ghost use Rattle.std.specs.Prelude.{◌≡◌, ◌↔◌, ◌++◌, List, Bool, Ok, Err, IfOk, OnErr};
+ghost use Rattle.std.specs.Prelude.{◌≡◌, ◌↔◌, ◌==◌, ◌+◌, ◌++◌, List, Bool, Ok, Err, IfOk, OnErr};
 ghost use Rattle.bits.specs.Layout.{Begins, Gives, Refuses, Spells, kind, read, read_field, read_run};
 ghost use Rattle.packets.specs.Faults.{packet_fault};
 ghost use Rattle.packets.specs.Packets.{as_packet, as_other, skipped, body_of, packet, packet_of};
@@ -99,10 +99,18 @@ pub fn read_numbered<'a>(
     let before = reader.remaining();
     let told = read_body(reader, number, out)?;
     let taken = before.saturating_sub(reader.remaining());
-    if u128::from(told.bits()) != 8 + taken {
-        return Err(PacketFault::WrongLength);
+    if is_length(told, taken) {
+        Ok(())
+    } else {
+        Err(PacketFault::WrongLength)
     }
-    Ok(())
+}
+
+// Whether a told length is that of a packet that has so many bits behind its number.
+fn is_length(told: PacketLength, taken: u128) -> bool
+    ensures { result ≡ (told == 8 + taken) }
+{
+    u128::from(told.bits()).checked_sub(8) == Some(taken)
 }
 
 #[tactic(auto, unfolding(crate::specs::Packets::packet))]

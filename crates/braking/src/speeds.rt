@@ -39,7 +39,8 @@ pub fn fits<P: Profile<Permille>>(
     ensures slower { IsTrue result → (v : ℕ) → v ≤ speed
         → IsTrue (fits front (P.value gradient.now) brakes.now target.now v) }
 {
-    fits_before(front, speed, target, gradient, brakes, &Rest::none(target.place))
+    let rest = Rest::none(target.place);
+    fits_before(front, speed, target, gradient, brakes, &rest)
 }
 
 // The greatest speed up to a limit that fits a target; 0 where none does.
@@ -110,7 +111,13 @@ fn fits_before<P: Profile<Permille>>(
     match brakes_act(front, reaction_way(brakes.reaction, speed), target.place) {
         None => false,
         Some(start) => {
-            let taken_off = taken_off_before(gradient, brakes.deceleration, start, target.place, rest);
+            let taken_off = taken_off_before(
+                gradient,
+                brakes.deceleration,
+                start,
+                target.place,
+                rest,
+            );
             let (from, to) = (u64::from(speed.get()), u64::from(target.speed.get()));
             from * from <= to * to + taken_off
         }

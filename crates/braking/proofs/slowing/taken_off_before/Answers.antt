@@ -1,6 +1,4 @@
-use Rattle.std.proofs.Common.{◌≡◌, ◌+◌, ◌<◌, ◌*◌, ◌^◌, ◌-ℤ◌, arith, rules}
-use Rattle.std.proofs.lemmas.Int.{ints}
-use Rattle.units.specs.Stretches.{natural}
+use Rattle.std.proofs.Common.{◌+◌, ◌<◌, ◌^◌, arith, rules}
 use Rattle.braking.proofs.Naturals.{parts}
 use Rattle.braking.proofs.Braked.{braked_over}
 use Rattle.braking.proofs.slowing.taken_off_before.Goals as goal

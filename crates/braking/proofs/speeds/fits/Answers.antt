@@ -2,7 +2,7 @@ use Rattle.braking.proofs.Slower.{slower_true}
 use Rattle.braking.proofs.speeds.fits.Goals as goal
 
 pub fits_before-requires-clause-rest : goal.fits_before-requires-clause-rest
-fits_before-requires-clause-rest g c = c.none.ensures.rest (g.P.Profile.value c.args.gradient.now) c.args.brakes.now.deceleration
+fits_before-requires-clause-rest g c = c.none-rest.ensures.rest (g.P.Profile.value c.args.gradient.now) c.args.brakes.now.deceleration
 
 pub returns-clause-slower : goal.returns-clause-slower
 returns-clause-slower g c =

@@ -1,4 +1,4 @@
-use Rattle.std.proofs.Common.{◌≡◌, pos, ◌+ℤ◌, ◌<◌, ◌<ℤ◌, ap, ◌∙◌, refl, arith, rules}
+use Rattle.std.proofs.Common.{pos, ◌+ℤ◌, ◌<◌, ◌<ℤ◌, ap, ◌∙◌, refl, arith, rules}
 use Rattle.std.proofs.lemmas.Int.{ints}
 use Rattle.braking.proofs.Slower.{braking_fits}
 use Rattle.braking.proofs.speeds.fits_before.Goals as goal

@@ -1,4 +1,4 @@
-use Rattle.std.proofs.Common.{◌≡◌, ℕ, ◌≤◌, ◌<ℤ◌, refl, arith}
+use Rattle.std.proofs.Common.{◌<ℤ◌, refl, arith}
 use Rattle.std.proofs.lemmas.Int.{ints}
 use Rattle.braking.proofs.Slower.{way_less}
 use Rattle.braking.proofs.speeds.rest_behind.Goals as goal

@@ -53,6 +53,21 @@ module _ (gradient : ℤ → Option ℤ) (deceleration : ℕ) where
       braked gradient deceleration (place +ℤ pos m) n ≤ braked gradient deceleration place (m + n)
   braked_later place m n = omega (arith, braked_parts place m n)
 
+  -- a stretch is braked over in two parts
+  pub braked_over : (from middle to : ℤ) → from ≤ℤ middle → middle ≤ℤ to →
+      braked gradient deceleration from (natural (to -ℤ from))
+      ≡ braked gradient deceleration from (natural (middle -ℤ from)) + braked gradient deceleration middle (natural (to -ℤ middle))
+  braked_over from middle to a b =
+      let n : ℕ = natural (middle -ℤ from) in
+      let count : pos n ≡ middle -ℤ from = natural_is (middle -ℤ from) (omega (arith, ints)) in
+      let there : from +ℤ pos n ≡ middle = rw count (omega (arith, ints)) in
+      omega (
+        arith,
+        ap (braked gradient deceleration from) (parts from middle to a b),
+        braked_parts from n (natural (to -ℤ middle)),
+        ap (λ (z : ℤ). braked gradient deceleration z (natural (to -ℤ middle))) there,
+      )
+
   -- from one change of the gradient to the next
   pub braked_stretch : (place end to : ℤ) → place ≤ℤ end → end ≤ℤ to →
       ((later : ℤ) → place ≤ℤ later → later <ℤ end → gradient later ≡ gradient place) →
@@ -64,10 +79,4 @@ module _ (gradient : ℤ → Option ℤ) (deceleration : ℕ) where
       let count : pos n ≡ end -ℤ place = natural_is (end -ℤ place) (omega (arith, ints)) in
       let there : place +ℤ pos n ≡ end = rw count (omega (arith, ints)) in
       let even = braked_same (gradient place) place n (λ later c d. same later c (rw there at d)) in
-      omega (
-        arith,
-        ap (braked gradient deceleration place) (parts place end to a b),
-        braked_parts place n (natural (to -ℤ end)),
-        even,
-        ap (λ (z : ℤ). braked gradient deceleration z (natural (to -ℤ end))) there,
-      )
+      omega (arith, braked_over place end to a b, even)

@@ -1,6 +1,7 @@
 -- The greatest number that passes a test.
-use Rattle.std.proofs.Common.{◌≡◌, ℕ, zero, suc, ◌<◌, ◌≤◌, Bool, true, false, ◌⊎◌, inl, inr, ap, sym, ◌∙◌, arith}
+use Rattle.std.proofs.Common.{◌≡◌, ℕ, zero, suc, ◌<◌, ◌≤◌, Bool, true, false, cond, refl, ◌⊎◌, inl, inr, ap, sym, ◌∙◌, arith}
 use Rattle.std.proofs.Math.Nat.{eq-or-lt_of_le}
+use Rattle.std.specs.Prelude.{◌&&◌}
 use Rattle.braking.specs.Braking.{greatest}
 
 -- what passes is found where nothing above it does
@@ -15,3 +16,32 @@ greatest_is test m (suc n) below here above =
     let e : m ≡ suc n = omega arith in
     elim here [ inl z ↦ absurd (omega arith) | inr t ↦ rw (sym (ap test e) ∙ t) (sym e) ] in
     elim (eq-or-lt_of_le below) [ inl e ↦ same (omega arith) | inr l ↦ lower (omega arith) ]
+
+-- tests that agree up to a number
+greatest_same : (p q : ℕ → Bool) (n : ℕ) → ((k : ℕ) → k ≤ n → p k ≡ q k) → greatest p n ≡ greatest q n
+unfolding greatest
+greatest_same p q zero h = refl
+greatest_same p q (suc n) h =
+    let here = h (suc n) (omega arith) in
+    let rest = greatest_same p q n (λ k a. h k (omega arith)) in
+    λ i. cond (here i) (suc n) (rest i)
+
+pub greatest_all : (n : ℕ) → greatest (λ k. true) n ≡ n
+unfolding greatest
+greatest_all zero = refl
+greatest_all (suc n) = refl
+
+-- what passes two tests, of which the first is passed below each number that passes it, is found by one after the other
+pub greatest_both : (p q : ℕ → Bool) (n : ℕ) → ((v w : ℕ) → w ≤ v → p v ≡ true → p w ≡ true) →
+    greatest (λ k. p k && q k) n ≡ greatest q (greatest p n)
+unfolding greatest
+greatest_both p q zero lower = refl
+greatest_both p q (suc n) lower =
+    let both : ℕ → Bool = λ (k : ℕ). p k && q k in
+    let same : p (suc n) ≡ true → greatest both n ≡ greatest q n = λ e. greatest_same both q n (λ k a. rw (lower (suc n) k (omega arith) e)) in
+    let cases : (b : Bool) → p (suc n) ≡ b → cond (b && q (suc n)) (suc n) (greatest both n) ≡ greatest q (cond b (suc n) (greatest p n)) =
+    elim [
+      | true ↦ λ e. (rw (same e))
+      | false ↦ λ e. greatest_both p q n lower
+    ] in
+    cases (p (suc n)) refl

@@ -1,14 +1,17 @@
 -- A speed below one that fits also fits.
-use Rattle.std.proofs.Common.{◌≡◌, ℕ, ℤ, pos, ◌+ℤ◌, ◌+◌, ◌-◌, ◌*◌, ◌<◌, ◌≤◌, Bool, true, false, List, [], ◌∷◌, refl, ap, sym, ◌∙◌, arith}
+use Rattle.std.proofs.Common.{◌≡◌, ℕ, ℤ, pos, ◌+ℤ◌, ◌+◌, ◌-◌, ◌*◌, ◌<◌, ◌≤◌, ◌-ℤ◌, ◌<ℤ◌, Bool, true, false, List, ◌∷◌, refl, ap, sym, ◌∙◌, arith}
 use Rattle.std.specs.Prelude.{IsTrue, nat_le, nat_lt, ◌&&◌, ◌||◌, Option}
 use Rattle.std.proofs.lemmas.Bool.Decides.{nat_tests}
 use Rattle.std.proofs.lemmas.Int.{ints}
 use Rattle.braking.specs.declared.brakes.Brakes.{Brakes}
 use Rattle.braking.specs.declared.target.Target.{Target}
-use Rattle.braking.specs.Braking.{braked, reaction_way, distance_to, fits, fits_all}
+use Rattle.units.specs.Stretches.{natural}
+use Rattle.braking.specs.Braking.{braked, reaction_way, distance_to, fits, fits_all, greatest}
+use Rattle.braking.proofs.Naturals.{natural_is}
+use Rattle.braking.proofs.Greatest.{greatest_both}
 use Rattle.braking.proofs.Braked.{braked_later}
 
-way_less : (reaction v w : ℕ) → w ≤ v → reaction_way reaction w ≤ reaction_way reaction v
+pub way_less : (reaction v w : ℕ) → w ≤ v → reaction_way reaction w ≤ reaction_way reaction v
 way_less reaction v w h =
     let p : w * reaction ≤ v * reaction = grind arith in
     omega (arith, p)
@@ -19,10 +22,6 @@ square_less v w h = grind arith
 settled : (u v w rv rw' d vv ww uu sv sw : ℕ) → w ≤ v → rw' ≤ rv → ww ≤ vv → (rv < d → sv ≤ sw) →
     (nat_le v u || (nat_lt rv d && nat_le vv (uu + sv))) ≡ true → (nat_le w u || (nat_lt rw' d && nat_le ww (uu + sw))) ≡ true
 settled u v w rv rw' d vv ww uu sv sw a b c e f = grind (arith, nat_tests)
-
-both : (a b : Bool) → (a && b) ≡ true → (a ≡ true) × (b ≡ true)
-both true b h = (refl, h)
-both false b h = absurd (let k : false ≡ true = h in cc)
 
 module _ (front : ℤ) (gradient : ℤ → Option ℤ) (brakes : Brakes) where
   taken_off : ℕ → ℕ → ℕ
@@ -51,20 +50,42 @@ module _ (front : ℤ) (gradient : ℤ → Option ℤ) (brakes : Brakes) where
       let squares : w * w ≤ v * v = square_less v w h in
       settled t.speed v w rv rw' d (v * v) (w * w) (t.speed * t.speed) (taken_off rv d) (taken_off rw' d) h ways squares (sooner rw' rv d ways) f
 
-  pub slower_fits_all : (targets : List Target) (v w : ℕ) → w ≤ v →
-      fits_all front gradient brakes targets v ≡ true → fits_all front gradient brakes targets w ≡ true
-  slower_fits_all [] v w h f = refl
-  slower_fits_all (t ∷ targets) v w h f =
-      let parts = both (fits front gradient brakes t v) (fits_all front gradient brakes targets v) f in
-      rw (slower_fits t v w h parts.0) (slower_fits_all targets v w h parts.1)
+  -- a speed no greater than the target's fits
+  pub slow_fits : (t : Target) (v : ℕ) → v ≤ t.speed → fits front gradient brakes t v ≡ true
+  slow_fits t v h =
+      let slow : nat_le v t.speed ≡ true = grind (arith, nat_tests) in
+      rw slow
+
+  -- .. and a greater one where the brakes act before it and take off enough
+  pub braking_fits : (t : Target) (v from to taken : ℕ) (start : ℤ) → from ≡ v → to ≡ t.speed → t.speed < v →
+      start ≡ front +ℤ pos (reaction_way brakes.reaction v) → start <ℤ t.place →
+      taken ≡ braked gradient brakes.deceleration start (natural (t.place -ℤ start)) →
+      nat_le (from * from) (to * to + taken) ≡ fits front gradient brakes t v
+  braking_fits t v from to taken start same top faster at ahead is =
+      let way : ℕ = reaction_way brakes.reaction v in
+      let all = natural_is (t.place -ℤ front) (omega (arith, ints)) in
+      let left = natural_is (t.place -ℤ start) (omega (arith, ints)) in
+      let count : natural (t.place -ℤ start) ≡ distance_to front t - way = omega (arith, ints, all, left) in
+      let before : way < distance_to front t = omega (arith, ints, all, left) in
+      let fast : nat_le v t.speed ≡ false = grind (arith, nat_tests) in
+      let acts : nat_lt way (distance_to front t) ≡ true = grind (arith, nat_tests) in
+      let off : taken ≡ braked gradient brakes.deceleration (front +ℤ pos way) (distance_to front t - way) =
+      is ∙ (λ i. braked gradient brakes.deceleration (at i) (count i)) in
+      λ i. sym fast i || (sym acts i && nat_le (same i * same i) (top i * top i + off i))
+
+  -- target by target
+  pub one_more : (t : Target) (targets : List Target) (limit speed : ℕ) → speed ≡ greatest (fits front gradient brakes t) limit →
+      greatest (fits_all front gradient brakes targets) speed ≡ greatest (fits_all front gradient brakes (t ∷ targets)) limit
+  one_more t targets limit speed is =
+      ap (greatest (fits_all front gradient brakes targets)) is
+      ∙ sym (greatest_both (fits front gradient brakes t) (fits_all front gradient brakes targets) limit (λ v w. slower_fits t v w))
 
   -- a speed above one that does not fit does not fit
-  pub faster_fails : (targets : List Target) (v w : ℕ) → w ≤ v →
-      fits_all front gradient brakes targets w ≡ false → fits_all front gradient brakes targets v ≡ false
-  faster_fails targets v w h f =
-      let cases : (b : Bool) → fits_all front gradient brakes targets v ≡ b → b ≡ false =
-      elim [ true ↦ λ e. absurd (let k : true ≡ false = sym (slower_fits_all targets v w h e) ∙ f in cc) | false ↦ λ e. refl ] in
-      cases (fits_all front gradient brakes targets v) refl
+  pub faster_fails : (t : Target) (v w : ℕ) → w ≤ v → fits front gradient brakes t w ≡ false → fits front gradient brakes t v ≡ false
+  faster_fails t v w h f =
+      let cases : (b : Bool) → fits front gradient brakes t v ≡ b → b ≡ false =
+      elim [ true ↦ λ e. absurd (let k : true ≡ false = sym (slower_fits t v w h e) ∙ f in cc) | false ↦ λ e. refl ] in
+      cases (fits front gradient brakes t v) refl
 
   pub slower_true : (t : Target) (v : ℕ) (b : Bool) → b ≡ fits front gradient brakes t v → IsTrue b →
       (w : ℕ) → w ≤ v → IsTrue (fits front gradient brakes t w)

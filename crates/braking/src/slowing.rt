@@ -1,11 +1,50 @@
-ghost use Rattle.std.specs.Prelude.{◌≡◌, ◌*◌, ◌^◌, ◌≤◌, ℤ, pos, ◌+ℤ◌, ◌-ℤ◌, ◌*ℤ◌, ◌≤ℤ◌, ◌<ℤ◌};
+ghost use Rattle.std.specs.Prelude.{◌≡◌, ℕ, ◌*◌, ◌^◌, ◌≤◌, Option, ℤ, pos, ◌+ℤ◌, ◌-ℤ◌, ◌*ℤ◌, ◌≤ℤ◌, ◌<ℤ◌};
 ghost use Rattle.std.specs.Int.{int_div_euclid};
 ghost use Rattle.units.specs.Stretches.{natural};
-ghost use Rattle.braking.specs.Braking.{braked, slowing_on};
+ghost use Rattle.braking.specs.Braking.{braked, slowing_on, IsRest};
 
 use crate::Deceleration;
 use track_store::Profile;
 use units::{Cm, Permille};
+
+// What the last stretch before a place takes off the square of the speed, reckoned once for many speeds.
+#[derive(Clone, Copy)]
+pub struct Rest {
+    // Where it begins.
+    pub from: Cm,
+    // What it takes off.
+    pub taken_off: u64,
+}
+
+impl Rest {
+    // No stretch: it begins at the place itself.
+    pub fn none(place: Cm) -> Rest
+        ensures from { result.from ≡ place }
+        ensures rest { (gradient : ℤ → Option ℤ) → (deceleration : ℕ) → IsRest gradient deceleration place result }
+    {
+        Rest {
+            from: place,
+            taken_off: 0,
+        }
+    }
+}
+
+// What a stretch from one place up to another takes off the square of the speed, where that of its rest is known.
+pub fn taken_off_before<P: Profile<Permille>>(
+    gradient: &P,
+    deceleration: Deceleration,
+    from: Cm,
+    to: Cm,
+    rest: &Rest,
+) -> u64
+    requires ordered { from ≤ℤ rest.now.from }
+    requires near { natural (to -ℤ from) ≤ 2 ^ 43 }
+    requires rest { IsRest (P.value gradient.now) deceleration to rest.now }
+    ensures value { result ≡ braked (P.value gradient.now) deceleration from (natural (to -ℤ from)) }
+    ensures small { result ≤ 1_423_008 * natural (to -ℤ from) }
+{
+    taken_off(gradient, deceleration, from, rest.from) + rest.taken_off
+}
 
 // What a stretch from one place up to another takes off the square of the speed. It is gone through from one change of
 // the gradient to the next.

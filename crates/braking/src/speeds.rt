@@ -1,14 +1,15 @@
 ghost use Rattle.std.specs.Prelude.{◌≡◌, ℕ, ◌+◌, ◌^◌, ◌<◌, ◌≤◌, ℤ, pos, ◌+ℤ◌, ◌-ℤ◌, ◌<ℤ◌, ◌↔◌, IsTrue, IsSome, IfSome, MatchOption};
 ghost use Rattle.units.specs.Stretches.{natural};
-ghost use Rattle.braking.specs.Braking.{fits, fits_all, greatest, reaction_way};
+ghost use Rattle.braking.specs.Braking.{fits, fits_all, greatest, reaction_way, ActsBy, IsRest};
 
-use crate::slowing::taken_off;
+use crate::slowing::{Rest, taken_off, taken_off_before};
 use crate::{Brakes, Reaction, Target};
 use track_store::Profile;
 use units::{Cm, Mph, Permille};
 
 /// The greatest speed up to a limit that fits all targets, for a train whose greatest front is at a place; 0 where none
-/// does. Takes no memory; its cost counts targets and changes of the gradient, each some twenty times.
+/// does. Takes no memory. A speed below one that fits also fits, so it is looked for target by target, each time up to
+/// the one found so far. For each target the gradients up to it are gone through once.
 pub fn permitted<P: Profile<Permille>>(
     front: Cm,
     limit: Mph,
@@ -18,19 +19,11 @@ pub fn permitted<P: Profile<Permille>>(
 ) -> Mph
     ensures { result ≡ greatest (fits_all front (P.value gradient.now) brakes.now targets.now) limit }
 {
-    if all_fit(front, limit, targets, gradient, brakes) {
-        return limit;
+    let mut speed = limit;
+    for target in targets {
+        speed = permitted_by(front, speed, target, gradient, brakes);
     }
-    let mut low = Mph::new(0).unwrap();
-    let mut high = limit;
-    while let Some(middle) = halfway(low, high) {
-        if all_fit(front, middle, targets, gradient, brakes) {
-            low = middle;
-        } else {
-            high = middle;
-        }
-    }
-    low
+    speed
 }
 
 /// Whether a speed fits a target, for a train whose greatest front is at a place: it is no greater than the target's,
@@ -46,31 +39,89 @@ pub fn fits<P: Profile<Permille>>(
     ensures slower { IsTrue result → (v : ℕ) → v ≤ speed
         → IsTrue (fits front (P.value gradient.now) brakes.now target.now v) }
 {
+    let rest = Rest::none(target.place);
+    fits_before(front, speed, target, gradient, brakes, &rest)
+}
+
+// The greatest speed up to a limit that fits a target; 0 where none does.
+fn permitted_by<P: Profile<Permille>>(
+    front: Cm,
+    limit: Mph,
+    target: &Target,
+    gradient: &P,
+    brakes: &Brakes,
+) -> Mph
+    ensures { result ≡ greatest (fits front (P.value gradient.now) brakes.now target.now) limit }
+{
+    if limit <= target.speed {
+        return limit;
+    }
+    let rest = rest_behind(front, limit, target, gradient, brakes);
+    if fits_before(front, limit, target, gradient, brakes, &rest) {
+        return limit;
+    }
+    let mut low = target.speed;
+    let mut high = limit;
+    while let Some(middle) = halfway(low, high) {
+        if fits_before(front, middle, target, gradient, brakes, &rest) {
+            low = middle;
+        } else {
+            high = middle;
+        }
+    }
+    low
+}
+
+// The last stretch before a target: from where the brakes act at a speed. No slower one has them act behind that.
+fn rest_behind<P: Profile<Permille>>(
+    front: Cm,
+    speed: Mph,
+    target: &Target,
+    gradient: &P,
+    brakes: &Brakes,
+) -> Rest
+    ensures rest { IsRest (P.value gradient.now) brakes.now.deceleration target.now.place result }
+    ensures acts { (v : ℕ) → v ≤ speed → ActsBy front brakes.now.reaction target.now.place result.from v }
+{
+    match brakes_act(front, reaction_way(brakes.reaction, speed), target.place) {
+        None => Rest::none(target.place),
+        Some(from) => Rest {
+            from,
+            taken_off: taken_off(gradient, brakes.deceleration, from, target.place),
+        },
+    }
+}
+
+// Whether a speed fits a target, where it is known what the last stretch before the target takes off.
+fn fits_before<P: Profile<Permille>>(
+    front: Cm,
+    speed: Mph,
+    target: &Target,
+    gradient: &P,
+    brakes: &Brakes,
+    rest: &Rest,
+) -> bool
+    requires rest { IsRest (P.value gradient.now) brakes.now.deceleration target.now.place rest.now }
+    requires acts { ActsBy front brakes.now.reaction target.now.place rest.now.from speed }
+    ensures { result ≡ fits front (P.value gradient.now) brakes.now target.now speed }
+{
     if speed <= target.speed {
         return true;
     }
     match brakes_act(front, reaction_way(brakes.reaction, speed), target.place) {
         None => false,
         Some(start) => {
+            let taken_off = taken_off_before(
+                gradient,
+                brakes.deceleration,
+                start,
+                target.place,
+                rest,
+            );
             let (from, to) = (u64::from(speed.get()), u64::from(target.speed.get()));
-            from * from <= to * to + taken_off(gradient, brakes.deceleration, start, target.place)
+            from * from <= to * to + taken_off
         }
     }
-}
-
-// Whether a speed fits all targets.
-fn all_fit<P: Profile<Permille>>(
-    front: Cm,
-    speed: Mph,
-    targets: &[Target],
-    gradient: &P,
-    brakes: &Brakes,
-) -> bool
-    ensures { result ≡ fits_all front (P.value gradient.now) brakes.now targets.now speed }
-{
-    targets
-        .iter()
-        .all(|target| fits(front, speed, target, gradient, brakes))
 }
 
 // The way that a train runs before its brakes act, in centimetres.

@@ -5,3 +5,4 @@ pub mod Lasting
 pub mod Jumps
 pub mod Telling
 pub mod Segmenting
+pub mod Searching

@@ -10,10 +10,10 @@ use Rattle.track_store.specs.Facts.{passed, last_value, from_mark, replaced}
 use Rattle.track_store.specs.Profiles.{Lasts}
 use Rattle.track_store.specs.Segments.{value_among, value_of_segments, IsRisingFrom, IsRising, is_first_passed, next_among, Kept, value_kept}
 
-below : (a b : ℤ) → a <ℤ b → int_lt a b ≡ true
+pub below : (a b : ℤ) → a <ℤ b → int_lt a b ≡ true
 below a b h = grind (arith, ints)
 
-not_below : (a b : ℤ) → b ≤ℤ a → int_lt a b ≡ false
+pub not_below : (a b : ℤ) → b ≤ℤ a → int_lt a b ≡ false
 not_below a b h = grind (arith, ints)
 
 behind_start : (start first at place : ℤ) → first ≡ int_max start at → start ≤ℤ place → int_lt place first ≡ int_lt place at

@@ -1,5 +1,6 @@
-ghost use Rattle.std.specs.Prelude.{◌≡◌, ◌+◌, ◌<◌, ◌≤◌, ℤ, false, if◌then◌else◌, int_lt, is_none, Some, ◌||◌, length, vec_len, vec_capacity};
+ghost use Rattle.std.specs.Prelude.{◌≡◌, ◌+◌, ◌<◌, ◌≤◌, ℤ, ◌≤ℤ◌, ◌<ℤ◌, false, if◌then◌else◌, int_lt, is_none, Some, ◌||◌, length, vec_len, vec_capacity};
 ghost use Rattle.std.specs.List.{list_any};
+ghost use Rattle.std.specs.List.Sorted.{IsPartitionPoint};
 ghost use Rattle.track_store.specs.Facts.{from_mark, passed, replaced};
 ghost use Rattle.track_store.specs.Segments.{value_of_segments, next_among, IsRising, is_first_passed, is_reached};
 
@@ -16,29 +17,32 @@ pub struct Segment<T> {
     pub value: Option<T>,
 }
 
+// How many segments start at or below a place.
+fn started<T: Copy>(segments: &[Segment<T>], place: Cm) -> usize
+    requires { IsRising segments.now }
+    ensures within { result ≤ length segments.now }
+    ensures split { IsPartitionPoint (λ segment. segment.start ≤ℤ place) (λ segment. place <ℤ segment.start)
+        segments.now result }
+{
+    segments.partition_point(|segment| segment.start <= place)
+}
+
 // The value of the last segment that starts at or below a place.
 pub(crate) fn value_at<T: Copy>(segments: &[Segment<T>], place: Cm) -> Option<T>
+    requires { IsRising segments.now }
     ensures { result ≡ value_of_segments segments.now place }
 {
-    let mut value = None;
-    for segment in segments {
-        if segment.start <= place {
-            value = segment.value;
-        }
-    }
-    value
+    let last = started(segments, place).checked_sub(1)?;
+    segments[last].value
 }
 
 // The start of the first segment ahead of a place.
 pub(crate) fn next_start<T: Copy>(segments: &[Segment<T>], place: Cm) -> Option<Cm>
+    requires { IsRising segments.now }
     ensures { result ≡ next_among place segments.now }
 {
-    for segment in segments {
-        if place < segment.start {
-            return Some(segment.start);
-        }
-    }
-    None
+    let next = segments.get(started(segments, place))?;
+    Some(next.start)
 }
 
 // Takes one value from a place on, in place of all segments there. The list has room for one more.

@@ -1,18 +1,26 @@
-use Rattle.std.proofs.Common.{◌≤◌, ◌+◌, sym, ◌∙◌, inr, arith}
-use Rattle.braking.specs.Braking.{fits_all}
-use Rattle.braking.proofs.Slower.{faster_fails}
-use Rattle.braking.proofs.Greatest.{greatest_is}
+use Rattle.std.proofs.Common.{◌≡◌, ◌+◌, List, ◌∷◌, drop, ap, sym, ◌∙◌}
+use Rattle.std.proofs.lemmas.List.{at_drop_all, drop_more}
+use Rattle.braking.specs.declared.target.Target.{Target}
+use Rattle.braking.specs.Braking.{fits_all, greatest}
+use Rattle.braking.proofs.Slower.{one_more}
+use Rattle.braking.proofs.Greatest.{greatest_all}
 use Rattle.braking.proofs.speeds.permitted.Goals as goal
 
-pub returns-then-all_fit : goal.returns-then-all_fit
-returns-then-all_fit g c =
-    sym (greatest_is (fits_all c.args.front (g.P.Profile.value c.args.gradient.now) c.args.brakes.now c.args.targets.now) c.args.limit c.args.limit
-    (omega arith) (inr (sym c.all_fit.ensures ∙ c.if-all_fit.true)) (λ k above below. absurd (omega arith)))
+pub loop-target-preserved : goal.loop-target-preserved
+loop-target-preserved g c =
+    let gradient = g.P.Profile.value c.args.gradient.now in
+    let target : Target = c.target-item.result in
+    let rest : List Target = drop (c.loop-target.target-index + 1) c.args.targets.now in
+    let left : drop c.loop-target.target-index c.args.targets.now ≡ target ∷ rest =
+    drop_more c.args.targets.now c.loop-target.target-index target c.loop-target-test.true ∙ ap (λ (first : Target). first ∷ rest) (sym c.target-item.is) in
+    one_more c.args.front gradient c.args.brakes.now target rest c.loop-target.speed c.permitted_by-speed.result c.permitted_by-speed.ensures
+    ∙ sym (ap (λ (targets : List Target). greatest (fits_all c.args.front gradient c.args.brakes.now targets) c.loop-target.speed) left)
+    ∙ c.loop-target.invariant
 
 pub returns : goal.returns
 returns g c =
-    let kept = c.loop-middle.invariant in
-    let none : c.loop-middle.high ≤ c.loop-middle.low + 1 = rw c.in_default.is at c.halfway.ensures in
-    sym (greatest_is (fits_all c.args.front (g.P.Profile.value c.args.gradient.now) c.args.brakes.now c.args.targets.now) c.loop-middle.low c.args.limit
-    (omega (arith, kept.ordered, kept.within)) kept.low_fits
-    (λ k above below. faster_fails c.args.front (g.P.Profile.value c.args.gradient.now) c.args.brakes.now c.args.targets.now k c.loop-middle.high (omega arith) kept.high_fails))
+    let speed = c.loop-target.speed in
+    sym (greatest_all speed)
+    ∙ sym (at_drop_all (λ targets. greatest (fits_all c.args.front (g.P.Profile.value c.args.gradient.now) c.args.brakes.now targets) speed)
+    c.args.targets.now c.loop-target.target-index c.loop-target-test.false)
+    ∙ c.loop-target.invariant

@@ -1,0 +1,15 @@
+use Rattle.std.proofs.Common.{◌≡◌, ◌≤◌, ◌-◌, true, false}
+use Rattle.braking.specs.Braking.{fits}
+use Rattle.braking.proofs.speeds.permitted_by.Given as goal
+
+-- a speed that fits, and one that doesn't
+abbrev pub invariant-loop-middle : goal.invariant-loop-middle
+invariant-loop-middle g l = record {
+  ordered : l.low ≤ l.high;
+  within : l.high ≤ l.fn.limit;
+  low_fits : fits l.front (g.P.Profile.value l.gradient) l.brakes l.target l.low ≡ true;
+  high_fails : fits l.front (g.P.Profile.value l.gradient) l.brakes l.target l.high ≡ false;
+}
+
+abbrev pub decreases-loop-middle : goal.decreases-loop-middle
+decreases-loop-middle g l = l.high - l.low

@@ -1,0 +1,75 @@
+-- What a search over segments that rise finds.
+use Rattle.std.proofs.Common.{◌≡◌, ℕ, zero, suc, ◌<◌, ◌≤◌, ℤ, ◌≤ℤ◌, ◌<ℤ◌, List, [], ◌∷◌, length, get_or, true, false, refl, arith}
+use Rattle.std.specs.Prelude.{Option, None, Some, int_lt, not}
+use Rattle.std.specs.List.Sorted.{IsPartitionedBy}
+use Rattle.std.proofs.lemmas.Int.{ints}
+use Rattle.track_store.specs.declared.segments.Segment.{Segment}
+use Rattle.track_store.specs.Segments.{value_among, IsRisingFrom, IsRising, next_among}
+use Rattle.track_store.proofs.Segmenting.{below, not_below}
+
+module _ {A : Type 0} where
+  behind_low : (low : ℤ) (segments : List (Segment A)) (j : ℕ) (d : Segment A) → IsRisingFrom low segments → j < length segments →
+      low <ℤ (get_or segments j d).start
+  behind_low low [] j d r h = absurd (omega arith)
+  behind_low low (s ∷ segments) zero d r h = r.0
+  behind_low low (s ∷ segments) (suc j) d r h =
+      let later : s.start <ℤ (get_or segments j d).start = behind_low s.start segments j d r.1 (omega arith) in
+      omega (arith, ints, later, r.0)
+
+  rising_from : (low : ℤ) (segments : List (Segment A)) → IsRisingFrom low segments → IsRising segments
+  rising_from low [] r = tt
+  rising_from low (s ∷ segments) r = r.1
+
+  -- no later one starts before an earlier one
+  in_order : (segments : List (Segment A)) (i j : ℕ) (d : Segment A) → IsRising segments → i ≤ j → j < length segments →
+      (get_or segments i d).start ≤ℤ (get_or segments j d).start
+  in_order [] i j d r a h = absurd (omega arith)
+  in_order (s ∷ segments) zero zero d r a h = omega (arith, ints)
+  in_order (s ∷ segments) zero (suc j) d r a h =
+      let later : s.start <ℤ (get_or segments j d).start = behind_low s.start segments j d r (omega arith) in
+      omega (arith, ints, later)
+  in_order (s ∷ segments) (suc i) zero d r a h = absurd (omega arith)
+  in_order (s ∷ segments) (suc i) (suc j) d r a h =
+      in_order segments i j d (rising_from s.start segments r) (omega arith) (omega arith)
+
+  pub parted : (place : ℤ) (segments : List (Segment A)) → IsRising segments →
+      IsPartitionedBy (λ (s : Segment A). not (int_lt place s.start)) segments
+  parted place segments r i j d a h later =
+      let order = in_order segments i j d r a h in
+      grind (arith, ints)
+
+  -- segments ahead of a place don't count there
+  pub all_ahead : (otherwise : Option A) (place : ℤ) (segments : List (Segment A)) (d : Segment A) →
+      ((k : ℕ) → k < length segments → place <ℤ (get_or segments k d).start) → value_among otherwise segments place ≡ otherwise
+  all_ahead otherwise place [] d h = refl
+  all_ahead otherwise place (s ∷ segments) d h =
+      let here : int_lt place s.start ≡ true = below place s.start (h 0 (omega arith)) in
+      rw here (all_ahead otherwise place segments d (λ k a. h (suc k) (omega arith)))
+
+  pub last_among : (otherwise : Option A) (place : ℤ) (segments : List (Segment A)) (i : ℕ) (d : Segment A) → i < length segments →
+      ((k : ℕ) → k ≤ i → (get_or segments k d).start ≤ℤ place) →
+      ((k : ℕ) → i < k → k < length segments → place <ℤ (get_or segments k d).start) →
+      value_among otherwise segments place ≡ (get_or segments i d).value
+  last_among otherwise place [] i d h behind ahead = absurd (omega arith)
+  last_among otherwise place (s ∷ segments) zero d h behind ahead =
+      let here : int_lt place s.start ≡ false = not_below place s.start (behind 0 (omega arith)) in
+      rw here (all_ahead s.value place segments d (λ k a. ahead (suc k) (omega arith) (omega arith)))
+  last_among otherwise place (s ∷ segments) (suc i) d h behind ahead =
+      let here : int_lt place s.start ≡ false = not_below place s.start (behind 0 (omega arith)) in
+      rw here (last_among s.value place segments i d (omega arith) (λ k a. behind (suc k) (omega arith)) (λ k a b. ahead (suc k) (omega arith) (omega arith)))
+
+  pub first_among : (place : ℤ) (segments : List (Segment A)) (i : ℕ) (d : Segment A) → i < length segments →
+      ((k : ℕ) → k < i → (get_or segments k d).start ≤ℤ place) → place <ℤ (get_or segments i d).start →
+      next_among place segments ≡ Some (get_or segments i d).start
+  first_among place [] i d h behind here = absurd (omega arith)
+  first_among place (s ∷ segments) zero d h behind here = rw (below place s.start here)
+  first_among place (s ∷ segments) (suc i) d h behind here =
+      let first : int_lt place s.start ≡ false = not_below place s.start (behind 0 (omega arith)) in
+      rw first (first_among place segments i d (omega arith) (λ k a. behind (suc k) (omega arith)) here)
+
+  pub none_among : (place : ℤ) (segments : List (Segment A)) (d : Segment A) →
+      ((k : ℕ) → k < length segments → (get_or segments k d).start ≤ℤ place) → next_among place segments ≡ None
+  none_among place [] d h = refl
+  none_among place (s ∷ segments) d h =
+      let first : int_lt place s.start ≡ false = not_below place s.start (h 0 (omega arith)) in
+      rw first (none_among place segments d (λ k a. h (suc k) (omega arith)))

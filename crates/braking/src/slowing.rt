@@ -1,6 +1,7 @@
-ghost use Rattle.std.specs.Prelude.{◌≡◌, ℕ, ◌*◌, ◌^◌, ◌≤◌, Option, ℤ, pos, ◌+ℤ◌, ◌-ℤ◌, ◌*ℤ◌, ◌≤ℤ◌, ◌<ℤ◌};
+ghost use Rattle.std.specs.Prelude.{◌≡◌, ℕ, ◌*◌, ◌^◌, ◌≤◌, Option, Some, ℤ, pos, ◌+ℤ◌, ◌-ℤ◌, ◌*ℤ◌, ◌≤ℤ◌, ◌<ℤ◌};
 ghost use Rattle.std.specs.Int.{int_div_euclid};
 ghost use Rattle.units.specs.Stretches.{natural};
+ghost use Rattle.track_store.specs.Profiles.{Lasts};
 ghost use Rattle.braking.specs.Braking.{braked, slowing_on, IsRest};
 
 use crate::Deceleration;
@@ -61,23 +62,23 @@ pub fn taken_off<P: Profile<Permille>>(
 {
     let mut sum = 0;
     let mut place = from;
+    let mut near = 0;
     while place < to {
-        let end = end_of_stretch(gradient, place, to);
-        sum += taken_off_evenly(slowing(deceleration, gradient.at(place)), place, end);
+        let here = gradient.piece(place, near);
+        let end = end_of_stretch(here.next, to);
+        sum += taken_off_evenly(slowing(deceleration, here.value), place, end);
         place = end;
+        near = here.near;
     }
     sum
 }
 
-// Where the gradient of a place ends, or an end before that.
-fn end_of_stretch<P: Profile<Permille>>(gradient: &P, place: Cm, end: Cm) -> Cm
-    requires { place <ℤ end }
-    ensures ahead { place <ℤ result }
+// Where a value ends that lasts up to a place, or an end before that.
+fn end_of_stretch(next: Option<Cm>, end: Cm) -> Cm
     ensures within { result ≤ℤ end }
-    ensures same { (later : ℤ) → place ≤ℤ later → later <ℤ result
-        → P.value gradient.now later ≡ P.value gradient.now place }
+    ensures lasts { (value : ℤ → Option ℤ) (place : ℤ) → place <ℤ end → Lasts value place next → Lasts value place (Some result) }
 {
-    match gradient.next(place) {
+    match next {
         Some(next) if next < end => next,
         _ => end,
     }

@@ -21,21 +21,21 @@ module _ {A : Type 0} where
   rising_from low (s ∷ segments) r = r.1
 
   -- no later one starts before an earlier one
-  in_order : (segments : List (Segment A)) (i j : ℕ) (d : Segment A) → IsRising segments → i ≤ j → j < length segments →
-      (get_or segments i d).start ≤ℤ (get_or segments j d).start
-  in_order [] i j d r a h = absurd (omega arith)
-  in_order (s ∷ segments) zero zero d r a h = omega (arith, ints)
-  in_order (s ∷ segments) zero (suc j) d r a h =
-      let later : s.start <ℤ (get_or segments j d).start = behind_low s.start segments j d r (omega arith) in
+  pub in_order : (segments : List (Segment A)) (i j : ℕ) (d e : Segment A) → IsRising segments → i ≤ j → j < length segments →
+      (get_or segments i d).start ≤ℤ (get_or segments j e).start
+  in_order [] i j d e r a h = absurd (omega arith)
+  in_order (s ∷ segments) zero zero d e r a h = omega (arith, ints)
+  in_order (s ∷ segments) zero (suc j) d e r a h =
+      let later : s.start <ℤ (get_or segments j e).start = behind_low s.start segments j e r (omega arith) in
       omega (arith, ints, later)
-  in_order (s ∷ segments) (suc i) zero d r a h = absurd (omega arith)
-  in_order (s ∷ segments) (suc i) (suc j) d r a h =
-      in_order segments i j d (rising_from s.start segments r) (omega arith) (omega arith)
+  in_order (s ∷ segments) (suc i) zero d e r a h = absurd (omega arith)
+  in_order (s ∷ segments) (suc i) (suc j) d e r a h =
+      in_order segments i j d e (rising_from s.start segments r) (omega arith) (omega arith)
 
   pub parted : (place : ℤ) (segments : List (Segment A)) → IsRising segments →
       IsPartitionedBy (λ (s : Segment A). not (int_lt place s.start)) segments
   parted place segments r i j d a h later =
-      let order = in_order segments i j d r a h in
+      let order = in_order segments i j d d r a h in
       grind (arith, ints)
 
   -- segments ahead of a place don't count there

@@ -1,6 +1,7 @@
 -- A profile as segments of one value each (SUBSET-026, 3.11; 7.4.2, packets 21 and 27; the forgetting mark and how the
 -- segments are kept: this project's profile).
-use Rattle.std.specs.Prelude.{◌≡◌, ℤ, ◌<ℤ◌, Bool, false, not, int_lt, Option, None, Some, if◌then◌else◌, List, [], ◌∷◌}
+use Rattle.std.specs.Prelude.{◌≡◌, ℕ, ◌≤◌, length, ℤ, ◌≤ℤ◌, ◌<ℤ◌, Bool, false, not, int_lt, Option, None, Some, if◌then◌else◌, List, [], ◌∷◌}
+use Rattle.std.specs.List.Sorted.{IsPartitionPoint}
 use Rattle.track_store.specs.declared.segments.Segment.{Segment}
 use Rattle.track_store.specs.Facts.{from_mark}
 use Rattle.track_store.specs.Profiles.{Profile}
@@ -42,6 +43,12 @@ abbrev pub is_first_passed : {A : Type 0} → ℤ → List (Segment A) → Bool
 is_first_passed mark [] = false
 is_first_passed mark (first ∷ []) = false
 is_first_passed mark (first ∷ second ∷ segments) = not (int_lt mark second.start)
+
+-- just so many segments start at or below a place, the first ones
+abbrev pub IsStarted : {A : Type 0} → ℤ → List (Segment A) → ℕ → Type 0
+IsStarted place segments count =
+    (count ≤ length segments)
+    × IsPartitionPoint (λ segment. segment.start ≤ℤ place) (λ segment. place <ℤ segment.start) segments count
 
 -- the segments rise, and none of them lies wholly before the mark
 abbrev pub IsKept : {A : Type 0} → ℤ → List (Segment A) → Type 0

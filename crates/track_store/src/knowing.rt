@@ -10,11 +10,14 @@ pub fn is_known_over<T: Copy, P: Profile<T>>(profile: &P, from: Cm, to: Cm) -> b
     ensures { result ≡ is_known_over (P.value profile.now) from to }
 {
     let mut place = from;
+    let mut near = 0;
     while place <= to {
-        if profile.at(place).is_some() {
+        let here = profile.piece(place, near);
+        if here.value.is_some() {
             return true;
         }
-        match profile.next(place) {
+        near = here.near;
+        match here.next {
             Some(next) => place = next,
             None => return false,
         }

@@ -14,7 +14,7 @@ mod stretches;
 
 pub use fact_store::FactStore;
 pub use knowing::{is_known, is_known_over};
-pub use profile::{Profile, ProfileStore, Step};
+pub use profile::{Piece, Profile, ProfileStore, Step};
 pub use restriction::Restriction;
 pub use restrictions::Restrictions;
 pub use segment_store::SegmentStore;

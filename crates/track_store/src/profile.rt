@@ -26,6 +26,17 @@ impl<T> Default for Step<T> {
     }
 }
 
+/// A piece of a profile: its value at a centimetre, and up to where that lasts.
+#[derive(Clone, Copy, Debug, PartialEq, Eq)]
+pub struct Piece<T> {
+    /// The value; None where there is none.
+    pub value: Option<T>,
+    /// Where it ends, that place not included; None where it never does.
+    pub next: Option<Cm>,
+    /// What finds the piece behind it sooner.
+    pub near: usize,
+}
+
 /// A value at each centimetre of the track, which changes now and then: a speed, a gradient (SUBSET-026, 3.11). Who
 /// reads it goes from change to change, and so need not visit each centimetre.
 pub trait Profile<T> {
@@ -39,6 +50,19 @@ pub trait Profile<T> {
     /// and isn't included; where None is told, for ever.
     fn next(&self, place: Cm) -> Option<Cm>
         ensures { Lasts (value self.now) place result };
+
+    /// What `at` and `next` tell of a centimetre, at once. Who goes from piece to piece hands in what the one before told
+    /// as near, and first 0; that bears on nothing but the cost.
+    fn piece(&self, place: Cm, near: usize) -> Piece<T>
+        ensures value { result.value ≡ value self.now place }
+        ensures next { Lasts (value self.now) place result.next }
+    {
+        Piece {
+            value: self.at(place),
+            next: self.next(place),
+            near,
+        }
+    }
 }
 
 /// A profile that is told piece by piece, and forgotten behind a mark (SUBSET-026, 3.7.1.1; 7.4.2, packets 21 and 27;

@@ -1,8 +1,8 @@
 ghost use Rattle.std.specs.Prelude.{ℤ, List, Option};
 ghost use Rattle.track_store.specs.Segments.{value_kept};
 
-use crate::segments::{Segment, drop_passed, hold_steps, next_start, value_at};
-use crate::{Profile, ProfileStore, Step};
+use crate::segments::{Segment, drop_passed, hold_steps, next_start, piece_at, value_at};
+use crate::{Piece, Profile, ProfileStore, Step};
 use std::alloc::Global;
 use std::marker::Model;
 use units::{Cm, NoMemory};
@@ -44,6 +44,17 @@ impl<T: Copy> Profile<T> for SegmentStore<T> {
             return Some(self.mark);
         }
         next_start(&self.segments, place)
+    }
+
+    fn piece(&self, place: Cm, near: usize) -> Piece<T> {
+        if place < self.mark {
+            return Piece {
+                value: None,
+                next: Some(self.mark),
+                near,
+            };
+        }
+        piece_at(&self.segments, place, near)
     }
 }
 

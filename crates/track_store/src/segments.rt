@@ -1,10 +1,9 @@
-ghost use Rattle.std.specs.Prelude.{◌≡◌, ◌+◌, ◌<◌, ◌≤◌, ℤ, ◌≤ℤ◌, ◌<ℤ◌, false, if◌then◌else◌, int_lt, is_none, Some, ◌||◌, length, vec_len, vec_capacity};
+ghost use Rattle.std.specs.Prelude.{◌≡◌, ℕ, get_or, IsTrue, ◌+◌, ◌<◌, ◌≤◌, ℤ, ◌≤ℤ◌, ◌<ℤ◌, false, if◌then◌else◌, int_lt, is_none, Some, ◌||◌, length, vec_len, vec_capacity};
 ghost use Rattle.std.specs.List.{list_any};
-ghost use Rattle.std.specs.List.Sorted.{IsPartitionPoint};
 ghost use Rattle.track_store.specs.Facts.{from_mark, passed, replaced};
-ghost use Rattle.track_store.specs.Segments.{value_of_segments, next_among, IsRising, is_first_passed, is_reached};
+ghost use Rattle.track_store.specs.Segments.{value_of_segments, next_among, IsRising, IsStarted, is_first_passed, is_reached};
 
-use crate::Step;
+use crate::{Piece, Step};
 use units::Cm;
 
 /// A piece of a profile with one value: from its start up to the next one's start, the last one without end
@@ -20,11 +19,63 @@ pub struct Segment<T> {
 // How many segments start at or below a place.
 fn started<T: Copy>(segments: &[Segment<T>], place: Cm) -> usize
     requires { IsRising segments.now }
-    ensures within { result ≤ length segments.now }
-    ensures split { IsPartitionPoint (λ segment. segment.start ≤ℤ place) (λ segment. place <ℤ segment.start)
-        segments.now result }
+    ensures { IsStarted place segments.now result }
 {
     segments.partition_point(|segment| segment.start <= place)
+}
+
+// Whether so many segments start at or below a place, the last of them and so all.
+fn are_passed<T: Copy>(segments: &[Segment<T>], place: Cm, count: usize) -> bool
+    requires { IsRising segments.now }
+    ensures { IsTrue result → (count ≤ length segments.now)
+        × ((k : ℕ) (d : Segment T) → k < count → (get_or segments.now k d).start ≤ℤ place) }
+{
+    let Some(last) = count.checked_sub(1) else {
+        return true;
+    };
+    match segments.get(last) {
+        Some(segment) => segment.start <= place,
+        None => false,
+    }
+}
+
+// Whether all segments behind so many start ahead of a place: the first of them does.
+fn are_ahead<T: Copy>(segments: &[Segment<T>], place: Cm, count: usize) -> bool
+    requires { IsRising segments.now }
+    ensures { IsTrue result → (k : ℕ) (d : Segment T) → count ≤ k → k < length segments.now → place <ℤ (get_or segments.now k d).start }
+{
+    match segments.get(count) {
+        Some(segment) => place < segment.start,
+        None => true,
+    }
+}
+
+// The same as `started`; it tries a number first.
+fn started_near<T: Copy>(segments: &[Segment<T>], place: Cm, near: usize) -> usize
+    requires { IsRising segments.now }
+    ensures { IsStarted place segments.now result }
+{
+    if are_passed(segments, place, near) && are_ahead(segments, place, near) {
+        near
+    } else {
+        started(segments, place)
+    }
+}
+
+// The value of the last of so many segments.
+fn last_value<T: Copy>(segments: &[Segment<T>], count: usize) -> Option<T>
+    ensures { (place : ℤ) → IsStarted place segments.now count → result ≡ value_of_segments segments.now place }
+{
+    let last = segments.get(count.checked_sub(1)?)?;
+    last.value
+}
+
+// The start of the first segment behind so many.
+fn start_behind<T: Copy>(segments: &[Segment<T>], count: usize) -> Option<Cm>
+    ensures { (place : ℤ) → IsStarted place segments.now count → result ≡ next_among place segments.now }
+{
+    let next = segments.get(count)?;
+    Some(next.start)
 }
 
 // The value of the last segment that starts at or below a place.
@@ -32,8 +83,7 @@ pub(crate) fn value_at<T: Copy>(segments: &[Segment<T>], place: Cm) -> Option<T>
     requires { IsRising segments.now }
     ensures { result ≡ value_of_segments segments.now place }
 {
-    let last = started(segments, place).checked_sub(1)?;
-    segments[last].value
+    last_value(segments, started(segments, place))
 }
 
 // The start of the first segment ahead of a place.
@@ -41,8 +91,21 @@ pub(crate) fn next_start<T: Copy>(segments: &[Segment<T>], place: Cm) -> Option<
     requires { IsRising segments.now }
     ensures { result ≡ next_among place segments.now }
 {
-    let next = segments.get(started(segments, place))?;
-    Some(next.start)
+    start_behind(segments, started(segments, place))
+}
+
+// Both.
+pub(crate) fn piece_at<T: Copy>(segments: &[Segment<T>], place: Cm, near: usize) -> Piece<T>
+    requires { IsRising segments.now }
+    ensures value { result.value ≡ value_of_segments segments.now place }
+    ensures next { result.next ≡ next_among place segments.now }
+{
+    let count = started_near(segments, place, near);
+    Piece {
+        value: last_value(segments, count),
+        next: start_behind(segments, count),
+        near: count.saturating_add(1),
+    }
 }
 
 // Takes one value from a place on, in place of all segments there. The list has room for one more.

@@ -12,9 +12,12 @@ pub fn least_over<P: Profile<Mph>>(profile: &P, from: Cm, to: Cm, otherwise: Mph
 {
     let mut limit = otherwise;
     let mut place = from;
+    let mut near = 0;
     while place <= to {
-        limit = lesser_of(limit, profile.at(place));
-        match profile.next(place) {
+        let here = profile.piece(place, near);
+        limit = lesser_of(limit, here.value);
+        near = here.near;
+        match here.next {
             Some(next) => place = next,
             None => return limit,
         }

@@ -5,8 +5,8 @@ use Rattle.std.proofs.lemmas.List.Sorted.{IsPartitionPoint-from_clause}
 use Rattle.track_store.proofs.Searching.{parted}
 use Rattle.track_store.proofs.segments.started.Goals as goal
 
-pub returns-clause-split : goal.returns-clause-split
-returns-clause-split g c =
+pub returns : goal.returns
+returns g c =
     let point = IsPartitionPoint-from_clause (λ s. not (int_lt c.args.place s.start)) _ _ c.partition_point.ensures.partitioned
     (parted c.args.place c.args.segments.now c.requires) (λ a r q k. search rules) in
-    (λ k d a b. grind (arith, ints, point.0 k d a b), λ k d a b. grind (arith, ints, point.1 k d a b))
+    (search rules, (λ k d a b. grind (arith, ints, point.0 k d a b), λ k d a b. grind (arith, ints, point.1 k d a b)))

@@ -11,8 +11,8 @@ loop-to-preserved g c =
     let value = g.P.Profile.value c.args.profile.now in
     let here : c.loop-to.place ≤ℤ c.args.to = grind (arith, ints) in
     let now : c.lesser_of-limit.result ≡ lesser c.loop-to.limit (value c.loop-to.place) =
-    c.lesser_of-limit.ensures ∙ ap (lesser c.loop-to.limit) c.at.ensures in
-    let lasts : Lasts value c.loop-to.place (Some c.in-Some.next) = c.in-Some.ensures in
+    c.lesser_of-limit.ensures ∙ ap (lesser c.loop-to.limit) c.piece-here.ensures.value in
+    let lasts : Lasts value c.loop-to.place (Some c.in-Some.next) = rw c.in-Some.is at c.piece-here.ensures.next in
     ap (λ (n : ℕ). least n (over (λ x. listed (value x)) c.in-Some.next c.args.to)) now
     ∙ jump value c.loop-to.limit c.loop-to.place c.args.to here c.in-Some.next lasts.0 lasts.1
     ∙ c.loop-to.invariant
@@ -21,7 +21,7 @@ pub loop-to-smaller : goal.loop-to-smaller
 loop-to-smaller g c =
     let value = g.P.Profile.value c.args.profile.now in
     let here : c.loop-to.place ≤ℤ c.args.to = grind (arith, ints) in
-    let lasts : Lasts value c.loop-to.place (Some c.in-Some.next) = c.in-Some.ensures in
+    let lasts : Lasts value c.loop-to.place (Some c.in-Some.next) = rw c.in-Some.is at c.piece-here.ensures.next in
     fewer_left c.loop-to.place c.in-Some.next c.args.to here lasts.0
 
 pub returns-in-None : goal.returns-in-None
@@ -29,8 +29,8 @@ returns-in-None g c =
     let value = g.P.Profile.value c.args.profile.now in
     let here : c.loop-to.place ≤ℤ c.args.to = grind (arith, ints) in
     let now : c.lesser_of-limit.result ≡ lesser c.loop-to.limit (value c.loop-to.place) =
-    c.lesser_of-limit.ensures ∙ ap (lesser c.loop-to.limit) c.at.ensures in
-    let lasts : Lasts value c.loop-to.place None = rw c.in-None.is at c.next.ensures in
+    c.lesser_of-limit.ensures ∙ ap (lesser c.loop-to.limit) c.piece-here.ensures.value in
+    let lasts : Lasts value c.loop-to.place None = rw c.in-None.is at c.piece-here.ensures.next in
     now ∙ last value c.loop-to.limit c.loop-to.place c.args.to here lasts ∙ c.loop-to.invariant
 
 pub returns : goal.returns

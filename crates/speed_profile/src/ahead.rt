@@ -48,9 +48,12 @@ impl<'a, S: Profile<CategorySpeeds>, G: Profile<Permille>> Ahead<'a, S, G> {
     {
         let mut speed = limit;
         let mut start = next_after(self.front);
+        let mut near = 0;
         while let Some(place) = start {
-            speed = self.for_target(speed, self.static_target(place));
-            start = self.speeds.next(place);
+            let here = self.speeds.piece(place, near);
+            speed = self.for_target(speed, static_target(self.bounds, place, here.value));
+            start = here.next;
+            near = here.near;
         }
         speed
     }
@@ -78,18 +81,18 @@ impl<'a, S: Profile<CategorySpeeds>, G: Profile<Permille>> Ahead<'a, S, G> {
             None => limit,
         }
     }
+}
 
-    // What the static speed of a centimetre asks for.
-    fn static_target(&self, place: Cm) -> Option<Target>
-        ensures { result ≡ static_target self.now.bounds.now place (S.value self.now.speeds.now place) }
-    {
-        match self.speeds.at(place) {
-            Some(speeds) => Some(Target {
-                place,
-                speed: speeds.for_category(self.bounds.category),
-            }),
-            None => unknown_target(&self.bounds.end, place),
-        }
+// What the static speed of a centimetre asks for.
+fn static_target(bounds: &Bounds, place: Cm, speeds: Option<CategorySpeeds>) -> Option<Target>
+    ensures { result ≡ static_target bounds.now place speeds }
+{
+    match speeds {
+        Some(speeds) => Some(Target {
+            place,
+            speed: speeds.for_category(bounds.category),
+        }),
+        None => unknown_target(&bounds.end, place),
     }
 }
 

@@ -1,9 +1,10 @@
 //! The static speeds that limit a train, as a profile.
 ghost use Rattle.std.specs.Prelude.{◌≡◌, ℤ, Option};
+ghost use Rattle.track_store.specs.Profiles.{Lasts};
 ghost use Rattle.speed_profile.specs.Limit.{counts_at, limiting_value};
 
 use crate::CategorySpeeds;
-use track_store::Profile;
+use track_store::{Piece, Profile};
 use units::{Cm, Mph};
 use vars::{TrainCategory, TrainLengthDelay};
 
@@ -26,7 +27,26 @@ impl<'a, S: Profile<CategorySpeeds>> Profile<Mph> for Limiting<'a, S> {
     }
 
     fn next(&self, place: Cm) -> Option<Cm> {
-        let next = self.speeds.next(place);
+        self.next_by(place, self.speeds.next(place))
+    }
+
+    fn piece(&self, place: Cm, near: usize) -> Piece<Mph> {
+        let here = self.speeds.piece(place, near);
+        Piece {
+            value: limiting_value(self.category, self.min_front, place, here.value),
+            next: self.next_by(place, here.next),
+            near: here.near,
+        }
+    }
+}
+
+impl<'a, S: Profile<CategorySpeeds>> Limiting<'a, S> {
+    // Up to where a value lasts, where the static speed does up to another place: static speeds begin to count at the least
+    // front.
+    fn next_by(&self, place: Cm, next: Option<Cm>) -> Option<Cm>
+        ensures { Lasts (S.value self.now.speeds.now) place next
+            → Lasts (λ there. limiting_value self.now.category self.now.min_front there (S.value self.now.speeds.now there)) place result }
+    {
         if self.min_front <= place {
             return next;
         }

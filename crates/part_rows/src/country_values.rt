@@ -1,28 +1,81 @@
 // Worked rows of national values.
 use crate::numbers::{cm, distance, kmh, speed_step};
+use crate::wanted::same;
 use arrayvec::ArrayVec;
 use national::{CountryValues, National, Values};
 use packets::NationalValues;
+use std::mem::swap;
 use std::process::Abort;
-use units::{Cm, Ms};
+use units::Ms;
 use vars::{Country, OpenLength, OverrideTime, Scale, StartPlace, ValidityDirection, Variable};
 
+/// Packet 3 of a group of country 1, by the numbers of its variables.
+#[derive(Clone, Copy)]
+struct Sent {
+    scale: Scale,
+    start: u16,
+    staff_responsible: u8,
+    /// The countries that it lists.
+    listed: &'static [u16],
+    override_time: u8,
+    staff_responsible_distance: u16,
+}
+
+/// In metres and in force at once, for the country of its group alone; 30 km/h in Staff Responsible.
+const SENT: Sent = Sent {
+    scale: Scale::OneMetre,
+    start: 32_767,
+    staff_responsible: 6,
+    listed: &[],
+    override_time: 254,
+    staff_responsible_distance: 32_766,
+};
+
+/// What happens, and what is in force.
+enum Event {
+    /// Packet 3 of a group at this place.
+    Announce(Sent, i32),
+    /// The greatest front is here.
+    Reach(i64),
+    /// A group of this country is accepted.
+    Enter(u16),
+    /// What is announced is forgotten.
+    Forget,
+    /// A life begins with what is in force.
+    PowerUp,
+    /// A copy is laid aside, in place of the one before.
+    Keep,
+    /// What was laid aside goes on, and what went on is laid aside.
+    Turn,
+    /// The speed in Staff Responsible, in km/h.
+    Speed(u32),
+    /// The countries that the values are for.
+    For(&'static [u16]),
+    /// The distance that the train may roll, in centimetres.
+    Roll(i64),
+}
+
+use Event::{Announce, Enter, For, Forget, Keep, PowerUp, Reach, Roll, Speed, Turn};
+
+/// What a row is called, and what happens in it.
+type Row = (&'static str, &'static [Event]);
+
 fn country<R: Abort>(rt: &R, nid_c: u16) -> Country {
-    assert!(rt; nid_c < 1_024);
+    assert!(rt; nid_c < 1_024, "a country");
     Country::of_number(u64::from(nid_c))
         .ok()
         .expect(rt, "a country")
 }
 
 fn start<R: Abort>(rt: &R, d_validnv: u16) -> StartPlace {
-    assert!(rt; d_validnv < 32_768);
+    assert!(rt; d_validnv < 32_768, "a place");
     StartPlace::of_number(u64::from(d_validnv))
         .ok()
         .expect(rt, "a place")
 }
 
 fn open_length<R: Abort>(rt: &R, d_nvstff: u16) -> OpenLength {
-    assert!(rt; d_nvstff < 32_768);
+    assert!(rt; d_nvstff < 32_768, "a length");
     OpenLength::of_number(u64::from(d_nvstff))
         .ok()
         .expect(rt, "a length")
@@ -34,15 +87,25 @@ fn time<R: Abort>(rt: &R, t_nvovtrp: u8) -> OverrideTime {
         .expect(rt, "a time")
 }
 
-/// Packet 3 for the country of its group alone, in metres.
-fn packet<R: Abort>(rt: &R, d_validnv: u16, v_nvstff: u8) -> NationalValues {
+fn countries<R: Abort>(rt: &R, listed: &[u16]) -> ArrayVec<Country, 31> {
+    let mut countries = ArrayVec::new();
+    for nid_c in listed {
+        assert!(rt;
+            countries.try_push(country(rt, *nid_c)).is_ok(),
+            "a country"
+        );
+    }
+    countries
+}
+
+fn packet<R: Abort>(rt: &R, sent: &Sent) -> NationalValues {
     NationalValues {
         direction: ValidityDirection::Both,
-        scale: Scale::OneMetre,
-        start: start(rt, d_validnv),
-        countries: ArrayVec::new(),
+        scale: sent.scale,
+        start: start(rt, sent.start),
+        countries: countries(rt, sent.listed),
         shunting: speed_step(rt, 1),
-        staff_responsible: speed_step(rt, v_nvstff),
+        staff_responsible: speed_step(rt, sent.staff_responsible),
         on_sight: speed_step(rt, 3),
         unfitted: speed_step(rt, 120),
         release: speed_step(rt, 5),
@@ -50,164 +113,411 @@ fn packet<R: Abort>(rt: &R, d_validnv: u16, v_nvstff: u8) -> NationalValues {
         override_allowed: speed_step(rt, 7),
         override_speed: speed_step(rt, 8),
         override_distance: distance(rt, 150),
-        override_time: time(rt, 254),
-        staff_responsible_distance: open_length(rt, 32_766),
+        override_time: time(rt, sent.override_time),
+        staff_responsible_distance: open_length(rt, sent.staff_responsible_distance),
     }
 }
 
-/// Takes packet 3 of a group of country 1 at this place.
-fn announce<R: Abort>(rt: &R, national: &mut National, packet: &NationalValues, place: i32) {
-    national.announce(packet, country(rt, 1), cm(rt, i64::from(place)));
-}
-
-/// What a packet 3 that lists these countries puts in force at once, its group being of country 1.
-fn in_force_for<R: Abort>(rt: &R, listed: &[u16]) -> National {
-    let mut packet = packet(rt, 32_767, 6);
-    for nid_c in listed {
-        assert!(rt; !packet.countries.is_full());
-        packet.countries.push(country(rt, *nid_c));
-    }
-    let mut national = National::new();
-    announce(rt, &mut national, &packet, 0);
-    national.reach(cm(rt, -5_000));
-    national
-}
-
-/// The speed in Staff Responsible, in km/h.
-fn speed(national: &National) -> u32 {
-    national.values().staff_responsible.get() / 1_000
+fn announce<R: Abort>(rt: &R, national: &mut National, sent: &Sent, place: i32) {
+    national.announce(&packet(rt, sent), country(rt, 1), cm(rt, i64::from(place)));
 }
 
 fn is_for(national: &National, listed: &[u16]) -> bool {
     let countries = national.countries();
+    for (country, nid_c) in countries.iter().zip(listed) {
+        if country.number() != u64::from(*nid_c) {
+            return false;
+        }
+    }
     countries.len() == listed.len()
-        && countries
-            .iter()
-            .zip(listed)
-            .all(|(a, b)| a.number() == u64::from(*b))
+}
+
+fn happens<R: Abort>(rt: &R, national: &mut National, event: &Event, row: &str, step: usize) {
+    match event {
+        Announce(sent, place) => announce(rt, national, sent, *place),
+        Reach(max_front) => national.reach(cm(rt, *max_front)),
+        Enter(nid_c) => national.enter(country(rt, *nid_c)),
+        Forget => national.forget_announced(),
+        PowerUp => {
+            let kept = CountryValues::new(national.values(), national.countries());
+            *national = National::kept(kept.copy());
+        }
+        Speed(wanted) => {
+            let speed = national.values().staff_responsible.get() / 1_000;
+            same(rt, &speed, wanted, row, step);
+        }
+        For(listed) => same(rt, &is_for(national, listed), &true, row, step),
+        Roll(wanted) => same(
+            rt,
+            &national.in_force().values().roll.get(),
+            wanted,
+            row,
+            step,
+        ),
+        Keep | Turn => {}
+    }
+}
+
+fn rows<R: Abort>(rt: &R, rows: &[Row]) {
+    for (row, events) in rows {
+        let mut national = National::new();
+        let mut aside = National::new();
+        for (step, event) in events.iter().enumerate() {
+            match event {
+                Keep => aside = national.copy(),
+                Turn => swap(&mut national, &mut aside),
+                _ => happens(rt, &mut national, event, row, step),
+            }
+        }
+    }
 }
 
 // 100 units behind a group at 0 lie 10,000 cm at a scale of 1 m.
-#[test]
-fn in_force_from_its_start(rt: HostRuntime) {
-    for (scale, place, max_front, is_reached) in [
-        (Scale::OneMetre, 0, 9_999, false),
-        (Scale::OneMetre, 0, 10_000, true),
-        (Scale::OneMetre, -2_500, 7_499, false),
-        (Scale::OneMetre, -2_500, 7_500, true),
-        (Scale::TenCentimetres, 0, 999, false),
-        (Scale::TenCentimetres, 0, 1_000, true),
-        (Scale::TenMetres, 0, 99_999, false),
-        (Scale::TenMetres, 0, 100_000, true),
-    ] {
-        let mut packet = packet(&rt, 100, 6);
-        packet.scale = scale;
-        let mut national = National::new();
-        announce(&rt, &mut national, &packet, place);
-        national.reach(cm(&rt, max_front));
-        assert_eq!(rt;
-            speed(&national),
-            if is_reached { 30 } else { 40 },
-            "at {max_front}"
-        );
-        assert!(rt; is_for(&national, if is_reached { &[1] } else { &[] }));
-        national.enter(country(&rt, 2));
-        assert_eq!(rt; speed(&national), 40);
-        assert!(rt; is_for(&national, if is_reached { &[2] } else { &[] }));
-        national.reach(cm(&rt, 100_000));
-        assert_eq!(rt; speed(&national), if is_reached { 40 } else { 30 });
-    }
-}
+const HUNDRED_METRES: Sent = Sent { start: 100, ..SENT };
 
-#[test]
-fn groups_by_country(rt: HostRuntime) {
-    for (nid_c, is_foreign) in [(1, false), (3, false), (4, false), (0, true), (2, true)] {
-        let mut national = in_force_for(&rt, &[3, 4, 3]);
-        national.enter(country(&rt, nid_c));
-        assert_eq!(rt;
-            speed(&national),
-            if is_foreign { 40 } else { 30 },
-            "of {nid_c}"
-        );
-        assert!(rt; is_foreign || is_for(&national, &[3, 4, 3, 1]));
-        assert!(rt; !is_foreign || is_for(&national, &[nid_c]));
-    }
-}
+const HUNDRED_SHORT: Sent = Sent {
+    scale: Scale::TenCentimetres,
+    ..HUNDRED_METRES
+};
 
-#[test]
-fn two_in_one_message(rt: HostRuntime) {
-    for (first, second, at_once, later) in [(32_767, 100, 40, 50), (100, 32_767, 50, 50)] {
-        let mut national = National::new();
-        announce(&rt, &mut national, &packet(&rt, first, 6), 0);
-        announce(&rt, &mut national, &packet(&rt, second, 10), 0);
-        national.reach(cm(&rt, 9_999));
-        assert_eq!(rt; speed(&national), at_once);
-        national.reach(cm(&rt, 10_000));
-        assert_eq!(rt; speed(&national), later);
-    }
-}
+const HUNDRED_LONG: Sent = Sent {
+    scale: Scale::TenMetres,
+    ..HUNDRED_METRES
+};
 
-#[test]
-fn power_up(rt: HostRuntime) {
-    let mut national = in_force_for(&rt, &[3]);
-    announce(&rt, &mut national, &packet(&rt, 100, 10), 0);
-    let mut on = national.copy();
-    on.reach(cm(&rt, 10_000));
-    assert_eq!(rt; speed(&on), 50);
-    let kept = CountryValues::new(national.values(), national.countries());
-    let mut later = National::kept(kept.copy());
-    national.forget_announced();
-    national.reach(cm(&rt, 10_000));
-    later.reach(cm(&rt, 10_000));
-    assert!(rt; speed(&national) == 30 && is_for(&national, &[3, 1]));
-    assert!(rt; speed(&later) == 30 && is_for(&later, &[3, 1]));
-    assert_eq!(rt; national.in_force().values().roll, kept.values().roll);
-}
+const FROM_ITS_START: &[Row] = &[
+    (
+        "not reached, at 9_999 from 0 in 1 m",
+        &[
+            Announce(HUNDRED_METRES, 0),
+            Reach(9_999),
+            Speed(40),
+            For(&[]),
+            Enter(2),
+            Speed(40),
+            For(&[]),
+            Reach(100_000),
+            Speed(30),
+        ],
+    ),
+    (
+        "reached, at 10_000 from 0 in 1 m",
+        &[
+            Announce(HUNDRED_METRES, 0),
+            Reach(10_000),
+            Speed(30),
+            For(&[1]),
+            Enter(2),
+            Speed(40),
+            For(&[2]),
+            Reach(100_000),
+            Speed(40),
+        ],
+    ),
+    (
+        "not reached, at 7_499 from -2_500 in 1 m",
+        &[
+            Announce(HUNDRED_METRES, -2_500),
+            Reach(7_499),
+            Speed(40),
+            For(&[]),
+            Enter(2),
+            Speed(40),
+            For(&[]),
+            Reach(100_000),
+            Speed(30),
+        ],
+    ),
+    (
+        "reached, at 7_500 from -2_500 in 1 m",
+        &[
+            Announce(HUNDRED_METRES, -2_500),
+            Reach(7_500),
+            Speed(30),
+            For(&[1]),
+            Enter(2),
+            Speed(40),
+            For(&[2]),
+            Reach(100_000),
+            Speed(40),
+        ],
+    ),
+    (
+        "not reached, at 999 from 0 in 10 cm",
+        &[
+            Announce(HUNDRED_SHORT, 0),
+            Reach(999),
+            Speed(40),
+            For(&[]),
+            Enter(2),
+            Speed(40),
+            For(&[]),
+            Reach(100_000),
+            Speed(30),
+        ],
+    ),
+    (
+        "reached, at 1_000 from 0 in 10 cm",
+        &[
+            Announce(HUNDRED_SHORT, 0),
+            Reach(1_000),
+            Speed(30),
+            For(&[1]),
+            Enter(2),
+            Speed(40),
+            For(&[2]),
+            Reach(100_000),
+            Speed(40),
+        ],
+    ),
+    (
+        "not reached, at 99_999 from 0 in 10 m",
+        &[
+            Announce(HUNDRED_LONG, 0),
+            Reach(99_999),
+            Speed(40),
+            For(&[]),
+            Enter(2),
+            Speed(40),
+            For(&[]),
+            Reach(100_000),
+            Speed(30),
+        ],
+    ),
+    (
+        "reached, at 100_000 from 0 in 10 m",
+        &[
+            Announce(HUNDRED_LONG, 0),
+            Reach(100_000),
+            Speed(30),
+            For(&[1]),
+            Enter(2),
+            Speed(40),
+            For(&[2]),
+            Reach(100_000),
+            Speed(40),
+        ],
+    ),
+];
 
-#[test]
-fn longest_list(rt: HostRuntime) {
-    let listed: [u16; 31] = [
+const LISTING: Sent = Sent {
+    listed: &[3, 4, 3],
+    ..SENT
+};
+
+const BY_COUNTRY: &[Row] = &[
+    (
+        "a group of country 1",
+        &[
+            Announce(LISTING, 0),
+            Reach(-5_000),
+            Enter(1),
+            Speed(30),
+            For(&[3, 4, 3, 1]),
+        ],
+    ),
+    (
+        "a group of country 3",
+        &[
+            Announce(LISTING, 0),
+            Reach(-5_000),
+            Enter(3),
+            Speed(30),
+            For(&[3, 4, 3, 1]),
+        ],
+    ),
+    (
+        "a group of country 4",
+        &[
+            Announce(LISTING, 0),
+            Reach(-5_000),
+            Enter(4),
+            Speed(30),
+            For(&[3, 4, 3, 1]),
+        ],
+    ),
+    (
+        "a group of country 0",
+        &[
+            Announce(LISTING, 0),
+            Reach(-5_000),
+            Enter(0),
+            Speed(40),
+            For(&[0]),
+        ],
+    ),
+    (
+        "a group of country 2",
+        &[
+            Announce(LISTING, 0),
+            Reach(-5_000),
+            Enter(2),
+            Speed(40),
+            For(&[2]),
+        ],
+    ),
+];
+
+/// 50 km/h in Staff Responsible.
+const FASTER: Sent = Sent {
+    staff_responsible: 10,
+    ..SENT
+};
+
+const FASTER_AHEAD: Sent = Sent {
+    start: 100,
+    ..FASTER
+};
+
+const TWO_IN_ONE_MESSAGE: &[Row] = &[
+    (
+        "at once and then ahead",
+        &[
+            Announce(SENT, 0),
+            Announce(FASTER_AHEAD, 0),
+            Reach(9_999),
+            Speed(40),
+            Reach(10_000),
+            Speed(50),
+        ],
+    ),
+    (
+        "ahead and then at once",
+        &[
+            Announce(HUNDRED_METRES, 0),
+            Announce(FASTER, 0),
+            Reach(9_999),
+            Speed(50),
+            Reach(10_000),
+            Speed(50),
+        ],
+    ),
+];
+
+/// For countries 3 and 1.
+const OF_TWO: Sent = Sent {
+    listed: &[3],
+    ..SENT
+};
+
+/// What is announced then is not kept, and comes into force where it isn't forgotten.
+const POWER_UP: &[Row] = &[
+    (
+        "it goes on",
+        &[
+            Announce(OF_TWO, 0),
+            Reach(-5_000),
+            Announce(FASTER_AHEAD, 0),
+            Keep,
+            Reach(10_000),
+            Speed(50),
+            Turn,
+            Forget,
+            Reach(10_000),
+            Speed(30),
+            For(&[3, 1]),
+            Roll(300),
+        ],
+    ),
+    (
+        "a new life",
+        &[
+            Announce(OF_TWO, 0),
+            Reach(-5_000),
+            Announce(FASTER_AHEAD, 0),
+            PowerUp,
+            Reach(10_000),
+            Speed(30),
+            For(&[3, 1]),
+            Roll(300),
+        ],
+    ),
+];
+
+/// As many countries as a packet may list.
+const LONGEST: Sent = Sent {
+    listed: &[
         1_023, 2, 3, 4, 5, 6, 7, 8, 9, 10, 11, 12, 13, 14, 15, 16, 17, 18, 19, 20, 21, 22, 23, 24,
         25, 26, 27, 28, 29, 30, 31,
-    ];
-    let mut national = in_force_for(&rt, &listed);
-    assert_eq!(rt; national.countries().len(), 32);
-    for nid_c in [1_023, 31, 1] {
-        national.enter(country(&rt, nid_c));
-        assert_eq!(rt; speed(&national), 30, "of {nid_c}");
+    ],
+    ..SENT
+};
+
+const LONGEST_LIST: &[Row] = &[(
+    "32 countries",
+    &[
+        Announce(LONGEST, 0),
+        Reach(-5_000),
+        For(&[
+            1_023, 2, 3, 4, 5, 6, 7, 8, 9, 10, 11, 12, 13, 14, 15, 16, 17, 18, 19, 20, 21, 22, 23,
+            24, 25, 26, 27, 28, 29, 30, 31, 1,
+        ]),
+        Enter(1_023),
+        Speed(30),
+        Enter(31),
+        Speed(30),
+        Enter(1),
+        Speed(30),
+        Enter(32),
+        Speed(40),
+    ],
+)];
+
+#[test]
+fn in_force(rt: HostRuntime) {
+    for table in [
+        FROM_ITS_START,
+        BY_COUNTRY,
+        TWO_IN_ONE_MESSAGE,
+        POWER_UP,
+        LONGEST_LIST,
+    ] {
+        rows(&rt, table);
     }
-    national.enter(country(&rt, 32));
-    assert_eq!(rt; speed(&national), 40);
+}
+
+/// What packet 3 tells in a scale, with these lengths in centimetres.
+fn told<R: Abort>(rt: &R, roll: i64, override_distance: i64, staff_responsible: i64) -> Values {
+    Values {
+        shunting: kmh(rt, 5),
+        staff_responsible: kmh(rt, 10),
+        on_sight: kmh(rt, 15),
+        unfitted: kmh(rt, 600),
+        release: kmh(rt, 25),
+        roll: cm(rt, roll),
+        override_allowed: kmh(rt, 35),
+        override_speed: kmh(rt, 40),
+        override_distance: cm(rt, override_distance),
+        override_time: Ms::new(254_000),
+        staff_responsible_distance: Some(cm(rt, staff_responsible)),
+    }
 }
 
 #[test]
 fn values_told(rt: HostRuntime) {
-    for (scale, roll, override_distance, staff_responsible_distance) in [
+    for (scale, roll, override_distance, staff_responsible) in [
         (Scale::TenCentimetres, 30, 1_500, 327_660),
         (Scale::OneMetre, 300, 15_000, 3_276_600),
         (Scale::TenMetres, 3_000, 150_000, 32_766_000),
     ] {
-        let mut packet = packet(&rt, 32_767, 2);
-        packet.scale = scale;
-        let told = Values {
-            shunting: kmh(&rt, 5),
-            staff_responsible: kmh(&rt, 10),
-            on_sight: kmh(&rt, 15),
-            unfitted: kmh(&rt, 600),
-            release: kmh(&rt, 25),
-            roll: cm(&rt, roll),
-            override_allowed: kmh(&rt, 35),
-            override_speed: kmh(&rt, 40),
-            override_distance: cm(&rt, override_distance),
-            override_time: Ms::new(254_000),
-            staff_responsible_distance: Cm::new(staff_responsible_distance),
+        let mut sent = Sent {
+            scale,
+            staff_responsible: 2,
+            ..SENT
         };
-        assert_eq!(rt; Values::of(&packet), told);
-        packet.override_time = time(&rt, 255);
-        packet.staff_responsible_distance = open_length(&rt, 32_767);
-        let endless = Values::of(&packet);
-        assert_eq!(rt; endless.override_time, None);
-        assert_eq!(rt; endless.staff_responsible_distance, None);
+        let wanted = told(&rt, roll, override_distance, staff_responsible);
+        same(&rt, &Values::of(&packet(&rt, &sent)), &wanted, "values", 0);
+        sent.override_time = 255;
+        sent.staff_responsible_distance = 32_767;
+        let endless = Values::of(&packet(&rt, &sent));
+        same(&rt, &endless.override_time, &None, "an endless time", 0);
+        same(
+            &rt,
+            &endless.staff_responsible_distance,
+            &None,
+            "an endless distance",
+            0,
+        );
     }
 }
 
@@ -227,7 +537,7 @@ fn defaults(rt: HostRuntime) {
         staff_responsible_distance: None,
     };
     let mut national = National::new();
-    assert_eq!(rt; *national.values(), told);
+    same(&rt, national.values(), &told, "defaults", 0);
     national.enter(country(&rt, 5));
-    assert!(rt; is_for(&national, &[]));
+    same(&rt, &is_for(&national, &[]), &true, "for no country", 0);
 }

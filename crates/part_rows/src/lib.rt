@@ -11,6 +11,9 @@ mod links;
 mod movement_authority;
 #[cfg(test)]
 mod numbers;
+#[cfg(test)]
 mod permitted_speed;
 #[cfg(test)]
 mod profiles;
+#[cfg(test)]
+mod wanted;

@@ -1,22 +1,27 @@
 // Worked rows of linking.
-ghost use Rattle.std.specs.Prelude.{◌≤◌, length};
-
 use crate::numbers::cm;
+use crate::wanted::same;
+use arrayvec::ArrayVec;
 use linking::{Announcement, Effect, GroupRead, Links, Verdict};
 use odometry::EarlierPlace;
+use std::mem::swap;
 use std::process::Abort;
-use units::Cm;
 use vars::{
     Country, GroupIdentity, GroupNumber, LinkOrientation, LinkReaction, LocationAccuracy, Variable,
 };
+
+const NONE: Effect = Effect::NONE;
+
+const TRIP: Effect = Effect::TRIP;
+
+const SERVICE: Effect = Effect::SERVICE;
 
 const BOTH: Effect = Effect {
     trip: true,
     service: true,
 };
 
-/// What became of a group, with the number of the announcement that was meant.
-#[derive(Clone, Copy, Debug, PartialEq, Eq)]
+/// What becomes of a group, with the number of the announcement that was meant.
 enum Told {
     Accepted,
     AcceptedAs(u8),
@@ -24,306 +29,536 @@ enum Told {
     Reacted(u8),
 }
 
-fn told_by(verdict: &Verdict) -> Told {
-    match verdict {
-        Verdict::Accept(None) => Told::Accepted,
-        Verdict::Accept(Some(announcement)) => Told::AcceptedAs(announcement.number),
-        Verdict::Ignore => Told::Ignored,
-        Verdict::Reaction(announcement) => Told::Reacted(announcement.number),
-    }
+use Told::{Accepted, AcceptedAs, Ignored, Reacted};
+
+/// A group that is announced in its nominal direction: its number, its place, how far it may lie from there in metres,
+/// and the reaction.
+type Announced = (u8, i64, u8, LinkReaction);
+
+/// A group that is read.
+#[derive(Clone, Copy)]
+struct Group {
+    number: u8,
+    linked: bool,
+    direction: Option<LinkOrientation>,
+    front: i64,
+    uncertainty: i64,
 }
 
-fn group<R: Abort>(rt: &R, nid_bg: u8) -> GroupIdentity {
+/// A group that may be announced, in an unknown direction, where the front is surely at 0.
+const GROUP: Group = Group {
+    number: 1,
+    linked: true,
+    direction: None,
+    front: 0,
+    uncertainty: 0,
+};
+
+/// What happens, and what linking answers.
+enum Event {
+    /// A list of links comes in place of the one before.
+    Announce(&'static [Announced]),
+    Read(Group, Told, Effect),
+    /// A group breaks, of a number; whether it may be announced.
+    Break(u8, bool, Effect),
+    /// The least front is here.
+    Miss(i64, Effect),
+    /// Whether a group is left.
+    InUse(bool),
+    /// A copy is laid aside, in place of the one before.
+    Keep,
+    /// What was laid aside goes on, and what went on is laid aside.
+    Turn,
+}
+
+use Event::{Announce, Break, InUse, Keep, Miss, Read, Turn};
+
+/// What a row is called, and what happens in it.
+type Row = (&'static str, &'static [Event]);
+
+fn identity<R: Abort>(rt: &R, number: u8) -> GroupIdentity {
     GroupIdentity {
         country: Country::default(),
-        number: GroupNumber::of_number(u64::from(nid_bg))
+        number: GroupNumber::of_number(u64::from(number))
             .ok()
             .expect(rt, "a group"),
     }
 }
 
-/// Announces a group in its nominal direction, as exactly as so many metres.
-fn announced<R: Abort>(
-    rt: &R,
-    nid_bg: u8,
-    place: i64,
-    metres: u8,
-    reaction: LinkReaction,
-) -> Announcement {
-    assert!(rt; metres < 64);
-    Announcement {
-        number: 0,
-        group: group(rt, nid_bg),
-        place: cm(rt, place),
-        accuracy: LocationAccuracy::of_number(u64::from(metres))
-            .ok()
-            .expect(rt, "an accuracy"),
-        direction: LinkOrientation::Nominal,
-        reaction,
+/// Announces these groups, in place of those before.
+fn announce<R: Abort>(rt: &R, links: &mut Links, announced: &[Announced]) {
+    let mut list: ArrayVec<Announcement, 32> = ArrayVec::new();
+    for (number, place, metres, reaction) in announced {
+        assert!(rt; *metres < 64, "an accuracy");
+        let accuracy = LocationAccuracy::of_number(u64::from(*metres)).ok();
+        let announcement = Announcement {
+            number: 0,
+            group: identity(rt, *number),
+            place: cm(rt, *place),
+            accuracy: accuracy.expect(rt, "an accuracy"),
+            direction: LinkOrientation::Nominal,
+            reaction: *reaction,
+        };
+        assert!(rt; list.try_push(announcement).is_ok(), "an announcement");
+    }
+    links.replace(list.as_slice());
+}
+
+fn is_told(verdict: &Verdict, told: &Told) -> bool {
+    match (verdict, told) {
+        (Verdict::Accept(None), Accepted) | (Verdict::Ignore, Ignored) => true,
+        (Verdict::Accept(Some(announcement)), AcceptedAs(number))
+        | (Verdict::Reaction(announcement), Reacted(number)) => announcement.number == *number,
+        _ => false,
     }
 }
 
-/// Announces a group as exactly as 10 m.
-fn at<R: Abort>(rt: &R, nid_bg: u8, place: i64, reaction: LinkReaction) -> Announcement {
-    announced(rt, nid_bg, place, 10, reaction)
-}
-
-fn links_of(announcements: &[Announcement]) -> Links
-    requires { length announcements.now ≤ 32 }
-{
-    let mut links = Links::new();
-    links.replace(announcements);
-    links
-}
-
-/// A group that may be announced, in an unknown direction, where the front is surely here.
-fn read<R: Abort>(rt: &R, nid_bg: u8, front: i64) -> GroupRead {
-    GroupRead {
-        group: group(rt, nid_bg),
-        linked: true,
-        direction: None,
-        place: EarlierPlace {
-            estimate: cm(rt, front),
-            uncertainty: Cm::ZERO,
-        },
+fn happens<R: Abort>(rt: &R, links: &mut Links, event: &Event, row: &str, step: usize) {
+    match event {
+        Announce(announced) => announce(rt, links, announced),
+        Read(group, told, effect) => {
+            let judgement = links.judge(&GroupRead {
+                group: identity(rt, group.number),
+                linked: group.linked,
+                direction: group.direction,
+                place: EarlierPlace {
+                    estimate: cm(rt, group.front),
+                    uncertainty: cm(rt, group.uncertainty),
+                },
+            });
+            same(rt, &is_told(&judgement.verdict, told), &true, row, step);
+            same(rt, &judgement.effect, effect, row, step);
+        }
+        Break(number, linked, effect) => {
+            same(
+                rt,
+                &links.broken(identity(rt, *number), *linked),
+                effect,
+                row,
+                step,
+            );
+        }
+        Miss(front, effect) => same(rt, &links.missed(cm(rt, *front)), effect, row, step),
+        InUse(is_in_use) => same(rt, &links.is_in_use(), is_in_use, row, step),
+        Keep | Turn => {}
     }
 }
 
-fn judged(links: &mut Links, group: &GroupRead) -> (Told, Effect) {
-    let judgement = links.judge(group);
-    (told_by(&judgement.verdict), judgement.effect)
+fn rows<R: Abort>(rt: &R, rows: &[Row]) {
+    for (row, events) in rows {
+        let mut links = Links::new();
+        let mut aside = Links::new();
+        for (step, event) in events.iter().enumerate() {
+            match event {
+                Keep => aside = links.copy(),
+                Turn => swap(&mut links, &mut aside),
+                _ => happens(rt, &mut links, event, row, step),
+            }
+        }
+    }
 }
+
+const ONE: &[Announced] = &[(1, 100_000, 10, LinkReaction::Trip)];
 
 // 93,809 + 5,191 = 99,000 is the first place at which the group may lie.
-#[test]
-fn first_and_last_place(rt: HostRuntime) {
-    let one = [at(&rt, 1, 100_000, LinkReaction::Trip)];
-    for (estimate, verdict, effect) in [
-        (93_809, Told::AcceptedAs(0), Effect::NONE),
-        (93_808, Told::Reacted(0), Effect::TRIP),
-    ] {
-        let mut links = links_of(&one);
-        let mut group = read(&rt, 1, estimate);
-        group.place.uncertainty = cm(&rt, 5_191);
-        assert_eq!(rt;
-            judged(&mut links, &group),
-            (verdict, effect),
-            "at {estimate}"
-        );
-        assert!(rt; !links.is_in_use());
-    }
-    let mut links = links_of(&one);
-    assert_eq!(rt; links.missed(cm(&rt, 101_000)), Effect::NONE);
-    assert!(rt; links.is_in_use());
-    assert_eq!(rt; links.missed(cm(&rt, 101_001)), Effect::TRIP);
-    assert!(rt; !links.is_in_use());
-}
+const FIRST_AND_LAST_PLACE: &[Row] = &[
+    (
+        "at the first place",
+        &[
+            Announce(ONE),
+            Read(
+                Group {
+                    front: 93_809,
+                    uncertainty: 5_191,
+                    ..GROUP
+                },
+                AcceptedAs(0),
+                NONE,
+            ),
+            InUse(false),
+        ],
+    ),
+    (
+        "before the first place",
+        &[
+            Announce(ONE),
+            Read(
+                Group {
+                    front: 93_808,
+                    uncertainty: 5_191,
+                    ..GROUP
+                },
+                Reacted(0),
+                TRIP,
+            ),
+            InUse(false),
+        ],
+    ),
+    (
+        "at the last place, and behind it",
+        &[
+            Announce(ONE),
+            Miss(101_000, NONE),
+            InUse(true),
+            Miss(101_001, TRIP),
+            InUse(false),
+        ],
+    ),
+];
 
-#[test]
-fn too_early_and_the_wrong_way(rt: HostRuntime) {
-    let one = [at(&rt, 1, 100_000, LinkReaction::ServiceBrake)];
-    for (direction, front, verdict, effect) in [
-        (None, 99_000, Told::AcceptedAs(0), Effect::NONE),
-        (
-            Some(LinkOrientation::Nominal),
-            99_000,
-            Told::AcceptedAs(0),
-            Effect::NONE,
-        ),
-        (None, 98_999, Told::Reacted(0), Effect::SERVICE),
-        (
-            Some(LinkOrientation::Reverse),
-            99_000,
-            Told::Reacted(0),
-            Effect::TRIP,
-        ),
-        (
-            Some(LinkOrientation::Reverse),
-            98_999,
-            Told::Reacted(0),
-            Effect::TRIP,
-        ),
-    ] {
-        let mut links = links_of(&one);
-        let mut group = read(&rt, 1, front);
-        group.direction = direction;
-        assert_eq!(rt; judged(&mut links, &group), (verdict, effect), "at {front}");
-        assert!(rt; !links.is_in_use());
-    }
-}
+const ONE_OF_SERVICE: &[Announced] = &[(1, 100_000, 10, LinkReaction::ServiceBrake)];
 
-#[test]
-fn groups_not_announced(rt: HostRuntime) {
-    let mut links = links_of(&[at(&rt, 1, 100_000, LinkReaction::Trip)]);
-    for (nid_bg, linked, verdict) in [
-        (2, true, Told::Ignored),
-        (2, false, Told::Accepted),
-        (1, false, Told::Accepted),
-    ] {
-        let mut group = read(&rt, nid_bg, 0);
-        group.linked = linked;
-        assert_eq!(rt;
-            judged(&mut links, &group),
-            (verdict, Effect::NONE),
-            "group {nid_bg}"
-        );
-    }
-    let mut copy = links.copy();
-    links.replace(&[]);
-    assert!(rt; !links.is_in_use());
-    assert_eq!(rt;
-        judged(&mut links, &read(&rt, 2, 0)),
-        (Told::Accepted, Effect::NONE)
-    );
-    assert_eq!(rt;
-        judged(&mut copy, &read(&rt, 2, 0)),
-        (Told::Ignored, Effect::NONE)
-    );
-}
+const NOMINAL: Group = Group {
+    direction: Some(LinkOrientation::Nominal),
+    ..GROUP
+};
+
+const REVERSE: Group = Group {
+    direction: Some(LinkOrientation::Reverse),
+    ..GROUP
+};
+
+const EARLY_AND_WRONG_WAY: &[Row] = &[
+    (
+        "an unknown direction",
+        &[
+            Announce(ONE_OF_SERVICE),
+            Read(
+                Group {
+                    front: 99_000,
+                    ..GROUP
+                },
+                AcceptedAs(0),
+                NONE,
+            ),
+            InUse(false),
+        ],
+    ),
+    (
+        "the nominal direction",
+        &[
+            Announce(ONE_OF_SERVICE),
+            Read(
+                Group {
+                    front: 99_000,
+                    ..NOMINAL
+                },
+                AcceptedAs(0),
+                NONE,
+            ),
+            InUse(false),
+        ],
+    ),
+    (
+        "too early",
+        &[
+            Announce(ONE_OF_SERVICE),
+            Read(
+                Group {
+                    front: 98_999,
+                    ..GROUP
+                },
+                Reacted(0),
+                SERVICE,
+            ),
+            InUse(false),
+        ],
+    ),
+    (
+        "the wrong way",
+        &[
+            Announce(ONE_OF_SERVICE),
+            Read(
+                Group {
+                    front: 99_000,
+                    ..REVERSE
+                },
+                Reacted(0),
+                TRIP,
+            ),
+            InUse(false),
+        ],
+    ),
+    (
+        "too early and the wrong way",
+        &[
+            Announce(ONE_OF_SERVICE),
+            Read(
+                Group {
+                    front: 98_999,
+                    ..REVERSE
+                },
+                Reacted(0),
+                TRIP,
+            ),
+            InUse(false),
+        ],
+    ),
+];
+
+const NOT_LINKED: Group = Group {
+    linked: false,
+    ..GROUP
+};
+
+const NOT_ANNOUNCED: &[Row] = &[(
+    "while one is announced, and after that",
+    &[
+        Announce(ONE),
+        Read(Group { number: 2, ..GROUP }, Ignored, NONE),
+        Read(
+            Group {
+                number: 2,
+                ..NOT_LINKED
+            },
+            Accepted,
+            NONE,
+        ),
+        Read(NOT_LINKED, Accepted, NONE),
+        Keep,
+        Announce(&[]),
+        InUse(false),
+        Read(Group { number: 2, ..GROUP }, Accepted, NONE),
+        Turn,
+        Read(Group { number: 2, ..GROUP }, Ignored, NONE),
+    ],
+)];
+
+const FIVE: &[Announced] = &[
+    (1, 100_000, 10, LinkReaction::NoReaction),
+    (2, 200_000, 10, LinkReaction::Trip),
+    (3, 300_000, 10, LinkReaction::ServiceBrake),
+    (4, 400_000, 10, LinkReaction::NoReaction),
+    (5, 500_000, 10, LinkReaction::NoReaction),
+];
 
 // The second of the two that are missed asks for service beside its own trip. Then the count begins again.
-#[test]
-fn announcements_before_the_accepted_one(rt: HostRuntime) {
-    let mut links = links_of(&[
-        at(&rt, 1, 100_000, LinkReaction::NoReaction),
-        at(&rt, 2, 200_000, LinkReaction::Trip),
-        at(&rt, 3, 300_000, LinkReaction::ServiceBrake),
-        at(&rt, 4, 400_000, LinkReaction::NoReaction),
-        at(&rt, 5, 500_000, LinkReaction::NoReaction),
-    ]);
-    for (nid_bg, front, verdict, effect) in [
-        (3, 300_000, Told::AcceptedAs(2), BOTH),
-        (2, 300_000, Told::Ignored, Effect::NONE),
-        (5, 500_000, Told::AcceptedAs(4), Effect::NONE),
-    ] {
-        let group = read(&rt, nid_bg, front);
-        assert_eq!(rt;
-            judged(&mut links, &group),
-            (verdict, effect),
-            "group {nid_bg}"
-        );
-    }
-}
+const BEFORE_THE_ACCEPTED_ONE: &[Row] = &[(
+    "two and then one",
+    &[
+        Announce(FIVE),
+        Read(
+            Group {
+                number: 3,
+                front: 300_000,
+                ..GROUP
+            },
+            AcceptedAs(2),
+            BOTH,
+        ),
+        Read(
+            Group {
+                number: 2,
+                front: 300_000,
+                ..GROUP
+            },
+            Ignored,
+            NONE,
+        ),
+        Read(
+            Group {
+                number: 5,
+                front: 500_000,
+                ..GROUP
+            },
+            AcceptedAs(4),
+            NONE,
+        ),
+    ],
+)];
 
-/// Three announcements that ask for nothing, of which the first was missed.
-fn after_a_miss<R: Abort>(rt: &R) -> Links {
-    let mut links = links_of(&[
-        at(rt, 1, 100_000, LinkReaction::NoReaction),
-        at(rt, 2, 200_000, LinkReaction::NoReaction),
-        at(rt, 3, 300_000, LinkReaction::NoReaction),
-    ]);
-    assert_eq!(rt; links.missed(cm(rt, 101_001)), Effect::NONE);
-    links
-}
+const THREE: &[Announced] = &[
+    (1, 100_000, 10, LinkReaction::NoReaction),
+    (2, 200_000, 10, LinkReaction::NoReaction),
+    (3, 300_000, 10, LinkReaction::NoReaction),
+];
 
-#[test]
-fn missed_again(rt: HostRuntime) {
-    let past_the_third = cm(&rt, 301_001);
-    let mut at_once = after_a_miss(&rt);
-    assert_eq!(rt; at_once.missed(cm(&rt, 201_001)), Effect::SERVICE);
-    assert_eq!(rt; at_once.missed(past_the_third), Effect::SERVICE);
-    let mut accepted = after_a_miss(&rt);
-    let second = read(&rt, 2, 200_000);
-    assert_eq!(rt;
-        judged(&mut accepted, &second),
-        (Told::AcceptedAs(1), Effect::NONE)
-    );
-    assert_eq!(rt; accepted.missed(past_the_third), Effect::NONE);
-    let mut passed = after_a_miss(&rt);
-    let third = read(&rt, 3, 300_000);
-    assert_eq!(rt;
-        judged(&mut passed, &third),
-        (Told::AcceptedAs(2), Effect::SERVICE)
-    );
-}
+/// The first of the three is missed.
+const MISS_THE_FIRST: Event = Miss(101_001, NONE);
+
+/// Then the third is missed, and that asks for service.
+const MISS_THE_THIRD: Event = Miss(301_001, SERVICE);
+
+const SECOND: Group = Group {
+    number: 2,
+    front: 200_000,
+    ..GROUP
+};
+
+const MISSED_AGAIN: &[Row] = &[
+    (
+        "at once",
+        &[
+            Announce(THREE),
+            MISS_THE_FIRST,
+            Miss(201_001, SERVICE),
+            MISS_THE_THIRD,
+        ],
+    ),
+    (
+        "one was accepted between",
+        &[
+            Announce(THREE),
+            MISS_THE_FIRST,
+            Read(SECOND, AcceptedAs(1), NONE),
+            Miss(301_001, NONE),
+        ],
+    ),
+    (
+        "one is accepted behind",
+        &[
+            Announce(THREE),
+            MISS_THE_FIRST,
+            Read(
+                Group {
+                    number: 3,
+                    front: 300_000,
+                    ..GROUP
+                },
+                AcceptedAs(2),
+                SERVICE,
+            ),
+        ],
+    ),
+];
 
 // What comes between two missed groups, but for an accepted one that had an announcement, changes nothing.
-#[test]
-fn missed_again_with_others_between(rt: HostRuntime) {
-    let past_the_third = cm(&rt, 301_001);
-    let mut not_linked = after_a_miss(&rt);
-    let mut second = read(&rt, 2, 200_000);
-    second.linked = false;
-    assert_eq!(rt;
-        judged(&mut not_linked, &second),
-        (Told::Accepted, Effect::NONE)
-    );
-    assert_eq!(rt; not_linked.missed(past_the_third), Effect::SERVICE);
-    let mut too_early = after_a_miss(&rt);
-    second = read(&rt, 2, 0);
-    assert_eq!(rt;
-        judged(&mut too_early, &second),
-        (Told::Reacted(1), Effect::NONE)
-    );
-    assert_eq!(rt; too_early.missed(past_the_third), Effect::SERVICE);
-    let mut broken = after_a_miss(&rt);
-    assert_eq!(rt; broken.broken(group(&rt, 2), true), Effect::NONE);
-    assert_eq!(rt; broken.missed(past_the_third), Effect::SERVICE);
-    let mut replaced = after_a_miss(&rt);
-    replaced.replace(&[]);
-    assert_eq!(rt; replaced.missed(past_the_third), Effect::NONE);
-    replaced.replace(&[at(&rt, 3, 300_000, LinkReaction::Trip)]);
-    assert_eq!(rt; replaced.missed(past_the_third), BOTH);
-}
+const OTHERS_BETWEEN: &[Row] = &[
+    (
+        "one that is not linked",
+        &[
+            Announce(THREE),
+            MISS_THE_FIRST,
+            Read(
+                Group {
+                    linked: false,
+                    ..SECOND
+                },
+                Accepted,
+                NONE,
+            ),
+            MISS_THE_THIRD,
+        ],
+    ),
+    (
+        "one too early",
+        &[
+            Announce(THREE),
+            MISS_THE_FIRST,
+            Read(Group { front: 0, ..SECOND }, Reacted(1), NONE),
+            MISS_THE_THIRD,
+        ],
+    ),
+    (
+        "a broken one",
+        &[
+            Announce(THREE),
+            MISS_THE_FIRST,
+            Break(2, true, NONE),
+            MISS_THE_THIRD,
+        ],
+    ),
+    (
+        "other lists",
+        &[
+            Announce(THREE),
+            MISS_THE_FIRST,
+            Announce(&[]),
+            Miss(301_001, NONE),
+            Announce(&[(3, 300_000, 10, LinkReaction::Trip)]),
+            Miss(301_001, BOTH),
+        ],
+    ),
+];
 
-#[test]
-fn broken_groups(rt: HostRuntime) {
-    let one = [at(&rt, 1, 100_000, LinkReaction::Trip)];
-    for (nid_bg, linked, effect, is_left) in [
-        (1, true, Effect::TRIP, false),
-        (1, false, Effect::SERVICE, true),
-        (2, true, Effect::NONE, true),
-        (2, false, Effect::SERVICE, true),
-    ] {
-        let mut links = links_of(&one);
-        assert_eq!(rt;
-            links.broken(group(&rt, nid_bg), linked),
-            effect,
-            "group {nid_bg}"
-        );
-        assert_eq!(rt; links.is_in_use(), is_left, "group {nid_bg}");
-    }
-    let mut links = Links::new();
-    assert_eq!(rt; links.broken(group(&rt, 1), true), Effect::NONE);
-    assert_eq!(rt; links.broken(group(&rt, 1), false), Effect::SERVICE);
-}
+const BROKEN: &[Row] = &[
+    (
+        "the announced one",
+        &[Announce(ONE), Break(1, true, TRIP), InUse(false)],
+    ),
+    (
+        "its number, not linked",
+        &[Announce(ONE), Break(1, false, SERVICE), InUse(true)],
+    ),
+    (
+        "another",
+        &[Announce(ONE), Break(2, true, NONE), InUse(true)],
+    ),
+    (
+        "another, not linked",
+        &[Announce(ONE), Break(2, false, SERVICE), InUse(true)],
+    ),
+    (
+        "while none is announced",
+        &[Break(1, true, NONE), Break(1, false, SERVICE)],
+    ),
+];
 
-#[test]
-fn two_announcements_of_one_group(rt: HostRuntime) {
-    let two = [
-        at(&rt, 1, 100_000, LinkReaction::NoReaction),
-        at(&rt, 1, 200_000, LinkReaction::Trip),
-    ];
-    let group_read = read(&rt, 1, 150_000);
-    let mut links = links_of(&two);
-    assert_eq!(rt;
-        judged(&mut links, &group_read),
-        (Told::AcceptedAs(0), Effect::NONE)
-    );
-    assert_eq!(rt;
-        judged(&mut links, &group_read),
-        (Told::Reacted(1), Effect::TRIP)
-    );
-    let mut links = links_of(&two);
-    assert_eq!(rt; links.broken(group(&rt, 1), true), Effect::NONE);
-    assert_eq!(rt; links.broken(group(&rt, 1), true), Effect::TRIP);
-}
+const TWICE: &[Announced] = &[
+    (1, 100_000, 10, LinkReaction::NoReaction),
+    (1, 200_000, 10, LinkReaction::Trip),
+];
+
+const BETWEEN: Group = Group {
+    front: 150_000,
+    ..GROUP
+};
+
+const ANNOUNCED_TWICE: &[Row] = &[
+    (
+        "read twice",
+        &[
+            Announce(TWICE),
+            Read(BETWEEN, AcceptedAs(0), NONE),
+            Read(BETWEEN, Reacted(1), TRIP),
+        ],
+    ),
+    (
+        "broken twice",
+        &[Announce(TWICE), Break(1, true, NONE), Break(1, true, TRIP)],
+    ),
+];
 
 // The first may lie up to 106,300, the second up to 102,100.
+const OVERLAPPING: &[Announced] = &[
+    (1, 100_000, 63, LinkReaction::Trip),
+    (2, 102_000, 1, LinkReaction::ServiceBrake),
+];
+
+const LATER_ONE_FIRST: &[Row] = &[(
+    "the first is missed or read",
+    &[
+        Announce(OVERLAPPING),
+        Miss(102_100, NONE),
+        Miss(102_101, SERVICE),
+        Keep,
+        Read(
+            Group {
+                front: 106_000,
+                ..GROUP
+            },
+            AcceptedAs(0),
+            NONE,
+        ),
+        InUse(false),
+        Turn,
+        Miss(106_301, BOTH),
+    ],
+)];
+
 #[test]
-fn a_later_one_missed_first(rt: HostRuntime) {
-    let mut links = links_of(&[
-        announced(&rt, 1, 100_000, 63, LinkReaction::Trip),
-        announced(&rt, 2, 102_000, 1, LinkReaction::ServiceBrake),
-    ]);
-    assert_eq!(rt; links.missed(cm(&rt, 102_100)), Effect::NONE);
-    assert_eq!(rt; links.missed(cm(&rt, 102_101)), Effect::SERVICE);
-    let mut missed = links.copy();
-    assert_eq!(rt; missed.missed(cm(&rt, 106_301)), BOTH);
-    let first = read(&rt, 1, 106_000);
-    assert_eq!(rt;
-        judged(&mut links, &first),
-        (Told::AcceptedAs(0), Effect::NONE)
-    );
-    assert!(rt; !links.is_in_use());
+fn announced_groups(rt: HostRuntime) {
+    for table in [
+        FIRST_AND_LAST_PLACE,
+        EARLY_AND_WRONG_WAY,
+        NOT_ANNOUNCED,
+        BEFORE_THE_ACCEPTED_ONE,
+        MISSED_AGAIN,
+        OTHERS_BETWEEN,
+        BROKEN,
+        ANNOUNCED_TWICE,
+        LATER_ONE_FIRST,
+    ] {
+        rows(&rt, table);
+    }
 }

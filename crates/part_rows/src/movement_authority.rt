@@ -1,5 +1,5 @@
-// Worked rows of the movement authority.
-mod calls;
+// Worked rows of authorities.
 mod ends;
+mod rows;
 mod stored;
 mod timers;

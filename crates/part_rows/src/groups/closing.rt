@@ -1,15 +1,21 @@
 // What a group closes to: its message, or the first cause that holds.
 use crate::groups::rows::End::{Broken, Nothing, Whole};
 use crate::groups::rows::Step::{Go, Hear};
-use crate::groups::rows::{Balise, FIRST, OTHER, SECOND, TOLD, Told, row};
+use crate::groups::rows::{Balise, FIRST, OTHER, Row, SECOND, TOLD, Told, rows};
 use balise_groups::Cause;
 use vars::LinkOrientation;
 
-#[test]
-fn message_of_a_group(rt: HostRuntime) {
-    // Place 1 and then place 0: in reverse, and the group lies where balise 1 was read.
-    row(
-        &rt,
+/// Place 2 of three.
+const THIRD: Balise = Balise {
+    place: 2,
+    total: 2,
+    packets: &[202, 136],
+    ..FIRST
+};
+
+const MESSAGES: &[Row] = &[
+    (
+        "place 1 and then place 0: in reverse, and the group lies where balise 1 was read",
         &[
             (Hear(SECOND), Nothing, Nothing),
             (Go(-300), Nothing, Nothing),
@@ -24,23 +30,17 @@ fn message_of_a_group(rt: HostRuntime) {
                 }),
             ),
         ],
-    );
-    // The packets in order of place, and none from a packet 136 on. Places 2, 0 and 1: in reverse.
-    let third = Balise {
-        place: 2,
-        total: 2,
-        packets: &[202, 136],
-        ..FIRST
-    };
-    row(
-        &rt,
+    ),
+    // Places 2, 0 and 1: in reverse.
+    (
+        "the packets in order of place, and none from a packet 136 on",
         &[
-            (Hear(third), Nothing, Nothing),
+            (Hear(THIRD), Nothing, Nothing),
             (
                 Hear(Balise {
                     place: 0,
                     packets: &[200, 201, 136, 203, 136, 204],
-                    ..third
+                    ..THIRD
                 }),
                 Nothing,
                 Nothing,
@@ -49,7 +49,7 @@ fn message_of_a_group(rt: HostRuntime) {
                 Hear(Balise {
                     place: 1,
                     packets: &[136, 205],
-                    ..third
+                    ..THIRD
                 }),
                 Nothing,
                 Whole(Told {
@@ -59,19 +59,18 @@ fn message_of_a_group(rt: HostRuntime) {
                 }),
             ),
         ],
-    );
-    // Place 1, a repeat, then place 2: nominal, whatever comes behind.
-    row(
-        &rt,
+    ),
+    (
+        "place 1, a repeat, then place 2: nominal, whatever comes behind",
         &[
-            (Hear(Balise { place: 1, ..third }), Nothing, Nothing),
-            (Hear(Balise { place: 1, ..third }), Nothing, Nothing),
-            (Hear(third), Nothing, Nothing),
+            (Hear(Balise { place: 1, ..THIRD }), Nothing, Nothing),
+            (Hear(Balise { place: 1, ..THIRD }), Nothing, Nothing),
+            (Hear(THIRD), Nothing, Nothing),
             (
                 Hear(Balise {
                     place: 0,
                     packets: &[],
-                    ..third
+                    ..THIRD
                 }),
                 Nothing,
                 Whole(Told {
@@ -80,88 +79,105 @@ fn message_of_a_group(rt: HostRuntime) {
                 }),
             ),
         ],
-    );
-}
+    ),
+];
 
-#[test]
-fn first_cause_that_holds(rt: HostRuntime) {
-    // The second telegram makes the group whole, so far as places go.
-    for (first, second, cause) in [
-        (
-            3,
-            Balise {
-                counter: 4,
-                ..SECOND
-            },
-            Cause::Counter,
-        ),
-        (
-            255,
-            Balise {
-                counter: 254,
-                ..SECOND
-            },
-            Cause::Counter,
-        ),
-        (
-            254,
-            Balise {
-                counter: 254,
-                ..SECOND
-            },
-            Cause::Counter,
-        ),
-        (
-            255,
-            Balise {
-                linked: 0,
-                ..SECOND
-            },
-            Cause::Mixed,
-        ),
-        (255, Balise { total: 2, ..SECOND }, Cause::Mixed),
-        (
-            3,
-            Balise {
-                linked: 0,
-                counter: 4,
-                ..SECOND
-            },
-            Cause::Mixed,
-        ),
-    ] {
-        let first = Balise {
-            counter: first,
-            ..FIRST
-        };
-        row(
-            &rt,
-            &[
-                (Hear(first), Nothing, Nothing),
-                (Hear(second), Nothing, Broken(5, cause)),
-            ],
-        );
-    }
-    // Counters that fit.
-    for (first, second) in [(3, 3), (3, 255), (255, 3)] {
-        let first = Balise {
-            counter: first,
-            ..FIRST
-        };
-        let second = Balise {
-            counter: second,
-            ..SECOND
-        };
-        row(
-            &rt,
-            &[
-                (Hear(first), Nothing, Nothing),
-                (Hear(second), Nothing, Whole(TOLD)),
-            ],
-        );
-    }
-    row(
-        &rt,
+const OF_COUNTER_3: Balise = Balise {
+    counter: 3,
+    ..FIRST
+};
+
+const OF_COUNTER_254: Balise = Balise {
+    counter: 254,
+    ..FIRST
+};
+
+/// The second telegram makes the group whole, so far as places go.
+const CAUSES: &[Row] = &[
+    (
+        "counters 3 and 4",
+        &[
+            (Hear(OF_COUNTER_3), Nothing, Nothing),
+            (
+                Hear(Balise {
+                    counter: 4,
+                    ..SECOND
+                }),
+                Nothing,
+                Broken(5, Cause::Counter),
+            ),
+        ],
+    ),
+    (
+        "counters 255 and 254",
+        &[
+            (Hear(FIRST), Nothing, Nothing),
+            (
+                Hear(Balise {
+                    counter: 254,
+                    ..SECOND
+                }),
+                Nothing,
+                Broken(5, Cause::Counter),
+            ),
+        ],
+    ),
+    (
+        "counters 254 and 254",
+        &[
+            (Hear(OF_COUNTER_254), Nothing, Nothing),
+            (
+                Hear(Balise {
+                    counter: 254,
+                    ..SECOND
+                }),
+                Nothing,
+                Broken(5, Cause::Counter),
+            ),
+        ],
+    ),
+    (
+        "one linked and one not",
+        &[
+            (Hear(FIRST), Nothing, Nothing),
+            (
+                Hear(Balise {
+                    linked: 0,
+                    ..SECOND
+                }),
+                Nothing,
+                Broken(5, Cause::Mixed),
+            ),
+        ],
+    ),
+    (
+        "two balises and three",
+        &[
+            (Hear(FIRST), Nothing, Nothing),
+            (
+                Hear(Balise { total: 2, ..SECOND }),
+                Nothing,
+                Broken(5, Cause::Mixed),
+            ),
+        ],
+    ),
+    (
+        "one linked and one not, and counters 3 and 4",
+        &[
+            (Hear(OF_COUNTER_3), Nothing, Nothing),
+            (
+                Hear(Balise {
+                    linked: 0,
+                    counter: 4,
+                    ..SECOND
+                }),
+                Nothing,
+                Broken(5, Cause::Mixed),
+            ),
+        ],
+    ),
+    (
+        "one balise of counter 254",
         &[(
             Hear(Balise {
                 counter: 254,
@@ -170,37 +186,93 @@ fn first_cause_that_holds(rt: HostRuntime) {
             Nothing,
             Broken(6, Cause::Counter),
         )],
-    );
-    // The group is left with places missing. A place above its N_TOTAL doesn't end it.
-    for (counter, second, cause) in [
-        (
-            255,
-            Balise {
-                place: 2,
-                total: 2,
-                ..FIRST
-            },
-            Cause::Mixed,
-        ),
-        (
-            254,
-            Balise {
-                place: 2,
-                total: 2,
-                ..FIRST
-            },
-            Cause::Mixed,
-        ),
-        (254, FIRST, Cause::Counter),
-        (255, FIRST, Cause::Missing),
-    ] {
-        row(
-            &rt,
-            &[
-                (Hear(Balise { counter, ..FIRST }), Nothing, Nothing),
-                (Hear(second), Nothing, Nothing),
-                (Go(1_301), Broken(5, cause), Nothing),
-            ],
-        );
+    ),
+];
+
+const FITTING_COUNTERS: &[Row] = &[
+    (
+        "counters 3 and 3",
+        &[
+            (Hear(OF_COUNTER_3), Nothing, Nothing),
+            (
+                Hear(Balise {
+                    counter: 3,
+                    ..SECOND
+                }),
+                Nothing,
+                Whole(TOLD),
+            ),
+        ],
+    ),
+    (
+        "counters 3 and 255",
+        &[
+            (Hear(OF_COUNTER_3), Nothing, Nothing),
+            (Hear(SECOND), Nothing, Whole(TOLD)),
+        ],
+    ),
+    (
+        "counters 255 and 3",
+        &[
+            (Hear(FIRST), Nothing, Nothing),
+            (
+                Hear(Balise {
+                    counter: 3,
+                    ..SECOND
+                }),
+                Nothing,
+                Whole(TOLD),
+            ),
+        ],
+    ),
+];
+
+/// A telegram of group 5 whose place lies above the N_TOTAL of the first.
+const ABOVE: Balise = Balise {
+    place: 2,
+    total: 2,
+    ..FIRST
+};
+
+/// The group is left with places missing. A place above its N_TOTAL doesn't end it.
+const CAUSES_OF_LEFT_GROUPS: &[Row] = &[
+    (
+        "a place above",
+        &[
+            (Hear(FIRST), Nothing, Nothing),
+            (Hear(ABOVE), Nothing, Nothing),
+            (Go(1_301), Broken(5, Cause::Mixed), Nothing),
+        ],
+    ),
+    (
+        "a place above, after counter 254",
+        &[
+            (Hear(OF_COUNTER_254), Nothing, Nothing),
+            (Hear(ABOVE), Nothing, Nothing),
+            (Go(1_301), Broken(5, Cause::Mixed), Nothing),
+        ],
+    ),
+    (
+        "counters 254 and 255",
+        &[
+            (Hear(OF_COUNTER_254), Nothing, Nothing),
+            (Hear(FIRST), Nothing, Nothing),
+            (Go(1_301), Broken(5, Cause::Counter), Nothing),
+        ],
+    ),
+    (
+        "counters 255 and 255",
+        &[
+            (Hear(FIRST), Nothing, Nothing),
+            (Hear(FIRST), Nothing, Nothing),
+            (Go(1_301), Broken(5, Cause::Missing), Nothing),
+        ],
+    ),
+];
+
+#[test]
+fn messages_and_causes(rt: HostRuntime) {
+    for table in [MESSAGES, CAUSES, FITTING_COUNTERS, CAUSES_OF_LEFT_GROUPS] {
+        rows(&rt, table);
     }
 }

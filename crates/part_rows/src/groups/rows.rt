@@ -1,6 +1,7 @@
 // What the rows are written in: what balises tell and how the train moves, and which groups close by that.
+use crate::wanted::same;
 use arrayvec::ArrayVec;
-use balise_groups::{Assembler, Cause, Closed, Message, Reading};
+use balise_groups::{Assembler, Broken, Cause, Closed, Message, Reading, Taken};
 use bits::BitWriter;
 use odometry::Place;
 use std::process::Abort;
@@ -43,7 +44,6 @@ pub const OTHER: Balise = Balise {
 };
 
 /// What happens.
-#[derive(Clone, Copy)]
 pub enum Step {
     /// A telegram is read.
     Hear(Balise),
@@ -73,100 +73,110 @@ pub const TOLD: Told = Told {
 };
 
 /// What closes.
-#[derive(Clone, Copy)]
+#[derive(Drop)]
 pub enum End {
     Nothing,
     Whole(Told),
     Broken(u64, Cause),
 }
 
-fn bytes_of(balise: &Balise) -> [u8; 104] {
-    let mut writer: BitWriter<104> = BitWriter::new();
-    let _ = writer.put(9, 0x120);
-    let _ = writer.put(3, balise.place % 8);
-    let _ = writer.put(3, balise.total % 8);
-    let _ = writer.put(2, balise.duplicate % 4);
-    let _ = writer.put(8, balise.counter % 256);
-    let _ = writer.put(10, 1);
-    let _ = writer.put(14, balise.group % 16_384);
-    let _ = writer.put(1, balise.linked % 2);
-    for number in balise.packets {
-        let _ = writer.put(8, *number % 256);
-        let _ = writer.put(2, 2);
-        let _ = writer.put(13, 23);
+/// What a row is called, and each of its steps with what it ends and with the group that a telegram makes whole.
+pub type Row = (&'static str, &'static [(Step, End, End)]);
+
+fn put(writer: &mut BitWriter<104>, variables: &[(u32, u64)]) {
+    for (bits, value) in variables {
+        for bit in (0..*bits).rev() {
+            let _ = writer.put(1, (*value >> (bit % 64)) % 2);
+        }
     }
-    let _ = writer.put(8, 255);
+}
+
+fn bytes_of(balise: &Balise) -> [u8; 104] {
+    let mut writer = BitWriter::new();
+    let header = [
+        (9, 0x120),
+        (3, balise.place),
+        (3, balise.total),
+        (2, balise.duplicate),
+        (8, balise.counter),
+        (10, 1),
+        (14, balise.group),
+        (1, balise.linked),
+    ];
+    put(&mut writer, &header);
+    for number in balise.packets {
+        put(&mut writer, &[(8, *number), (2, 2), (13, 23)]);
+    }
+    put(&mut writer, &[(8, 255)]);
     let mut bytes = [0; 104];
     let _ = writer.copy_to(&mut bytes);
     bytes
 }
 
-pub fn reading<R: Abort>(rt: &R, balise: &Balise, place: &Place) -> Reading {
+/// Reads a balise where the train is.
+pub fn hear<R: Abort>(rt: &R, groups: &mut Assembler, balise: &Balise, place: &Place) -> Taken {
     let telegram = Received::new(&bytes_of(balise)).ok();
-    Reading {
+    groups.take(Reading {
         telegram: telegram.expect(rt, "a telegram"),
         sums: place.sums(),
-    }
+    })
 }
 
-fn tells<R: Abort>(rt: &R, message: &Message, told: &Told, step: usize) {
-    assert_eq!(rt;
-        message.group.number.number(),
-        told.group,
-        "group at step {step}"
-    );
-    assert_eq!(rt;
-        message.direction,
-        told.direction,
-        "direction at step {step}"
-    );
-    assert_eq!(rt;
-        message.sums.moved().get(),
-        told.moved,
-        "movement at step {step}"
-    );
-    assert_eq!(rt; message.sums.path().get(), told.path, "path at step {step}");
-    assert_eq!(rt; message.missed, told.missed, "missed at step {step}");
-    let mut numbers: ArrayVec<u64, 8> = ArrayVec::new();
+/// The numbers of a message's packets.
+fn numbers<R: Abort>(rt: &R, message: &Message) -> ArrayVec<u64, 8> {
+    let mut numbers = ArrayVec::new();
     for item in message.packets.iter() {
         assert!(rt; numbers.try_push(item.packet().number().number()).is_ok());
     }
-    assert_eq!(rt; numbers.as_slice(), told.packets, "packets at step {step}");
+    numbers
 }
 
-pub fn closes<R: Abort>(rt: &R, closed: &Option<Closed>, end: &End, step: usize) {
+fn tells<R: Abort>(rt: &R, message: &Message, told: &Told, row: &str, step: usize) {
+    same(rt, &message.group.number.number(), &told.group, row, step);
+    same(rt, &message.direction, &told.direction, row, step);
+    same(rt, &message.sums.moved().get(), &told.moved, row, step);
+    same(rt, &message.sums.path().get(), &told.path, row, step);
+    same(rt, &message.missed, &told.missed, row, step);
+    let packets = numbers(rt, message);
+    same(rt, &packets.as_slice(), &told.packets, row, step);
+}
+
+/// What closes is what the row wants.
+pub fn closes<R: Abort>(rt: &R, closed: &Option<Closed>, end: &End, row: &str, step: usize) {
     match (closed, end) {
         (None, End::Nothing) => {}
-        (Some(Closed::Whole(message)), End::Whole(told)) => tells(rt, message, told, step),
+        (Some(Closed::Whole(message)), End::Whole(told)) => tells(rt, message, told, row, step),
         (Some(Closed::Broken(broken)), End::Broken(group, cause)) => {
-            assert_eq!(rt;
-                broken.group.number.number(),
-                *group,
-                "group at step {step}"
-            );
-            assert_eq!(rt; broken.cause, *cause, "cause at step {step}");
+            same(rt, &broken.group.number.number(), group, row, step);
+            same(rt, &broken.cause, cause, row, step);
         }
-        _ => assert!(rt; false, "another end at step {step}"),
+        _ => assert!(rt; false, "another end: {row}, step {step}"),
     }
 }
 
-/// Each step with what it ends, and with the group that a telegram makes whole.
-pub fn row<R: Abort>(rt: &R, steps: &[(Step, End, End)]) {
-    let mut groups = Assembler::new();
-    let mut place = Place::new();
-    for (i, (step, ended, whole)) in steps.iter().enumerate() {
-        groups = groups.copy();
-        match step {
-            Step::Hear(balise) => {
-                let taken = groups.take(reading(rt, balise, &place));
-                closes(rt, &taken.ended, ended, i);
-                closes(rt, &taken.whole, whole, i);
+fn happens<R: Abort>(rt: &R, groups: &mut Assembler, place: &mut Place, step: &Step) -> Taken {
+    match step {
+        Step::Hear(balise) => hear(rt, groups, balise, place),
+        Step::Go(cm) => {
+            let movement = Cm::new(*cm).expect(rt, "a movement");
+            assert!(rt; place.moved(movement).is_ok());
+            Taken {
+                ended: groups.moved(place.path_sum()),
+                whole: None,
             }
-            Step::Go(cm) => {
-                let movement = Cm::new(*cm).expect(rt, "a movement");
-                assert!(rt; place.moved(movement).is_ok());
-                closes(rt, &groups.moved(place.path_sum()), ended, i);
-            }
+        }
+    }
+}
+
+pub fn rows<R: Abort>(rt: &R, rows: &[Row]) {
+    for (row, steps) in rows {
+        let mut groups = Assembler::new();
+        let mut place = Place::new();
+        for (i, (step, ended, whole)) in steps.iter().enumerate() {
+            groups = groups.copy();
+            let taken = happens(rt, &mut groups, &mut place, step);
+            closes(rt, &taken.ended, ended, row, i);
+            closes(rt, &taken.whole, whole, row, i);
         }
     }
 }

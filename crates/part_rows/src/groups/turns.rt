@@ -1,7 +1,7 @@
 // When a group ends, and which telegrams count.
 use crate::groups::rows::End::{Broken, Nothing, Whole};
 use crate::groups::rows::Step::{Go, Hear};
-use crate::groups::rows::{Balise, FIRST, OTHER, SECOND, TOLD, Told, row};
+use crate::groups::rows::{Balise, FIRST, OTHER, Row, SECOND, TOLD, Told, rows};
 use balise_groups::Cause;
 
 /// Of group 6, read with one balise.
@@ -11,26 +11,39 @@ const OF_OTHER: Told = Told {
     ..TOLD
 };
 
-#[test]
-fn group_that_is_left(rt: HostRuntime) {
-    let unknown = Told {
-        direction: None,
-        ..TOLD
-    };
-    for (duplicate, end) in [(1, Whole(unknown)), (0, Broken(5, Cause::Missing))] {
-        row(
-            &rt,
-            &[
-                (Hear(Balise { duplicate, ..FIRST }), Nothing, Nothing),
-                (Go(1_300), Nothing, Nothing),
-                (Go(1), end, Nothing),
-                (Go(1), Nothing, Nothing),
-            ],
-        );
-    }
-    // The path grows backward too, and a repeat renews the distance.
-    row(
-        &rt,
+/// Of group 5, read with one balise that the other repeats.
+const UNKNOWN: Told = Told {
+    direction: None,
+    ..TOLD
+};
+
+/// Balise 1 of group 5, which the next repeats.
+const REPEATED: Balise = Balise {
+    duplicate: 1,
+    ..FIRST
+};
+
+const LEFT: &[Row] = &[
+    (
+        "a balise that the missing one repeats",
+        &[
+            (Hear(REPEATED), Nothing, Nothing),
+            (Go(1_300), Nothing, Nothing),
+            (Go(1), Whole(UNKNOWN), Nothing),
+            (Go(1), Nothing, Nothing),
+        ],
+    ),
+    (
+        "a balise that no other repeats",
+        &[
+            (Hear(FIRST), Nothing, Nothing),
+            (Go(1_300), Nothing, Nothing),
+            (Go(1), Broken(5, Cause::Missing), Nothing),
+            (Go(1), Nothing, Nothing),
+        ],
+    ),
+    (
+        "the path grows backward too, and a repeat renews the distance",
         &[
             (Hear(FIRST), Nothing, Nothing),
             (Go(-1_300), Nothing, Nothing),
@@ -47,43 +60,27 @@ fn group_that_is_left(rt: HostRuntime) {
             (Go(1_300), Nothing, Nothing),
             (Hear(SECOND), Nothing, Whole(TOLD)),
         ],
-    );
-}
+    ),
+];
 
-#[test]
-fn another_group(rt: HostRuntime) {
-    // It ends the one before, and may be whole at the same telegram.
-    row(
-        &rt,
+/// It ends the one before, and may be whole at the same telegram.
+const ANOTHER: &[Row] = &[
+    (
+        "the one before breaks",
         &[
             (Hear(FIRST), Nothing, Nothing),
             (Hear(OTHER), Broken(5, Cause::Missing), Whole(OF_OTHER)),
         ],
-    );
-    row(
-        &rt,
+    ),
+    (
+        "the one before is whole",
         &[
-            (
-                Hear(Balise {
-                    duplicate: 1,
-                    ..FIRST
-                }),
-                Nothing,
-                Nothing,
-            ),
-            (
-                Hear(OTHER),
-                Whole(Told {
-                    direction: None,
-                    ..TOLD
-                }),
-                Whole(OF_OTHER),
-            ),
+            (Hear(REPEATED), Nothing, Nothing),
+            (Hear(OTHER), Whole(UNKNOWN), Whole(OF_OTHER)),
         ],
-    );
-    // A telegram of the group that broke is ignored.
-    row(
-        &rt,
+    ),
+    (
+        "a telegram of the group that broke is ignored",
         &[
             (Hear(FIRST), Nothing, Nothing),
             (
@@ -102,52 +99,56 @@ fn another_group(rt: HostRuntime) {
                 Whole(Told { group: 6, ..TOLD }),
             ),
         ],
-    );
-}
+    ),
+];
+
+/// Each renews the distance, though another group is being read.
+const OF_THE_LAST: &[Row] = &[(
+    "a telegram of the group that closed last",
+    &[
+        (Hear(OTHER), Nothing, Whole(OF_OTHER)),
+        (Go(1_300), Nothing, Nothing),
+        (Hear(OTHER), Nothing, Nothing),
+        (Hear(FIRST), Nothing, Nothing),
+        (Go(1_300), Nothing, Nothing),
+        (Hear(OTHER), Nothing, Nothing),
+        (Go(0), Nothing, Nothing),
+        (
+            Hear(SECOND),
+            Nothing,
+            Whole(Told {
+                moved: 1_300,
+                path: 1_300,
+                ..TOLD
+            }),
+        ),
+        // Now that one closed last.
+        (Hear(FIRST), Nothing, Nothing),
+        (
+            Hear(OTHER),
+            Nothing,
+            Whole(Told {
+                moved: 2_600,
+                path: 2_600,
+                ..OF_OTHER
+            }),
+        ),
+        (Go(1_301), Nothing, Nothing),
+        (
+            Hear(OTHER),
+            Nothing,
+            Whole(Told {
+                moved: 3_901,
+                path: 3_901,
+                ..OF_OTHER
+            }),
+        ),
+    ],
+)];
 
 #[test]
-fn telegram_of_the_group_that_closed_last(rt: HostRuntime) {
-    // Each renews the distance, though another group is being read.
-    row(
-        &rt,
-        &[
-            (Hear(OTHER), Nothing, Whole(OF_OTHER)),
-            (Go(1_300), Nothing, Nothing),
-            (Hear(OTHER), Nothing, Nothing),
-            (Hear(FIRST), Nothing, Nothing),
-            (Go(1_300), Nothing, Nothing),
-            (Hear(OTHER), Nothing, Nothing),
-            (Go(0), Nothing, Nothing),
-            (
-                Hear(SECOND),
-                Nothing,
-                Whole(Told {
-                    moved: 1_300,
-                    path: 1_300,
-                    ..TOLD
-                }),
-            ),
-            // Now that one closed last.
-            (Hear(FIRST), Nothing, Nothing),
-            (
-                Hear(OTHER),
-                Nothing,
-                Whole(Told {
-                    moved: 2_600,
-                    path: 2_600,
-                    ..OF_OTHER
-                }),
-            ),
-            (Go(1_301), Nothing, Nothing),
-            (
-                Hear(OTHER),
-                Nothing,
-                Whole(Told {
-                    moved: 3_901,
-                    path: 3_901,
-                    ..OF_OTHER
-                }),
-            ),
-        ],
-    );
+fn groups_that_are_left_and_others(rt: HostRuntime) {
+    for table in [LEFT, ANOTHER, OF_THE_LAST] {
+        rows(&rt, table);
+    }
 }

@@ -1,144 +1,178 @@
 // What is behind the end, and the speed there.
-use crate::movement_authority::calls::{
-    accepted, after, bare, danger_point, overlap, packet, seconds, section,
-};
-use crate::numbers::speed_step;
+use crate::movement_authority::rows::Told::{Bare, Full};
+use crate::movement_authority::rows::{GRANTED, Granted, Row, rows};
 
-/// An end section of 1000 m, a danger point and an overlap; each with the number of its release speed, the overlap with its
-/// time. Each event has a moment, the greatest front, the supervised location and the release speed.
-#[test]
-fn behind_the_end(rt: HostRuntime) {
-    for (point, behind, events) in [
-        (
-            None,
-            None,
-            [(0, 0, 100_000, Some(0)), (1, 99_000, 100_000, Some(0))],
-        ),
-        (
-            Some(4),
-            None,
-            [
-                (0, 0, 103_000, Some(20_000)),
-                (9_000_000, 99_000, 103_000, Some(20_000)),
-            ],
-        ),
-        (
-            Some(126),
-            None,
-            [(0, 0, 103_000, Some(0)), (1, 0, 103_000, Some(0))],
-        ),
-        (
-            Some(127),
-            None,
-            [(0, 0, 103_000, None), (1, 0, 103_000, None)],
-        ),
-        (
-            Some(127),
-            Some((10, 4)),
-            [
-                (1_000, 90_000, 105_000, Some(20_000)),
-                (10_999, 95_000, 105_000, Some(20_000)),
-            ],
-        ),
-        (
-            Some(127),
-            Some((10, 4)),
-            [
-                (1_000, 90_000, 105_000, Some(20_000)),
-                (11_000, 95_000, 103_000, None),
-            ],
-        ),
-        (
-            Some(127),
-            Some((10, 4)),
-            [
-                (1_000, 89_999, 105_000, Some(20_000)),
-                (11_000, 90_000, 105_000, Some(20_000)),
-            ],
-        ),
-        (
-            None,
-            Some((10, 127)),
-            [
-                (1_000, 90_000, 105_000, None),
-                (11_000, 0, 100_000, Some(0)),
-            ],
-        ),
-        (
-            None,
-            Some((0, 126)),
-            [
-                (1_000, 89_999, 105_000, Some(0)),
-                (1_001, 90_000, 100_000, Some(0)),
-            ],
-        ),
-        (
-            None,
-            Some((1_023, 120)),
-            [
-                (0, 90_000, 105_000, Some(600_000)),
-                (9_000_000, 0, 105_000, Some(600_000)),
-            ],
-        ),
-    ] {
-        let mut packet = packet(&rt, &[], section(&rt, 1_000, None));
-        if let Some(number) = point {
-            packet.danger_point = Some(danger_point(&rt, number));
-        }
-        if let Some((time, number)) = behind {
-            packet.overlap = Some(overlap(&rt, time, number));
-        }
-        let mut authority = accepted(&rt, &packet);
-        for (moment, front, location, speed) in events {
-            after(
-                &rt,
-                &mut authority,
-                moment,
+/// With a danger point and an overlap or without.
+const BEHIND_THE_END: &[Row] = &[
+    (
+        GRANTED,
+        &[
+            (0, 0, 0, Full(100_000, 0, 100_000, Some(0))),
+            (1, 0, 99_000, Full(100_000, 0, 100_000, Some(0))),
+        ],
+    ),
+    (
+        Granted {
+            danger_point: Some(4),
+            ..GRANTED
+        },
+        &[
+            (0, 0, 0, Full(100_000, 0, 103_000, Some(20_000))),
+            (
+                9_000_000,
                 0,
-                front,
-                (100_000, 0, location, speed),
-            );
-        }
-    }
-}
+                99_000,
+                Full(100_000, 0, 103_000, Some(20_000)),
+            ),
+        ],
+    ),
+    (
+        Granted {
+            danger_point: Some(126),
+            ..GRANTED
+        },
+        &[
+            (0, 0, 0, Full(100_000, 0, 103_000, Some(0))),
+            (1, 0, 0, Full(100_000, 0, 103_000, Some(0))),
+        ],
+    ),
+    (
+        Granted {
+            danger_point: Some(127),
+            ..GRANTED
+        },
+        &[
+            (0, 0, 0, Full(100_000, 0, 103_000, None)),
+            (1, 0, 0, Full(100_000, 0, 103_000, None)),
+        ],
+    ),
+    (
+        Granted {
+            danger_point: Some(127),
+            overlap: Some((10, 4)),
+            ..GRANTED
+        },
+        &[
+            (1_000, 0, 90_000, Full(100_000, 0, 105_000, Some(20_000))),
+            (10_999, 0, 95_000, Full(100_000, 0, 105_000, Some(20_000))),
+        ],
+    ),
+    (
+        Granted {
+            danger_point: Some(127),
+            overlap: Some((10, 4)),
+            ..GRANTED
+        },
+        &[
+            (1_000, 0, 90_000, Full(100_000, 0, 105_000, Some(20_000))),
+            (11_000, 0, 95_000, Full(100_000, 0, 103_000, None)),
+        ],
+    ),
+    (
+        Granted {
+            danger_point: Some(127),
+            overlap: Some((10, 4)),
+            ..GRANTED
+        },
+        &[
+            (1_000, 0, 89_999, Full(100_000, 0, 105_000, Some(20_000))),
+            (11_000, 0, 90_000, Full(100_000, 0, 105_000, Some(20_000))),
+        ],
+    ),
+    (
+        Granted {
+            overlap: Some((10, 127)),
+            ..GRANTED
+        },
+        &[
+            (1_000, 0, 90_000, Full(100_000, 0, 105_000, None)),
+            (11_000, 0, 0, Full(100_000, 0, 100_000, Some(0))),
+        ],
+    ),
+    (
+        Granted {
+            overlap: Some((0, 126)),
+            ..GRANTED
+        },
+        &[
+            (1_000, 0, 89_999, Full(100_000, 0, 105_000, Some(0))),
+            (1_001, 0, 90_000, Full(100_000, 0, 100_000, Some(0))),
+        ],
+    ),
+    (
+        Granted {
+            overlap: Some((1_023, 120)),
+            ..GRANTED
+        },
+        &[
+            (0, 0, 90_000, Full(100_000, 0, 105_000, Some(600_000))),
+            (9_000_000, 0, 0, Full(100_000, 0, 105_000, Some(600_000))),
+        ],
+    ),
+];
 
-/// V_LOA in steps and T_LOA, with a danger point of 20 km/h; a moment, the speed at the end and the release speed then.
-#[test]
-fn speed_at_the_end(rt: HostRuntime) {
-    for (steps, time, moment, at_end, released) in [
-        (8, 20, 0, 40_000, 0),
-        (8, 20, 19_999, 40_000, 0),
-        (8, 20, 20_000, 0, 20_000),
-        (8, 0, 0, 0, 20_000),
-        (8, 1_023, 9_000_000, 40_000, 0),
-        (0, 1_023, 0, 0, 20_000),
-    ] {
-        let mut packet = packet(&rt, &[], section(&rt, 1_000, None));
-        packet.end_speed = speed_step(&rt, steps);
-        packet.end_time = seconds(&rt, time);
-        packet.danger_point = Some(danger_point(&rt, 4));
-        let want = (100_000, at_end, 103_000, Some(released));
-        after(&rt, &mut accepted(&rt, &packet), moment, 0, 0, want);
-    }
-}
+/// V_LOA is 40 km/h, and T_LOA 20 s; with a danger point of 20 km/h.
+const WITH_SPEED: Granted = Granted {
+    end_speed: (8, 20),
+    danger_point: Some(4),
+    ..GRANTED
+};
+
+const SPEED_AT_THE_END: &[Row] = &[
+    (
+        WITH_SPEED,
+        &[(0, 0, 0, Full(100_000, 40_000, 103_000, Some(0)))],
+    ),
+    (
+        WITH_SPEED,
+        &[(19_999, 0, 0, Full(100_000, 40_000, 103_000, Some(0)))],
+    ),
+    (
+        WITH_SPEED,
+        &[(20_000, 0, 0, Full(100_000, 0, 103_000, Some(20_000)))],
+    ),
+    (
+        Granted {
+            end_speed: (8, 0),
+            ..WITH_SPEED
+        },
+        &[(0, 0, 0, Full(100_000, 0, 103_000, Some(20_000)))],
+    ),
+    (
+        Granted {
+            end_speed: (8, 1_023),
+            ..WITH_SPEED
+        },
+        &[(9_000_000, 0, 0, Full(100_000, 40_000, 103_000, Some(0)))],
+    ),
+    (
+        Granted {
+            end_speed: (0, 1_023),
+            ..WITH_SPEED
+        },
+        &[(0, 0, 0, Full(100_000, 0, 103_000, Some(20_000)))],
+    ),
+];
 
 /// An end that is taken back has no speed, no danger point and no overlap.
+const TAKEN_BACK: &[Row] = &[(
+    Granted {
+        before: &[(300, None)],
+        end_section: (700, Some((60, 700))),
+        end_speed: (8, 1_023),
+        danger_point: Some(4),
+        overlap: Some((1_023, 127)),
+        ..GRANTED
+    },
+    &[
+        (59_999, 0, 0, Full(100_000, 40_000, 105_000, Some(0))),
+        (60_000, 0, 0, Bare(30_000)),
+    ],
+)];
+
 #[test]
-fn taken_back(rt: HostRuntime) {
-    let before = [section(&rt, 300, None)];
-    let mut packet = packet(&rt, &before, section(&rt, 700, Some((60, 700))));
-    packet.end_speed = speed_step(&rt, 8);
-    packet.end_time = seconds(&rt, 1_023);
-    packet.danger_point = Some(danger_point(&rt, 4));
-    packet.overlap = Some(overlap(&rt, 1_023, 127));
-    let mut authority = accepted(&rt, &packet);
-    after(
-        &rt,
-        &mut authority,
-        59_999,
-        0,
-        0,
-        (100_000, 40_000, 105_000, Some(0)),
-    );
-    after(&rt, &mut authority, 60_000, 0, 0, bare(30_000));
+fn ends(rt: HostRuntime) {
+    rows(&rt, "behind the end", BEHIND_THE_END);
+    rows(&rt, "the speed at the end", SPEED_AT_THE_END);
+    rows(&rt, "an end that is taken back", TAKEN_BACK);
 }

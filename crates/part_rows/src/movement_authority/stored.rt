@@ -1,5 +1,9 @@
 // What is stored.
-use crate::movement_authority::calls::{accepted, after, bare, ms, packet, section, told};
+use crate::movement_authority::rows::Told::Bare;
+use crate::movement_authority::rows::{
+    GRANTED, Granted, Row, accept, happens, ms, packet, rows, tells,
+};
+use crate::wanted::same;
 use authority::Authority;
 use units::Cm;
 use vars::Scale;
@@ -8,15 +12,18 @@ use vars::Scale;
 fn accepted_and_deleted(rt: HostRuntime) {
     let mut authority = Authority::new();
     assert!(rt; !authority.is_stored() && authority.end().is_none());
-    let packet = packet(&rt, &[], section(&rt, 1_000, None));
     let place = Cm::new(-3 << 40).expect(&rt, "a place");
-    authority.accept(&packet, place, ms(&rt, 0));
+    authority.accept(&packet(&rt, &GRANTED), place, ms(&rt, 0));
     assert!(rt; authority.is_stored());
-    assert_eq!(rt; told(&rt, &authority), bare((-3 << 40) + 100_000));
-    assert_eq!(rt;
-        authority.main_speed().expect(&rt, "a speed").get(),
-        160_000
+    tells(
+        &rt,
+        &authority,
+        &Bare((-3 << 40) + 100_000),
+        "far behind",
+        0,
     );
+    let speed = authority.main_speed().expect(&rt, "a speed").get();
+    same(&rt, &speed, &160_000, "the greatest speed", 0);
     authority.clear();
     assert!(rt; !authority.is_stored() && authority.main_speed().is_none());
 }
@@ -24,31 +31,69 @@ fn accepted_and_deleted(rt: HostRuntime) {
 /// What a copy sees is its own.
 #[test]
 fn copied(rt: HostRuntime) {
-    let packet = packet(&rt, &[], section(&rt, 1_000, Some((60, 0))));
-    let mut authority = accepted(&rt, &packet);
+    const TIMED: Granted = Granted {
+        end_section: (1_000, Some((60, 0))),
+        ..GRANTED
+    };
+    let mut authority = Authority::new();
+    accept(&rt, &mut authority, &TIMED, 0);
     let mut copy = authority.copy();
-    after(&rt, &mut authority, 59_999, 0, 0, bare(100_000));
-    after(&rt, &mut authority, 60_000, 0, 0, bare(100_000));
-    after(&rt, &mut copy, 60_000, 0, 0, bare(0));
-    copy.accept(&packet, Cm::ZERO, ms(&rt, 60_000));
-    after(&rt, &mut copy, 119_999, -1, -1, bare(100_000));
-    after(&rt, &mut copy, 120_000, 0, 0, bare(0));
+    for event in &[(59_999, 0, 0, Bare(100_000)), (60_000, 0, 0, Bare(100_000))] {
+        happens(&rt, &mut authority, event, "the first", 0);
+    }
+    happens(&rt, &mut copy, &(60_000, 0, 0, Bare(0)), "the copy", 0);
+    accept(&rt, &mut copy, &TIMED, 60_000);
+    for event in &[(119_999, -1, -1, Bare(100_000)), (120_000, 0, 0, Bare(0))] {
+        happens(&rt, &mut copy, event, "the copy, accepted again", 0);
+    }
 }
 
-/// 31 sections of 100 units and an end section of 200, in each scale; then the last of them runs out, and then the first.
+/// 31 sections of 100 units and an end section of 200.
+const MANY: Granted = Granted {
+    before: &[(100, Some((60, 100))); 31],
+    end_section: (200, Some((30, 200))),
+    ..GRANTED
+};
+
+/// In each scale the last section runs out, and then the first.
+const AS_MANY_AS_THERE_MAY_BE: &[Row] = &[
+    (
+        Granted {
+            scale: Scale::TenCentimetres,
+            ..MANY
+        },
+        &[
+            (29_999, 0, 0, Bare(33_000)),
+            (30_000, 0, 0, Bare(31_000)),
+            (60_000, 0, 0, Bare(0)),
+        ],
+    ),
+    (
+        MANY,
+        &[
+            (29_999, 0, 0, Bare(330_000)),
+            (30_000, 0, 0, Bare(310_000)),
+            (60_000, 0, 0, Bare(0)),
+        ],
+    ),
+    (
+        Granted {
+            scale: Scale::TenMetres,
+            ..MANY
+        },
+        &[
+            (29_999, 0, 0, Bare(3_300_000)),
+            (30_000, 0, 0, Bare(3_100_000)),
+            (60_000, 0, 0, Bare(0)),
+        ],
+    ),
+];
+
 #[test]
 fn as_many_sections_as_there_may_be(rt: HostRuntime) {
-    for (scale, unit) in [
-        (Scale::TenCentimetres, 10),
-        (Scale::OneMetre, 100),
-        (Scale::TenMetres, 1_000),
-    ] {
-        let before = [section(&rt, 100, Some((60, 100))); 31];
-        let mut packet = packet(&rt, &before, section(&rt, 200, Some((30, 200))));
-        packet.scale = scale;
-        let mut authority = accepted(&rt, &packet);
-        for (moment, units) in [(29_999, 3_300), (30_000, 3_100), (60_000, 0)] {
-            after(&rt, &mut authority, moment, 0, 0, bare(units * unit));
-        }
-    }
+    rows(
+        &rt,
+        "as many sections as there may be",
+        AS_MANY_AS_THERE_MAY_BE,
+    );
 }

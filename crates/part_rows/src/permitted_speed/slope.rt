@@ -14,7 +14,7 @@ pub struct Slope {
 impl Profile<Permille> for Slope {
     ghost use Rattle.part_rows.specs.Slopes.{gradient_of};
 
-    ghost value = { gradient_of };
+    ghost value = { λ s place. gradient_of s.begins s.changes s.ends s.before s.after place };
 
     fn at(&self, place: Cm) -> Option<Permille> {
         if place < self.begins || self.ends <= place {

@@ -1,46 +1,103 @@
-// Trains, targets and gradients made of plain numbers.
+// Trains, targets and gradients made of plain numbers, and the permitted speed as a number.
 use crate::numbers::{cm, mph};
 use crate::permitted_speed::slope::Slope;
-use braking::{Brakes, Deceleration, Reaction, Target, permitted};
+use crate::wanted::same;
+use braking::{Brakes, Deceleration, Reaction, Target, fits, permitted};
 use std::process::Abort;
 use units::Permille;
 
-pub fn permille<R: Abort>(rt: &R, number: i16) -> Permille {
+/// A gradient that begins at one place, changes at another and ends at a third, before the change and after it.
+#[derive(Clone, Copy)]
+pub struct Gradient {
+    pub begins: i64,
+    pub changes: i64,
+    pub ends: i64,
+    pub before: i16,
+    pub after: i16,
+}
+
+/// A deceleration in cm/s^2 and a reaction in milliseconds.
+pub type Train = (u16, u16);
+
+/// A target's place, and its speed in m/h.
+pub type Ahead = (i64, u32);
+
+/// What the permitted speed depends on.
+#[derive(Clone, Copy)]
+pub struct Asked {
+    pub front: i64,
+    pub limit: u32,
+    pub gradient: Gradient,
+    pub train: Train,
+}
+
+fn permille<R: Abort>(rt: &R, number: i16) -> Permille {
     Permille::new(number).expect(rt, "a gradient")
 }
 
-pub fn brakes<R: Abort>(rt: &R, deceleration: u16, reaction: u16) -> Brakes {
+fn slope<R: Abort>(rt: &R, gradient: &Gradient) -> Slope {
+    Slope {
+        begins: cm(rt, gradient.begins),
+        changes: cm(rt, gradient.changes),
+        ends: cm(rt, gradient.ends),
+        before: permille(rt, gradient.before),
+        after: permille(rt, gradient.after),
+    }
+}
+
+fn brakes<R: Abort>(rt: &R, train: Train) -> Brakes {
+    let (deceleration, reaction) = train;
     Brakes {
         deceleration: Deceleration::new(deceleration).expect(rt, "a deceleration"),
         reaction: Reaction::new(reaction).expect(rt, "a reaction"),
     }
 }
 
-/// A target of so many m/h at a place.
-pub fn target<R: Abort>(rt: &R, place: i64, speed: u32) -> Target {
+fn target<R: Abort>(rt: &R, ahead: &Ahead) -> Target {
+    let (place, speed) = *ahead;
     Target {
         place: cm(rt, place),
         speed: mph(rt, speed),
     }
 }
 
-/// One gradient from one place up to another.
-pub fn even<R: Abort>(rt: &R, begins: i64, ends: i64, gradient: i16) -> Slope {
-    Slope {
-        begins: cm(rt, begins),
-        changes: cm(rt, begins),
-        ends: cm(rt, ends),
-        before: permille(rt, gradient),
-        after: permille(rt, gradient),
+fn permitted_before<R: Abort>(rt: &R, asked: &Asked, targets: &[Target]) -> u32 {
+    permitted(
+        cm(rt, asked.front),
+        mph(rt, asked.limit),
+        targets,
+        &slope(rt, &asked.gradient),
+        &brakes(rt, asked.train),
+    )
+    .get()
+}
+
+/// The permitted speed, in m/h, before at most two targets.
+pub fn speed<R: Abort>(rt: &R, asked: &Asked, ahead: &[Ahead]) -> u32 {
+    match ahead {
+        [] => permitted_before(rt, asked, &[]),
+        [only] => permitted_before(rt, asked, &[target(rt, only)]),
+        [first, second] => { permitted_before(rt, asked, &[target(rt, first), target(rt, second)]) }
+        _ => panic!(rt; "more than two targets"),
     }
 }
 
-/// The same gradient from far behind to far ahead.
-pub fn everywhere<R: Abort>(rt: &R, gradient: i16) -> Slope {
-    even(rt, -1_000_000, 1_000_000, gradient)
+/// Whether a speed fits one target.
+pub fn is_fitting<R: Abort>(rt: &R, asked: &Asked, ahead: &Ahead, speed: u32) -> bool {
+    fits(
+        cm(rt, asked.front),
+        mph(rt, speed),
+        &target(rt, ahead),
+        &slope(rt, &asked.gradient),
+        &brakes(rt, asked.train),
+    )
 }
 
-/// The permitted speed up to 160,000 m/h with the front at 0.
-pub fn speed<R: Abort>(rt: &R, targets: &[Target], gradient: &Slope, brakes: &Brakes) -> u32 {
-    permitted(cm(rt, 0), mph(rt, 160_000), targets, gradient, brakes).get()
+/// What is asked, the targets ahead, and the permitted speed then.
+pub type Row = (Asked, &'static [Ahead], u32);
+
+pub fn rows<R: Abort>(rt: &R, name: &str, rows: &[Row]) {
+    for (row, (asked, ahead, wanted)) in rows.iter().enumerate() {
+        same(rt, &speed(rt, asked, ahead), wanted, name, row);
+    }
 }

@@ -1,10 +1,9 @@
 // The kernel beside the plain program, over pseudo-random lists of inputs that are the same in every run.
 ghost use Rattle.std.specs.Prelude.{◌<◌, length};
 
-use crate::plain;
 use crate::told::Told::{self, At, Hear, Move};
-use crate::told::{brakes, input, kernel_limits, train};
-use kernel::{Input, Mode, TrainData};
+use crate::told::{brakes, same_limits, train};
+use kernel::{Mode, TrainData};
 use std::process::Abort;
 use std::test::Fail;
 
@@ -162,38 +161,38 @@ fn told(numbers: &mut Numbers, telegrams: &[&'static str]) -> Told
     }
 }
 
-/// So many inputs.
-fn list<R: Abort + AllocGlobal>(
+/// So many of them, of one life.
+fn list<R: AllocGlobal>(
     rt: &R,
     numbers: &mut Numbers,
     telegrams: &[&'static str],
     count: u32,
-) -> Result<Vec<Input>, Fail>
+) -> Result<Vec<Told>, Fail>
     requires { 0 < length telegrams.now }
 {
     numbers.moment = 0;
-    let mut inputs = Vec::new(rt.alloc());
+    let mut list = Vec::new(rt.alloc());
     for _ in 0..count {
-        inputs.push(input(rt, told(numbers, telegrams)))?;
+        list.push(told(numbers, telegrams))?;
     }
-    Ok(inputs)
+    Ok(list)
 }
 
-/// The kernel and the plain program give the same limits in a mode.
-fn same<R: Abort + AllocGlobal>(
+/// The kernel, over either store, and the plain program give the same limits in each mode.
+fn same_in<R: Abort + AllocGlobal>(
     rt: &R,
-    mode: Mode,
+    modes: &[Mode],
     train: &TrainData,
-    inputs: &[Input],
+    told: &[Told],
 ) -> Result<(), Fail> {
-    let plain = plain::limits(rt.alloc(), mode, train, inputs)?;
-    let answer = kernel_limits(rt, mode, train, inputs)?;
-    assert_eq!(rt; answer.as_slice(), plain.as_slice());
+    for mode in modes {
+        same_limits(rt, "random list", *mode, train, told)?;
+    }
     Ok(())
 }
 
 /// .. over so many lists of so many inputs.
-fn same_limits<R: Abort + AllocGlobal>(
+fn same_over<R: Abort + AllocGlobal>(
     rt: &R,
     modes: &[Mode],
     telegrams: &[&'static str],
@@ -208,27 +207,25 @@ fn same_limits<R: Abort + AllocGlobal>(
     };
     let mut train = train(rt, 300, 3);
     for _ in 0..rounds {
-        let inputs = list(rt, &mut numbers, telegrams, count)?;
+        let told = list(rt, &mut numbers, telegrams, count)?;
         train.brakes = brakes(rt, numbers.below(1_001) as u16);
-        for mode in modes {
-            same(rt, *mode, &train, &inputs)?;
-        }
+        same_in(rt, modes, &train, &told)?;
     }
     Ok(())
 }
 
 #[test]
 fn random_inputs(rt: HostRuntime) -> Result<(), Fail> {
-    same_limits(&rt, &[Mode::StaffResponsible], &TELEGRAMS, 50, 16)
+    same_over(&rt, &[Mode::StaffResponsible], &TELEGRAMS, 50, 16)
 }
 
 #[test]
 fn random_groups(rt: HostRuntime) -> Result<(), Fail> {
-    same_limits(&rt, &[Mode::StaffResponsible], &GROUP_TELEGRAMS, 50, 24)
+    same_over(&rt, &[Mode::StaffResponsible], &GROUP_TELEGRAMS, 50, 24)
 }
 
 #[test]
 fn random_full_supervision(rt: HostRuntime) -> Result<(), Fail> {
     let modes = [Mode::StaffResponsible, Mode::FullSupervision];
-    same_limits(&rt, &modes, &FULL_TELEGRAMS, 30, 24)
+    same_over(&rt, &modes, &FULL_TELEGRAMS, 30, 24)
 }

@@ -1,6 +1,6 @@
 // Rows of groups of several balises and of linking. The train is 20,000 cm long; announcements ask for no reaction.
 use crate::told::Told::{Hear, Move};
-use crate::told::row;
+use crate::told::{Row, check_responsible};
 use std::test::Fail;
 
 /// Group 2 announces group 3, 1,000 m ahead, in its nominal direction, to 10 m.
@@ -62,57 +62,56 @@ const TWO_SECOND_UNLINKED: &str = "90127F802001106023A06000001941FF80";
 
 const TWO_SECOND_COUNTED: &str = "901202002001506023A06000001941FF80";
 
-// A group that isn't announced is ignored while another one is, but for Q_LINK 0.
-#[test]
-fn not_announced(rt: HostRuntime) -> Result<(), Fail> {
-    row(&rt, &[(Hear(LINK), 40_000), (Hear(STRANGER), 40_000)])?;
-    row(
-        &rt,
+static ROWS: [Row; 40] = [
+    // A group that isn't announced is ignored while another one is, but for Q_LINK 0.
+    (
+        "not announced 1",
+        &[(Hear(LINK), 40_000), (Hear(STRANGER), 40_000)],
+    ),
+    (
+        "not announced 2",
         &[(Hear(LINK), 40_000), (Hear(STRANGER_UNLINKED), 5_000)],
-    )?;
-    row(&rt, &[(Hear(STRANGER), 5_000)])
-}
-
-#[test]
-fn directions(rt: HostRuntime) -> Result<(), Fail> {
-    row(&rt, &[(Hear(TWO_SECOND), 40_000), (Hear(TWO_FIRST), 5_000)])?;
-    row(
-        &rt,
+    ),
+    ("not announced 3", &[(Hear(STRANGER), 5_000)]),
+    (
+        "directions 1",
+        &[(Hear(TWO_SECOND), 40_000), (Hear(TWO_FIRST), 5_000)],
+    ),
+    (
+        "directions 2",
         &[(Hear(TWO_FIRST), 40_000), (Hear(TWO_SECOND), 10_000)],
-    )?;
-    row(
-        &rt,
+    ),
+    (
+        "directions 3",
         &[
             (Hear(TWO_SECOND_DOUBLE), 40_000),
             (Move(1_300), 40_000),
             (Move(1), 15_000),
         ],
-    )
-}
-
-// With one place read, the direction is the announced one.
-#[test]
-fn announced_directions(rt: HostRuntime) -> Result<(), Fail> {
-    for (link, limit) in [(LINK, 10_000), (LINK_REVERSE, 5_000)] {
-        row(
-            &rt,
-            &[
-                (Hear(link), 40_000),
-                (Move(100_000), 40_000),
-                (Hear(THREE_WAYS), limit),
-            ],
-        )?;
-    }
-    row(&rt, &[(Hear(THREE_WAYS), 15_000)])
-}
-
-// The fix at 100,000 leaves 1,500 cm of doubt. The restriction lies from 102,000 to 106,999.
-// 475 / 20 = 24: the greatest front is 100,475 + 1,524 = 101,999. At 476 it is 102,000.
-// 8,947 / 20 = 448: the least front is 108,947 - 1,948 = 106,999. At 8,948 it is 107,000.
-#[test]
-fn announced_place(rt: HostRuntime) -> Result<(), Fail> {
-    row(
-        &rt,
+    ),
+    // With one place read, the direction is the announced one.
+    (
+        "announced directions 1",
+        &[
+            (Hear(LINK), 40_000),
+            (Move(100_000), 40_000),
+            (Hear(THREE_WAYS), 10_000),
+        ],
+    ),
+    (
+        "announced directions 2",
+        &[
+            (Hear(LINK_REVERSE), 40_000),
+            (Move(100_000), 40_000),
+            (Hear(THREE_WAYS), 5_000),
+        ],
+    ),
+    ("announced directions 3", &[(Hear(THREE_WAYS), 15_000)]),
+    // The fix at 100,000 leaves 1,500 cm of doubt. The restriction lies from 102,000 to 106,999.
+    // 475 / 20 = 24: the greatest front is 100,475 + 1,524 = 101,999. At 476 it is 102,000.
+    // 8,947 / 20 = 448: the least front is 108,947 - 1,948 = 106,999. At 8,948 it is 107,000.
+    (
+        "announced place",
         &[
             (Hear(LINK), 40_000),
             (Move(100_500), 40_000),
@@ -122,38 +121,30 @@ fn announced_place(rt: HostRuntime) -> Result<(), Fail> {
             (Move(8_471), 10_000),
             (Move(1), 40_000),
         ],
-    )
-}
-
-// 93,808 / 20 = 4,691: the greatest front is 93,808 + 5,191 = 98,999, below 100,000 - 1,000. At 93,809 it is 99,000.
-// The group that came too early is no longer announced, and so no group is.
-#[test]
-fn too_early(rt: HostRuntime) -> Result<(), Fail> {
-    row(
-        &rt,
+    ),
+    // 93,808 / 20 = 4,691: the greatest front is 93,808 + 5,191 = 98,999, below 100,000 - 1,000. At 93,809 it is 99,000.
+    // The group that came too early is no longer announced, and so no group is.
+    (
+        "too early 1",
         &[
             (Hear(LINK), 40_000),
             (Move(93_808), 40_000),
             (Hear(THREE), 40_000),
             (Hear(STRANGER), 5_000),
         ],
-    )?;
-    row(
-        &rt,
+    ),
+    (
+        "too early 2",
         &[
             (Hear(LINK), 40_000),
             (Move(93_809), 40_000),
             (Hear(THREE), 10_000),
         ],
-    )
-}
-
-// 106,843 / 20 = 5,343: the least front is 106,843 - 5,843 = 101,000, not above 100,000 + 1,000. At 106,844 it is.
-// A group that was missed is not announced: it makes its fix at its own place.
-#[test]
-fn missed(rt: HostRuntime) -> Result<(), Fail> {
-    row(
-        &rt,
+    ),
+    // 106,843 / 20 = 5,343: the least front is 106,843 - 5,843 = 101,000, not above 100,000 + 1,000. At 106,844 it is.
+    // A group that was missed is not announced: it makes its fix at its own place.
+    (
+        "missed 1",
         &[
             (Hear(LINK), 40_000),
             (Move(106_843), 40_000),
@@ -161,45 +152,59 @@ fn missed(rt: HostRuntime) -> Result<(), Fail> {
             (Move(1), 40_000),
             (Hear(THREE), 10_000),
         ],
-    )?;
-    row(
-        &rt,
+    ),
+    (
+        "missed 2",
         &[
             (Hear(LINK), 40_000),
             (Move(106_844), 40_000),
             (Hear(STRANGER), 5_000),
         ],
-    )
-}
-
-#[test]
-fn wrong_way(rt: HostRuntime) -> Result<(), Fail> {
-    for (link, first, second, limit, last) in [
-        (LINK, THREE_FIRST, THREE_SECOND, 10_000, 5_000),
-        (LINK, THREE_SECOND, THREE_FIRST, 40_000, 5_000),
-        (LINK_REVERSE, THREE_FIRST, THREE_SECOND, 40_000, 5_000),
-        (LINK_REVERSE, THREE_SECOND, THREE_FIRST, 10_000, 5_000),
-    ] {
-        row(
-            &rt,
-            &[
-                (Hear(link), 40_000),
-                (Move(100_000), 40_000),
-                (Hear(first), 40_000),
-                (Hear(second), limit),
-                (Hear(STRANGER), last),
-            ],
-        )?;
-    }
-    Ok(())
-}
-
-// The group ends 1,301 cm behind its second balise, the first being missed. The fix at 100,000 leaves
-// 1,000 + 500 + 1,200 cm of doubt, and 67 for the path of 1,332: the greatest front is 101,332 + 2,767 = 104,099.
-#[test]
-fn first_balise_missed(rt: HostRuntime) -> Result<(), Fail> {
-    row(
-        &rt,
+    ),
+    (
+        "wrong way 1",
+        &[
+            (Hear(LINK), 40_000),
+            (Move(100_000), 40_000),
+            (Hear(THREE_FIRST), 40_000),
+            (Hear(THREE_SECOND), 10_000),
+            (Hear(STRANGER), 5_000),
+        ],
+    ),
+    (
+        "wrong way 2",
+        &[
+            (Hear(LINK), 40_000),
+            (Move(100_000), 40_000),
+            (Hear(THREE_SECOND), 40_000),
+            (Hear(THREE_FIRST), 40_000),
+            (Hear(STRANGER), 5_000),
+        ],
+    ),
+    (
+        "wrong way 3",
+        &[
+            (Hear(LINK_REVERSE), 40_000),
+            (Move(100_000), 40_000),
+            (Hear(THREE_FIRST), 40_000),
+            (Hear(THREE_SECOND), 40_000),
+            (Hear(STRANGER), 5_000),
+        ],
+    ),
+    (
+        "wrong way 4",
+        &[
+            (Hear(LINK_REVERSE), 40_000),
+            (Move(100_000), 40_000),
+            (Hear(THREE_SECOND), 40_000),
+            (Hear(THREE_FIRST), 10_000),
+            (Hear(STRANGER), 5_000),
+        ],
+    ),
+    // The group ends 1,301 cm behind its second balise, the first being missed. The fix at 100,000 leaves
+    // 1,000 + 500 + 1,200 cm of doubt, and 67 for the path of 1,332: the greatest front is 101,332 + 2,767 = 104,099.
+    (
+        "first balise missed",
         &[
             (Hear(LINK), 40_000),
             (Move(100_000), 40_000),
@@ -209,39 +214,31 @@ fn first_balise_missed(rt: HostRuntime) -> Result<(), Fail> {
             (Move(31), 40_000),
             (Move(1), 10_000),
         ],
-    )
-}
-
-// The restriction begins at 21,000. Without a fix the greatest front is 20,000 + 500 + 1,000 = 21,500, with one 20,500;
-// 476 / 20 = 24, and so it is 21,000 at 20,476.
-#[test]
-fn fix_at_its_own_place(rt: HostRuntime) -> Result<(), Fail> {
-    row(
-        &rt,
+    ),
+    // The restriction begins at 21,000. Without a fix the greatest front is 20,000 + 500 + 1,000 = 21,500, with one 20,500;
+    // 476 / 20 = 24, and so it is 21,000 at 20,476.
+    (
+        "fix at its own place 1",
         &[
             (Hear(LINK), 40_000),
             (Move(20_000), 40_000),
             (Hear(STRANGER_AHEAD), 5_000),
         ],
-    )?;
-    row(
-        &rt,
+    ),
+    (
+        "fix at its own place 2",
         &[
             (Move(20_000), 40_000),
             (Hear(STRANGER_AHEAD), 40_000),
             (Move(475), 40_000),
             (Move(1), 5_000),
         ],
-    )
-}
-
-// The reading of 1,301 cm ends the group, but its announcement is missed before: 107,301 - 500 - 5,366 = 101,435. So
-// the fix is made at its own place, 106,000, and the restriction begins at 110,100. 2,284 / 20 = 115: the greatest
-// front is 106,000 + 2,284 + 500 + 115 + 1,200 = 110,099.
-#[test]
-fn missed_where_it_ends(rt: HostRuntime) -> Result<(), Fail> {
-    row(
-        &rt,
+    ),
+    // The reading of 1,301 cm ends the group, but its announcement is missed before: 107,301 - 500 - 5,366 = 101,435. So
+    // the fix is made at its own place, 106,000, and the restriction begins at 110,100. 2,284 / 20 = 115: the greatest
+    // front is 106,000 + 2,284 + 500 + 115 + 1,200 = 110,099.
+    (
+        "missed where it ends",
         &[
             (Hear(LINK), 40_000),
             (Move(106_000), 40_000),
@@ -250,14 +247,10 @@ fn missed_where_it_ends(rt: HostRuntime) -> Result<(), Fail> {
             (Move(983), 40_000),
             (Move(1), 10_000),
         ],
-    )
-}
-
-// A repeat renews the distance, and so the group is whole; without it the group is broken, and another one begins.
-#[test]
-fn repeated(rt: HostRuntime) -> Result<(), Fail> {
-    row(
-        &rt,
+    ),
+    // A repeat renews the distance, and so the group is whole; without it the group is broken, and another one begins.
+    (
+        "repeated 1",
         &[
             (Hear(TWO_FIRST), 40_000),
             (Move(1_300), 40_000),
@@ -265,96 +258,116 @@ fn repeated(rt: HostRuntime) -> Result<(), Fail> {
             (Move(1_300), 40_000),
             (Hear(TWO_SECOND), 10_000),
         ],
-    )?;
-    row(
-        &rt,
+    ),
+    (
+        "repeated 2",
         &[
             (Hear(TWO_FIRST), 40_000),
             (Move(1_301), 40_000),
             (Hear(TWO_SECOND), 40_000),
         ],
-    )
-}
-
-// Totals and link flags have to be the same, and counters but for 255.
-#[test]
-fn one_message(rt: HostRuntime) -> Result<(), Fail> {
-    for (first, second, limit) in [
-        (TWO_FIRST, TWO_SECOND_OF_THREE, 40_000),
-        (TWO_FIRST, TWO_SECOND_UNLINKED, 40_000),
-        (TWO_FIRST, TWO_SECOND_COUNTED, 10_000),
-        (TWO_FIRST_COUNTED, TWO_SECOND, 10_000),
-        (TWO_FIRST_COUNTED, TWO_SECOND_COUNTED, 40_000),
-    ] {
-        row(&rt, &[(Hear(first), 40_000), (Hear(second), limit)])?;
-    }
-    Ok(())
-}
-
-// A telegram of the group that closed last, within 1,300 cm, doesn't end the group that is being read.
-#[test]
-fn late(rt: HostRuntime) -> Result<(), Fail> {
-    for (path, limit) in [(1_300, 5_000), (1_301, 10_000)] {
-        row(
-            &rt,
-            &[
-                (Hear(THREE), 10_000),
-                (Move(1_300), 10_000),
-                (Hear(THREE), 10_000),
-                (Move(path), 10_000),
-                (Hear(TWO_SECOND), 10_000),
-                (Hear(THREE), 10_000),
-                (Hear(TWO_FIRST), limit),
-            ],
-        )?;
-    }
-    Ok(())
-}
-
-// A broken group is no longer announced, but for Q_LINK 0.
-#[test]
-fn broken(rt: HostRuntime) -> Result<(), Fail> {
-    for (broken, limit) in [(THREE_REFUSED, 5_000), (THREE_REFUSED_UNLINKED, 40_000)] {
-        row(
-            &rt,
-            &[
-                (Hear(LINK), 40_000),
-                (Move(100_000), 40_000),
-                (Hear(broken), 40_000),
-                (Hear(STRANGER), limit),
-            ],
-        )?;
-    }
-    Ok(())
-}
-
-// The telegram of group 9 ends group 2, whose list counts at once, but for where the group is broken.
-#[test]
-fn ended_by_a_telegram(rt: HostRuntime) -> Result<(), Fail> {
-    row(
-        &rt,
+    ),
+    // Totals and link flags have to be the same, and counters but for 255.
+    (
+        "one message 1",
+        &[
+            (Hear(TWO_FIRST), 40_000),
+            (Hear(TWO_SECOND_OF_THREE), 40_000),
+        ],
+    ),
+    (
+        "one message 2",
+        &[
+            (Hear(TWO_FIRST), 40_000),
+            (Hear(TWO_SECOND_UNLINKED), 40_000),
+        ],
+    ),
+    (
+        "one message 3",
+        &[
+            (Hear(TWO_FIRST), 40_000),
+            (Hear(TWO_SECOND_COUNTED), 10_000),
+        ],
+    ),
+    (
+        "one message 4",
+        &[
+            (Hear(TWO_FIRST_COUNTED), 40_000),
+            (Hear(TWO_SECOND), 10_000),
+        ],
+    ),
+    (
+        "one message 5",
+        &[
+            (Hear(TWO_FIRST_COUNTED), 40_000),
+            (Hear(TWO_SECOND_COUNTED), 40_000),
+        ],
+    ),
+    // A telegram of the group that closed last, within 1,300 cm, doesn't end the group that is being read.
+    (
+        "late 1",
+        &[
+            (Hear(THREE), 10_000),
+            (Move(1_300), 10_000),
+            (Hear(THREE), 10_000),
+            (Move(1_300), 10_000),
+            (Hear(TWO_SECOND), 10_000),
+            (Hear(THREE), 10_000),
+            (Hear(TWO_FIRST), 5_000),
+        ],
+    ),
+    (
+        "late 2",
+        &[
+            (Hear(THREE), 10_000),
+            (Move(1_300), 10_000),
+            (Hear(THREE), 10_000),
+            (Move(1_301), 10_000),
+            (Hear(TWO_SECOND), 10_000),
+            (Hear(THREE), 10_000),
+            (Hear(TWO_FIRST), 10_000),
+        ],
+    ),
+    // A broken group is no longer announced, but for Q_LINK 0.
+    (
+        "broken 1",
+        &[
+            (Hear(LINK), 40_000),
+            (Move(100_000), 40_000),
+            (Hear(THREE_REFUSED), 40_000),
+            (Hear(STRANGER), 5_000),
+        ],
+    ),
+    (
+        "broken 2",
+        &[
+            (Hear(LINK), 40_000),
+            (Move(100_000), 40_000),
+            (Hear(THREE_REFUSED_UNLINKED), 40_000),
+            (Hear(STRANGER), 40_000),
+        ],
+    ),
+    // The telegram of group 9 ends group 2, whose list counts at once, but for where the group is broken.
+    (
+        "ended by a telegram 1",
         &[(Hear(LINK_OF_TWO), 40_000), (Hear(STRANGER), 40_000)],
-    )?;
-    row(
-        &rt,
+    ),
+    (
+        "ended by a telegram 2",
         &[(Hear(LINK_OF_TWO_ALONE), 40_000), (Hear(STRANGER), 5_000)],
-    )
-}
-
-// An accepted group takes those before it along; group 4 is announced at 99,500, and group 3 at 100,000.
-#[test]
-fn several_announced(rt: HostRuntime) -> Result<(), Fail> {
-    row(
-        &rt,
+    ),
+    // An accepted group takes those before it along; group 4 is announced at 99,500, and group 3 at 100,000.
+    (
+        "several announced 1",
         &[
             (Hear(LINKS), 40_000),
             (Move(100_000), 40_000),
             (Hear(THREE), 10_000),
             (Hear(STRANGER), 5_000),
         ],
-    )?;
-    row(
-        &rt,
+    ),
+    (
+        "several announced 2",
         &[
             (Hear(LINKS), 40_000),
             (Move(100_000), 40_000),
@@ -362,43 +375,40 @@ fn several_announced(rt: HostRuntime) -> Result<(), Fail> {
             (Hear(STRANGER), 15_000),
             (Hear(THREE), 10_000),
         ],
-    )
-}
-
-// A country that isn't given is the one before. Of two lists in a message the last counts, and the revocation is taken
-// behind the restriction.
-#[test]
-fn lists(rt: HostRuntime) -> Result<(), Fail> {
-    row(
-        &rt,
+    ),
+    // A country that isn't given is the one before. Of two lists in a message the last counts, and the revocation is taken
+    // behind the restriction.
+    (
+        "lists 1",
         &[
             (Hear(LINKS_ABROAD), 40_000),
             (Move(100_000), 40_000),
             (Hear(THREE), 40_000),
             (Hear(THREE_ABROAD), 10_000),
         ],
-    )?;
-    row(
-        &rt,
+    ),
+    (
+        "lists 2",
         &[
             (Hear(LAST_LINK), 40_000),
             (Move(100_000), 40_000),
             (Hear(THREE), 40_000),
             (Hear(FOUR), 15_000),
         ],
-    )
-}
-
-// The group is announced at 2^40 + 900, to 1,000 cm, and read at 2^40 - 100: no fix is made, and the restriction counts
-// from the group's own place. The greatest front is 2^40 + 400.
-#[test]
-fn announced_too_far(rt: HostRuntime) -> Result<(), Fail> {
-    row(
-        &rt,
+    ),
+    // The group is announced at 2^40 + 900, to 1,000 cm, and read at 2^40 - 100: no fix is made, and the restriction counts
+    // from the group's own place. The greatest front is 2^40 + 400.
+    (
+        "announced too far",
         &[
             (Move((1 << 40) - 100), 40_000),
             (Hear(LINK_NEAR), 40_000),
             (Hear(THREE), 10_000),
         ],
-    )
+    ),
+];
+
+#[test]
+fn groups_and_linking(rt: HostRuntime) -> Result<(), Fail> {
+    check_responsible(&rt, &ROWS)
 }

@@ -18,4 +18,6 @@ mod plain;
 #[cfg(test)]
 mod restrictions;
 #[cfg(test)]
+mod stepped;
+#[cfg(test)]
 mod told;

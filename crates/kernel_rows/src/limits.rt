@@ -1,6 +1,7 @@
-use crate::told::Told::{At, Do, Hear, Move};
-use crate::told::{input, row, train};
-use kernel::{Action, Event, Mode, State, step};
+use crate::stepped::stepped;
+use crate::told::Told::{self, At, Do, Hear, Move};
+use crate::told::{Row, check_responsible, input, train};
+use kernel::{Action, Event, Mode, State};
 use std::test::Fail;
 
 /// Restriction 7 of 20 km/h from 10,000 cm on for 5,000 cm, until the front has left it; group 2.
@@ -12,10 +13,12 @@ const HERE: &str = "90007F802001506023A0E0000019417F80";
 
 const HERE_SLOWER: &str = "90007F802001506023A0E000001940FF80";
 
-#[test]
-fn restriction_ahead(rt: HostRuntime) -> Result<(), Fail> {
-    row(
-        &rt,
+/// The farthest place.
+const FARTHEST: i64 = 1 << 40;
+
+static ROWS: [Row; 19] = [
+    (
+        "restriction ahead 1",
         &[
             (Hear(AHEAD), 40_000),
             (Move(9_046), 40_000),
@@ -24,22 +27,18 @@ fn restriction_ahead(rt: HostRuntime) -> Result<(), Fail> {
             (Move(1), 40_000),
             (Move(-1), 20_000),
         ],
-    )?;
-    row(
-        &rt,
+    ),
+    (
+        "restriction ahead 2",
         &[
             (Hear(AHEAD_OF_THE_REAR), 40_000),
             (Move(37_368), 20_000),
             (Move(1), 40_000),
         ],
-    )?;
-    row(&rt, &[])
-}
-
-#[test]
-fn replaced_and_revoked(rt: HostRuntime) -> Result<(), Fail> {
-    row(
-        &rt,
+    ),
+    ("restriction ahead 3", &[]),
+    (
+        "replaced and revoked 1",
         &[
             (Hear(HERE), 10_000),
             (Hear("90007F802001D06023A0E0000019427F80"), 20_000),
@@ -47,20 +46,19 @@ fn replaced_and_revoked(rt: HostRuntime) -> Result<(), Fail> {
             (Hear("90007F802002D06023BFE000001940FF80"), 5_000),
             (Hear("90007F80200350A00FFFFF80"), 5_000),
         ],
-    )?;
+    ),
     // The revocation stands before the restriction in the message, and is taken behind it.
-    row(
-        &rt,
+    (
+        "replaced and revoked 2",
         &[(Hear("90007F80200150A00F83A0C04741C000003282FF"), 40_000)],
-    )?;
+    ),
     // No length.
-    row(&rt, &[(Hear("90007F802001506023A0E0000000417F80"), 40_000)])
-}
-
-#[test]
-fn repeats(rt: HostRuntime) -> Result<(), Fail> {
-    row(
-        &rt,
+    (
+        "replaced and revoked 3",
+        &[(Hear("90007F802001506023A0E0000000417F80"), 40_000)],
+    ),
+    (
+        "repeats",
         &[
             (Hear(HERE), 10_000),
             (Move(1_300), 10_000),
@@ -70,24 +68,20 @@ fn repeats(rt: HostRuntime) -> Result<(), Fail> {
             (Move(1_301), 10_000),
             (Hear(HERE_SLOWER), 5_000),
         ],
-    )
-}
-
-#[test]
-fn groups_not_used(rt: HostRuntime) -> Result<(), Fail> {
+    ),
     // Counter 254: the group closes with nothing told, and what comes near it is a repeat.
-    row(
-        &rt,
+    (
+        "groups not used 1",
         &[
             (Hear("90007F002001506023A0E0000019417F80"), 40_000),
             (Hear(HERE), 40_000),
             (Move(1_301), 40_000),
             (Hear(HERE), 10_000),
         ],
-    )?;
+    ),
     // L_PACKET 72, and no bytes: no effect at all.
-    row(
-        &rt,
+    (
+        "groups not used 2",
         &[
             (Hear("90007F80200150602420E0190019427F80"), 40_000),
             (Hear(""), 40_000),
@@ -95,55 +89,47 @@ fn groups_not_used(rt: HostRuntime) -> Result<(), Fail> {
             (At(1_000), 10_000),
             (Do(Action::Start), 10_000),
         ],
-    )
-}
-
-#[test]
-fn packets_not_used(rt: HostRuntime) -> Result<(), Fail> {
+    ),
     // Q_DIR 1, 0 and 2.
-    row(
-        &rt,
+    (
+        "packets not used 1",
         &[
             (Hear("90007F802001505023A0E0000019417F80"), 40_000),
             (Hear("90007F802001D04023A0E0000019417F80"), 40_000),
             (Hear("90007F802002506023A0E0000019417F80"), 10_000),
         ],
-    )?;
+    ),
     // Packet 136 between restrictions of 20 and of 10 km/h, and before the second alone.
-    row(
-        &rt,
+    (
+        "packets not used 2",
         &[(
             Hear("90007F802001506023A0E00000194244401741808E840000006505FE"),
             20_000,
         )],
-    )?;
-    row(
-        &rt,
+    ),
+    (
+        "packets not used 3",
         &[(Hear("90007F80200162200BA0C047420000003282FF"), 40_000)],
-    )
-}
-
-#[test]
-fn scales(rt: HostRuntime) -> Result<(), Fail> {
+    ),
     // D_TSR 1 and L_TSR 1 in 10 cm, 1 m and 10 m.
-    row(
-        &rt,
+    (
+        "scales 1",
         &[
             (Hear("90007F80200150602380E0004000C17F80"), 10_000),
             (Move(547), 10_000),
             (Move(1), 40_000),
         ],
-    )?;
-    row(
-        &rt,
+    ),
+    (
+        "scales 2",
         &[
             (Hear("90007F802001506023A0E0004000C17F80"), 10_000),
             (Move(736), 10_000),
             (Move(1), 40_000),
         ],
-    )?;
-    row(
-        &rt,
+    ),
+    (
+        "scales 3",
         &[
             (Hear("90007F802001506023C0E0004000C17F80"), 40_000),
             (Move(475), 40_000),
@@ -151,36 +137,32 @@ fn scales(rt: HostRuntime) -> Result<(), Fail> {
             (Move(2_155), 10_000),
             (Move(1), 40_000),
         ],
-    )
-}
-
-#[test]
-fn forgotten_track(rt: HostRuntime) -> Result<(), Fail> {
+    ),
     // The mark lies 120,500 cm and the twentieth part of the path, rounded up, behind the estimate: it comes to the last
     // centimetre of the restriction, and beyond it.
     // 132,105 / 20 = 6,606: the mark is 132,105 - 120,500 - 6,606 = 4,999. At 132,106 it is 5,000.
-    row(
-        &rt,
+    (
+        "forgotten track 1",
         &[
             (Hear(HERE), 10_000),
             (Move(132_105), 40_000),
             (Move(-132_105), 10_000),
         ],
-    )?;
-    row(
-        &rt,
+    ),
+    (
+        "forgotten track 2",
         &[
             (Hear(HERE), 10_000),
             (Move(132_106), 40_000),
             (Move(-132_106), 40_000),
         ],
-    )?;
+    ),
     // 129,474 / 20 = 6,474: the mark is 129,474 - 120,500 - 6,474 = 2,500, and the restriction counts from there to 4,999.
     // The path is then 270,473, and 13,524 its twentieth part: the estimate is -11,525, and the fronts are
     // -11,525 - 14,024 = -25,549 and -11,525 + 14,024 = 2,499. One centimetre on, the greatest front is 2,500.
     // Told anew at -11,524 the restriction ends at -6,525, and is forgotten at once; the old one of its number goes.
-    row(
-        &rt,
+    (
+        "forgotten track 3",
         &[
             (Hear(HERE), 10_000),
             (Move(129_474), 40_000),
@@ -188,42 +170,44 @@ fn forgotten_track(rt: HostRuntime) -> Result<(), Fail> {
             (Move(1), 10_000),
             (Hear(HERE_SLOWER), 40_000),
         ],
-    )
-}
-
-#[test]
-fn overrun(rt: HostRuntime) -> Result<(), Fail> {
-    let farthest = 1 << 40;
-    row(
-        &rt,
+    ),
+    (
+        "overrun",
         &[
             (Hear(HERE), 10_000),
-            (Move(farthest + 1), 10_000),
-            (Move(farthest), 40_000),
+            (Move(FARTHEST + 1), 10_000),
+            (Move(FARTHEST), 40_000),
             (Hear(HERE), 10_000),
             (Move(-100_000), 10_000),
         ],
-    )
+    ),
+];
+
+#[test]
+fn limits_in_staff_responsible(rt: HostRuntime) -> Result<(), Fail> {
+    check_responsible(&rt, &ROWS)
 }
+
+/// What happens, None being a power-up, and the limit after each.
+static LIVES: [(Option<Told>, u32); 5] = [
+    (None, 40_000),
+    (Some(Hear(HERE)), 10_000),
+    (None, 40_000),
+    (Some(Move(1)), 40_000),
+    (Some(Hear(HERE)), 10_000),
+];
 
 #[test]
 fn a_life_forgets_the_one_before(rt: HostRuntime) -> Result<(), Fail> {
+    let train = train(&rt, 20_000, 15);
     let mut state = State::empty(rt.alloc());
-    for (event, expected) in [
-        (Event::PowerUp, 40_000),
-        (Event::Input(input(&rt, Hear(HERE))), 10_000),
-        (Event::PowerUp, 40_000),
-        (Event::Input(input(&rt, Move(1))), 40_000),
-        (Event::Input(input(&rt, Hear(HERE))), 10_000),
-    ] {
-        let (next, limit) = step(
-            rt.alloc(),
-            Mode::StaffResponsible,
-            &train(&rt, 20_000, 15),
-            &state,
-            &event,
-        )?;
-        assert_eq!(rt; limit.get(), expected);
+    for (told, expected) in &LIVES {
+        let event = match told {
+            None => Event::PowerUp,
+            Some(told) => Event::Input(input(&rt, *told)),
+        };
+        let (next, limit) = stepped(&rt, Mode::StaffResponsible, &train, &state, &event)?;
+        assert_eq!(rt; limit, *expected);
         state = next;
     }
     Ok(())

@@ -1,6 +1,6 @@
 // Limits by the national values in force.
 use crate::told::Told::{Hear, Move};
-use crate::told::row;
+use crate::told::{Row, check_responsible};
 use std::test::Fail;
 
 /// A group of country 1: values from 10,000 cm on, V_NVSTFF 30 km/h.
@@ -15,23 +15,18 @@ const AT_HOME: &str = "90007F802002FFC0";
 
 const ABROAD: &str = "90007F804001FFC0";
 
-#[test]
-fn values_ahead(rt: HostRuntime) -> Result<(), Fail> {
-    row(
-        &rt,
+static ROWS: [Row; 2] = [
+    (
+        "values ahead",
         &[
             (Hear(AHEAD), 40_000),
             (Move(9_046), 40_000),
             (Move(1), 30_000),
             (Hear(ABROAD), 40_000),
         ],
-    )
-}
-
-#[test]
-fn values_at_once(rt: HostRuntime) -> Result<(), Fail> {
-    row(
-        &rt,
+    ),
+    (
+        "values at once",
         &[
             (Hear(ABROAD), 40_000),
             (Hear(AT_ONCE), 30_000),
@@ -42,5 +37,10 @@ fn values_at_once(rt: HostRuntime) -> Result<(), Fail> {
             (Move(2_000), 25_000),
             (Hear(ABROAD), 40_000),
         ],
-    )
+    ),
+];
+
+#[test]
+fn national_values(rt: HostRuntime) -> Result<(), Fail> {
+    check_responsible(&rt, &ROWS)
 }

@@ -1,5 +1,6 @@
 // What comes in and what comes out, as the rows write it.
 use crate::plain;
+use crate::stepped::limits_by_steps;
 use arrayvec::ArrayVec;
 use braking::{Brakes, Deceleration, Reaction};
 use kernel::{Action, Input, Mode, Reading, TrainData, limits};
@@ -22,6 +23,9 @@ pub enum Told {
 }
 
 use Told::{At, Do, Hear, Move};
+
+/// A row: its name, and what is told with the limit after each, in metres per hour.
+pub type Row = (&'static str, &'static [(Told, u32)]);
 
 /// A train of this length in centimetres and of a category, that may run 160 km/h and brakes at once.
 pub fn train<R: Abort>(rt: &R, length: u64, category: u8) -> TrainData {
@@ -62,8 +66,17 @@ pub fn input<R: Abort + AllocGlobal>(rt: &R, told: Told) -> Input {
     }
 }
 
+/// The inputs that are told.
+fn inputs<R: Abort + AllocGlobal>(rt: &R, told: &[Told]) -> Result<Vec<Input>, Fail> {
+    let mut inputs = Vec::new(rt.alloc());
+    for each in told {
+        inputs.push(input(rt, *each))?;
+    }
+    Ok(inputs)
+}
+
 /// The kernel's limit after each input, in metres per hour.
-pub fn kernel_limits<R: AllocGlobal>(
+fn kernel_limits<R: AllocGlobal>(
     rt: &R,
     mode: Mode,
     train: &TrainData,
@@ -76,30 +89,60 @@ pub fn kernel_limits<R: AllocGlobal>(
     Ok(speeds)
 }
 
-/// The kernel and the plain program give this limit after each input, in metres per hour.
-pub fn row_of<R: Abort + AllocGlobal>(
+/// The limits that the plain program gives and the kernel too, over either store.
+pub fn same_limits<R: Abort + AllocGlobal>(
+    rt: &R,
+    name: &str,
+    mode: Mode,
+    train: &TrainData,
+    told: &[Told],
+) -> Result<Vec<u32>, Fail> {
+    let inputs = inputs(rt, told)?;
+    let plain = plain::limits(rt.alloc(), mode, train, &inputs)?;
+    let kernel = kernel_limits(rt, mode, train, &inputs)?;
+    assert_eq!(rt; kernel.as_slice(), plain.as_slice(), "kernel, {name}");
+    let stepped = limits_by_steps(rt, mode, train, told)?;
+    assert_eq!(rt;
+        stepped.as_slice(),
+        plain.as_slice(),
+        "kernel by steps, {name}"
+    );
+    Ok(plain)
+}
+
+/// All of them give the limits of a row.
+fn check_row<R: Abort + AllocGlobal>(
     rt: &R,
     mode: Mode,
     train: &TrainData,
-    row: &[(Told, u32)],
+    row: Row,
 ) -> Result<(), Fail> {
-    let mut inputs = Vec::new(rt.alloc());
+    let (name, steps) = row;
+    let mut told = Vec::new(rt.alloc());
     let mut expected = Vec::new(rt.alloc());
-    for (told, limit) in row {
-        inputs.push(input(rt, *told))?;
+    for (each, limit) in steps {
+        told.push(*each)?;
         expected.push(*limit)?;
     }
-    assert_eq!(rt;
-        kernel_limits(rt, mode, train, &inputs)?.as_slice(),
-        expected.as_slice(),
-        "kernel"
-    );
-    let plain = plain::limits(rt.alloc(), mode, train, &inputs)?;
-    assert_eq!(rt; plain.as_slice(), expected.as_slice(), "plain program");
+    let limits = same_limits(rt, name, mode, train, &told)?;
+    assert_eq!(rt; limits.as_slice(), expected.as_slice(), "{name}");
     Ok(())
 }
 
-/// A row in staff responsible.
-pub fn row<R: Abort + AllocGlobal>(rt: &R, row: &[(Told, u32)]) -> Result<(), Fail> {
-    row_of(rt, Mode::StaffResponsible, &train(rt, 20_000, 15), row)
+/// All of them give the limits of these rows.
+pub fn check_rows<R: Abort + AllocGlobal>(
+    rt: &R,
+    mode: Mode,
+    train: &TrainData,
+    rows: &[Row],
+) -> Result<(), Fail> {
+    for row in rows {
+        check_row(rt, mode, train, *row)?;
+    }
+    Ok(())
+}
+
+/// Rows in staff responsible, of a train of 20,000 cm.
+pub fn check_responsible<R: Abort + AllocGlobal>(rt: &R, rows: &[Row]) -> Result<(), Fail> {
+    check_rows(rt, Mode::StaffResponsible, &train(rt, 20_000, 15), rows)
 }

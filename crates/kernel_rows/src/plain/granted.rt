@@ -217,14 +217,19 @@ fn is_over(start: u64, time: Option<u64>, now: u64) -> bool {
 
 /// Whether the least front was at a place before a time was over that started at a moment.
 fn was_stopped(start: u64, stop: i64, time: Option<u64>, later: &[Word]) -> bool {
-    later.iter().any(|word| match word {
-        Word::Seen {
+    for word in later {
+        if let Word::Seen {
             moment,
             min_front,
             ..
-        } => stop <= *min_front && !is_over(start, time, *moment),
-        _ => false,
-    })
+        } = word
+        {
+            if stop <= *min_front && !is_over(start, time, *moment) {
+                return true;
+            }
+        }
+    }
+    false
 }
 
 /// When the greatest front was first at a place.

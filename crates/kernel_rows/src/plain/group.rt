@@ -24,10 +24,12 @@ impl Reading {
 
 /// The first reading of a place.
 pub fn at(readings: &[Reading], position: u64) -> Option<Reading> {
-    readings
-        .iter()
-        .find(|reading| reading.position() == position)
-        .copied()
+    for reading in readings {
+        if reading.position() == position {
+            return Some(*reading);
+        }
+    }
+    None
 }
 
 /// The reading that tells the place of a group: that of balise 1, or else the first one.
@@ -53,12 +55,15 @@ pub fn counted(alloc: Global, readings: &[Reading]) -> Result<Vec<Reading>, Allo
 
 /// Whether all places up to the last one of the first telegram are read.
 pub fn is_whole(readings: &[Reading]) -> bool {
-    match readings.first() {
-        None => false,
-        Some(first) => (0..=first.header.last_position.number()).all(|position| at(
-            readings, position,
-        ).is_some()),
+    let Some(first) = readings.first() else {
+        return false;
+    };
+    for position in 0..=first.header.last_position.number() {
+        if at(readings, position).is_none() {
+            return false;
+        }
     }
+    true
 }
 
 /// Whether the telegram of a place is known: it was read, or a neighbour repeats it.
@@ -76,30 +81,50 @@ fn is_known(readings: &[Reading], position: u64) -> bool {
 
 /// Whether the telegrams tell different totals, or whether the group is linked in different ways.
 fn is_mixed(readings: &[Reading], first: &Header) -> bool {
-    readings.iter().any(|reading| {
-        reading.header.last_position != first.last_position || reading.header.linked != first.linked
-    })
+    for reading in readings {
+        let header = &reading.header;
+        if header.last_position != first.last_position || header.linked != first.linked {
+            return true;
+        }
+    }
+    false
+}
+
+/// Whether any telegram has another counter than this one and 255.
+fn is_other_told(readings: &[Reading], counter: u64) -> bool {
+    for reading in readings {
+        let other = reading.header.counter.number();
+        if other != 255 && other != counter {
+            return true;
+        }
+    }
+    false
 }
 
 /// Whether the telegrams belong to no one message.
 fn has_other_counter(readings: &[Reading]) -> bool {
-    readings.iter().any(|reading| {
+    for reading in readings {
         let counter = reading.header.counter.number();
-        counter == 254
-            || counter != 255
-                && readings.iter().any(|other| {
-                    let another = other.header.counter.number();
-                    another != 255 && another != counter
-                })
-    })
+        if counter == 254 || counter != 255 && is_other_told(readings, counter) {
+            return true;
+        }
+    }
+    false
+}
+
+/// Whether the telegram of any place up to the last one isn't known.
+fn is_any_missing(readings: &[Reading], first: &Header) -> bool {
+    for position in 0..=first.last_position.number() {
+        if !is_known(readings, position) {
+            return true;
+        }
+    }
+    false
 }
 
 /// Whether a group that ended with these counted readings is broken.
 pub fn is_broken(readings: &[Reading], first: &Header) -> bool {
-    let is_missing = (0..=first.last_position.number()).any(|position| !is_known(
-        readings, position,
-    ));
-    is_mixed(readings, first) || has_other_counter(readings) || is_missing
+    is_mixed(readings, first) || has_other_counter(readings) || is_any_missing(readings, first)
 }
 
 /// The direction in which the group was passed, by the first two of the counted readings.

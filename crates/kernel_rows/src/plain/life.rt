@@ -107,6 +107,17 @@ fn told_place(
     }
 }
 
+/// The direction in which a group was passed: by its readings, or else as it was announced.
+fn running_direction(
+    group: &[Reading],
+    announcement: Option<&Announcement>,
+) -> Option<LinkOrientation> {
+    match (group::direction(group), announcement) {
+        (None, Some(announcement)) => Some(announcement.direction),
+        (read, _) => read,
+    }
+}
+
 /// A group is accepted, whose place one of its readings tells: it makes its fix, and then its packets are used.
 fn accept(
     alloc: Global,
@@ -134,8 +145,7 @@ fn accept(
             from = at;
         }
     }
-    let announced = announcement.map(|announcement| announcement.direction);
-    let running = group::direction(group).or(announced);
+    let running = running_direction(group, announcement);
     use_packets(alloc, life, inputs, group, from, running)
 }
 

@@ -77,15 +77,22 @@ fn goes(announcement: &Announcement, later: &Word) -> bool {
     }
 }
 
+/// Whether an announcement goes by anything that was told later.
+fn is_gone(announcement: &Announcement, later: &[Word]) -> bool {
+    for word in later {
+        if goes(announcement, word) {
+            return true;
+        }
+    }
+    false
+}
+
 /// The announcements that are left, in the order of their list.
 pub fn left(alloc: Global, words: &[Word]) -> Result<Vec<Announcement>, AllocError> {
     let mut left = Vec::new(alloc);
     for (place, word) in words.iter().enumerate() {
         if let Word::Announced(announcement) = word {
-            if !words[place + 1..]
-                .iter()
-                .any(|later| goes(announcement, later))
-            {
+            if !is_gone(announcement, &words[place + 1..]) {
                 left.push(*announcement)?;
             }
         }
@@ -95,9 +102,12 @@ pub fn left(alloc: Global, words: &[Word]) -> Result<Vec<Announcement>, AllocErr
 
 /// The first announcement of a group.
 pub fn first_of(left: &[Announcement], group: GroupIdentity) -> Option<Announcement> {
-    left.iter()
-        .find(|announcement| announcement.group == group)
-        .copied()
+    for announcement in left {
+        if announcement.group == group {
+            return Some(*announcement);
+        }
+    }
+    None
 }
 
 /// Those whose place the least front has left behind go.

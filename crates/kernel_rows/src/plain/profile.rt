@@ -128,7 +128,12 @@ pub fn value_from<V: Copy>(elements: &[Element<V>], mark: i64, place: i64) -> Op
 /// Whether there is a value at any centimetre that isn't forgotten: then there is one where an element begins, or at
 /// the mark.
 pub fn is_anywhere<V: Copy>(elements: &[Element<V>], mark: i64) -> bool {
-    elements.iter().any(|element| value_at(elements, element.place.max(mark)).is_some())
+    for element in elements {
+        if value_at(elements, element.place.max(mark)).is_some() {
+            return true;
+        }
+    }
+    false
 }
 
 /// The last place where an element begins, or another one behind it.

@@ -44,12 +44,18 @@ pub fn area_of(packet: &SpeedRestriction, from: i64) -> Area {
 }
 
 /// Whether a restriction is ended by what was told later.
-fn is_ended(area: &Area, later: &Telling) -> bool {
-    match later {
-        Telling::Restricted(by) => by.number == area.number && area.number != 255,
-        Telling::Revoked(number) => *number == area.number && area.number != 255,
-        Telling::Forgotten(_) => false,
+fn is_ended(area: &Area, later: &[Telling]) -> bool {
+    for telling in later {
+        let ended = match telling {
+            Telling::Restricted(by) => by.number == area.number,
+            Telling::Revoked(number) => *number == area.number,
+            Telling::Forgotten(_) => false,
+        };
+        if ended && area.number != 255 {
+            return true;
+        }
     }
+    false
 }
 
 /// The restrictions that nothing later ended.
@@ -57,10 +63,7 @@ pub fn standing(alloc: Global, tellings: &[Telling]) -> Result<Vec<Area>, AllocE
     let mut areas = Vec::new(alloc);
     for (place, telling) in tellings.iter().enumerate() {
         if let Telling::Restricted(area) = telling {
-            if !tellings[place + 1..]
-                .iter()
-                .any(|later| is_ended(area, later))
-            {
+            if !is_ended(area, &tellings[place + 1..]) {
                 areas.push(*area)?;
             }
         }
@@ -91,7 +94,12 @@ fn limits_at(area: &Area, mark: i64, train: &Train, place: i64) -> bool {
 /// Whether a restriction limits the train at any of its centimetres. The train's are more where its path was long.
 fn limits(area: &Area, mark: i64, train: &Train) -> bool {
     let end = area.start.saturating_add(area.length);
-    (area.start..end).any(|place| limits_at(area, mark, train, place))
+    for place in area.start..end {
+        if limits_at(area, mark, train, place) {
+            return true;
+        }
+    }
+    false
 }
 
 /// The least speed of the restrictions that cover a place which isn't forgotten, in metres per hour.

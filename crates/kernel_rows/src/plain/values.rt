@@ -36,6 +36,16 @@ pub struct Values {
     announced: Option<Announced>,
 }
 
+/// Whether a country is among these.
+fn is_listed(countries: &[Country], country: Country) -> bool {
+    for listed in countries {
+        if *listed == country {
+            return true;
+        }
+    }
+    false
+}
+
 impl Values {
     pub fn new(alloc: Global) -> Values {
         Values {
@@ -47,7 +57,7 @@ impl Values {
 
     /// A group of a country is accepted. A country that the values in force aren't for has the defaults.
     pub fn enter(&mut self, country: Country) -> Result<(), AllocError> {
-        if !self.countries.is_empty() && !self.countries.iter().any(|other| *other == country) {
+        if !self.countries.is_empty() && !is_listed(&self.countries, country) {
             self.speeds = DEFAULTS;
             self.countries.clear();
             self.countries.push(country)?;
@@ -88,7 +98,10 @@ impl Values {
     pub fn reach(&mut self, max_front: i64) {
         let is_reached = match &self.announced {
             None => false,
-            Some(announced) => announced.start.is_none_or(|start| start <= max_front),
+            Some(announced) => match announced.start {
+                None => true,
+                Some(start) => start <= max_front,
+            },
         };
         if is_reached {
             if let Some(announced) = self.announced.take() {

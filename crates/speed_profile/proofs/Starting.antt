@@ -13,15 +13,16 @@ use Rattle.braking.proofs.Naturals.{natural_is}
 use Rattle.track_store.specs.declared.restriction.Restriction.{Restriction}
 use Rattle.track_store.specs.Restrictions.{covers, end_of}
 use Rattle.authority.specs.declared.answers.End.{End}
+use Rattle.braking.specs.declared.brakes.Brakes.{Brakes}
 use Rattle.braking.specs.declared.target.Target.{Target}
 use Rattle.speed_profile.specs.declared.told.CategorySpeeds.{CategorySpeeds}
 use Rattle.speed_profile.specs.declared.limit.Bounds.{Bounds}
 use Rattle.speed_profile.specs.Told.{speed_of}
-use Rattle.speed_profile.specs.Ahead.{greatest_place, unknown_target, static_target, static_targets, restriction_targets}
+use Rattle.speed_profile.specs.Ahead.{greatest_place, unknown_target, static_target, static_targets, restriction_targets, permitted_by}
 use Rattle.speed_profile.specs.Starts.{first_covered, first_target}
 use Rattle.speed_profile.proofs.Members.{in_left, in_right, in_either, one_passed, passes}
 use Rattle.speed_profile.proofs.Farther.{IsNoNearer}
-use Rattle.speed_profile.proofs.Passes.{AreCovered}
+use Rattle.speed_profile.proofs.Passes.{AreCovered, goes_on}
 
 itself : (t : Target) → IsNoNearer t t
 itself t = record { place = omega (arith, ints); speed = refl }
@@ -259,3 +260,10 @@ appended_covered first second = record {
   second_in = λ t h. in_right t first second h;
   nearer = λ t h. elim (in_either t first second h) [ inl a ↦ (t, inl a, itself t) | inr b ↦ (t, inr b, itself t) ];
 }
+
+-- the last targets are sought up to what was found for those before them
+pub last_too : (front : ℤ) (gradient : ℤ → Option ℤ) (brakes : Brakes) (ahead last : List Target) (limit found : ℕ) →
+    found ≡ permitted_by front gradient brakes ahead limit →
+    permitted_by front gradient brakes last found ≡ permitted_by front gradient brakes (ahead ++ last) limit
+last_too front gradient brakes ahead last limit found is =
+    goes_on front gradient brakes ahead last (ahead ++ last) limit found _ (appended_covered ahead last) is refl

@@ -1,7 +1,7 @@
 //! The speed that holds for what lies ahead.
-ghost use Rattle.std.specs.Prelude.{◌≡◌, ℤ, ◌+ℤ◌, ◌<ℤ◌, pos, MatchOption};
+ghost use Rattle.std.specs.Prelude.{◌≡◌, ℤ, ◌+ℤ◌, ◌<ℤ◌, pos, MatchOption, Some};
 ghost use Rattle.track_store.specs.Profiles.{listed};
-ghost use Rattle.speed_profile.specs.Ahead.{greatest_place, unknown_target, static_target, static_targets, restriction_targets, over_ahead, permitted_by, permitted_ahead};
+ghost use Rattle.speed_profile.specs.Ahead.{greatest_place, unknown_target, static_target, static_targets, restriction_targets, targets_ahead, over_ahead, permitted_by, permitted_ahead};
 ghost use Rattle.speed_profile.specs.Starts.{first_covered, first_target};
 
 use crate::{Bounds, CategorySpeeds};
@@ -36,9 +36,31 @@ impl<'a, S: Profile<CategorySpeeds>, G: Profile<Permille>> Ahead<'a, S, G> {
         ensures { result ≡ permitted_ahead self.now.front limit last self.now.bounds.now (S.value self.now.speeds.now)
             self.now.restrictions.now (G.value self.now.gradient.now) self.now.brakes.now }
     {
-        let limit = self.for_static_speeds(limit);
-        let limit = self.for_restrictions(limit);
-        self.for_target(limit, last)
+        let speed = self.for_track(limit);
+        self.for_target(speed, last)
+    }
+
+    /// What `permitted` answers for one last target, and what it answers for another one. The static speeds and the
+    /// restrictions are gone through once for both.
+    pub fn permitted_for_either(&self, limit: Mph, one: Target, other: Target) -> (Mph, Mph)
+        ensures one { result.0 ≡ permitted_ahead self.now.front limit (Some one) self.now.bounds.now (S.value self.now.speeds.now)
+            self.now.restrictions.now (G.value self.now.gradient.now) self.now.brakes.now }
+        ensures other { result.1 ≡ permitted_ahead self.now.front limit (Some other) self.now.bounds.now (S.value self.now.speeds.now)
+            self.now.restrictions.now (G.value self.now.gradient.now) self.now.brakes.now }
+    {
+        let speed = self.for_track(limit);
+        let to_one = self.for_target(speed, Some(one));
+        let to_other = self.for_target(speed, Some(other));
+        (to_one, to_other)
+    }
+
+    // The greatest speed up to a limit that fits the static speeds and the restrictions ahead.
+    fn for_track(&self, limit: Mph) -> Mph
+        ensures { result ≡ permitted_by self.now.front (G.value self.now.gradient.now) self.now.brakes.now
+            (targets_ahead self.now.front self.now.bounds.now (S.value self.now.speeds.now) self.now.restrictions.now) limit }
+    {
+        let speed = self.for_static_speeds(limit);
+        self.for_restrictions(speed)
     }
 
     // The greatest speed up to a limit that fits the static speeds ahead.

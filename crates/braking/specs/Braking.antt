@@ -7,6 +7,7 @@ use Rattle.units.specs.Stretches.{natural}
 use Rattle.braking.specs.declared.brakes.Brakes.{Brakes}
 use Rattle.braking.specs.declared.target.Target.{Target}
 use Rattle.braking.specs.declared.slowing.Rest.{Rest}
+use Rattle.braking.specs.declared.slowing.Summed.{Summed}
 
 -- the deceleration on a gradient, which 1 per mille changes by 0.981 cm/s^2, rounded down; never below 0, and 0 where no
 -- gradient is known
@@ -29,6 +30,10 @@ IsRest gradient deceleration to rest =
     (rest.from ≤ℤ to)
     × (rest.taken_off ≡ braked gradient deceleration rest.from (natural (to -ℤ rest.from)))
     × (rest.taken_off ≤ 1_423_008 * natural (to -ℤ rest.from))
+
+-- .. of the last stretch that is summed, up to its own end
+abbrev pub IsSummed : (ℤ → Option ℤ) → ℕ → Summed → Type 0
+IsSummed gradient deceleration summed = IsRest gradient deceleration summed.to summed.rest
 
 -- the way that a train runs before its brakes act, rounded up: 36,000 m/h in 1 ms are 1 cm
 abbrev pub reaction_way : ℕ → ℕ → ℕ

@@ -1,11 +1,13 @@
 //! The greatest speed from which a train can still brake (this project's profile).
 #![tactic(auto)]
 
+mod approach;
 mod brakes;
 mod slowing;
 mod speeds;
 mod target;
 
+pub use approach::{Approach, permitted};
 pub use brakes::{Brakes, Deceleration, Reaction};
-pub use speeds::{fits, permitted};
+pub use speeds::fits;
 pub use target::Target;

@@ -2,7 +2,7 @@ ghost use Rattle.std.specs.Prelude.{◌≡◌, ℕ, ◌*◌, ◌^◌, ◌≤◌,
 ghost use Rattle.std.specs.Int.{int_div_euclid};
 ghost use Rattle.units.specs.Stretches.{natural};
 ghost use Rattle.track_store.specs.Profiles.{Lasts};
-ghost use Rattle.braking.specs.Braking.{braked, slowing_on, IsRest};
+ghost use Rattle.braking.specs.Braking.{braked, slowing_on, IsRest, IsSummed};
 
 use crate::Deceleration;
 use track_store::Profile;
@@ -28,6 +28,57 @@ impl Rest {
             taken_off: 0,
         }
     }
+}
+
+// A place, with what is known of the last stretch before it.
+#[derive(Clone, Copy)]
+pub struct Summed {
+    // The place.
+    pub to: Cm,
+    // The stretch.
+    pub rest: Rest,
+}
+
+impl Summed {
+    // No stretch, before a place.
+    pub fn none(place: Cm) -> Summed
+        ensures { (gradient : ℤ → Option ℤ) → (deceleration : ℕ) → IsSummed gradient deceleration result }
+    {
+        Summed {
+            to: place,
+            rest: Rest::none(place),
+        }
+    }
+
+    // The one that goes farther ahead.
+    pub fn farther(self, other: Summed) -> Summed
+        ensures { (gradient : ℤ → Option ℤ) → (deceleration : ℕ) → IsSummed gradient deceleration self → IsSummed gradient deceleration other
+            → IsSummed gradient deceleration result }
+    {
+        if other.to < self.to { self } else { other }
+    }
+}
+
+// What a stretch from one place up to another takes off the square of the speed, where another stretch is summed: if that
+// lies within, only what lies before and behind it is gone through.
+pub fn taken_off_over<P: Profile<Permille>>(
+    gradient: &P,
+    deceleration: Deceleration,
+    from: Cm,
+    to: Cm,
+    summed: &Summed,
+) -> u64
+    requires ordered { from ≤ℤ to }
+    requires near { natural (to -ℤ from) ≤ 2 ^ 43 }
+    requires summed { IsSummed (P.value gradient.now) deceleration summed.now }
+    ensures value { result ≡ braked (P.value gradient.now) deceleration from (natural (to -ℤ from)) }
+    ensures small { result ≤ 1_423_008 * natural (to -ℤ from) }
+{
+    if summed.rest.from < from || to < summed.to {
+        return taken_off(gradient, deceleration, from, to);
+    }
+    let before = taken_off_before(gradient, deceleration, from, summed.to, &summed.rest);
+    before + taken_off(gradient, deceleration, summed.to, to)
 }
 
 // What a stretch from one place up to another takes off the square of the speed, where that of its rest is known.

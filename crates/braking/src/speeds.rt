@@ -1,30 +1,11 @@
 ghost use Rattle.std.specs.Prelude.{◌≡◌, ℕ, ◌+◌, ◌^◌, ◌<◌, ◌≤◌, ℤ, pos, ◌+ℤ◌, ◌-ℤ◌, ◌<ℤ◌, ◌↔◌, IsTrue, IsSome, IfSome, MatchOption};
 ghost use Rattle.units.specs.Stretches.{natural};
-ghost use Rattle.braking.specs.Braking.{fits, fits_all, greatest, reaction_way, ActsBy, IsRest};
+ghost use Rattle.braking.specs.Braking.{fits, greatest, reaction_way, ActsBy, IsRest, IsSummed};
 
-use crate::slowing::{Rest, taken_off, taken_off_before};
+use crate::slowing::{Rest, Summed, taken_off_before, taken_off_over};
 use crate::{Brakes, Reaction, Target};
 use track_store::Profile;
 use units::{Cm, Mph, Permille};
-
-/// The greatest speed up to a limit that fits all targets, for a train whose greatest front is at a place; 0 where none
-/// does. Takes no memory. A speed below one that fits also fits, so it is looked for target by target, each time up to
-/// the one found so far. For each target the gradients up to it are gone through once.
-pub fn permitted<P: Profile<Permille>>(
-    front: Cm,
-    limit: Mph,
-    targets: &[Target],
-    gradient: &P,
-    brakes: &Brakes,
-) -> Mph
-    ensures { result ≡ greatest (fits_all front (P.value gradient.now) brakes.now targets.now) limit }
-{
-    let mut speed = limit;
-    for target in targets {
-        speed = permitted_by(front, speed, target, gradient, brakes);
-    }
-    speed
-}
 
 /// Whether a speed fits a target, for a train whose greatest front is at a place: it is no greater than the target's,
 /// or the brakes act before the target and take off enough. A speed below one that fits also fits.
@@ -43,27 +24,28 @@ pub fn fits<P: Profile<Permille>>(
     fits_before(front, speed, target, gradient, brakes, &rest)
 }
 
-// The greatest speed up to a limit that fits a target; 0 where none does.
-fn permitted_by<P: Profile<Permille>>(
+// The greatest speed up to a limit above a target's that fits the target, where it is known what the last stretch before the
+// target takes off.
+pub fn permitted_before<P: Profile<Permille>>(
     front: Cm,
     limit: Mph,
     target: &Target,
     gradient: &P,
     brakes: &Brakes,
+    rest: &Rest,
 ) -> Mph
+    requires faster { target.now.speed < limit }
+    requires rest { IsRest (P.value gradient.now) brakes.now.deceleration target.now.place rest.now }
+    requires acts { (v : ℕ) → v ≤ limit → ActsBy front brakes.now.reaction target.now.place rest.now.from v }
     ensures { result ≡ greatest (fits front (P.value gradient.now) brakes.now target.now) limit }
 {
-    if limit <= target.speed {
-        return limit;
-    }
-    let rest = rest_behind(front, limit, target, gradient, brakes);
-    if fits_before(front, limit, target, gradient, brakes, &rest) {
+    if fits_before(front, limit, target, gradient, brakes, rest) {
         return limit;
     }
     let mut low = target.speed;
     let mut high = limit;
     while let Some(middle) = halfway(low, high) {
-        if fits_before(front, middle, target, gradient, brakes, &rest) {
+        if fits_before(front, middle, target, gradient, brakes, rest) {
             low = middle;
         } else {
             high = middle;
@@ -73,13 +55,15 @@ fn permitted_by<P: Profile<Permille>>(
 }
 
 // The last stretch before a target: from where the brakes act at a speed. No slower one has them act behind that.
-fn rest_behind<P: Profile<Permille>>(
+pub fn rest_behind<P: Profile<Permille>>(
     front: Cm,
     speed: Mph,
     target: &Target,
     gradient: &P,
     brakes: &Brakes,
+    summed: &Summed,
 ) -> Rest
+    requires summed { IsSummed (P.value gradient.now) brakes.now.deceleration summed.now }
     ensures rest { IsRest (P.value gradient.now) brakes.now.deceleration target.now.place result }
     ensures acts { (v : ℕ) → v ≤ speed → ActsBy front brakes.now.reaction target.now.place result.from v }
 {
@@ -87,7 +71,7 @@ fn rest_behind<P: Profile<Permille>>(
         None => Rest::none(target.place),
         Some(from) => Rest {
             from,
-            taken_off: taken_off(gradient, brakes.deceleration, from, target.place),
+            taken_off: taken_off_over(gradient, brakes.deceleration, from, target.place, summed),
         },
     }
 }

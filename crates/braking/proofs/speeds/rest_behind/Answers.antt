@@ -16,4 +16,4 @@ returns-in-Some-clause-acts g c v below = λ h.
 pub returns-in-Some-clause-rest : goal.returns-in-Some-clause-rest
 returns-in-Some-clause-rest g c =
     let ahead : c.in-Some.from <ℤ c.args.target.now.place = omega (arith, ints, c.in-Some.ensures.value, c.in-Some.ensures.found.0 refl) in
-    (omega (arith, ints), c.taken_off.ensures.value, c.taken_off.ensures.small)
+    (omega (arith, ints), c.taken_off_over.ensures.value, c.taken_off_over.ensures.small)

@@ -1,15 +1,8 @@
-use Rattle.std.proofs.Common.{◌≤◌, ◌+◌, sym, ◌∙◌, inr, arith, rules}
+use Rattle.std.proofs.Common.{◌≤◌, ◌+◌, sym, ◌∙◌, inr, arith}
 use Rattle.braking.specs.Braking.{fits}
 use Rattle.braking.proofs.Slower.{slow_fits, faster_fails}
 use Rattle.braking.proofs.Greatest.{greatest_is}
-use Rattle.braking.proofs.speeds.permitted_by.Goals as goal
-
-pub returns-then-le : goal.returns-then-le
-returns-then-le g c =
-    let slow : c.args.limit ≤ c.args.target.now.speed = search rules in
-    sym (greatest_is (fits c.args.front (g.P.Profile.value c.args.gradient.now) c.args.brakes.now c.args.target.now) c.args.limit c.args.limit
-    (omega arith) (inr (slow_fits c.args.front (g.P.Profile.value c.args.gradient.now) c.args.brakes.now c.args.target.now c.args.limit slow))
-    (λ k above below. absurd (omega arith)))
+use Rattle.braking.proofs.speeds.permitted_before.Goals as goal
 
 pub returns-then-fits_before : goal.returns-then-fits_before
 returns-then-fits_before g c =
@@ -18,7 +11,7 @@ returns-then-fits_before g c =
 
 pub loop-middle-init : goal.loop-middle-init
 loop-middle-init g c =
-    let fast : c.args.target.now.speed ≤ c.args.limit = search rules in
+    let fast : c.args.target.now.speed ≤ c.args.limit = omega (arith, c.requires.faster) in
     record {
       ordered = fast;
       within = omega arith;

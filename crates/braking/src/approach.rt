@@ -1,0 +1,111 @@
+//! The permitted speed, target by target.
+ghost use Rattle.std.specs.Prelude.{◌≡◌};
+ghost use Rattle.braking.specs.Braking.{fits_all, greatest};
+ghost use Rattle.braking.specs.Approaches.{lowered};
+
+use crate::slowing::Summed;
+use crate::speeds::{permitted_before, rest_behind};
+use crate::{Brakes, Target};
+use std::marker::Model;
+use track_store::Profile;
+use units::{Cm, Mph, Permille};
+
+/// A train that is told one target ahead after another, and the greatest speed that fits those so far. What the braking
+/// takes off is carried from one target to the next: for a target farther ahead only the gradients between are gone
+/// through.
+#[derive(Drop)]
+pub struct Approach<'a, P: Profile<Permille>> {
+    front: Cm,
+    gradient: &'a P,
+    brakes: &'a Brakes,
+    speed: Mph,
+    summed: Summed,
+}
+
+impl<'a, P: Profile<Permille>> Model for Approach<'a, P> {
+    ghost use Rattle.braking.specs.Braking.{IsSummed};
+    ghost use Rattle.braking.specs.Approaches.{Course};
+
+    ghost Value = { Course P };
+
+    ghost view = { λ a. record { front = a.front; gradient = a.gradient.now; brakes = a.brakes.now; speed = a.speed } };
+
+    ghost invariant = { λ a. IsSummed (P.value a.gradient.now) a.brakes.now.deceleration a.summed };
+}
+
+impl<'a, P: Profile<Permille>> Approach<'a, P> {
+    /// No target yet, for a train whose greatest front is at a place: the speed is the limit. Takes no memory.
+    pub fn new(front: Cm, limit: Mph, gradient: &'a P, brakes: &'a Brakes) -> Approach<'a, P>
+        ensures { result ≡ record { front = front; gradient = gradient.now; brakes = brakes.now; speed = limit } }
+    {
+        let summed = Summed::none(front);
+        Approach {
+            front,
+            gradient,
+            brakes,
+            speed: limit,
+            summed,
+        }
+    }
+
+    /// The same one again.
+    pub fn copy(&self) -> Approach<'a, P>
+        ensures { result ≡ self.now }
+    {
+        Approach {
+            front: self.front,
+            gradient: self.gradient,
+            brakes: self.brakes,
+            speed: self.speed,
+            summed: self.summed,
+        }
+    }
+
+    /// The greatest speed up to the limit that fits all targets so far; 0 where none does.
+    pub fn speed(&self) -> Mph
+        ensures { result ≡ self.now.speed }
+    {
+        self.speed
+    }
+
+    /// Tells it of a target: the greatest speed up to the one so far that fits the target. A target whose speed is no less
+    /// than the one so far costs nothing.
+    pub fn lower(&mut self, target: &Target)
+        ensures { self.new ≡ lowered (P.value self.old.gradient) target.now self.old }
+    {
+        if self.speed <= target.speed {
+            return;
+        }
+        let (front, speed) = (self.front, self.speed);
+        let rest = rest_behind(
+            front,
+            speed,
+            target,
+            self.gradient,
+            self.brakes,
+            &self.summed,
+        );
+        self.speed = permitted_before(front, speed, target, self.gradient, self.brakes, &rest);
+        let to = target.place;
+        self.summed = self.summed.farther(Summed { to, rest });
+    }
+}
+
+/// The greatest speed up to a limit that fits all targets, for a train whose greatest front is at a place; 0 where none
+/// does. Takes no memory. A speed below one that fits also fits, so it is looked for target by target, each time up to
+/// the one found so far.
+pub fn permitted<P: Profile<Permille>>(
+    front: Cm,
+    limit: Mph,
+    targets: &[Target],
+    gradient: &P,
+    brakes: &Brakes,
+) -> Mph
+    ensures { result ≡ greatest (fits_all front (P.value gradient.now) brakes.now targets.now) limit }
+{
+    let mut approach = Approach::new(front, limit, gradient, brakes);
+    for target in targets {
+        approach.lower(target);
+    }
+    approach.speed()
+}

@@ -7,6 +7,8 @@ use Rattle.units.proofs.Gathering.{IsIn}
 use Rattle.braking.specs.declared.brakes.Brakes.{Brakes}
 use Rattle.braking.specs.declared.target.Target.{Target}
 use Rattle.braking.specs.Braking.{fits, fits_all, greatest}
+use Rattle.braking.specs.Approaches.{Course, at_speed, lowered_by}
+use Rattle.braking.proofs.Approaching.{lowered_by_none}
 use Rattle.braking.proofs.Slower.{slower_fits}
 use Rattle.braking.proofs.Greatest.{greatest_is}
 use Rattle.speed_profile.specs.Ahead.{permitted_by}
@@ -108,15 +110,7 @@ module _ (front : ℤ) (gradient : ℤ → Option ℤ) (brakes : Brakes) where
   abbrev permitted : List Target → ℕ → ℕ
   permitted targets limit = permitted_by front gradient brakes targets limit
 
-  pub none_asked : (limit : ℕ) → permitted [] limit ≡ limit
-  none_asked limit =
-      greatest_is (fits_all front gradient brakes []) limit limit (omega arith) (inr refl) (λ k above below. absurd (omega arith))
-
-  pub nothing_asked : (targets : List Target) (limit : ℕ) → ((t : Target) → IsIn t targets → ⊥) → permitted targets limit ≡ limit
-  nothing_asked [] limit none = none_asked limit
-  nothing_asked (target ∷ targets) limit none = absurd (none target (inl refl))
-
-  pub two_passes : (first second all : List Target) (limit : ℕ) → AreCovered first second all →
+  two_passes : (first second all : List Target) (limit : ℕ) → AreCovered first second all →
       permitted second (permitted first limit) ≡ permitted all limit
   two_passes first second all limit covered =
       let middle = permitted first limit in
@@ -141,8 +135,15 @@ module _ (front : ℤ) (gradient : ℤ → Option ℤ) (brakes : Brakes) where
       ] in
       sym (greatest_is (fits_all front gradient brakes all) found limit (omega arith) (inr (fit_all all found each)) above)
 
-  -- the second pass goes on from what the first one found, where all is known to give a whole
-  pub goes_on : (first second all : List Target) (limit found whole : ℕ) → AreCovered first second all →
-      found ≡ permitted first limit → permitted all limit ≡ whole → permitted second found ≡ whole
-  goes_on first second all limit found whole covered is known =
-      ap (permitted second) is ∙ two_passes first second all limit covered ∙ known
+-- a train that is told of some targets and then of others was told of all
+module _ {G : Type 0} (value : G → ℤ → Option ℤ) where
+  pub told_on : (first second all : List Target) (old new : Course G) → AreCovered first second all →
+      new ≡ lowered_by (value old.gradient) first old → lowered_by (value new.gradient) second new ≡ lowered_by (value old.gradient) all old
+  told_on first second all old new covered is =
+      ap (λ (x : Course G). lowered_by (value x.gradient) second x) is
+      ∙ ap (at_speed old) (two_passes old.front (value old.gradient) old.brakes first second all old.speed covered)
+
+  pub nothing_told : (targets : List Target) (course : Course G) → ((t : Target) → IsIn t targets → ⊥) →
+      lowered_by (value course.gradient) targets course ≡ course
+  nothing_told [] course none = lowered_by_none value course
+  nothing_told (target ∷ targets) course none = absurd (none target (inl refl))

@@ -13,8 +13,9 @@ use Rattle.braking.proofs.Naturals.{natural_is}
 use Rattle.track_store.specs.declared.restriction.Restriction.{Restriction}
 use Rattle.track_store.specs.Restrictions.{covers, end_of}
 use Rattle.authority.specs.declared.answers.End.{End}
-use Rattle.braking.specs.declared.brakes.Brakes.{Brakes}
 use Rattle.braking.specs.declared.target.Target.{Target}
+use Rattle.braking.specs.Approaches.{Course, lowered_by}
+use Rattle.braking.proofs.Approaching.{same_speed}
 use Rattle.speed_profile.specs.declared.told.CategorySpeeds.{CategorySpeeds}
 use Rattle.speed_profile.specs.declared.limit.Bounds.{Bounds}
 use Rattle.speed_profile.specs.Told.{speed_of}
@@ -22,7 +23,7 @@ use Rattle.speed_profile.specs.Ahead.{greatest_place, unknown_target, static_tar
 use Rattle.speed_profile.specs.Starts.{first_covered, first_target}
 use Rattle.speed_profile.proofs.Members.{in_left, in_right, in_either, one_passed, passes}
 use Rattle.speed_profile.proofs.Farther.{IsNoNearer}
-use Rattle.speed_profile.proofs.Passes.{AreCovered, goes_on}
+use Rattle.speed_profile.proofs.Passes.{AreCovered, told_on}
 
 itself : (t : Target) → IsNoNearer t t
 itself t = record { place = omega (arith, ints); speed = refl }
@@ -261,9 +262,10 @@ appended_covered first second = record {
   nearer = λ t h. elim (in_either t first second h) [ inl a ↦ (t, inl a, itself t) | inr b ↦ (t, inr b, itself t) ];
 }
 
--- the last targets are sought up to what was found for those before them
-pub last_too : (front : ℤ) (gradient : ℤ → Option ℤ) (brakes : Brakes) (ahead last : List Target) (limit found : ℕ) →
-    found ≡ permitted_by front gradient brakes ahead limit →
-    permitted_by front gradient brakes last found ≡ permitted_by front gradient brakes (ahead ++ last) limit
-last_too front gradient brakes ahead last limit found is =
-    goes_on front gradient brakes ahead last (ahead ++ last) limit found _ (appended_covered ahead last) is refl
+-- the speed of a train that was told of what lies ahead, and then of the last targets
+pub last_told : {G : Type 0} (value : G → ℤ → Option ℤ) (ahead last : List Target) (start middle end : Course G) →
+    middle ≡ lowered_by (value start.gradient) ahead start → end ≡ lowered_by (value middle.gradient) last middle →
+    end.speed ≡ permitted_by start.front (value start.gradient) start.brakes (ahead ++ last) start.speed
+last_told value ahead last start middle end first second =
+    same_speed value end (lowered_by (value start.gradient) (ahead ++ last) start)
+    (second ∙ told_on value ahead last (ahead ++ last) start middle (appended_covered ahead last) first)

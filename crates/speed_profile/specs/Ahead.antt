@@ -9,6 +9,7 @@ use Rattle.authority.specs.declared.answers.End.{End}
 use Rattle.braking.specs.declared.brakes.Brakes.{Brakes}
 use Rattle.braking.specs.declared.target.Target.{Target}
 use Rattle.braking.specs.Braking.{fits_all, greatest}
+use Rattle.braking.specs.Approaches.{Course}
 use Rattle.speed_profile.specs.declared.told.CategorySpeeds.{CategorySpeeds}
 use Rattle.speed_profile.specs.declared.limit.Bounds.{Bounds}
 use Rattle.speed_profile.specs.Told.{speed_of}
@@ -54,3 +55,7 @@ permitted_by front gradient brakes targets limit = greatest (fits_all front grad
 abbrev pub permitted_ahead : ℤ → ℕ → Option Target → Bounds → (ℤ → Option CategorySpeeds) → InForce → (ℤ → Option ℤ) → Brakes → ℕ
 permitted_ahead front limit last bounds profile track gradient brakes =
     permitted_by front gradient brakes (targets_ahead front bounds profile track ++ listed last) limit
+
+-- a train that was told of no target yet
+abbrev pub setting_out : {G : Type 0} → ℤ → ℕ → G → Brakes → Course G
+setting_out front limit gradient brakes = record { front = front; gradient = gradient; brakes = brakes; speed = limit }

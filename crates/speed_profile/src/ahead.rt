@@ -1,12 +1,13 @@
 //! The speed that holds for what lies ahead.
 ghost use Rattle.std.specs.Prelude.{◌≡◌, ℤ, ◌+ℤ◌, ◌<ℤ◌, pos, MatchOption, Some};
 ghost use Rattle.track_store.specs.Profiles.{listed};
-ghost use Rattle.speed_profile.specs.Ahead.{greatest_place, unknown_target, static_target, static_targets, restriction_targets, targets_ahead, over_ahead, permitted_by, permitted_ahead};
+ghost use Rattle.braking.specs.Approaches.{lowered_by};
+ghost use Rattle.speed_profile.specs.Ahead.{greatest_place, unknown_target, static_target, static_targets, restriction_targets, targets_ahead, over_ahead, permitted_ahead, setting_out};
 ghost use Rattle.speed_profile.specs.Starts.{first_covered, first_target};
 
 use crate::{Bounds, CategorySpeeds};
 use authority::End;
-use braking::{Brakes, Target, permitted};
+use braking::{Approach, Brakes, Target};
 use track_store::{Profile, Restriction, Restrictions};
 use units::{Cm, Mph, Permille};
 
@@ -36,8 +37,9 @@ impl<'a, S: Profile<CategorySpeeds>, G: Profile<Permille>> Ahead<'a, S, G> {
         ensures { result ≡ permitted_ahead self.now.front limit last self.now.bounds.now (S.value self.now.speeds.now)
             self.now.restrictions.now (G.value self.now.gradient.now) self.now.brakes.now }
     {
-        let speed = self.for_track(limit);
-        self.for_target(speed, last)
+        let mut approach = self.approach(limit);
+        tell(&mut approach, last);
+        approach.speed()
     }
 
     /// What `permitted` answers for one last target, and what it answers for another one. The static speeds and the
@@ -48,60 +50,59 @@ impl<'a, S: Profile<CategorySpeeds>, G: Profile<Permille>> Ahead<'a, S, G> {
         ensures other { result.1 ≡ permitted_ahead self.now.front limit (Some other) self.now.bounds.now (S.value self.now.speeds.now)
             self.now.restrictions.now (G.value self.now.gradient.now) self.now.brakes.now }
     {
-        let speed = self.for_track(limit);
-        let to_one = self.for_target(speed, Some(one));
-        let to_other = self.for_target(speed, Some(other));
-        (to_one, to_other)
+        let mut to_one = self.approach(limit);
+        let mut to_other = to_one.copy();
+        tell(&mut to_one, Some(one));
+        tell(&mut to_other, Some(other));
+        (to_one.speed(), to_other.speed())
     }
 
-    // The greatest speed up to a limit that fits the static speeds and the restrictions ahead.
-    fn for_track(&self, limit: Mph) -> Mph
-        ensures { result ≡ permitted_by self.now.front (G.value self.now.gradient.now) self.now.brakes.now
-            (targets_ahead self.now.front self.now.bounds.now (S.value self.now.speeds.now) self.now.restrictions.now) limit }
+    // The approach to the static speeds and the restrictions ahead.
+    fn approach(&self, limit: Mph) -> Approach<'a, G>
+        ensures { result ≡ lowered_by (G.value self.now.gradient.now)
+            (targets_ahead self.now.front self.now.bounds.now (S.value self.now.speeds.now) self.now.restrictions.now)
+            (setting_out self.now.front limit self.now.gradient.now self.now.brakes.now) }
     {
-        let speed = self.for_static_speeds(limit);
-        self.for_restrictions(speed)
+        let mut approach = Approach::new(self.front, limit, self.gradient, self.brakes);
+        self.tell_static_speeds(&mut approach);
+        self.tell_restrictions(&mut approach);
+        approach
     }
 
-    // The greatest speed up to a limit that fits the static speeds ahead.
-    fn for_static_speeds(&self, limit: Mph) -> Mph
-        ensures { result ≡ permitted_by self.now.front (G.value self.now.gradient.now) self.now.brakes.now
-            (over_ahead self.now.front (static_targets self.now.bounds.now (S.value self.now.speeds.now))) limit }
+    // Tells of the static speeds ahead.
+    fn tell_static_speeds(&self, approach: &mut Approach<'a, G>)
+        ensures { approach.new ≡ lowered_by (G.value approach.old.gradient)
+            (over_ahead self.now.front (static_targets self.now.bounds.now (S.value self.now.speeds.now))) approach.old }
     {
-        let mut speed = limit;
         let mut start = next_after(self.front);
         let mut near = 0;
         while let Some(place) = start {
             let here = self.speeds.piece(place, near);
-            speed = self.for_target(speed, static_target(self.bounds, place, here.value));
+            tell(approach, static_target(self.bounds, place, here.value));
             start = here.next;
             near = here.near;
         }
-        speed
     }
 
-    // .. that fits the restrictions ahead.
-    fn for_restrictions(&self, limit: Mph) -> Mph
+    // .. of the restrictions ahead.
+    fn tell_restrictions(&self, approach: &mut Approach<'a, G>)
         ensures { let track = self.now.restrictions.now in
-            result ≡ permitted_by self.now.front (G.value self.now.gradient.now) self.now.brakes.now
-            (over_ahead self.now.front (restriction_targets track.mark track.restrictions)) limit }
+            approach.new ≡ lowered_by (G.value approach.old.gradient)
+            (over_ahead self.now.front (restriction_targets track.mark track.restrictions)) approach.old }
     {
         let mark = self.restrictions.mark();
-        let mut speed = limit;
         for restriction in self.restrictions.as_slice() {
-            speed = self.for_target(speed, first_target(self.front, mark, restriction));
+            tell(approach, first_target(self.front, mark, restriction));
         }
-        speed
     }
+}
 
-    // .. that fits a target, if there is one.
-    fn for_target(&self, limit: Mph, target: Option<Target>) -> Mph
-        ensures { result ≡ permitted_by self.now.front (G.value self.now.gradient.now) self.now.brakes.now (listed target) limit }
-    {
-        match target {
-            Some(target) => permitted(self.front, limit, &[target], self.gradient, self.brakes),
-            None => limit,
-        }
+// Tells of a target, if there is one.
+fn tell<G: Profile<Permille>>(approach: &mut Approach<'_, G>, target: Option<Target>)
+    ensures { approach.new ≡ lowered_by (G.value approach.old.gradient) (listed target) approach.old }
+{
+    if let Some(target) = target {
+        approach.lower(&target);
     }
 }
 

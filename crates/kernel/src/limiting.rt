@@ -1,5 +1,5 @@
 //! The speed limit, by what is known.
-ghost use Rattle.std.specs.Prelude.{◌≡◌, Some};
+ghost use Rattle.std.specs.Prelude.{◌≡◌};
 ghost use Rattle.speed_profile.specs.Ahead.{permitted_ahead};
 ghost use Rattle.kernel.specs.Lives.{Life};
 ghost use Rattle.kernel.specs.Limit.{train_of, responsible_limit, bounds_of, permitted_speed, release_speed, released_by, limit};
@@ -77,15 +77,15 @@ fn released_by<S: Profile<CategorySpeeds>, G: Profile<Permille>>(
     let Some(end) = end else {
         return ahead.permitted(limit, None);
     };
-    let to_end = ahead.permitted(limit, target(end.end, end.speed));
-    let to_location = ahead.permitted(limit, target(end.location, Mph::new(0).unwrap()));
+    let stop = target(end.location, Mph::new(0).unwrap());
+    let (to_end, to_location) = ahead.permitted_for_either(limit, target(end.end, end.speed), stop);
     to_end.max(to_location.min(release_speed(end.release, national)))
 }
 
-fn target(place: Cm, speed: Mph) -> Option<Target>
-    ensures { result ≡ Some (record { place = place; speed = speed }) }
+fn target(place: Cm, speed: Mph) -> Target
+    ensures { result ≡ record { place = place; speed = speed } }
 {
-    Some(Target { place, speed })
+    Target { place, speed }
 }
 
 // The release speed that holds.

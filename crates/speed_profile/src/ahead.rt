@@ -32,7 +32,7 @@ impl<'a, S: Profile<CategorySpeeds>, G: Profile<Permille>> Ahead<'a, S, G> {
     /// The greatest speed up to a limit from which the train can brake for all that lies ahead (this project's profile):
     /// for each static speed and each restriction, whatever its Q_FRONT; to a stop at a centimetre without a static speed
     /// before the end of the authority, where one is known; and for a last target. Takes no memory; its cost counts the
-    /// changes of the profiles and the restrictions, each some twenty times, and no centimetres.
+    /// changes of the profiles and the restrictions, and no centimetres.
     pub fn permitted(&self, limit: Mph, last: Option<Target>) -> Mph
         ensures { result ≡ permitted_ahead self.now.front limit last self.now.bounds.now (S.value self.now.speeds.now)
             self.now.restrictions.now (G.value self.now.gradient.now) self.now.brakes.now }

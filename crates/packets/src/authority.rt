@@ -290,7 +290,7 @@ pub struct MovementAuthority {
 
 /// Reads packet 12 behind its number, into the place of another packet; answers the length that it tells.
 #[tactic(auto, unfolding(crate::specs::Packets::movement_authority))]
-pub(crate) fn read_movement_authority<'a>(
+pub fn read_movement_authority<'a>(
     reader: &mut BitReader<'a>,
     out: &mut Packet<'a>,
 ) -> Result<PacketLength, PacketFault>
@@ -329,7 +329,7 @@ pub(crate) fn read_movement_authority<'a>(
 
 /// Writes packet 12 behind its number, with the length that it tells.
 #[tactic(auto, unfolding(crate::specs::Packets::movement_authority))]
-pub(crate) fn write_movement_authority<const N: usize>(
+pub fn write_movement_authority<const N: usize>(
     packet: &MovementAuthority,
     told: u64,
     writer: &mut BitWriter<N>,

@@ -84,7 +84,7 @@ pub struct Gradients {
 
 /// Reads packet 21 behind its number, into the place of another packet; answers the length that it tells.
 #[tactic(auto, unfolding(crate::specs::Packets::gradients))]
-pub(crate) fn read_gradients<'a>(
+pub fn read_gradients<'a>(
     reader: &mut BitReader<'a>,
     out: &mut Packet<'a>,
 ) -> Result<PacketLength, PacketFault>
@@ -107,11 +107,7 @@ pub(crate) fn read_gradients<'a>(
 
 /// Writes packet 21 behind its number, with the length that it tells.
 #[tactic(auto, unfolding(crate::specs::Packets::gradients))]
-pub(crate) fn write_gradients<const N: usize>(
-    packet: &Gradients,
-    told: u64,
-    writer: &mut BitWriter<N>,
-)
+pub fn write_gradients<const N: usize>(packet: &Gradients, told: u64, writer: &mut BitWriter<N>)
     requires told { told ≡ length_of (packets.Gradients packet.now) }
     requires small { told < 2 ^ 13 }
     requires room { length writer.old + told ≤ 8 * N + 8 }

@@ -126,7 +126,7 @@ pub struct LevelTransition {
 
 /// Reads packet 41 behind its number, into the place of another packet; answers the length that it tells.
 #[tactic(auto, unfolding(crate::specs::Packets::level_transition))]
-pub(crate) fn read_level_transition<'a>(
+pub fn read_level_transition<'a>(
     reader: &mut BitReader<'a>,
     out: &mut Packet<'a>,
 ) -> Result<PacketLength, PacketFault>
@@ -151,7 +151,7 @@ pub(crate) fn read_level_transition<'a>(
 
 /// Writes packet 41 behind its number, with the length that it tells.
 #[tactic(auto, unfolding(crate::specs::Packets::level_transition))]
-pub(crate) fn write_level_transition<const N: usize>(
+pub fn write_level_transition<const N: usize>(
     packet: &LevelTransition,
     told: u64,
     writer: &mut BitWriter<N>,

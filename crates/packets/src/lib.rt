@@ -16,16 +16,26 @@ mod restrictions;
 mod static_speeds;
 mod writing;
 
-pub use authority::{DangerPoint, EndTimer, MovementAuthority, Overlap, Section, SectionTimer};
+pub use authority::{
+    DangerPoint, EndTimer, MovementAuthority, Overlap, Section, SectionTimer,
+    read_movement_authority, write_movement_authority,
+};
 pub use fault::PacketFault;
 pub use fields::FieldSink;
-pub use gradients::{Gradient, Gradients};
-pub use level_transition::{LevelOrder, LevelTransition};
-pub use linking::{Link, Linking};
-pub use mode_profile::{ModeArea, ModeProfile};
-pub use national::NationalValues;
+pub use gradients::{Gradient, Gradients, read_gradients, write_gradients};
+pub use level_transition::{
+    LevelOrder, LevelTransition, read_level_transition, write_level_transition,
+};
+pub use linking::{Link, Linking, read_linking, write_linking};
+pub use mode_profile::{ModeArea, ModeProfile, read_mode_profile, write_mode_profile};
+pub use national::{NationalValues, read_national_values, write_national_values};
 pub use packet::{Other, Packet};
-pub use reading::{one_spelling, read_numbered, read_packet};
-pub use restrictions::{RestrictionRevocation, SpeedRestriction};
-pub use static_speeds::{Difference, StaticSpeeds, StaticStep};
-pub use writing::write_packet;
+pub use reading::field;
+pub use restrictions::{
+    RestrictionRevocation, SpeedRestriction, read_restriction, read_revocation, write_restriction,
+    write_revocation,
+};
+pub use static_speeds::{
+    Difference, StaticSpeeds, StaticStep, read_static_speeds, write_static_speeds,
+};
+pub use writing::put;

@@ -104,7 +104,7 @@ pub struct Linking {
 
 /// Reads packet 5 behind its number, into the place of another packet; answers the length that it tells.
 #[tactic(auto, unfolding(crate::specs::Packets::linking))]
-pub(crate) fn read_linking<'a>(
+pub fn read_linking<'a>(
     reader: &mut BitReader<'a>,
     out: &mut Packet<'a>,
 ) -> Result<PacketLength, PacketFault>
@@ -127,7 +127,7 @@ pub(crate) fn read_linking<'a>(
 
 /// Writes packet 5 behind its number, with the length that it tells.
 #[tactic(auto, unfolding(crate::specs::Packets::linking))]
-pub(crate) fn write_linking<const N: usize>(packet: &Linking, told: u64, writer: &mut BitWriter<N>)
+pub fn write_linking<const N: usize>(packet: &Linking, told: u64, writer: &mut BitWriter<N>)
     requires told { told ≡ length_of (packets.Linking packet.now) }
     requires small { told < 2 ^ 13 }
     requires room { length writer.old + told ≤ 8 * N + 8 }

@@ -96,7 +96,7 @@ pub struct ModeProfile {
 
 /// Reads packet 80 behind its number, into the place of another packet; answers the length that it tells.
 #[tactic(auto, unfolding(crate::specs::Packets::mode_profile))]
-pub(crate) fn read_mode_profile<'a>(
+pub fn read_mode_profile<'a>(
     reader: &mut BitReader<'a>,
     out: &mut Packet<'a>,
 ) -> Result<PacketLength, PacketFault>
@@ -119,7 +119,7 @@ pub(crate) fn read_mode_profile<'a>(
 
 /// Writes packet 80 behind its number, with the length that it tells.
 #[tactic(auto, unfolding(crate::specs::Packets::mode_profile))]
-pub(crate) fn write_mode_profile<const N: usize>(
+pub fn write_mode_profile<const N: usize>(
     packet: &ModeProfile,
     told: u64,
     writer: &mut BitWriter<N>,

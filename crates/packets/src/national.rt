@@ -77,7 +77,7 @@ pub struct NationalValues {
 
 /// Reads packet 3 behind its number, into the place of another packet; answers the length that it tells.
 #[tactic(auto, unfolding(crate::specs::Packets::national_values))]
-pub(crate) fn read_national_values<'a>(
+pub fn read_national_values<'a>(
     reader: &mut BitReader<'a>,
     out: &mut Packet<'a>,
 ) -> Result<PacketLength, PacketFault>
@@ -123,7 +123,7 @@ pub(crate) fn read_national_values<'a>(
 
 /// Writes packet 3 behind its number, with the length that it tells.
 #[tactic(auto, unfolding(crate::specs::Packets::national_values))]
-pub(crate) fn write_national_values<const N: usize>(
+pub fn write_national_values<const N: usize>(
     packet: &NationalValues,
     told: u64,
     writer: &mut BitWriter<N>,

@@ -44,7 +44,7 @@ pub struct RestrictionRevocation {
 
 /// Reads packet 65 behind its number, into the place of another packet; answers the length that it tells.
 #[tactic(auto, unfolding(crate::specs::Packets::speed_restriction))]
-pub(crate) fn read_restriction<'a>(
+pub fn read_restriction<'a>(
     reader: &mut BitReader<'a>,
     out: &mut Packet<'a>,
 ) -> Result<PacketLength, PacketFault>
@@ -72,7 +72,7 @@ pub(crate) fn read_restriction<'a>(
 
 /// Reads packet 66 behind its number, into the place of another packet; answers the length that it tells.
 #[tactic(auto, unfolding(crate::specs::Packets::restriction_revocation))]
-pub(crate) fn read_revocation<'a>(
+pub fn read_revocation<'a>(
     reader: &mut BitReader<'a>,
     out: &mut Packet<'a>,
 ) -> Result<PacketLength, PacketFault>
@@ -87,10 +87,7 @@ pub(crate) fn read_revocation<'a>(
 
 /// Writes packet 65 behind its number.
 #[tactic(auto, unfolding(crate::specs::Packets::speed_restriction))]
-pub(crate) fn write_restriction<const N: usize>(
-    packet: &SpeedRestriction,
-    writer: &mut BitWriter<N>,
-)
+pub fn write_restriction<const N: usize>(packet: &SpeedRestriction, writer: &mut BitWriter<N>)
     requires { length writer.old + 63 ≤ 8 * N }
     ensures { writer.new ≡ appended speed_restriction packet.now writer.old }
 {
@@ -106,10 +103,7 @@ pub(crate) fn write_restriction<const N: usize>(
 
 /// Writes packet 66 behind its number.
 #[tactic(auto, unfolding(crate::specs::Packets::restriction_revocation))]
-pub(crate) fn write_revocation<const N: usize>(
-    packet: &RestrictionRevocation,
-    writer: &mut BitWriter<N>,
-)
+pub fn write_revocation<const N: usize>(packet: &RestrictionRevocation, writer: &mut BitWriter<N>)
     requires { length writer.old + 23 ≤ 8 * N }
     ensures { writer.new ≡ appended restriction_revocation packet.now writer.old }
 {

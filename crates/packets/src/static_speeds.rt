@@ -142,7 +142,7 @@ fn read_steps(
 
 /// Reads packet 27 behind its number, into the place of another packet; answers the length that it tells.
 #[tactic(auto, unfolding(crate::specs::Packets::static_speeds))]
-pub(crate) fn read_static_speeds<'a>(
+pub fn read_static_speeds<'a>(
     reader: &mut BitReader<'a>,
     out: &mut Packet<'a>,
 ) -> Result<PacketLength, PacketFault>
@@ -202,7 +202,7 @@ fn write_steps<const N: usize>(
 }
 
 /// Writes packet 27 behind its number, with the length that it tells.
-pub(crate) fn write_static_speeds<const N: usize>(
+pub fn write_static_speeds<const N: usize>(
     packet: &StaticSpeeds,
     told: u64,
     writer: &mut BitWriter<N>,

@@ -1,82 +1,15 @@
-ghost use Rattle.std.specs.Prelude.{◌≡◌, ◌+◌, ◌*◌, ◌<◌, ◌≤◌, ◌^◌, ◌↔◌, ◌++◌, List, Bool, length, IsOk, OnOk, OnErr};
+ghost use Rattle.std.specs.Prelude.{◌≡◌, ◌+◌, ◌*◌, ◌≤◌, ◌++◌, length};
 ghost use Rattle.bits.specs.Bits.{number_bits};
-ghost use Rattle.bits.specs.Layout.{Spells};
-ghost use Rattle.bits.specs.Writing.{appended};
-ghost use Rattle.packets.specs.Packets.{length_of, packet as packet_layout, skipped};
-ghost use Rattle.packets.specs.Writing.{body_appended};
-ghost use Rattle.packets.specs.declared.packet.Packet.TheVariants as packets;
 
-use crate::authority::write_movement_authority;
-use crate::gradients::write_gradients;
-use crate::level_transition::write_level_transition;
-use crate::linking::write_linking;
-use crate::mode_profile::write_mode_profile;
-use crate::national::write_national_values;
-use crate::packet::{Other, Packet};
-use crate::restrictions::{write_restriction, write_revocation};
-use crate::static_speeds::write_static_speeds;
-use bits::{BitWriter, Full};
+use bits::BitWriter;
 use vars::Variable;
 
 /// Writes a variable.
 #[inline(always)]
-pub(crate) fn put<V: Variable, const N: usize>(writer: &mut BitWriter<N>, value: &V)
+pub fn put<V: Variable, const N: usize>(writer: &mut BitWriter<N>, value: &V)
     requires { length writer.old + (V.codes).width ≤ 8 * N }
     ensures value { writer.new ≡ writer.old ++ number_bits (V.codes).width ((V.codes).number value.now) }
     ensures len { length writer.new ≡ length writer.old + (V.codes).width }
 {
     writer.write(V::WIDTH, value.number());
-}
-
-/// Writes a packet that is skipped, behind its number, with the length that it tells.
-#[tactic(auto, unfolding(crate::specs::Packets::skipped))]
-fn write_other<const N: usize>(packet: &Other<'_>, told: u64, writer: &mut BitWriter<N>)
-    requires told { told ≡ length_of (packets.Other packet.now) }
-    requires small { told < 2 ^ 13 }
-    requires room { length writer.old + told ≤ 8 * N + 8 }
-    ensures { writer.new ≡ appended (skipped packet.now.number) packet.now writer.old }
-{
-    put(writer, &packet.direction);
-    writer.write(13, told);
-    writer.write_run(&packet.body);
-}
-
-/// Writes a packet behind its number, with the length that it tells.
-fn write_body<const N: usize>(packet: &Packet<'_>, told: u64, writer: &mut BitWriter<N>)
-    requires told { told ≡ length_of packet.now }
-    requires small { told < 2 ^ 13 }
-    requires room { length writer.old + told ≤ 8 * N + 8 }
-    ensures { writer.new ≡ body_appended packet.now writer.old }
-{
-    match packet {
-        Packet::NationalValues(p) => write_national_values(p, told, writer),
-        Packet::Linking(p) => write_linking(p, told, writer),
-        Packet::MovementAuthority(p) => write_movement_authority(p, told, writer),
-        Packet::Gradients(p) => write_gradients(p, told, writer),
-        Packet::StaticSpeeds(p) => write_static_speeds(p, told, writer),
-        Packet::LevelTransition(p) => write_level_transition(p, told, writer),
-        Packet::SpeedRestriction(p) => write_restriction(p, writer),
-        Packet::RestrictionRevocation(p) => write_revocation(p, writer),
-        Packet::ModeProfile(p) => write_mode_profile(p, told, writer),
-        Packet::Other(p) => write_other(p, told, writer),
-    }
-}
-
-/// Writes a packet that has a spelling (SUBSET-026, 7.4.2). Nothing is written where its bits do not fit.
-pub fn write_packet<const N: usize>(
-    writer: &mut BitWriter<N>,
-    packet: &Packet<'_>,
-) -> Result<(), Full>
-    requires { (bits : List Bool) × Spells packet_layout packet.now bits }
-    ensures room { (bits : List Bool) → Spells packet_layout packet.now bits → IsOk result ↔ (length writer.old + length bits ≤ 8 * N) }
-    ensures ok { OnOk result ((bits : List Bool) → Spells packet_layout packet.now bits → writer.new ≡ writer.old ++ bits) }
-    ensures err { OnErr result (writer.new ≡ writer.old) }
-{
-    let told = packet.length();
-    if !writer.has_room(told) {
-        return Err(Full);
-    }
-    put(writer, &packet.number());
-    write_body(packet, told, writer);
-    Ok(())
 }

@@ -12,7 +12,8 @@ use crate::header::{field, read_header};
 use crate::message::Telegram;
 use arrayvec::ArrayVec;
 use bits::BitReader;
-use packets::{Packet, read_numbered};
+use packet_coding::read_numbered;
+use packets::Packet;
 use vars::PacketNumber;
 
 /// Reads the next packet into the place of another one; false at the end mark.

@@ -7,7 +7,8 @@ ghost use Rattle.telegram.specs.Telegrams.{header as header_layout, Carries, Spe
 use crate::header::Header;
 use crate::message::Telegram;
 use bits::{BitWriter, Full};
-use packets::{Packet, write_packet};
+use packet_coding::write_packet;
+use packets::Packet;
 use thiserror::Error;
 use vars::Variable;
 

@@ -3,7 +3,7 @@ use Rattle.bits.specs.Bits.{number_bits}
 use Rattle.packets.specs.Packets.{length_of}
 use Rattle.packets.specs.Writing.{body_appended}
 use Rattle.packets.proofs.Spelled.{spelled-packet}
-use Rattle.packets.proofs.writing.write_packet.Goals as goal
+use Rattle.packet_coding.proofs.writing.write_packet.Goals as goal
 
 pub write_body-requires : goal.write_body-requires
 write_body-requires g c =

@@ -4,7 +4,7 @@ use Rattle.bits.specs.Layout.{Begins, Refuses, read}
 use Rattle.packets.specs.Packets.{packet}
 use Rattle.packets.specs.declared.packet.Packet.{Packet}
 use Rattle.bits.proofs.Laws.{err_same, found, refused, begins_once, begins_not_refused, refused_once}
-use Rattle.packets.proofs.reading.read_packet.Goals as goal
+use Rattle.packet_coding.proofs.reading.read_packet.Goals as goal
 
 pub returns-in_err-packet-clause-only : goal.returns-in_err-packet-clause-only
 returns-in_err-packet-clause-only c = λ p rest b.

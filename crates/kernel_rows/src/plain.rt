@@ -35,7 +35,8 @@ fn stretch(steps: &[Step], train: &TrainData) -> Train {
 /// The track far behind a train is forgotten.
 fn forget(life: &mut Life, standing: &Train) -> Result<(), AllocError> {
     let mark = standing.rear.saturating_sub(REMEMBERED);
-    life.facts.tellings.push(Telling::Forgotten(mark))
+    life.facts.tellings.push(Telling::Forgotten(mark))?;
+    Ok(())
 }
 
 /// A life begins: the train stands at 0, and the track far behind it is forgotten.

@@ -4,6 +4,7 @@ use Rattle.authority.specs.declared.answers.End.{End}
 use Rattle.authority.specs.declared.timers.TimedSection.{TimedSection}
 use Rattle.authority.specs.Entries.{Entry, Fact, Sight, now_of, accepted, sights, IsInOrder}
 use Rattle.authority.specs.Entries.Entry.{Ticked, Accepted, Passed, Cleared}
+use Rattle.authority.specs.Timers.{never}
 use Rattle.authority.specs.Track.{timed_sections, end_entry, told_end}
 use Rattle.authority.specs.Authority.{section_has_run_out, first_reached, end_timer_has_run_out, end_of, main_speed_of}
 
@@ -15,7 +16,7 @@ IsAmong x (y ∷ ys) = (x ≡ y) ⊎ IsAmong x ys
 
 -- a section has run out: its time is over, and whenever the least front was seen before that, it was short of the stop place
 pub record HasRunOut (start now : ℕ) (seen : List Sight) (section : TimedSection) : Type 0 where
-  pub has_expiry : section.time ≢ 1023
+  pub has_expiry : section.time ≢ never
   pub is_over : start + 1000 * section.time ≤ now
   pub was_short : (sight : Sight) → IsAmong sight seen → sight.moment < start + 1000 * section.time → sight.train.min_front <ℤ section.stop_at
 

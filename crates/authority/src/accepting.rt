@@ -1,5 +1,6 @@
-ghost use Rattle.std.specs.Prelude.{◌≡◌, ◌+◌, ◌-◌, ◌*◌, ◌^◌, ◌<◌, ◌≤◌, ◌++◌, ◌+ℤ◌, ◌-ℤ◌, [], option_map};
+ghost use Rattle.std.specs.Prelude.{◌≡◌, ◌+◌, ◌<◌, ◌≤◌, ◌++◌, ◌+ℤ◌, ◌-ℤ◌, [], option_map};
 ghost use Rattle.std.specs.Int.RustNames.{unsigned_abs};
+ghost use Rattle.units.specs.Limits.{reach, HasReach};
 ghost use Rattle.arrayvec.specs.ArrayVec.{array_vec_len};
 ghost use Rattle.authority.specs.Entries.{fact_of};
 ghost use Rattle.authority.specs.Track.{in_cm, timed_one};
@@ -11,17 +12,16 @@ use crate::stored::{Point, Stored, TimedOverlap};
 use crate::timers::{PlaceTimer, TimedSection};
 use arrayvec::ArrayVec;
 use packets::{DangerPoint, EndTimer, MovementAuthority, Overlap, Section};
-use units::{Cm, Ms};
+use units::{Cm, GroupPlace, Ms};
 use vars::{Distance, Scale, Timer};
 
 /// What is stored of an authority whose sections count from a place, when it is accepted.
-pub fn stored_by(packet: &MovementAuthority, place: Cm, moment: Ms) -> Stored
-    requires { unsigned_abs place ≤ 3 * 2 ^ 40 }
+pub fn stored_by(packet: &MovementAuthority, place: GroupPlace, moment: Ms) -> Stored
     ensures { result ≡ stored_of (fact_of packet.now place moment) [] }
 {
     let scale = packet.scale;
     let mut timed = ArrayVec::new();
-    let mut at = place;
+    let mut at = place.to_cm();
     let sections = packet.sections.as_slice();
     for section in sections {
         push_timed(&mut timed, scale, at, section);
@@ -45,16 +45,16 @@ pub fn stored_by(packet: &MovementAuthority, place: Cm, moment: Ms) -> Stored
 
 // The place so far ahead.
 fn ahead(place: Cm, by: Distance, scale: Scale) -> Cm
-    requires { unsigned_abs place ≤ 2 ^ 42 - 2 ^ 25 }
+    requires { HasReach place }
     ensures value { result ≡ place +ℤ in_cm scale by }
-    ensures near { unsigned_abs result ≤ unsigned_abs place + 2 ^ 25 }
+    ensures near { unsigned_abs result ≤ unsigned_abs place + reach }
 {
     Cm::new(place.get() + by.in_scale(scale).get()).unwrap()
 }
 
 // The place so far behind.
 fn behind(place: Cm, by: Distance, scale: Scale) -> Cm
-    requires { unsigned_abs place ≤ 2 ^ 42 - 2 ^ 25 }
+    requires { HasReach place }
     ensures { result ≡ place -ℤ in_cm scale by }
 {
     Cm::new(place.get() - by.in_scale(scale).get()).unwrap()
@@ -63,7 +63,7 @@ fn behind(place: Cm, by: Distance, scale: Scale) -> Cm
 // Appends a section that has a timer.
 fn push_timed(timed: &mut ArrayVec<TimedSection, 32>, scale: Scale, entry: Cm, section: &Section)
     requires room { array_vec_len timed.old < 32 }
-    requires near { unsigned_abs entry ≤ 2 ^ 42 - 2 ^ 25 }
+    requires near { HasReach entry }
     ensures items { timed.new.items ≡ timed.old.items ++ timed_one scale entry section.now }
     ensures len { array_vec_len timed.new ≤ array_vec_len timed.old + 1 }
 {
@@ -79,7 +79,7 @@ fn push_timed(timed: &mut ArrayVec<TimedSection, 32>, scale: Scale, entry: Cm, s
 
 // A timer that starts so far before the end.
 fn timer_by(end: Cm, scale: Scale, start: Distance, time: Timer) -> PlaceTimer
-    requires { unsigned_abs end ≤ 2 ^ 42 - 2 ^ 25 }
+    requires { HasReach end }
     ensures { result ≡ timer_of end scale start time [] }
 {
     PlaceTimer {
@@ -90,7 +90,7 @@ fn timer_by(end: Cm, scale: Scale, start: Distance, time: Timer) -> PlaceTimer
 }
 
 fn end_timer_by(end: Cm, scale: Scale, timer: &Option<EndTimer>) -> Option<PlaceTimer>
-    requires { unsigned_abs end ≤ 2 ^ 42 - 2 ^ 25 }
+    requires { HasReach end }
     ensures { result ≡ option_map (end_timer_of end scale []) timer.now }
 {
     match timer {
@@ -100,7 +100,7 @@ fn end_timer_by(end: Cm, scale: Scale, timer: &Option<EndTimer>) -> Option<Place
 }
 
 fn point_by(end: Cm, scale: Scale, point: &Option<DangerPoint>) -> Option<Point>
-    requires { unsigned_abs end ≤ 2 ^ 42 - 2 ^ 25 }
+    requires { HasReach end }
     ensures { result ≡ option_map (danger_point_of end scale) point.now }
 {
     match point {
@@ -113,7 +113,7 @@ fn point_by(end: Cm, scale: Scale, point: &Option<DangerPoint>) -> Option<Point>
 }
 
 fn overlap_by(end: Cm, scale: Scale, overlap: &Option<Overlap>) -> Option<TimedOverlap>
-    requires { unsigned_abs end ≤ 2 ^ 42 - 2 ^ 25 }
+    requires { HasReach end }
     ensures { result ≡ option_map (overlap_of end scale []) overlap.now }
 {
     match overlap {

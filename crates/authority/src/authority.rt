@@ -1,5 +1,4 @@
-ghost use Rattle.std.specs.Prelude.{◌≡◌, ◌*◌, ◌^◌, ◌≤◌, List, [], ◌∷◌, is_some};
-ghost use Rattle.std.specs.Int.RustNames.{unsigned_abs};
+ghost use Rattle.std.specs.Prelude.{◌≡◌, List, [], ◌∷◌, is_some};
 ghost use Rattle.authority.specs.Entries.{Entry, fact_of, accepted};
 ghost use Rattle.authority.specs.Entries.Entry.{Ticked, Accepted, Passed, Cleared};
 ghost use Rattle.authority.specs.Authority.{end_of, main_speed_of};
@@ -10,7 +9,7 @@ use crate::answers::End;
 use crate::stored::Stored;
 use packets::MovementAuthority;
 use std::marker::Model;
-use units::{Cm, Mph, Ms, Stretch};
+use units::{GroupPlace, Mph, Ms, Stretch};
 
 /// The movement authority, if one is stored, and the clock that its timers go by.
 #[derive(Drop)]
@@ -39,8 +38,7 @@ impl Authority {
     }
 
     /// Takes packet 12 in place of the old authority. Its sections count from this place.
-    pub fn accept(&mut self, packet: &MovementAuthority, place: Cm, moment: Ms)
-        requires { unsigned_abs place ≤ 3 * 2 ^ 40 }
+    pub fn accept(&mut self, packet: &MovementAuthority, place: GroupPlace, moment: Ms)
         ensures { (entries : List Entry) → self.new ≡ known (Accepted (fact_of packet.now place moment) ∷ entries) }
     {
         *self = Authority {

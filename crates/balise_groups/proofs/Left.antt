@@ -1,5 +1,5 @@
 -- The group being read is never left where all movements are told.
-use Rattle.std.proofs.Common.{◌≡◌, ℕ, ◌-◌, List, [], ◌∷◌, Bool, true, false, cond, refl, arith}
+use Rattle.std.proofs.Common.{◌≡◌, ℕ, ◌+◌, List, [], ◌∷◌, Bool, true, false, cond, refl, arith}
 use Rattle.std.specs.Prelude.{nat_le, not}
 use Rattle.std.proofs.lemmas.Bool.Decides.{nat_tests}
 use Rattle.balise_groups.specs.declared.reading.Reading.{Reading}
@@ -8,7 +8,7 @@ use Rattle.balise_groups.specs.Groups.{Entry, counting, newest, is_left, goes_on
 use Rattle.balise_groups.specs.Groups.Entry.{Read, Went}
 use Rattle.balise_groups.specs.Laws.{path_of, TellPaths}
 
-here : (path : ℕ) (r : Reading) → r.sums.path ≡ path → not (nat_le (path - r.sums.path) 1300) ≡ false
+here : (path : ℕ) (r : Reading) → r.sums.path ≡ path → not (nat_le path (r.sums.path + 1300)) ≡ false
 here path r e = grind (arith, nat_tests)
 
 if_whole : (path : ℕ) (r : Reading) (rs last : List Reading) (b : Bool) → r.sums.path ≡ path →

@@ -1,11 +1,11 @@
 -- All readings of a group have one name.
 use Rattle.std.proofs.Common.{◌≡◌, ℕ, List, [], ◌∷◌, Bool, true, false, cond, refl, ap, sym, ◌∙◌, subst, arith}
-use Rattle.std.specs.Prelude.{◌&&◌, nat_le, ◌-◌, ◌==◌}
+use Rattle.std.specs.Prelude.{◌&&◌, ◌==◌}
 use Rattle.std.proofs.lemmas.Bool.Decides.{nat_tests}
 use Rattle.vars.specs.declared.group.GroupIdentity.{GroupIdentity}
 use Rattle.balise_groups.specs.declared.reading.Reading.{Reading}
 use Rattle.balise_groups.specs.Closing.{is_whole}
-use Rattle.balise_groups.specs.Groups.{Entry, Groups, counting, newest, is_left, goes_on, same_group, groups_of, ended, joined_by, last_after}
+use Rattle.balise_groups.specs.Groups.{Entry, Groups, counting, newest, seen_at, is_close, is_left, goes_on, same_group, groups_of, ended, joined_by, last_after}
 use Rattle.balise_groups.specs.Groups.Entry.{Read, Went}
 use Rattle.balise_groups.specs.Laws.{HaveName, HaveOneName}
 
@@ -26,7 +26,7 @@ joins : (r : Reading) (rs : List Reading) → goes_on r (newest rs) ≡ true →
 joins r [] h one = cc
 joins r (q ∷ rs) h one =
     let name = r.telegram.header.group in
-    let same = same_then name q.telegram.header.group (first_of_two (same_group name q.telegram.header.group) (nat_le (r.sums.path - q.sums.path) 1300) h) in
+    let same = same_then name q.telegram.header.group (first_of_two (same_group name q.telegram.header.group) (is_close r.sums.path (seen_at q)) h) in
     let P : GroupIdentity → Type 0 = λ n. HaveName n rs in
     (sym same, subst P (sym same) one)
 

@@ -73,7 +73,7 @@ no_group first rs h one =
 
 one_counter : (rs : List Reading) → list_any (is_refused rs) rs ≡ false → HaveOneCounter rs
 one_counter rs h = record {
-  none_is_254 = λ r c e. (
+  none_is_refused = λ r c e. (
       let no = or_left (r.telegram.header.counter == 254) (list_any (disagrees r) rs) (none_passes (is_refused rs) rs h r c) in
       grind (arith, nat_tests, no, e));
   equal = λ a b ca cb. (
@@ -84,7 +84,7 @@ one_counter rs h = record {
 no_counter : (rs : List Reading) → list_any (is_refused rs) rs ≡ true → ¬ HaveOneCounter rs
 no_counter rs h one =
     let w = some_passes (is_refused rs) rs h in
-    let not_254 = one.none_is_254 w.0 w.1 in
+    let not_254 = one.none_is_refused w.0 w.1 in
     let cases : (a b : Bool) → (w.0.telegram.header.counter == 254) ≡ a → list_any (disagrees w.0) rs ≡ b → (a || b) ≡ true → ⊥ =
     elim [
       | true ↦ λ b e f k. not_254 (grind (arith, nat_tests, e))

@@ -67,16 +67,22 @@ differs first reading =
     not ((reading.telegram.header.last_position == first.telegram.header.last_position)
     && same_flag reading.telegram.header.linked first.telegram.header.linked)
 
--- M_MCOUNT: counters other than 255, which fits all, that differ
+-- M_MCOUNT: a counter that fits all others, and one that fits no message
+abbrev pub fits_all : ℕ
+fits_all = 255
+
+abbrev pub fits_none : ℕ
+fits_none = 254
+
+-- counters that differ, neither of which fits all
 abbrev pub disagrees : Reading → Reading → Bool
 disagrees one other =
-    not (one.telegram.header.counter == 255)
-    && not (other.telegram.header.counter == 255)
+    not (one.telegram.header.counter == fits_all)
+    && not (other.telegram.header.counter == fits_all)
     && not (one.telegram.header.counter == other.telegram.header.counter)
 
--- 254 fits no message
 abbrev pub is_refused : List Reading → Reading → Bool
-is_refused readings reading = (reading.telegram.header.counter == 254) || list_any (disagrees reading) readings
+is_refused readings reading = (reading.telegram.header.counter == fits_none) || list_any (disagrees reading) readings
 
 -- the first cause that holds, of Mixed, Counter and Missing
 abbrev pub cause_of : Reading → List Reading → Option Cause

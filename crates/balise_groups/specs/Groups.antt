@@ -1,6 +1,6 @@
 -- The groups of a life, read off its readings of balises and its movements (SUBSET-026, 3.4; the 1,300 cm, and that a
 -- telegram of the group that closed last is ignored, are this project's profile).
-use Rattle.std.specs.Prelude.{ℕ, ◌-◌, List, [], ◌∷◌, ◌++◌, Bool, false, ◌&&◌, not, ◌==◌, nat_le, if◌then◌else◌, Option, Some, None}
+use Rattle.std.specs.Prelude.{ℕ, ◌+◌, List, [], ◌∷◌, ◌++◌, Bool, false, ◌&&◌, not, ◌==◌, nat_le, if◌then◌else◌, Option, Some, None}
 use Rattle.vars.specs.declared.group.GroupIdentity.{GroupIdentity}
 use Rattle.balise_groups.specs.declared.reading.Reading.{Reading}
 use Rattle.balise_groups.specs.declared.message.Closed.{Closed}
@@ -33,10 +33,17 @@ abbrev pub newest : List Reading → Option Seen
 newest [] = None
 newest (reading ∷ group) = Some (seen_at reading)
 
--- A group is left where the path since its newest telegram is above 1,300 cm.
+-- how far behind its newest telegram a group is still the same one, in centimetres of path
+abbrev pub group_path : ℕ
+group_path = 1300
+
+abbrev pub is_close : ℕ → Seen → Bool
+is_close path seen = nat_le path (seen.path + group_path)
+
+-- A group is left where the path is farther behind its newest telegram.
 abbrev pub is_left : ℕ → Option Seen → Bool
 is_left path None = false
-is_left path (Some seen) = not (nat_le (path - seen.path) 1300)
+is_left path (Some seen) = not (is_close path seen)
 
 -- NID_C and NID_BG are equal
 abbrev pub same_group : GroupIdentity → GroupIdentity → Bool
@@ -45,8 +52,7 @@ same_group one other = (one.country == other.country) && (one.number == other.nu
 -- a telegram of the group, which isn't left
 abbrev pub goes_on : Reading → Option Seen → Bool
 goes_on reading None = false
-goes_on reading (Some seen) =
-    same_group reading.telegram.header.group seen.group && nat_le (reading.sums.path - seen.path) 1300
+goes_on reading (Some seen) = same_group reading.telegram.header.group seen.group && is_close reading.sums.path seen
 
 -- ---- the groups of a life
 

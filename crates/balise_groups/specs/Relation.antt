@@ -7,7 +7,7 @@ use Rattle.balise_groups.specs.declared.message.Cause.{Cause}
 use Rattle.balise_groups.specs.declared.message.Cause.TheVariants.{Missing, Counter, Mixed}
 use Rattle.balise_groups.specs.declared.message.Closed.{Closed}
 use Rattle.balise_groups.specs.declared.message.Closed.TheVariants as closed
-use Rattle.balise_groups.specs.Closing.{message_of, broken_by, close_of}
+use Rattle.balise_groups.specs.Closing.{fits_all, fits_none, message_of, broken_by, close_of}
 
 -- an element of a list
 abbrev pub Has : {X : Type 0} → List X → X → Type 0
@@ -20,11 +20,11 @@ pub record AreOfOneGroup (first : Reading) (readings : List Reading) : Type 0 wh
       (reading.telegram.header.last_position ≡ first.telegram.header.last_position)
       × (reading.telegram.header.linked ≡ first.telegram.header.linked)
 
--- No counter is 254, and those other than 255 are equal.
+-- No counter fits none, and those that don't fit all are equal.
 pub record HaveOneCounter (readings : List Reading) : Type 0 where
-  pub none_is_254 : (reading : Reading) → Has readings reading → ¬ (reading.telegram.header.counter ≡ 254)
+  pub none_is_refused : (reading : Reading) → Has readings reading → ¬ (reading.telegram.header.counter ≡ fits_none)
   pub equal : (one other : Reading) → Has readings one → Has readings other →
-      (one.telegram.header.counter ≡ 255) ⊎ (other.telegram.header.counter ≡ 255)
+      (one.telegram.header.counter ≡ fits_all) ⊎ (other.telegram.header.counter ≡ fits_all)
       ⊎ (one.telegram.header.counter ≡ other.telegram.header.counter)
 
 -- The place was read, or the balise before it was read with M_DUP 1, or the one after it with M_DUP 2.

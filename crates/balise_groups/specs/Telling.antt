@@ -1,13 +1,16 @@
 -- The packets that a group tells (SUBSET-026, 3.4 and 8.4; that infill isn't used is this project's profile).
-use Rattle.std.specs.Prelude.{List, [], ◌∷◌, ◌++◌, ◌==◌, if◌then◌else◌}
+use Rattle.std.specs.Prelude.{ℕ, List, [], ◌∷◌, ◌++◌, ◌==◌, if◌then◌else◌}
 use Rattle.packets.specs.Packets.{number_of}
 use Rattle.packets.specs.declared.packet.Packet.{Packet}
 use Rattle.telegram.specs.declared.message.Telegram.{Telegram}
 
--- Packet 136 announces infill: neither it nor what stands behind it is used.
+-- the number of the packet that announces infill: neither it nor what stands behind it is used
+abbrev pub infill : ℕ
+infill = 136
+
 abbrev pub before_infill : List Packet → List Packet
 before_infill [] = []
-before_infill (packet ∷ packets) = if number_of packet == 136 then [] else packet ∷ before_infill packets
+before_infill (packet ∷ packets) = if number_of packet == infill then [] else packet ∷ before_infill packets
 
 -- what telegrams tell, one after another
 abbrev pub told_by : List Telegram → List Packet

@@ -1,6 +1,6 @@
 ghost use Rattle.std.specs.Prelude.{◌≡◌, ℕ, List, [], ◌∷◌, None};
 ghost use Rattle.balise_groups.specs.Closing.{close_of};
-ghost use Rattle.balise_groups.specs.Groups.{Entry, Groups, Known, seen_at, is_left, goes_on, ended, ended_if_whole, joined_by, close_if_whole, with_reading, known_of, known, taken_by, ended_by};
+ghost use Rattle.balise_groups.specs.Groups.{Entry, Groups, Known, seen_at, is_close, is_left, goes_on, ended, ended_if_whole, joined_by, close_if_whole, with_reading, known_of, known, taken_by, ended_by};
 ghost use Rattle.balise_groups.specs.Groups.Entry.{Read, Went};
 
 use crate::message::Closed;
@@ -54,13 +54,20 @@ fn seen_at(reading: &Reading) -> Seen
     }
 }
 
+// Whether a path of the life is still close behind a telegram.
+fn is_close(path: Length, seen: &Seen) -> bool
+    ensures { result ≡ is_close path seen.now }
+{
+    path.get() <= seen.path.get() + GROUP_PATH
+}
+
 // Whether the train has left a group, at this path of the life.
 fn is_left(path: Length, group: &Option<Seen>) -> bool
     ensures { result ≡ is_left path group.now }
 {
     match group {
         None => false,
-        Some(seen) => path.get().saturating_sub(seen.path.get()) > GROUP_PATH,
+        Some(seen) => !is_close(path, seen),
     }
 }
 
@@ -71,8 +78,7 @@ fn goes_on(reading: &Reading, group: &Option<Seen>) -> bool
     match group {
         None => false,
         Some(seen) => {
-            reading.telegram.header().group == seen.group
-                && reading.sums.path().get().saturating_sub(seen.path.get()) <= GROUP_PATH
+            reading.telegram.header().group == seen.group && is_close(reading.sums.path(), seen)
         }
     }
 }

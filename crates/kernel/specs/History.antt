@@ -24,6 +24,7 @@ use Rattle.linking.specs.Judging.{after_verdict, after_broken}
 use Rattle.national.specs.InForce as national
 use Rattle.national.specs.InForce.Entry.{Announced as Told, Entered, Reached}
 use Rattle.odometry.specs.Place as odometry
+use Rattle.odometry.specs.declared.fix.Fix.{Fix}
 use Rattle.speed_profile.specs.declared.told.CategorySpeeds.{CategorySpeeds}
 use Rattle.speed_profile.specs.Told.{gradient_fact, speed_fact}
 use Rattle.track_store.specs.declared.restriction.Restriction.{Restriction}
@@ -45,7 +46,7 @@ pub record Outcome : Type 0 where
   pub closed : Closed
   pub verdict : Option Verdict  -- what linking says of a whole group
   pub effect : Effect  -- what linking asks of the train
-  pub fix : Option odometry.Fix  -- the fix that the group made; one that was refused is none
+  pub fix : Option Fix  -- the fix that the group made; one that was refused is none
   pub facts : List Fact  -- those of its packets that were used, in the order of the message
 
 -- what one event did: a field for each sentence of its order
@@ -80,7 +81,7 @@ abbrev pub after_movement : Option ℤ → List odometry.Entry → List odometry
 after_movement None entries = entries
 after_movement (Some by) entries = odometry.after_movement entries by
 
-abbrev pub after_fix : Option odometry.Fix → List odometry.Entry → List odometry.Entry
+abbrev pub after_fix : Option Fix → List odometry.Entry → List odometry.Entry
 after_fix None entries = entries
 after_fix (Some fix) entries = odometry.Entry.Fixed fix ∷ entries
 

@@ -22,6 +22,8 @@ use Rattle.linking.specs.declared.judgement.Verdict.TheVariants.{Accept, Ignore,
 use Rattle.linking.specs.Linking.{is_any, is_passed_by}
 use Rattle.linking.specs.Judging.{judgement, broken_effect}
 use Rattle.odometry.specs.Place as odometry
+use Rattle.odometry.specs.Sums.{Sums}
+use Rattle.odometry.specs.declared.fix.Fix.{Fix}
 use Rattle.kernel.specs.declared.events.Input as inputs
 use Rattle.kernel.specs.declared.events.Input.TheVariants.{Telegram, Odometer, Clock, Driver}
 use Rattle.kernel.specs.declared.train.TrainData.{TrainData}
@@ -37,7 +39,7 @@ nothing = record { clock = None; movement = None; heard = None; missed = []; gro
 -- a telegram; or a moment
 
 abbrev pub with_path : List Entry → Entry → Entry
-with_path entries entry = record entry { heard = Some (Went (place_of (entry ∷ entries)).path_sum) }
+with_path entries entry = record entry { heard = Some (Went (place_of (entry ∷ entries)).sums.path) }
 
 abbrev pub with_missed : List Entry → Entry → Entry
 with_missed entries entry =
@@ -48,7 +50,7 @@ moved entries by = with_missed entries (with_path entries (record nothing { move
 
 abbrev pub heard : List Entry → List ℕ → Entry
 heard entries bytes =
-    record nothing { heard = option_map (λ t. Read (record { telegram = t; sums = odometry.sums (place_of entries) })) (telegram_in bytes) }
+    record nothing { heard = option_map (λ t. Read (record { telegram = t; sums = (place_of entries).sums })) (telegram_in bytes) }
 
 abbrev pub begun : List Entry → inputs.Input → Entry
 begun entries (Telegram bytes) = heard entries bytes.items
@@ -61,7 +63,7 @@ begun entries (Driver action) = nothing
 
 abbrev pub group_read : odometry.Known → Message → GroupRead
 group_read place message =
-    record { group = message.group; linked = message.linked; direction = message.direction; place = odometry.place_then place message.sums }
+    record { group = message.group; linked = message.linked; direction = message.direction; place = odometry.place_at place.fix message.sums }
 
 abbrev pub judged : List Entry → Entry → Closed → Outcome
 judged entries entry (Broken b) =
@@ -78,11 +80,10 @@ abbrev pub added : Outcome → Entry → Entry
 added outcome entry = record entry { groups = outcome ∷ entry.groups }
 
 abbrev pub own_place : odometry.Known → Message → ℤ
-own_place place message = odometry.estimate_then place message.sums
+own_place place message = odometry.estimate_at place.fix message.sums
 
-abbrev pub fix_at : odometry.Known → Message → ℤ → ℕ → odometry.Fix
-fix_at place message at accuracy =
-    odometry.fix_of at accuracy (odometry.moved_after place message.sums) (odometry.path_after place message.sums) message.missed
+abbrev pub fix_at : Message → ℤ → ℕ → Fix
+fix_at message at accuracy = record { at = at; accuracy = accuracy; sums = message.sums; missed = message.missed }
 
 abbrev pub is_free : List Entry → Bool
 is_free entries =
@@ -90,16 +91,16 @@ is_free entries =
     && not (is_known (gradients_of entries).value) && not (is_known (speeds_of entries).value)
 
 -- a fix that would lie too far isn't made
-abbrev pub made : odometry.Fix → Option odometry.Fix
-made fix = if odometry.is_made fix then Some fix else None
+abbrev pub made : Sums → Fix → Option Fix
+made now fix = if odometry.is_made now fix then Some fix else None
 
-abbrev pub fix_of : odometry.Known → Bool → Message → Verdict → Option odometry.Fix
-fix_of place free message (Accept (Some a)) = made (fix_at place message a.place (100 * a.accuracy))
-fix_of place free message (Accept None) = if free then made (fix_at place message (own_place place message) 0) else None
+abbrev pub fix_of : odometry.Known → Bool → Message → Verdict → Option Fix
+fix_of place free message (Accept (Some a)) = made place.sums (fix_at message a.place (100 * a.accuracy))
+fix_of place free message (Accept None) = if free then made place.sums (fix_at message (own_place place message) 0) else None
 fix_of place free message Ignore = None
 fix_of place free message (Reaction a) = None
 
-abbrev pub fix_by : odometry.Known → Bool → Closed → Option Verdict → Option odometry.Fix
+abbrev pub fix_by : odometry.Known → Bool → Closed → Option Verdict → Option Fix
 fix_by place free (Broken b) verdict = None
 fix_by place free (Whole message) None = None
 fix_by place free (Whole message) (Some verdict) = fix_of place free message verdict
@@ -137,7 +138,7 @@ abbrev pub direction_of : Message → Option Announcement → Option LinkOrienta
 direction_of message announced = option_or message.direction (option_map (λ a. a.direction) announced)
 
 -- distances count from the place of the group's fix, and where none was made from the group's own place
-abbrev pub place_by : ℤ → Option odometry.Fix → ℤ
+abbrev pub place_by : ℤ → Option Fix → ℤ
 place_by own None = own
 place_by own (Some fix) = fix.at
 
@@ -145,13 +146,13 @@ abbrev pub facts_of : GroupIdentity → ℤ → ℕ → Option LinkOrientation �
 facts_of group place moment direction ps =
     map (λ p. record { group = group; place = place; moment = moment; packet = p }) (filter (is_valid direction) ps)
 
-abbrev pub facts_in : odometry.Known → ℕ → Option odometry.Fix → Message → Verdict → List Fact
+abbrev pub facts_in : odometry.Known → ℕ → Option Fix → Message → Verdict → List Fact
 facts_in place moment fix message (Accept announced) =
     facts_of message.group (place_by (own_place place message) fix) moment (direction_of message announced) message.packets
 facts_in place moment fix message Ignore = []
 facts_in place moment fix message (Reaction a) = []
 
-abbrev pub facts_by : odometry.Known → ℕ → Option odometry.Fix → Closed → Option Verdict → List Fact
+abbrev pub facts_by : odometry.Known → ℕ → Option Fix → Closed → Option Verdict → List Fact
 facts_by place moment fix (Broken b) verdict = []
 facts_by place moment fix (Whole message) None = []
 facts_by place moment fix (Whole message) (Some verdict) = facts_in place moment fix message verdict

@@ -1,6 +1,5 @@
 //! What a balise group does that closed: it is judged, it makes its fix, its packets are used.
-ghost use Rattle.std.specs.Prelude.{◌≡◌, not, ◌&&◌, ◌≤◌, ◌*◌, ◌^◌, Some, None, List, [], ◌∷◌, OnOk, Option};
-ghost use Rattle.std.specs.Int.RustNames.{unsigned_abs};
+ghost use Rattle.std.specs.Prelude.{◌≡◌, not, ◌&&◌, Some, None, List, [], ◌∷◌, OnOk, Option};
 ghost use Rattle.std.specs.Option.{option_map, option_or};
 ghost use Rattle.balise_groups.specs.declared.message.Closed.TheVariants as closed;
 ghost use Rattle.linking.specs.declared.effect.Effect.{Effect};
@@ -18,10 +17,11 @@ use crate::messages::{
 use crate::state::StateOver;
 use balise_groups::{Broken, Closed, GroupPackets, Message};
 use linking::{Announcement, GroupRead, Judgement, Verdict};
+use odometry::Fix;
 use speed_profile::CategorySpeeds;
 use std::alloc::Global;
 use track_store::{ProfileStore, is_known};
-use units::{Cm, Length, NoMemory, Permille};
+use units::{Cm, GroupPlace, Length, NoMemory, Permille};
 use vars::{LinkOrientation, Variable};
 
 // Where a group is to be fixed, and how exactly that is known.
@@ -39,7 +39,7 @@ impl<G: ProfileStore<Permille> + Drop, S: ProfileStore<CategorySpeeds> + Drop> S
         ensures stands { (life : Life) (entry : Entry) → entry.train ≡ None → StandsForLife G.profile S.profile self.old (grown life entry)
             → StandsForLife G.profile S.profile self.new (grown life (added (ruled message.now result.verdict result.effect) entry)) }
     {
-        let place = self.place.place_then(message.sums);
+        let place = self.place.place_at(&message.sums);
         let judgement = self.links.judge(&GroupRead {
             group: message.group,
             linked: message.linked,
@@ -64,24 +64,24 @@ impl<G: ProfileStore<Permille> + Drop, S: ProfileStore<CategorySpeeds> + Drop> S
     }
 
     // An accepted group makes its fix: the place from which its distances count.
-    fn fix(&mut self, message: &Message, announced: &Option<Announcement>) -> Cm
+    fn fix(&mut self, message: &Message, announced: &Option<Announcement>) -> GroupPlace
         ensures answer { (life : Life) (entry : Entry) (effect : Effect) → StandsForLife G.profile S.profile self.old (grown life (added (accepted message.now announced.now effect) entry))
             → result ≡ place_by (own_place (place_of (entry ∷ life.entries)) message.now) (with_fix life.entries entry (accepted message.now announced.now effect)).fix }
         ensures stands { (life : Life) (entry : Entry) (effect : Effect) → StandsForLife G.profile S.profile self.old (grown life (added (accepted message.now announced.now effect) entry))
             → StandsForLife G.profile S.profile self.new (grown life (added (with_fix life.entries entry (accepted message.now announced.now effect)) entry)) }
-        ensures near { unsigned_abs result ≤ 3 * 2 ^ 40 }
     {
-        let own = self.place.place_then(message.sums).estimate;
+        let own = self.place.place_at(&message.sums).estimate;
         let Some(wanted) = fix_wanted(self.is_free(), own, announced) else {
             return own;
         };
-        let moved = self.place.moved_after(message.sums);
-        let path = self.place.path_after(message.sums);
-        match self
-            .place
-            .fix(wanted.place, wanted.accuracy, moved, path, message.missed)
-        {
-            Ok(()) => wanted.place,
+        let fix = Fix {
+            at: wanted.place,
+            accuracy: wanted.accuracy,
+            sums: message.sums,
+            missed: message.missed,
+        };
+        match self.place.fix(fix) {
+            Ok(place) => place,
             Err(_) => own,
         }
     }
@@ -93,7 +93,6 @@ impl<G: ProfileStore<Permille> + Drop, S: ProfileStore<CategorySpeeds> + Drop> S
         packets: &GroupPackets,
         used: &Use,
     ) -> Result<(), NoMemory>
-        requires { unsigned_abs used.now.place ≤ 3 * 2 ^ 40 }
         ensures { OnOk result ((life : Life) (entry : Entry) (outcome : Outcome) → entry.train ≡ None → entry.mark ≡ None
             → StandsForLife G.profile S.profile self.old (grown life (added (using [] outcome) entry))
             → StandsForLife G.profile S.profile self.new (grown life (added (using (facts used.now packets.now) outcome) entry))) }
@@ -182,7 +181,7 @@ fn is_none(announced: bool, authorised: bool, gradient: bool, speed: bool) -> bo
 }
 
 // Where an accepted group is to be fixed: where it was announced, else at its own place, but only while the track is free.
-fn fix_wanted(free: bool, own: Cm, announced: &Option<Announcement>) -> Option<Wanted>
+fn fix_wanted(free: bool, own: GroupPlace, announced: &Option<Announcement>) -> Option<Wanted>
     ensures { result ≡ fix_wanted free own announced.now }
 {
     match announced {
@@ -194,7 +193,7 @@ fn fix_wanted(free: bool, own: Cm, announced: &Option<Announcement>) -> Option<W
             })
         }
         None if free => Some(Wanted {
-            place: own,
+            place: own.to_cm(),
             accuracy: Length::ZERO,
         }),
         None => None,

@@ -1,11 +1,11 @@
 use arrayvec::ArrayVec;
-use units::{Cm, Mph, Ms};
+use units::{Movement, Mph, Ms};
 
 /// What the odometer tells.
 #[derive(Clone, Copy, Debug, PartialEq, Eq)]
 pub struct Reading {
     /// The movement since the last reading, forward or backward.
-    pub movement: Cm,
+    pub movement: Movement,
     /// The speed now.
     pub speed: Mph,
 }

@@ -1,6 +1,7 @@
 //! How the packets of a group that was accepted are used.
-ghost use Rattle.std.specs.Prelude.{◌≡◌, ◌+◌, ◌-◌, ◌≤◌, ◌*◌, ◌^◌, ℤ, List, ◌∷◌, OnOk, if◌then◌else◌};
+ghost use Rattle.std.specs.Prelude.{◌≡◌, ◌+◌, ◌≤◌, ℤ, List, ◌∷◌, OnOk, if◌then◌else◌};
 ghost use Rattle.std.specs.Int.RustNames.{unsigned_abs};
+ghost use Rattle.units.specs.Limits.{reach, HasReach};
 ghost use Rattle.authority.specs.Entries as authorities;
 ghost use Rattle.authority.specs.Known.{known as known_authority};
 ghost use Rattle.linking.specs.Linking as linking;
@@ -24,7 +25,7 @@ use packets::{Link, Linking, Packet, SpeedRestriction};
 use speed_profile::{CategorySpeeds, gradients, static_speeds};
 use std::alloc::Global;
 use track_store::{ProfileStore, Restriction, Restrictions};
-use units::{Cm, Ms, NoMemory, Permille};
+use units::{Cm, GroupPlace, Ms, NoMemory, Permille};
 use vars::{Country, GroupIdentity, LinkOrientation, Scale, ValidityDirection};
 
 /// How the packets of a group are used.
@@ -33,7 +34,7 @@ pub struct Use {
     /// Which group it is.
     pub group: GroupIdentity,
     /// From where its distances count.
-    pub place: Cm,
+    pub place: GroupPlace,
     /// When it closed.
     pub moment: Ms,
     /// The direction in which it was passed, where that is known.
@@ -53,8 +54,7 @@ fn is_passed(valid: ValidityDirection, direction: &Option<LinkOrientation>) -> b
 }
 
 // A restriction where it lies on the track, its group being at a place.
-fn restriction_of(packet: &SpeedRestriction, at: Cm) -> Restriction
-    requires { unsigned_abs at ≤ 3 * 2 ^ 40 }
+fn restriction_of(packet: &SpeedRestriction, at: GroupPlace) -> Restriction
     ensures { result ≡ restriction_of at packet.now }
 {
     let start = at.get() + packet.start.in_scale(packet.scale).get();
@@ -77,10 +77,10 @@ struct Chain {
 
 // The group that a link announces; the next one counts from it.
 fn announced(chain: &mut Chain, link: &Link) -> Announcement
-    requires { unsigned_abs chain.old.place ≤ 2 ^ 42 - 2 ^ 25 }
+    requires { HasReach chain.old.place }
     ensures value { result ≡ announced chain.old.scale chain.old.place chain.old.country link.now }
     ensures next { chain.new ≡ record { scale = chain.old.scale; place = result.place; country = result.group.country } }
-    ensures near { unsigned_abs chain.new.place ≤ unsigned_abs chain.old.place + 2 ^ 25 }
+    ensures near { unsigned_abs chain.new.place ≤ unsigned_abs chain.old.place + reach }
 {
     let place = chain.place.get() + link.distance.in_scale(chain.scale).get();
     chain.place = Cm::new(place).unwrap();
@@ -99,14 +99,13 @@ fn announced(chain: &mut Chain, link: &Link) -> Announcement
 }
 
 // The groups that a list of links announces.
-fn announcements(packet: &Linking, group: &GroupIdentity, place: Cm) -> ArrayVec<Announcement, 32>
-    requires { unsigned_abs place ≤ 3 * 2 ^ 40 }
+fn announcements(packet: &Linking, group: &GroupIdentity, place: GroupPlace) -> ArrayVec<Announcement, 32>
     ensures { result.items ≡ announcements_of group.now place packet.now }
 {
     let mut announcements: ArrayVec<Announcement, 32> = ArrayVec::new();
     let mut chain = Chain {
         scale: packet.scale,
-        place,
+        place: place.to_cm(),
         country: group.country,
     };
     for link in packet.links.as_slice() {
@@ -117,7 +116,6 @@ fn announcements(packet: &Linking, group: &GroupIdentity, place: Cm) -> ArrayVec
 
 // Takes a packet, where it tells national values and is used.
 fn take_values(national: &mut National, packet: &Packet<'_>, used: &Use)
-    requires { unsigned_abs used.now.place ≤ 3 * 2 ^ 40 }
     ensures { (kept : ValuesFor) (entries : List values.Entry) → national.old ≡ values.known kept entries
         → national.new ≡ values.known kept (if is_valid used.now.direction packet.now then after_values (fact_of used.now packet.now) entries else entries) }
 {
@@ -130,7 +128,6 @@ fn take_values(national: &mut National, packet: &Packet<'_>, used: &Use)
 
 // Takes a packet, where it is a list of links that is used.
 fn announce(links: &mut Links, packet: &Packet<'_>, used: &Use)
-    requires { unsigned_abs used.now.place ≤ 3 * 2 ^ 40 }
     ensures { (entries : List linking.Entry) → links.old ≡ linking.known entries
         → links.new ≡ linking.known (if is_valid used.now.direction packet.now then after_links (fact_of used.now packet.now) entries else entries) }
 {
@@ -143,7 +140,6 @@ fn announce(links: &mut Links, packet: &Packet<'_>, used: &Use)
 
 // Takes a packet, where it is an authority that is used.
 fn accept(authority: &mut Authority, packet: &Packet<'_>, used: &Use)
-    requires { unsigned_abs used.now.place ≤ 3 * 2 ^ 40 }
     ensures { (entries : List authorities.Entry) → authority.old ≡ known_authority entries
         → authority.new ≡ known_authority (if is_valid used.now.direction packet.now then after_authority (fact_of used.now packet.now) entries else entries) }
 {
@@ -160,7 +156,6 @@ fn replace_gradient<G: ProfileStore<Permille>>(
     packet: &Packet<'_>,
     used: &Use,
 ) -> Result<(), NoMemory>
-    requires { unsigned_abs used.now.place ≤ 3 * 2 ^ 40 }
     ensures { OnOk result ((told : Told ℤ) → profile_with G.value G.mark store.old ≡ profile_of told
         → profile_with G.value G.mark store.new ≡ profile_of (record told { facts = if is_valid used.now.direction packet.now then after_gradients (fact_of used.now packet.now) told.facts else told.facts })) }
 {
@@ -180,7 +175,6 @@ fn replace_speed<S: ProfileStore<CategorySpeeds>>(
     packet: &Packet<'_>,
     used: &Use,
 ) -> Result<(), NoMemory>
-    requires { unsigned_abs used.now.place ≤ 3 * 2 ^ 40 }
     ensures { OnOk result ((told : Told CategorySpeeds) → profile_with S.value S.mark store.old ≡ profile_of told
         → profile_with S.value S.mark store.new ≡ profile_of (record told { facts = if is_valid used.now.direction packet.now then after_speeds (fact_of used.now packet.now) told.facts else told.facts })) }
 {
@@ -201,7 +195,6 @@ fn add(
     packet: &Packet<'_>,
     used: &Use,
 ) -> Result<(), NoMemory>
-    requires { unsigned_abs used.now.place ≤ 3 * 2 ^ 40 }
     ensures { OnOk result ((entries : List track.Entry) → restrictions.old ≡ track.in_force entries
         → restrictions.new ≡ track.in_force (if is_valid used.now.direction packet.now then after_restriction (fact_of used.now packet.now) entries else entries)) }
 {
@@ -228,7 +221,6 @@ fn revoke(restrictions: &mut Restrictions, packet: &Packet<'_>, used: &Use)
 
 /// Takes the national values (packet 3) of a group.
 pub fn take_all_values(national: &mut National, packets: &GroupPackets, used: &Use)
-    requires { unsigned_abs used.now.place ≤ 3 * 2 ^ 40 }
     ensures { (kept : ValuesFor) (entries : List values.Entry) → national.old ≡ values.known kept entries
         → national.new ≡ values.known kept (after_facts after_values (facts used.now packets.now) entries) }
 {
@@ -239,7 +231,6 @@ pub fn take_all_values(national: &mut National, packets: &GroupPackets, used: &U
 
 /// Takes the lists of links (packet 5) of a group.
 pub fn announce_all(links: &mut Links, packets: &GroupPackets, used: &Use)
-    requires { unsigned_abs used.now.place ≤ 3 * 2 ^ 40 }
     ensures { (entries : List linking.Entry) → links.old ≡ linking.known entries
         → links.new ≡ linking.known (after_facts after_links (facts used.now packets.now) entries) }
 {
@@ -250,7 +241,6 @@ pub fn announce_all(links: &mut Links, packets: &GroupPackets, used: &Use)
 
 /// Takes the authorities (packet 12) of a group.
 pub fn accept_all(authority: &mut Authority, packets: &GroupPackets, used: &Use)
-    requires { unsigned_abs used.now.place ≤ 3 * 2 ^ 40 }
     ensures { (entries : List authorities.Entry) → authority.old ≡ known_authority entries
         → authority.new ≡ known_authority (after_facts after_authority (facts used.now packets.now) entries) }
 {
@@ -265,7 +255,6 @@ pub fn replace_gradients<G: ProfileStore<Permille>>(
     packets: &GroupPackets,
     used: &Use,
 ) -> Result<(), NoMemory>
-    requires { unsigned_abs used.now.place ≤ 3 * 2 ^ 40 }
     ensures { OnOk result ((told : Told ℤ) → profile_with G.value G.mark store.old ≡ profile_of told
         → profile_with G.value G.mark store.new ≡ profile_of (record told { facts = after_facts after_gradients (facts used.now packets.now) told.facts })) }
 {
@@ -281,7 +270,6 @@ pub fn replace_speeds<S: ProfileStore<CategorySpeeds>>(
     packets: &GroupPackets,
     used: &Use,
 ) -> Result<(), NoMemory>
-    requires { unsigned_abs used.now.place ≤ 3 * 2 ^ 40 }
     ensures { OnOk result ((told : Told CategorySpeeds) → profile_with S.value S.mark store.old ≡ profile_of told
         → profile_with S.value S.mark store.new ≡ profile_of (record told { facts = after_facts after_speeds (facts used.now packets.now) told.facts })) }
 {
@@ -298,7 +286,6 @@ pub fn add_all(
     packets: &GroupPackets,
     used: &Use,
 ) -> Result<(), NoMemory>
-    requires { unsigned_abs used.now.place ≤ 3 * 2 ^ 40 }
     ensures { OnOk result ((entries : List track.Entry) → restrictions.old ≡ track.in_force entries
         → restrictions.new ≡ track.in_force (after_facts after_restriction (facts used.now packets.now) entries)) }
 {

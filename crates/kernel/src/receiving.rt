@@ -18,7 +18,7 @@ use speed_profile::CategorySpeeds;
 use std::alloc::Global;
 use telegram::Received;
 use track_store::ProfileStore;
-use units::{Cm, Ms, NoMemory, Permille, Stretch};
+use units::{Cm, Movement, Ms, NoMemory, Permille, Stretch};
 
 /// How much track behind the least rear isn't forgotten, in centimetres.
 const REMEMBERED: i64 = 100_000;
@@ -34,12 +34,12 @@ fn mark_behind(rear: Cm) -> Cm
 impl<G: ProfileStore<Permille> + Drop, S: ProfileStore<CategorySpeeds> + Drop> StateOver<G, S> {
     // A movement: the group that is left by it closes, and announced groups are missed that the train has passed. A movement
     // that leads too far isn't added.
-    fn move_by(&mut self, alloc: Global, movement: Cm) -> Result<(), NoMemory>
+    fn move_by(&mut self, alloc: Global, movement: Movement) -> Result<(), NoMemory>
         ensures { OnOk result ((life : Life) → StandsForLife G.profile S.profile self.old life
             → StandsForLife G.profile S.profile self.new (grown life (with_groups life.entries (moved life.entries movement)))) }
     {
         let _ = self.place.moved(movement);
-        let ended = self.groups.moved(self.place.path_sum());
+        let ended = self.groups.moved(self.place.sums().path());
         self.links.missed(self.place.min_front());
         self.close(alloc, &ended)
     }

@@ -78,11 +78,15 @@ IsRising announcements = AllPairs (λ a b. a.number < b.number) announcements
 
 -- ---- where an announced group may lie, in centimetres
 
+-- Q_LOCACC tells metres
+abbrev pub doubt : Announcement → ℕ
+doubt a = 100 * a.accuracy
+
 abbrev pub first_place : Announcement → ℤ
-first_place a = a.place -ℤ pos (100 * a.accuracy)
+first_place a = a.place -ℤ pos (doubt a)
 
 abbrev pub last_place : Announcement → ℤ
-last_place a = a.place +ℤ pos (100 * a.accuracy)
+last_place a = a.place +ℤ pos (doubt a)
 
 -- the least front lies beyond it
 abbrev pub is_passed_by : ℤ → Announcement → Bool
@@ -115,7 +119,7 @@ reactions announcements =
       service = list_any (λ a. (effect_of a.reaction).service) announcements;
     }
 
--- missed announcements ask for what their reactions do, and for service where two are missed with none accepted between
+-- missed announcements ask for what their reactions do, and for service where the second is missed with none accepted between
 abbrev pub misses : Bool → List Announcement → Effect
 misses has_missed announcements =
     both (reactions announcements) (if nat_le 2 (from_bool has_missed + length announcements) then service else no_effect)

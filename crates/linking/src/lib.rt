@@ -10,4 +10,4 @@ mod links;
 pub use announcement::Announcement;
 pub use effect::Effect;
 pub use judgement::{GroupRead, Judgement, Verdict};
-pub use links::Links;
+pub use links::{Links, MOST_ANNOUNCED};

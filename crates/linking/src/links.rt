@@ -10,11 +10,14 @@ use std::marker::Model;
 use units::Cm;
 use vars::GroupIdentity;
 
+/// How many groups a list of links (packet 5) announces at most.
+pub const MOST_ANNOUNCED: usize = 32;
+
 /// The announced groups that are left, and whether one was missed since the last that was accepted.
 #[derive(Drop)]
 pub struct Links {
     // In the order of their list.
-    left: ArrayVec<Announcement, 32>,
+    left: ArrayVec<Announcement, MOST_ANNOUNCED>,
     has_missed: bool,
 }
 
@@ -41,7 +44,7 @@ impl Links {
 
     /// Takes a list of links in place of the one before, and numbers it from 0; an empty one deletes linking.
     pub fn replace(&mut self, announcements: &[Announcement])
-        requires { length announcements.now ≤ 32 }
+        requires { length announcements.now ≤ MOST_ANNOUNCED }
         ensures { (entries : List Entry) → self.old ≡ known entries
             → self.new ≡ known (Announced announcements.now ∷ entries) }
     {
@@ -198,8 +201,8 @@ impl Links {
 }
 
 // The announcements, numbered from 0.
-fn numbered(announcements: &[Announcement]) -> ArrayVec<Announcement, 32>
-    requires { length announcements.now ≤ 32 }
+fn numbered(announcements: &[Announcement]) -> ArrayVec<Announcement, MOST_ANNOUNCED>
+    requires { length announcements.now ≤ MOST_ANNOUNCED }
     ensures { result.items ≡ numbered announcements.now }
 {
     let mut list = ArrayVec::new();
@@ -251,21 +254,21 @@ fn is_any_behind(announcements: &[Announcement], min_front: Cm) -> bool
 }
 
 // Drops the announcements that the least front has passed.
-fn drop_behind(announcements: &mut ArrayVec<Announcement, 32>, min_front: Cm)
+fn drop_behind(announcements: &mut ArrayVec<Announcement, MOST_ANNOUNCED>, min_front: Cm)
     ensures { announcements.new.items ≡ filter (λ a. not (is_passed_by min_front a)) announcements.old.items }
 {
     announcements.retain(|a| !a.is_passed_by(min_front));
 }
 
 // Drops the announcements up to a number.
-fn drop_up_to(announcements: &mut ArrayVec<Announcement, 32>, number: u8)
+fn drop_up_to(announcements: &mut ArrayVec<Announcement, MOST_ANNOUNCED>, number: u8)
     ensures { announcements.new.items ≡ filter (λ a. not (takes (Accepted number) a.number)) announcements.old.items }
 {
     announcements.retain(|a| number < a.number);
 }
 
 // Drops the announcement of a number.
-fn drop_number(announcements: &mut ArrayVec<Announcement, 32>, number: u8)
+fn drop_number(announcements: &mut ArrayVec<Announcement, MOST_ANNOUNCED>, number: u8)
     ensures { announcements.new.items ≡ filter (λ a. not (takes (Reacted number) a.number)) announcements.old.items }
 {
     announcements.retain(|a| a.number != number);

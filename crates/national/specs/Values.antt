@@ -24,9 +24,13 @@ abbrev pub open_distance_in : Scale → OpenLength → Option ℤ
 open_distance_in scale (Length number) = Some (distance_in scale number)
 open_distance_in scale NoEnd = None
 
--- a time is told in seconds, and 255 has no end
+-- T_NVOVTRP: the number of the time that has no end
+abbrev pub no_end : ℕ
+no_end = 255
+
+-- a time is told in seconds
 abbrev pub time_of : ℕ → Option ℕ
-time_of seconds = if seconds == 255 then None else Some (1_000 * seconds)
+time_of seconds = if seconds == no_end then None else Some (1_000 * seconds)
 
 abbrev pub values_of : NationalValues → Values
 values_of packet = record {

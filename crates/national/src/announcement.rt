@@ -1,10 +1,9 @@
-ghost use Rattle.std.specs.Prelude.{◌≡◌, ◌*◌, ◌^◌, ◌≤◌};
-ghost use Rattle.std.specs.Int.RustNames.{unsigned_abs};
+ghost use Rattle.std.specs.Prelude.{◌≡◌};
 ghost use Rattle.national.specs.InForce.{fact_of, start_from, is_reached, announcement_of};
 
 use crate::CountryValues;
 use packets::NationalValues;
-use units::Cm;
+use units::{Cm, GroupPlace};
 use vars::{Country, Scale, StartPlace};
 
 /// Values that are to come into force.
@@ -18,8 +17,7 @@ pub struct Announcement {
 
 impl Announcement {
     /// What packet 3 announces, by the country and the place of its group.
-    pub fn of(packet: &NationalValues, country: Country, place: Cm) -> Self
-        requires { unsigned_abs place ≤ 3 * 2 ^ 40 }
+    pub fn of(packet: &NationalValues, country: Country, place: GroupPlace) -> Self
         ensures { result ≡ announcement_of (fact_of packet.now country place) }
     {
         Announcement {
@@ -50,8 +48,7 @@ impl Announcement {
 }
 
 // Where an announcement comes into force that is told from a place.
-fn start_from(scale: Scale, place: Cm, start: StartPlace) -> Option<Cm>
-    requires { unsigned_abs place ≤ 3 * 2 ^ 40 }
+fn start_from(scale: Scale, place: GroupPlace, start: StartPlace) -> Option<Cm>
     ensures { result ≡ start_from scale place start }
 {
     match start {

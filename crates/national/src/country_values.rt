@@ -7,12 +7,15 @@ use packets::NationalValues;
 use std::marker::Model;
 use vars::Country;
 
+/// For how many countries values are at most: those that a packet 3 lists, and that of its group.
+pub const MOST_COUNTRIES: usize = 32;
+
 /// National values, with the countries that they are for.
 #[derive(Drop)]
 pub struct CountryValues {
     values: Values,
     // In the order in which they were told; none stands for no country.
-    countries: ArrayVec<Country, 33>,
+    countries: ArrayVec<Country, MOST_COUNTRIES>,
 }
 
 impl Model for CountryValues {
@@ -25,13 +28,12 @@ impl Model for CountryValues {
 
 impl CountryValues {
     /// These values for these countries.
-    pub fn new(values: &Values, countries: &[Country]) -> Self
-        requires { length countries.now ≤ 33 }
-        ensures { result ≡ values_for values.now countries.now }
+    pub fn new(values: &Values, countries: ArrayVec<Country, MOST_COUNTRIES>) -> Self
+        ensures { result ≡ values_for values.now countries.items }
     {
         CountryValues {
             values: *values,
-            countries: ArrayVec::try_from(countries).unwrap(),
+            countries,
         }
     }
 
@@ -45,7 +47,7 @@ impl CountryValues {
     /// The countries that the values are for, repeated where they were told so; none where they are for no country.
     pub fn countries(&self) -> &[Country]
         ensures value { result.now ≡ self.now.countries }
-        ensures few { length result.now ≤ 33 }
+        ensures few { length result.now ≤ MOST_COUNTRIES }
     {
         self.countries.as_slice()
     }
@@ -54,7 +56,10 @@ impl CountryValues {
     pub fn copy(&self) -> Self
         ensures { result ≡ self.now }
     {
-        CountryValues::new(&self.values, self.countries.as_slice())
+        CountryValues {
+            values: self.values,
+            countries: ArrayVec::try_from(self.countries.as_slice()).unwrap(),
+        }
     }
 
     // The defaults, for no country.

@@ -6,6 +6,6 @@ mod country_values;
 mod national;
 mod values;
 
-pub use country_values::CountryValues;
+pub use country_values::{CountryValues, MOST_COUNTRIES};
 pub use national::National;
 pub use values::Values;

@@ -1,14 +1,13 @@
-ghost use Rattle.std.specs.Prelude.{◌≡◌, ◌*◌, ◌^◌, ◌≤◌, false, List, [], ◌∷◌, length, IfSome};
-ghost use Rattle.std.specs.Int.RustNames.{unsigned_abs};
+ghost use Rattle.std.specs.Prelude.{◌≡◌, ◌≤◌, false, List, [], ◌∷◌, length, IfSome};
 ghost use Rattle.national.specs.Values.{ValuesFor, is_any, is_foreign};
 ghost use Rattle.national.specs.InForce.{Entry, fact_of, is_reached, known, in_force, nothing_kept, has_come};
 ghost use Rattle.national.specs.InForce.Entry.{Announced, Entered, Reached};
 
 use crate::announcement::Announcement;
-use crate::{CountryValues, Values};
+use crate::{CountryValues, MOST_COUNTRIES, Values};
 use packets::NationalValues;
 use std::marker::Model;
-use units::Cm;
+use units::{Cm, GroupPlace};
 use vars::Country;
 
 /// The national values in force, and those that are announced.
@@ -45,8 +44,7 @@ impl National {
     }
 
     /// Takes packet 3 of a group of a country, in place of the one that is announced. It starts from the group's place on.
-    pub fn announce(&mut self, packet: &NationalValues, group_country: Country, place: Cm)
-        requires { unsigned_abs place ≤ 3 * 2 ^ 40 }
+    pub fn announce(&mut self, packet: &NationalValues, group_country: Country, place: GroupPlace)
         ensures { (kept : ValuesFor) → (entries : List Entry) → self.old ≡ known kept entries
             → self.new ≡ known kept (Announced (fact_of packet.now group_country place) ∷ entries) }
     {
@@ -106,7 +104,7 @@ impl National {
     /// defaults for no country, there are none exactly while no packet 3 came into force.
     pub fn countries(&self) -> &[Country]
         ensures value { result.now ≡ self.now.in_force.countries }
-        ensures few { length result.now ≤ 33 }
+        ensures few { length result.now ≤ MOST_COUNTRIES }
         ensures any { (entries : List Entry) → self.now ≡ known nothing_kept entries
             → is_any result.now ≡ has_come entries }
     {

@@ -3,9 +3,13 @@
 #![tactic(auto)]
 
 mod earlier;
+mod fix;
 mod overrun;
 mod place;
+mod sums;
 
-pub use earlier::{EarlierPlace, Sums};
+pub use earlier::EarlierPlace;
+pub use fix::Fix;
 pub use overrun::Overrun;
 pub use place::Place;
+pub use sums::Sums;

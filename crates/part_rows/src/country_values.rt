@@ -1,5 +1,5 @@
 // Worked rows of national values.
-use crate::numbers::{cm, distance, kmh, speed_step};
+use crate::numbers::{cm, distance, group_place, kmh, speed_step};
 use crate::wanted::same;
 use arrayvec::ArrayVec;
 use national::{CountryValues, National, Values};
@@ -119,7 +119,7 @@ fn packet<R: Abort>(rt: &R, sent: &Sent) -> NationalValues {
 }
 
 fn announce<R: Abort>(rt: &R, national: &mut National, sent: &Sent, place: i32) {
-    national.announce(&packet(rt, sent), country(rt, 1), cm(rt, i64::from(place)));
+    national.announce(&packet(rt, sent), country(rt, 1), group_place(rt, i64::from(place)));
 }
 
 fn is_for(national: &National, listed: &[u16]) -> bool {
@@ -139,7 +139,8 @@ fn happens<R: Abort>(rt: &R, national: &mut National, event: &Event, row: &str, 
         Enter(nid_c) => national.enter(country(rt, *nid_c)),
         Forget => national.forget_announced(),
         PowerUp => {
-            let kept = CountryValues::new(national.values(), national.countries());
+            let countries = ArrayVec::try_from(national.countries()).unwrap();
+            let kept = CountryValues::new(national.values(), countries);
             *national = National::kept(kept.copy());
         }
         Speed(wanted) => {

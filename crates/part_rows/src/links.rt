@@ -1,5 +1,5 @@
 // Worked rows of linking.
-use crate::numbers::cm;
+use crate::numbers::{cm, group_place};
 use crate::wanted::same;
 use arrayvec::ArrayVec;
 use linking::{Announcement, Effect, GroupRead, Links, Verdict};
@@ -122,7 +122,7 @@ fn happens<R: Abort>(rt: &R, links: &mut Links, event: &Event, row: &str, step: 
                 linked: group.linked,
                 direction: group.direction,
                 place: EarlierPlace {
-                    estimate: cm(rt, group.front),
+                    estimate: group_place(rt, group.front),
                     uncertainty: cm(rt, group.uncertainty),
                 },
             });

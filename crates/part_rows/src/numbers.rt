@@ -2,13 +2,17 @@
 ghost use Rattle.std.specs.Prelude.{◌≡◌};
 
 use std::process::Abort;
-use units::{Cm, Mph};
+use units::{Cm, GroupPlace, Mph};
 use vars::{Distance, SpeedStep, Variable};
 
 pub fn cm<R: Abort>(rt: &R, number: i64) -> Cm
     ensures { result ≡ number }
 {
     Cm::new(number).expect(rt, "a place")
+}
+
+pub fn group_place<R: Abort>(rt: &R, number: i64) -> GroupPlace {
+    GroupPlace::new(number).expect(rt, "a place of a group")
 }
 
 pub fn mph<R: Abort>(rt: &R, number: u32) -> Mph {

@@ -1,13 +1,14 @@
 //! What packets 21 and 27 tell.
-ghost use Rattle.std.specs.Prelude.{◌≡◌, ℕ, ◌+◌, ◌-◌, ◌*◌, ◌^◌, ◌<◌, ◌≤◌, ◌+ℤ◌, pos, min, length, take, drop};
+ghost use Rattle.std.specs.Prelude.{◌≡◌, ◌+◌, ◌*◌, ◌≤◌, ◌+ℤ◌, pos, min, length, take, drop};
 ghost use Rattle.std.specs.Int.RustNames.{unsigned_abs};
+ghost use Rattle.units.specs.Limits.{reach, HasReach};
 ghost use Rattle.vars.specs.Meanings.{centimetres_of};
 ghost use Rattle.speed_profile.specs.Told.{speed_of, speed_for, speeds_for, first_place, gradient_value, gradient_fact, speed_value, speed_fact};
 
 use arrayvec::ArrayVec;
 use packets::{Difference, Gradient, Gradients, StaticSpeeds, StaticStep};
 use track_store::Step;
-use units::{Cm, Mph, Permille};
+use units::{Cm, GroupPlace, Mph, Permille};
 use vars::{Distance, Scale, StaticSpeed, TrainCategory, TrainLengthDelay, Variable};
 
 /// A static speed, with what holds for each category of trains (SUBSET-026, 3.11.3; 7.4.2, packet 27).
@@ -39,13 +40,13 @@ pub struct Told<T> {
 
 /// The gradients that packet 21 tells (SUBSET-026, 7.4.2), in per mille, uphill positive; a steepness of 255 is an end
 /// mark. Its first distance counts from a place.
-pub fn gradients(packet: &Gradients, place: Cm) -> Told<Permille>
-    requires { unsigned_abs place ≤ 3 * 2 ^ 40 }
+pub fn gradients(packet: &Gradients, place: GroupPlace) -> Told<Permille>
     ensures start { result.start ≡ (gradient_fact place packet.now).start }
     ensures steps { result.steps.items ≡ (gradient_fact place packet.now).steps }
 {
     let mut steps: ArrayVec<Step<Permille>, 32> = ArrayVec::new();
-    let mut at = place;
+    let origin = place.to_cm();
+    let mut at = origin;
     for gradient in packet.gradients.as_slice() {
         at = ahead(at, gradient.distance, packet.scale);
         steps.push(Step {
@@ -53,19 +54,19 @@ pub fn gradients(packet: &Gradients, place: Cm) -> Told<Permille>
             value: gradient_value(gradient),
         });
     }
-    let start = first_place(place, steps.as_slice());
+    let start = first_place(origin, steps.as_slice());
     Told { start, steps }
 }
 
 /// The static speeds that packet 27 tells (SUBSET-026, 7.4.2); a V_STATIC of 127 is an end mark. Its first distance
 /// counts from a place.
-pub fn static_speeds(packet: &StaticSpeeds, place: Cm) -> Told<CategorySpeeds>
-    requires { unsigned_abs place ≤ 3 * 2 ^ 40 }
+pub fn static_speeds(packet: &StaticSpeeds, place: GroupPlace) -> Told<CategorySpeeds>
     ensures start { result.start ≡ (speed_fact place packet.now).start }
     ensures steps { result.steps.items ≡ (speed_fact place packet.now).steps }
 {
     let mut steps: ArrayVec<Step<CategorySpeeds>, 32> = ArrayVec::new();
-    let mut at = place;
+    let origin = place.to_cm();
+    let mut at = origin;
     let mut left = packet.differences.as_slice();
     for step in packet.steps.as_slice() {
         at = ahead(at, step.distance, packet.scale);
@@ -75,15 +76,15 @@ pub fn static_speeds(packet: &StaticSpeeds, place: Cm) -> Told<CategorySpeeds>
         });
         left = others_part(step, left);
     }
-    let start = first_place(place, steps.as_slice());
+    let start = first_place(origin, steps.as_slice());
     Told { start, steps }
 }
 
 // The place so far ahead.
 fn ahead(place: Cm, by: Distance, scale: Scale) -> Cm
-    requires { unsigned_abs place ≤ 2 ^ 42 - 2 ^ 25 }
+    requires { HasReach place }
     ensures value { result ≡ place +ℤ pos (by * centimetres_of scale) }
-    ensures near { unsigned_abs result ≤ unsigned_abs place + 2 ^ 25 }
+    ensures near { unsigned_abs result ≤ unsigned_abs place + reach }
 {
     Cm::new(place.get() + by.in_scale(scale).get()).unwrap()
 }

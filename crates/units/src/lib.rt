@@ -3,7 +3,9 @@
 #![tactic(auto)]
 
 mod cm;
+mod group_place;
 mod length;
+mod movement;
 mod mph;
 mod ms;
 mod no_memory;
@@ -11,7 +13,9 @@ mod permille;
 mod stretch;
 
 pub use cm::Cm;
+pub use group_place::GroupPlace;
 pub use length::Length;
+pub use movement::Movement;
 pub use mph::Mph;
 pub use ms::Ms;
 pub use no_memory::NoMemory;

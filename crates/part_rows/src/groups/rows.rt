@@ -6,7 +6,7 @@ use bits::BitWriter;
 use odometry::Place;
 use std::process::Abort;
 use telegram::Received;
-use units::Cm;
+use units::Movement;
 use vars::{LinkOrientation, Variable};
 
 /// The telegram of a balise, its variables by their numbers. Its packets are of numbers that the kernel skips, but for
@@ -158,10 +158,10 @@ fn happens<R: Abort>(rt: &R, groups: &mut Assembler, place: &mut Place, step: &S
     match step {
         Step::Hear(balise) => hear(rt, groups, balise, place),
         Step::Go(cm) => {
-            let movement = Cm::new(*cm).expect(rt, "a movement");
+            let movement = Movement::new(*cm).expect(rt, "a movement");
             assert!(rt; place.moved(movement).is_ok());
             Taken {
-                ended: groups.moved(place.path_sum()),
+                ended: groups.moved(place.sums().path()),
                 whole: None,
             }
         }

@@ -1,5 +1,5 @@
 // What the rows are written in: authorities and what they answer, in plain numbers.
-use crate::numbers::{cm, distance, speed_step};
+use crate::numbers::{cm, distance, group_place, speed_step};
 use crate::wanted::same;
 use arrayvec::ArrayVec;
 use authority::{Authority, Release};
@@ -132,7 +132,7 @@ pub fn ms<R: Abort>(rt: &R, moment: u64) -> Ms {
 
 /// Accepts an authority that is counted from place 0.
 pub fn accept<R: Abort>(rt: &R, authority: &mut Authority, granted: &Granted, moment: u64) {
-    authority.accept(&packet(rt, granted), Cm::ZERO, ms(rt, moment));
+    authority.accept(&packet(rt, granted), group_place(rt, 0), ms(rt, moment));
 }
 
 /// What an authority tells is what the row wants.

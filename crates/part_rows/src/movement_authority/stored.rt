@@ -3,16 +3,16 @@ use crate::movement_authority::rows::Told::Bare;
 use crate::movement_authority::rows::{
     GRANTED, Granted, Row, accept, happens, ms, packet, rows, tells,
 };
+use crate::numbers::group_place;
 use crate::wanted::same;
 use authority::Authority;
-use units::Cm;
 use vars::Scale;
 
 #[test]
 fn accepted_and_deleted(rt: HostRuntime) {
     let mut authority = Authority::new();
     assert!(rt; !authority.is_stored() && authority.end().is_none());
-    let place = Cm::new(-3 << 40).expect(&rt, "a place");
+    let place = group_place(&rt, -3 << 40);
     authority.accept(&packet(&rt, &GRANTED), place, ms(&rt, 0));
     assert!(rt; authority.is_stored());
     tells(

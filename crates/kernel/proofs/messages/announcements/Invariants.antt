@@ -1,5 +1,6 @@
-use Rattle.std.proofs.Common.{◌≡◌, ◌++◌, ◌+◌, ◌*◌, ◌^◌, ◌≤◌, drop, length}
+use Rattle.std.proofs.Common.{◌≡◌, ◌++◌, ◌+◌, ◌*◌, ◌≤◌, drop, length}
 use Rattle.std.specs.Int.RustNames.{unsigned_abs}
+use Rattle.units.specs.Limits.{farthest, reach}
 use Rattle.kernel.specs.Announcing.{announced_from, announcements_of}
 use Rattle.kernel.proofs.messages.announcements.Given as goal
 
@@ -9,4 +10,4 @@ invariant-loop-link l =
     (l.announcements.items ++ announced_from l.chain.scale l.chain.place l.chain.country (drop l.link-index l.packet.links.items)
     ≡ announcements_of l.fn.group l.fn.place l.fn.packet)
     × (length l.announcements.items ≡ l.link-index)
-    × (unsigned_abs l.chain.place ≤ 3 * 2 ^ 40 + l.link-index * 2 ^ 25)
+    × (unsigned_abs l.chain.place ≤ 3 * farthest + l.link-index * reach)

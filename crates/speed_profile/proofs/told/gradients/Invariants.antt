@@ -1,5 +1,6 @@
-use Rattle.std.proofs.Common.{◌≡◌, ◌++◌, ◌+◌, ◌*◌, ◌^◌, ◌≤◌, drop, length}
+use Rattle.std.proofs.Common.{◌≡◌, ◌++◌, ◌+◌, ◌*◌, ◌≤◌, drop, length}
 use Rattle.std.specs.Int.RustNames.{unsigned_abs}
+use Rattle.units.specs.Limits.{farthest, reach}
 use Rattle.speed_profile.specs.Told.{gradient_steps_from, gradient_steps}
 use Rattle.speed_profile.proofs.told.gradients.Given as goal
 
@@ -9,5 +10,5 @@ invariant-loop-gradient l = record {
   all : l.steps.items ++ gradient_steps_from l.packet.scale l.at (drop l.gradient-index l.packet.gradients.items)
       ≡ gradient_steps l.fn.place l.fn.packet;
   count : length l.steps.items ≡ l.gradient-index;
-  near : unsigned_abs l.at ≤ 3 * 2 ^ 40 + l.gradient-index * 2 ^ 25;
+  near : unsigned_abs l.at ≤ 3 * farthest + l.gradient-index * reach;
 }

@@ -1,5 +1,6 @@
-use Rattle.std.proofs.Common.{◌≡◌, ◌++◌, ◌+◌, ◌*◌, ◌^◌, ◌≤◌, drop, length}
+use Rattle.std.proofs.Common.{◌≡◌, ◌++◌, ◌+◌, ◌*◌, ◌≤◌, drop, length}
 use Rattle.std.specs.Int.RustNames.{unsigned_abs}
+use Rattle.units.specs.Limits.{farthest, reach}
 use Rattle.speed_profile.specs.Told.{speed_steps_from, speed_steps}
 use Rattle.speed_profile.proofs.told.static_speeds.Given as goal
 
@@ -9,5 +10,5 @@ invariant-loop-step l = record {
   all : l.steps.items ++ speed_steps_from l.packet.scale l.at (drop l.step-index l.packet.steps.items) l.left
       ≡ speed_steps l.fn.place l.fn.packet;
   count : length l.steps.items ≡ l.step-index;
-  near : unsigned_abs l.at ≤ 3 * 2 ^ 40 + l.step-index * 2 ^ 25;
+  near : unsigned_abs l.at ≤ 3 * farthest + l.step-index * reach;
 }

@@ -5,6 +5,7 @@ use Rattle.balise_groups.specs.declared.message.Closed.{Closed}
 use Rattle.balise_groups.specs.Groups as groups
 use Rattle.linking.specs.Linking as linking
 use Rattle.odometry.specs.Place as odometry
+use Rattle.odometry.specs.Sums.{Sums}
 use Rattle.kernel.specs.History.{Entry, places, all_heard, links}
 use Rattle.kernel.specs.Sentences.{moved, with_closed}
 use Rattle.kernel.specs.StandsFor.{StandsForLife, grown}
@@ -17,7 +18,7 @@ returns g c =
     (λ closed life s.
     (let entry : Entry = moved life.entries c.args.movement in
     let place_is = c.moved.ensures.stands (places life.entries) ((seen c.self.view_is s).place_is) in
-    let path_is = c.path_sum.ensures ∙ ap (λ (k : odometry.Known). k.path_sum) place_is in
+    let path_is = c.path.ensures ∙ ap (λ (s : Sums). s.path) c.sums.ensures ∙ ap (λ (k : odometry.Known). k.sums.path) place_is in
     let groups_before = (seen c.self.view_is s).groups_are in
     let links_before = (seen c.self.view_is s).links_are in
     let ended = c.moved-ended.ensures.answer ∙ (λ i. groups.ended_by (path_is i) (groups_before i)) in

@@ -3,6 +3,7 @@ use Rattle.std.proofs.lemmas.Result.{on_ok_weaker}
 use Rattle.std.specs.Option.{option_map}
 use Rattle.telegram.specs.declared.message.Telegram.{Telegram}
 use Rattle.odometry.specs.Place as odometry
+use Rattle.odometry.specs.Sums.{Sums}
 use Rattle.balise_groups.specs.declared.assembler.Taken.{Taken}
 use Rattle.balise_groups.specs.declared.reading.Reading.{Reading}
 use Rattle.balise_groups.specs.Groups as groups
@@ -19,14 +20,14 @@ returns g c =
     on_ok_weaker c.close-2.result
     (λ closed life bytes s told.
     (let before = life.entries in
-    let with_sums : odometry.Sums → Reading = λ sums. record { telegram = c.args.telegram; sums = sums } in
-    let reading : Reading = with_sums (odometry.sums (place_of before)) in
+    let with_sums : Sums → Reading = λ sums. record { telegram = c.args.telegram; sums = sums } in
+    let reading : Reading = with_sums ((place_of before).sums) in
     let entry : Entry = record nothing { heard = Some (Read reading) } in
     let entry_is : heard before bytes ≡ entry =
-    ap (λ (o : Option Telegram). record nothing { heard = option_map (λ t. Read (record { telegram = t; sums = odometry.sums (place_of before) })) o }) told in
+    ap (λ (o : Option Telegram). record nothing { heard = option_map (λ t. Read (record { telegram = t; sums = (place_of before).sums })) o }) told in
     let place_before = (seen c.self.view_is s).place_is in
     let groups_before = (seen c.self.view_is s).groups_are in
-    let sums_are = c.sums.ensures ∙ ap odometry.sums place_before in
+    let sums_are = c.sums.ensures ∙ ap (λ (k : odometry.Known). k.sums) place_before in
     let taken = c.take-taken.ensures.answer ∙ (λ i. groups.taken_by (with_sums (sums_are i)) (groups_before i)) in
     let all : StandsForLife g.G.ProfileStore.profile g.S.ProfileStore.profile _ (grown life entry) = record {
       place_is = place_before;

@@ -1,8 +1,11 @@
 use Rattle.std.proofs.Common.{◌≡◌, ap, arith, ◌∙◌}
 use Rattle.std.proofs.lemmas.Int.{ints}
 use Rattle.units.specs.Stretches.{Span}
-use Rattle.odometry.specs.Place.{min_rear, min_front, max_front}
-use Rattle.odometry.proofs.place.Place.stretch.Goals as goal
+use Rattle.odometry.specs.Place.{stretch_about}
+use Rattle.odometry.proofs.place.stretch_about.Goals as goal
+
+pub unwrap-requires-3 : goal.unwrap-requires-3
+unwrap-requires-3 c = c.new-3.ensures.found.1 (omega (arith, ints), omega (arith, ints))
 
 pub unwrap-requires-4 : goal.unwrap-requires-4
 unwrap-requires-4 c =
@@ -13,9 +16,10 @@ unwrap-requires-4 c =
 
 pub returns-clause-value : goal.returns-clause-value
 returns-clause-value c =
-    let rear : c.unwrap.result ≡ min_rear c.args.self.now c.args.length = omega (arith, ints, rw c.unwrap.ensures at c.new.ensures.value) in
-    let least : c.unwrap-2.result ≡ min_front c.args.self.now = omega (arith, ints, rw c.unwrap-2.ensures at c.new-2.ensures.value) in
-    let greatest : c.unwrap-3.result ≡ max_front c.args.self.now = omega (arith, ints, rw c.unwrap-3.ensures at c.new-3.ensures.value) in
+    let whole = stretch_about c.args.estimate c.args.uncertainty c.args.length in
+    let rear : c.unwrap.result ≡ whole.rear = omega (arith, ints, rw c.unwrap.ensures at c.new.ensures.value) in
+    let least : c.unwrap-2.result ≡ whole.min_front = omega (arith, ints, rw c.unwrap-2.ensures at c.new-2.ensures.value) in
+    let greatest : c.unwrap-3.result ≡ whole.max_front = omega (arith, ints, rw c.unwrap-3.ensures at c.new-3.ensures.value) in
     rw c.unwrap-4.ensures at c.new-4.ensures.value ∙ (λ i. record { rear = rear i; min_front = least i; max_front = greatest i })
 
 pub returns-clause-near : goal.returns-clause-near

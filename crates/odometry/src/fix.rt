@@ -1,0 +1,48 @@
+use crate::Sums;
+use units::{Cm, Length};
+
+/// A place that a balise group tells.
+#[derive(Clone, Copy, Debug, PartialEq, Eq)]
+pub struct Fix {
+    /// Where the group lies.
+    pub at: Cm,
+    /// How exactly that is known.
+    pub accuracy: Length,
+    /// The sums of the life when its balise was read.
+    pub sums: Sums,
+    /// Whether its balise 1 was missed.
+    pub missed: bool,
+}
+
+impl Fix {
+    ghost use Rattle.std.specs.Prelude.{◌≡◌, ◌+◌, ◌*◌, ◌^◌, ◌≤◌};
+    ghost use Rattle.std.specs.Int.RustNames.{unsigned_abs};
+    ghost use Rattle.units.specs.Limits.{farthest};
+    ghost use Rattle.odometry.specs.Place.{estimate_at, uncertainty_at};
+
+    // The fix with which a life starts: exactly 0.
+    pub(crate) const FIRST: Fix = Fix {
+        at: Cm::ZERO,
+        accuracy: Length::ZERO,
+        sums: Sums::ZERO,
+        missed: false,
+    };
+
+    // Where the front was at a moment of the life.
+    pub(crate) fn estimate_at(&self, moment: &Sums) -> i64
+        ensures value { result ≡ estimate_at self.now moment.now }
+        ensures near { unsigned_abs result ≤ unsigned_abs self.now.at + 2 * farthest }
+    {
+        self.at.get() + moment.movement_from(&self.sums)
+    }
+
+    // How far that may be wrong, to either side, in centimetres.
+    pub(crate) fn uncertainty_at(&self, moment: &Sums) -> u64
+        ensures value { result ≡ uncertainty_at self.now moment.now }
+        ensures near { result ≤ farthest + 2 ^ 37 }
+    {
+        let growth = moment.path_from(&self.sums).div_ceil(20);
+        let missing = if self.missed { 1_200 } else { 0 };
+        self.accuracy.get() + 500 + growth + missing
+    }
+}

@@ -1,0 +1,81 @@
+ghost use Rattle.std.specs.Prelude.{◌≡◌, ◌↔◌, ◌+◌, ◌*◌, ◌≤◌, IsSome, IfSome};
+ghost use Rattle.std.specs.Int.RustNames.{unsigned_abs};
+ghost use Rattle.units.specs.Limits.{farthest};
+ghost use Rattle.odometry.specs.Sums.{moved_on, movement_between, path_between};
+
+use std::marker::Model;
+use units::{Cm, Length, Movement};
+
+/// The sums of a life at one moment: of its movements, and of their absolute values (its path).
+#[derive(Clone, Copy, Debug, PartialEq, Eq)]
+pub struct Sums {
+    moved: i64,
+    path: u64,
+}
+
+impl Model for Sums {
+    ghost use Rattle.odometry.specs.Sums.{Sums as Both, AreSums};
+
+    ghost Value = { Both };
+
+    ghost view = { λ s. record { moved = s.moved; path = s.path } };
+
+    ghost invariant = { λ s. AreSums (record { moved = s.moved; path = s.path }) };
+
+    ghost inverse = { λ s. record { moved = s.moved; path = s.path } };
+}
+
+/// The longest path of a life, in centimetres.
+const LONGEST: u64 = 1 << 40;
+
+impl Sums {
+    /// The sums at the start of a life.
+    pub const ZERO: Sums = Sums { moved: 0, path: 0 };
+
+    /// The sum of the movements.
+    pub fn moved(&self) -> Cm
+        ensures value { result ≡ self.now.moved }
+        ensures near { unsigned_abs result ≤ farthest }
+    {
+        Cm::new(self.moved).unwrap()
+    }
+
+    /// The path.
+    pub fn path(&self) -> Length
+        ensures { result ≡ self.now.path }
+    {
+        Length::new(self.path).unwrap()
+    }
+
+    // The sums after one movement more; None exactly where the path would be too long.
+    pub(crate) fn moved_on(&self, movement: Movement) -> Option<Sums>
+        ensures found { IsSome result ↔ (self.now.path + unsigned_abs movement ≤ farthest) }
+        ensures value { IfSome result (λ sums. sums ≡ moved_on self.now movement) }
+    {
+        let by = movement.get();
+        let path = self.path + by.unsigned_abs();
+        if path > LONGEST {
+            return None;
+        }
+        Some(Sums {
+            moved: self.moved + by,
+            path,
+        })
+    }
+
+    // The movement from an earlier or a later moment to this one.
+    pub(crate) fn movement_from(&self, other: &Sums) -> i64
+        ensures value { result ≡ movement_between other.now self.now }
+        ensures near { unsigned_abs result ≤ 2 * farthest }
+    {
+        self.moved - other.moved
+    }
+
+    // The path between two moments, whichever came first.
+    pub(crate) fn path_from(&self, other: &Sums) -> u64
+        ensures value { result ≡ path_between other.now self.now }
+        ensures near { result ≤ farthest }
+    {
+        other.path.abs_diff(self.path)
+    }
+}

@@ -1,0 +1,57 @@
+ghost use Rattle.std.specs.Prelude.{◌≡◌, ◌↔◌, IsSome, IfSome};
+ghost use Rattle.units.specs.Limits.{IsGroupPlace};
+
+use crate::Cm;
+use std::marker::Model;
+
+/// Where a balise group lies, from which the distances of its packets count, in centimetres: from -3 * 2^40 to 3 * 2^40.
+#[derive(Clone, Copy, Debug, PartialEq, Eq)]
+pub struct GroupPlace {
+    cm: i64,
+}
+
+impl Model for GroupPlace {
+    ghost use Rattle.std.specs.Prelude.{ℤ};
+    ghost use Rattle.units.specs.Limits.{IsGroupPlace};
+
+    ghost Value = { ℤ };
+
+    ghost view = { λ p. p.cm };
+
+    ghost invariant = { λ p. IsGroupPlace p.cm };
+
+    ghost inverse = { λ z. record { cm = z } };
+}
+
+/// The farthest place of a group, in centimetres.
+const FARTHEST: u64 = 3 << 40;
+
+impl GroupPlace {
+    /// So many centimetres; None exactly outside the limits.
+    pub fn new(cm: i64) -> Option<GroupPlace>
+        ensures found { IsSome result ↔ IsGroupPlace cm }
+        ensures value { IfSome result (λ p. p ≡ cm) }
+    {
+        if cm.unsigned_abs() <= FARTHEST {
+            Some(GroupPlace { cm })
+        } else {
+            None
+        }
+    }
+
+    /// The number of centimetres.
+    pub fn get(self) -> i64
+        ensures value { result ≡ self }
+        ensures limits { IsGroupPlace result }
+    {
+        self.cm
+    }
+
+    /// The same place among all places.
+    pub fn to_cm(self) -> Cm
+        ensures value { result ≡ self }
+        ensures limits { IsGroupPlace result }
+    {
+        Cm::new(self.cm).unwrap()
+    }
+}

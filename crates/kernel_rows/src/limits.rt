@@ -13,10 +13,7 @@ const HERE: &str = "90007F802001506023A0E0000019417F80";
 
 const HERE_SLOWER: &str = "90007F802001506023A0E000001940FF80";
 
-/// The farthest place.
-const FARTHEST: i64 = 1 << 40;
-
-static ROWS: [Row; 19] = [
+static ROWS: [Row; 18] = [
     (
         "restriction ahead 1",
         &[
@@ -79,12 +76,12 @@ static ROWS: [Row; 19] = [
             (Hear(HERE), 10_000),
         ],
     ),
-    // L_PACKET 72, and no bytes: no effect at all.
+    // L_PACKET 72, and one byte: no effect at all.
     (
         "groups not used 2",
         &[
             (Hear("90007F80200150602420E0190019427F80"), 40_000),
-            (Hear(""), 40_000),
+            (Hear("90"), 40_000),
             (Hear(HERE), 10_000),
             (At(1_000), 10_000),
             (Do(Action::Start), 10_000),
@@ -169,16 +166,6 @@ static ROWS: [Row; 19] = [
             (Move(-140_999), 40_000),
             (Move(1), 10_000),
             (Hear(HERE_SLOWER), 40_000),
-        ],
-    ),
-    (
-        "overrun",
-        &[
-            (Hear(HERE), 10_000),
-            (Move(FARTHEST + 1), 10_000),
-            (Move(FARTHEST), 40_000),
-            (Hear(HERE), 10_000),
-            (Move(-100_000), 10_000),
         ],
     ),
 ];

@@ -3,6 +3,7 @@ pub mod Announcing
 pub mod History
 pub mod Sentences
 pub mod Steps
+pub mod Inputs
 pub mod Lives
 pub mod Limit
 pub mod StandsFor

@@ -53,7 +53,7 @@ heard entries bytes =
     record nothing { heard = option_map (λ t. Read (record { telegram = t; sums = (place_of entries).sums })) (telegram_in bytes) }
 
 abbrev pub begun : List Entry → inputs.Input → Entry
-begun entries (Telegram bytes) = heard entries bytes.items
+begun entries (Telegram bytes) = heard entries bytes
 begun entries (Odometer reading) = moved entries reading.movement
 begun entries (Clock moment) = record nothing { clock = Some moment }
 begun entries (Driver action) = nothing

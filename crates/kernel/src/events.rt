@@ -1,4 +1,4 @@
-use arrayvec::ArrayVec;
+use crate::telegram_bytes::TelegramBytes;
 use units::{Movement, Mph, Ms};
 
 /// What the odometer tells.
@@ -24,7 +24,7 @@ pub enum Action {
 #[derive(Drop)]
 pub enum Input {
     /// The bytes that a balise sent; they need not carry a telegram.
-    Telegram(ArrayVec<u8, 104>),
+    Telegram(TelegramBytes),
     /// A reading of the odometer.
     Odometer(Reading),
     /// A moment of this life.

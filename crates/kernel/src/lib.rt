@@ -10,6 +10,7 @@ mod messages;
 mod receiving;
 mod state;
 mod steps;
+mod telegram_bytes;
 mod train;
 
 pub use events::{Action, Event, Input, Reading};
@@ -17,4 +18,5 @@ pub use kept::Kept;
 pub use laws::{kept_is_the_last, power_up_forgets, telegrams_are_carried};
 pub use state::{State, StateOver};
 pub use steps::{limits, step};
+pub use telegram_bytes::TelegramBytes;
 pub use train::{Mode, TrainData};

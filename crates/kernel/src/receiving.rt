@@ -1,6 +1,6 @@
 //! What an input does, sentence by sentence in the order of one event.
-ghost use Rattle.std.specs.Prelude.{◌≡◌, ◌≤◌, ◌^◌, ◌-◌, ℕ, pos, ◌-ℤ◌, List, ◌∷◌, OnOk, Some, None};
-ghost use Rattle.std.specs.Int.RustNames.{unsigned_abs};
+ghost use Rattle.std.specs.Prelude.{◌≡◌, ℕ, pos, ◌-ℤ◌, List, ◌∷◌, OnOk, Some, None};
+ghost use Rattle.units.specs.Limits.{HasReach};
 ghost use Rattle.kernel.specs.declared.events.Event.{Event};
 ghost use Rattle.kernel.specs.declared.events.Event.TheVariants as event;
 ghost use Rattle.kernel.specs.declared.events.Input.TheVariants as input;
@@ -25,7 +25,7 @@ const REMEMBERED: i64 = 100_000;
 
 // The track before this place is forgotten, where the train's least rear is there.
 fn mark_behind(rear: Cm) -> Cm
-    requires { unsigned_abs rear ≤ 2 ^ 42 - 2 ^ 25 }
+    requires { HasReach rear }
     ensures { result ≡ rear -ℤ pos 100_000 }
 {
     Cm::new(rear.get() - REMEMBERED).unwrap()

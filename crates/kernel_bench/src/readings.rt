@@ -1,10 +1,9 @@
 //! The limits after the telegrams of balises and then readings of the odometer.
 use crate::FAULT;
-use arrayvec::ArrayVec;
 use braking::{Brakes, Deceleration, Reaction};
-use kernel::{Input, Mode, Reading, TrainData, limits};
+use kernel::{Input, Mode, Reading, TelegramBytes, TrainData, limits};
 use std::alloc::Global;
-use units::{Cm, Length, Mph, NoMemory};
+use units::{Length, Movement, Mph, NoMemory};
 use vars::{TrainCategory, Variable};
 
 /// The room of each telegram, in bytes.
@@ -23,24 +22,19 @@ fn train() -> Option<TrainData> {
     })
 }
 
-/// The bytes of a balise.
-fn telegram(bytes: &[u8]) -> Input {
-    let mut held = ArrayVec::new();
-    let _ = held.try_extend_from_slice(bytes);
-    Input::Telegram(held)
-}
-
 /// The telegrams, each in its room, and then so many readings of the same movement.
 fn inputs_of(
     alloc: Global,
     telegrams: &[u8],
-    movement: Cm,
+    movement: Movement,
     readings: u32,
 ) -> Result<Vec<Input>, NoMemory> {
     let speed = Mph::new(100_000).unwrap();
     let mut inputs = Vec::new(alloc);
     for bytes in telegrams.chunks_exact(TELEGRAM) {
-        inputs.push(telegram(bytes))?;
+        if let Some(bytes) = TelegramBytes::new(bytes) {
+            inputs.push(Input::Telegram(bytes))?;
+        }
     }
     for _ in 0..readings {
         inputs.push(Input::Odometer(Reading { movement, speed }))?;
@@ -57,7 +51,7 @@ fn limits_after(alloc: Global, train: &TrainData, inputs: &[Input]) -> Result<Ve
 fn sum_of_limits(
     alloc: Global,
     telegrams: &[u8],
-    movement: Cm,
+    movement: Movement,
     readings: u32,
 ) -> Result<u64, NoMemory> {
     let Some(train) = train() else {
@@ -79,7 +73,7 @@ pub extern "C" fn bench_limits(
     movement: i64,
     readings: u32,
 ) -> u64 {
-    match Cm::new(movement) {
+    match Movement::new(movement) {
         Some(movement) => sum_of_limits(alloc, telegrams, movement, readings).unwrap_or(FAULT),
         None => FAULT,
     }

@@ -7,8 +7,6 @@ use std::test::Fail;
 const LINK: &str = "90007F802001416022A0FA0001E281FE";
 /// The same in its reverse direction.
 const LINK_REVERSE: &str = "90007F802001416022A0FA0001A281FE";
-/// The same 10 m ahead.
-const LINK_NEAR: &str = "90007F802001416022A0028001E281FE";
 /// Group 2 announces group 4, 995 m ahead, and group 3, 5 m behind it.
 const LINKS: &str = "90007F80200141603620F8C00262820014001E2BFC";
 /// Group 2 of country 1 announces group 4 of country 5, 500 m ahead, and group 3, 500 m behind it.
@@ -62,7 +60,7 @@ const TWO_SECOND_UNLINKED: &str = "90127F802001106023A06000001941FF80";
 
 const TWO_SECOND_COUNTED: &str = "901202002001506023A06000001941FF80";
 
-static ROWS: [Row; 40] = [
+static ROWS: [Row; 39] = [
     // A group that isn't announced is ignored while another one is, but for Q_LINK 0.
     (
         "not announced 1",
@@ -394,16 +392,6 @@ static ROWS: [Row; 40] = [
             (Move(100_000), 40_000),
             (Hear(THREE), 40_000),
             (Hear(FOUR), 15_000),
-        ],
-    ),
-    // The group is announced at 2^40 + 900, to 1,000 cm, and read at 2^40 - 100: no fix is made, and the restriction counts
-    // from the group's own place. The greatest front is 2^40 + 400.
-    (
-        "announced too far",
-        &[
-            (Move((1 << 40) - 100), 40_000),
-            (Hear(LINK_NEAR), 40_000),
-            (Hear(THREE), 10_000),
         ],
     ),
 ];

@@ -13,13 +13,7 @@ const HERE: &str = "90007F802001506023A0E0000019417F80";
 
 const HERE_SLOWER: &str = "90007F802001506023A0E000001940FF80";
 
-/// The farthest place.
-const FARTHEST: i64 = 1 << 40;
-
-/// Restriction 7 of 20 km/h from group 3 on for 5,000 cm, until the front has left it.
-const HERE_OF_20: &str = "90007F802001D06023A0E0000019427F80";
-
-static ROWS: [Row; 23] = [
+static ROWS: [Row; 18] = [
     (
         "restriction ahead 1",
         &[
@@ -44,7 +38,7 @@ static ROWS: [Row; 23] = [
         "replaced and revoked 1",
         &[
             (Hear(HERE), 10_000),
-            (Hear(HERE_OF_20), 20_000),
+            (Hear("90007F802001D06023A0E0000019427F80"), 20_000),
             (Hear("90007F80200250A00F83FF80"), 40_000),
             (Hear("90007F802002D06023BFE000001940FF80"), 5_000),
             (Hear("90007F80200350A00FFFFF80"), 5_000),
@@ -82,12 +76,12 @@ static ROWS: [Row; 23] = [
             (Hear(HERE), 10_000),
         ],
     ),
-    // L_PACKET 72, and no bytes: no effect at all.
+    // L_PACKET 72, and one byte: no effect at all.
     (
         "groups not used 2",
         &[
             (Hear("90007F80200150602420E0190019427F80"), 40_000),
-            (Hear(""), 40_000),
+            (Hear("90"), 40_000),
             (Hear(HERE), 10_000),
             (At(1_000), 10_000),
             (Do(Action::Start), 10_000),
@@ -172,102 +166,6 @@ static ROWS: [Row; 23] = [
             (Move(-140_999), 40_000),
             (Move(1), 10_000),
             (Hear(HERE_SLOWER), 40_000),
-        ],
-    ),
-    // At power-up the least rear is -20,500, and the mark -120,500. The restriction ends at -125,000.
-    (
-        "forgotten at power-up 1",
-        &[
-            (Move(-10_000), 40_000),
-            (Move(-10_000), 40_000),
-            (Move(-10_000), 40_000),
-            (Move(-10_000), 40_000),
-            (Move(-10_000), 40_000),
-            (Move(-10_000), 40_000),
-            (Move(-10_000), 40_000),
-            (Move(-10_000), 40_000),
-            (Move(-10_000), 40_000),
-            (Move(-10_000), 40_000),
-            (Move(-10_000), 40_000),
-            (Move(-10_000), 40_000),
-            (Move(-10_000), 40_000),
-            (Hear(HERE_OF_20), 40_000),
-        ],
-    ),
-    (
-        "forgotten at power-up 2",
-        &[
-            (Move(0), 40_000),
-            (Move(-10_000), 40_000),
-            (Move(-10_000), 40_000),
-            (Move(-10_000), 40_000),
-            (Move(-10_000), 40_000),
-            (Move(-10_000), 40_000),
-            (Move(-10_000), 40_000),
-            (Move(-10_000), 40_000),
-            (Move(-10_000), 40_000),
-            (Move(-10_000), 40_000),
-            (Move(-10_000), 40_000),
-            (Move(-10_000), 40_000),
-            (Move(-10_000), 40_000),
-            (Move(-10_000), 40_000),
-            (Hear(HERE_OF_20), 40_000),
-        ],
-    ),
-    // The last centimetre of the restriction is -120,500. 4,284 / 20 = 215: the greatest front is -125,499 + 4,284 + 715 =
-    // -120,500.
-    (
-        "forgotten at power-up 3",
-        &[
-            (Move(-10_000), 40_000),
-            (Move(-10_000), 40_000),
-            (Move(-10_000), 40_000),
-            (Move(-10_000), 40_000),
-            (Move(-10_000), 40_000),
-            (Move(-10_000), 40_000),
-            (Move(-10_000), 40_000),
-            (Move(-10_000), 40_000),
-            (Move(-10_000), 40_000),
-            (Move(-10_000), 40_000),
-            (Move(-10_000), 40_000),
-            (Move(-10_000), 40_000),
-            (Move(-5_499), 40_000),
-            (Hear(HERE_OF_20), 40_000),
-            (Move(4_283), 40_000),
-            (Move(1), 20_000),
-        ],
-    ),
-    // .. and -120,501.
-    (
-        "forgotten at power-up 4",
-        &[
-            (Move(-10_000), 40_000),
-            (Move(-10_000), 40_000),
-            (Move(-10_000), 40_000),
-            (Move(-10_000), 40_000),
-            (Move(-10_000), 40_000),
-            (Move(-10_000), 40_000),
-            (Move(-10_000), 40_000),
-            (Move(-10_000), 40_000),
-            (Move(-10_000), 40_000),
-            (Move(-10_000), 40_000),
-            (Move(-10_000), 40_000),
-            (Move(-10_000), 40_000),
-            (Move(-5_500), 40_000),
-            (Hear(HERE_OF_20), 40_000),
-            (Move(4_284), 40_000),
-            (Move(1), 40_000),
-            (Move(3_000), 40_000),
-        ],
-    ),
-    (
-        "overrun",
-        &[
-            (Hear(HERE), 10_000),
-            (Move(FARTHEST + 1), 10_000),
-            (Move(FARTHEST), 40_000),
-            (Hear(HERE), 10_000),
-            (Move(-100_000), 10_000),
         ],
     ),
 ];

@@ -1,6 +1,6 @@
-ghost use Rattle.std.specs.Prelude.{◌≡◌, ◌↔◌, ◌+◌, ◌-◌, ◌*◌, ◌^◌, ◌≤◌, List, [], pos, IsTrue, IsOk, IfOk, OnErr};
+ghost use Rattle.std.specs.Prelude.{◌≡◌, ◌↔◌, ◌+◌, ◌^◌, ◌≤◌, List, [], pos, IsTrue, IsOk, IfOk, OnErr};
 ghost use Rattle.std.specs.Int.RustNames.{unsigned_abs};
-ghost use Rattle.units.specs.Limits.{farthest};
+ghost use Rattle.units.specs.Limits.{farthest, HasReach};
 ghost use Rattle.odometry.specs.Place.{Entry, known, estimate, uncertainty, min_front, max_front, min_rear, stretch, stretch_about, place_at, is_near, has_room, after_movement, is_made, after_fix};
 
 use crate::{EarlierPlace, Fix, Overrun, Sums};
@@ -136,10 +136,10 @@ impl Place {
         self.stretch(length).rear()
     }
 
-    /// What a train of this length may stand on. Even its rear stays clear of the limits of a place.
+    /// What a train of this length may stand on. Even from its rear each distance of a packet leads to a place.
     pub fn stretch(&self, length: Length) -> Stretch
         ensures value { result ≡ stretch self.now length }
-        ensures near { unsigned_abs result.rear ≤ 2 ^ 42 - 2 ^ 39 }
+        ensures near { HasReach result.rear }
     {
         stretch_about(
             self.estimate(),
@@ -154,7 +154,7 @@ fn stretch_about(estimate: Cm, uncertainty: u64, length: Length) -> Stretch
     requires estimate { unsigned_abs estimate ≤ farthest }
     requires uncertainty { uncertainty ≤ farthest + 2 ^ 37 }
     ensures value { result ≡ stretch_about estimate uncertainty length }
-    ensures near { unsigned_abs result.rear ≤ 2 ^ 42 - 2 ^ 39 }
+    ensures near { HasReach result.rear }
 {
     let min_front = estimate.get() - uncertainty as i64;
     let max_front = estimate.get() + uncertainty as i64;

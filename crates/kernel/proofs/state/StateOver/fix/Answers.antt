@@ -25,8 +25,8 @@ module _ (g : Over) (c : goal.Joined-fix g) (life : Life) (entry : Entry) (effec
   place_is : c.self.inside.place ≡ here
   place_is = (seen c.self.view_is s).place_is
 
-  own_is : c.place_at.result.estimate ≡ own_place here c.args.message.now
-  own_is = ap (λ e. e.estimate) c.place_at.ensures ∙ ap (λ (k : odometry.Known). own_place k c.args.message.now) place_is
+  own_is : c.place_at-own.result.estimate ≡ own_place here c.args.message.now
+  own_is = ap (λ e. e.estimate) c.place_at-own.ensures ∙ ap (λ (k : odometry.Known). own_place k c.args.message.now) place_is
 
   wanted : fix_wanted free (own_place here c.args.message.now) c.args.announced.now ≡ Some c.in-Some.wanted
   wanted = sym (c.in-Some.ensures ∙ (λ i. fix_wanted (c.is_free.ensures life (added (accepted c.args.message.now c.args.announced.now effect) entry) s i) (own_is i) c.args.announced.now))
@@ -79,7 +79,7 @@ returns-in_default-clause-stands g c life entry effect s =
     let here = place_of (entry ∷ life.entries) in
     let free = is_free (added outcome entry ∷ life.entries) in
     let place = (seen c.self.view_is s).place_is in
-    let own = ap (λ e. e.estimate) c.place_at.ensures ∙ ap (λ (k : odometry.Known). own_place k m) place in
+    let own = ap (λ e. e.estimate) c.place_at-own.ensures ∙ ap (λ (k : odometry.Known). own_place k m) place in
     let none : None ≡ fix_wanted free (own_place here m) a =
     c.in_default.ensures ∙ (λ i. fix_wanted (c.is_free.ensures life (added outcome entry) s i) (own i) a) in
     let same = fix_as_wanted here free m a ∙ ap (made_at here m) (sym none) in

@@ -1,7 +1,7 @@
 -- What one more call of the record leaves.
 use Rattle.std.proofs.Common.{◌≡◌, inl, inr, ⊎_elim, ℕ, ◌+◌, ◌-◌, ◌*◌, ◌<◌, ◌≤◌, true, false, List, [], ◌∷◌, ◌++◌, length, take, drop, refl, sym, ◌∙◌, ap, subst, arith, length-append, Option, Some, None}
 use Rattle.std.specs.Prelude.{All, if◌then◌else◌, nat_le, nat_lt, ◌&&◌}
-use Rattle.std.proofs.lemmas.List.Elements.{All-take}
+use Rattle.std.proofs.lemmas.List.Elements.{All-take, All-push}
 use Rattle.std.proofs.lemmas.List.Sums.{fold_push}
 use Rattle.std.proofs.lemmas.List.{take_all, take-append-le, drop-take}
 use Rattle.std.proofs.lemmas.Bool.{cases_lt}
@@ -16,17 +16,13 @@ use Rattle.disk.specs.declared.record.Place.{Place}
 use Rattle.disk.specs.declared.record.Place.TheVariants.{Start, Record}
 use Rattle.disk.specs.declared.record.Trace.{Trace}
 use Rattle.disk.proofs.RecordLemmas.{placed}
+use Rattle.disk.proofs.Widths.{place_none, all_further, same_width, same_handed_width}
 
 -- bytes that are added leave those before
 pub bytes_more : (start written more : List ℕ) (s : ℕ) (p : Place) → IsPlaced (length written) p → bytes_at start (written ++ more) s p ≡ bytes_at start written s p
 bytes_more start written more s Start here = refl
 bytes_more start written more s (Record at) here =
     sym (drop-take at 512 (written ++ more)) ∙ ap (λ (l : List ℕ). drop at l) (take-append-le (at + 512) written more here) ∙ drop-take at 512 written
-
--- a sector that is none of a span has no place in it
-pub place_none : (span : Span) (s : ℕ) → Outside span.first (512 * span.sectors) s → place_in span s ≡ None
-place_none span s (inl below) = grind (arith, nat_tests)
-place_none span s (inr above) = grind (arith, nat_tests)
 
 pub place_some : (span : Span) (i : ℕ) → i < span.sectors → place_in span (span.first + i) ≡ Some (Record (span.from + 512 * i))
 place_some span i below =
@@ -64,7 +60,8 @@ leaves_written_bytes span size s whole out = leaves_written span s (subst (λ (n
 pub leaves_torn_bytes : (span : Span) (size s : ℕ) → size ≡ 512 * span.sectors → Outside span.first size s → Leaves (Torn span) s
 leaves_torn_bytes span size s whole out = leaves_torn span s (subst (λ (n : ℕ). Outside span.first n s) whole out)
 
-module _ (sectors : ℕ) (start written more : List ℕ) (calls : List Call) (call : Call) (within : All (IsWithin sectors (length written)) calls) where
+module _ (sectors : ℕ) (start written more : List ℕ) (calls : List Call) (call : Call) (within : All (IsWithin sectors (length written)) calls)
+    (size : length start ≡ 512 * sectors) (next : IsWithin sectors (length (written ++ more)) call) where
   -- earlier moments stay as they were
   pub earlier : (k : ℕ) → k ≤ length calls → platter_of start (written ++ more) (take k (calls ++ call ∷ [])) ≡ platter_of start written (take k calls)
   earlier k le =
@@ -81,9 +78,9 @@ module _ (sectors : ℕ) (start written more : List ℕ) (calls : List Call) (ca
       ∙ fold_push (trace_next s) trace_start calls call
       ∙ ap (λ (l : List Call). trace_next s (trace_of s l) call) (sym (take_all (length calls) calls (omega arith)))
 
-  pub touched : (first size faults faults' : ℕ) → ((s : ℕ) → Outside first size s → Leaves call s)
-      → Touches first size (state_of sectors faults start written calls) (state_of sectors faults' start (written ++ more) (calls ++ call ∷ []))
-  touched first size faults faults' leaves = record {
+  pub touched : (first bytes faults faults' : ℕ) → ((s : ℕ) → Outside first bytes s → Leaves call s)
+      → Touches first bytes (state_of sectors faults start written calls) (state_of sectors faults' start (written ++ more) (calls ++ call ∷ []))
+  touched first bytes faults faults' leaves = record {
     later = omega (arith, length-append calls (call ∷ []));
     kept = earlier;
     since = λ k from to. ⊎_elim
@@ -93,26 +90,49 @@ module _ (sectors : ℕ) (start written more : List ℕ) (calls : List Call) (ca
               ∙ ap (λ (p : Place). bytes_at start (written ++ more) s p) ((leaves s out).last (trace_of s (take (length calls) calls)))
               ∙ bytes_more start written more s (trace_of s (take (length calls) calls)).last (placed sectors (length written) s (take (length calls) calls) (All-take (IsWithin sectors (length written)) (length calls) calls within)).last;
           closed = λ s out shut. ap (λ (t : Trace). t.is_open) (told s k past) ∙ (leaves s out).closed (trace_of s (take (length calls) calls)) shut;
+          whole = λ s.
+              ap (λ (l : List Call). length (bytes_at start (written ++ more) s (trace_of s l).last)) (take_all k (calls ++ call ∷ []) (omega (arith, length-append calls (call ∷ []))))
+              ∙ sym (same_width sectors start written (written ++ more) calls (calls ++ call ∷ []) size within
+              (All-push (IsWithin sectors (length (written ++ more))) calls call (all_further sectors (length written) (length (written ++ more)) calls (omega (arith, length-append written more)) within) next) s)
+              ∙ ap (λ (l : List Call). length (bytes_at start written s (trace_of s l).last)) (sym (take_all (length calls) calls (omega arith)));
         })
         (λ (le : k ≤ length calls).
         let same : length calls ≡ k = omega arith in
-        let S : Platter → Type 0 = λ p. SameOutside first size (platter_of start written (take (length calls) calls)) p in
-        subst S (ap (λ (n : ℕ). platter_of start written (take n calls)) same ∙ sym (earlier k le)) (record { contents = λ s out. refl; closed = λ s out shut. shut }))
+        let S : Platter → Type 0 = λ p. SameOutside first bytes (platter_of start written (take (length calls) calls)) p in
+        subst S (ap (λ (n : ℕ). platter_of start written (take n calls)) same ∙ sym (earlier k le)) (record { contents = λ s out. refl; closed = λ s out shut. shut; whole = λ s. refl }))
         (cases_lt (length calls) k);
   }
 
 -- the same, where the new record is known by equations
 pub touches_to : (first size width sectors faults faults' : ℕ) (start written more : List ℕ) (calls : List Call) (call : Call) (sectors' : ℕ) (start' written' : List ℕ) (calls' : List Call)
-    → All (IsWithin sectors width) calls → width ≡ length written → ((s : ℕ) → Outside first size s → Leaves call s)
+    → All (IsWithin sectors width) calls → width ≡ length written → length start ≡ 512 * sectors → IsWithin sectors (width + length more) call
+    → ((s : ℕ) → Outside first size s → Leaves call s)
     → sectors' ≡ sectors → start' ≡ start → written' ≡ written ++ more → calls' ≡ calls ++ call ∷ []
     → Touches first size (state_of sectors faults start written calls) (state_of sectors' faults' start' written' calls')
-touches_to first size width sectors faults faults' start written more calls call sectors' start' written' calls' within wide leaves e0 e1 e2 e3 =
+touches_to first size width sectors faults faults' start written more calls call sectors' start' written' calls' within wide whole next leaves e0 e1 e2 e3 =
     let T : ℕ → List ℕ → List ℕ → List Call → Type 0 = λ n a b c. Touches first size (state_of sectors faults start written calls) (state_of n faults' a b c) in
-    let t0 : T sectors start (written ++ more) (calls ++ call ∷ []) = touched sectors start written more calls call (subst (λ (n : ℕ). All (IsWithin sectors n) calls) wide within) first size faults faults' leaves in
+    let t0 : T sectors start (written ++ more) (calls ++ call ∷ []) = touched sectors start written more calls call (subst (λ (n : ℕ). All (IsWithin sectors n) calls) wide within)
+    whole (subst (λ (n : ℕ). IsWithin sectors n call) (omega (arith, wide, length-append written more)) next) first size faults faults' leaves in
     let t1 : T sectors start (written ++ more) calls' = subst (λ (c : List Call). T sectors start (written ++ more) c) (sym e3) t0 in
     let t2 : T sectors start written' calls' = subst (λ (b : List ℕ). T sectors start b calls') (sym e2) t1 in
     let t3 : T sectors start' written' calls' = subst (λ (a : List ℕ). T sectors a written' calls') (sym e1) t2 in
     subst (λ (n : ℕ). T n start' written' calls') (sym e0) t3
+
+pub within_quiet : (sectors written : ℕ) → IsWithin sectors written Quiet
+within_quiet sectors written = record { below = omega arith; bytes = omega arith }
+
+pub within_synced : (sectors written : ℕ) → IsWithin sectors written Synced
+within_synced sectors written = record { below = omega arith; bytes = omega arith }
+
+-- a call that hands in nothing and leaves every sector
+pub quiet_to : (first size width sectors faults faults' : ℕ) (start written : List ℕ) (calls : List Call) (call : Call) (sectors' : ℕ) (start' written' : List ℕ) (calls' : List Call)
+    → All (IsWithin sectors width) calls → width ≡ length written → length start ≡ 512 * sectors
+    → ((s : ℕ) → Leaves call s) → IsWithin sectors width call
+    → sectors' ≡ sectors → start' ≡ start → written' ≡ written ++ [] → calls' ≡ calls ++ call ∷ []
+    → Touches first size (state_of sectors faults start written calls) (state_of sectors' faults' start' written' calls')
+quiet_to first size width sectors faults faults' start written calls call sectors' start' written' calls' within wide whole leaves next e0 e1 e2 e3 =
+    touches_to first size width sectors faults faults' start written [] calls call sectors' start' written' calls' within wide whole
+    (subst (λ (n : ℕ). IsWithin sectors n call) (omega arith) next) (λ s out. leaves s) e0 e1 e2 e3
 
 -- a write that succeeded gives the bytes handed in
 pub written_holds : (start written bytes : List ℕ) (calls : List Call) (span : Span) (start' written' : List ℕ) (calls' : List Call)
@@ -160,17 +180,23 @@ same_handed_torn span size s whole out t = ap (λ (o : Option Place). (trace_tor
 
 -- elsewhere it is what it was
 pub others_handed : (first size width sectors : ℕ) (start written more : List ℕ) (calls : List Call) (call : Call) (start' written' : List ℕ) (calls' : List Call)
-    → All (IsWithin sectors width) calls → width ≡ length written
+    → All (IsWithin sectors width) calls → width ≡ length written → length start ≡ 512 * sectors → IsWithin sectors (width + length more) call
     → ((s : ℕ) → Outside first size s → (t : Trace) → (trace_next s t call).handed ≡ t.handed)
     → start' ≡ start → written' ≡ written ++ more → calls' ≡ calls ++ call ∷ []
     → SameBut first size (λ s. bytes_at start written s (trace_of s calls).handed) (λ s. bytes_at start' written' s (trace_of s calls').handed)
-others_handed first size width sectors start written more calls call start' written' calls' within wide same e1 e2 e3 = record {
+others_handed first size width sectors start written more calls call start' written' calls' within wide whole next same e1 e2 e3 = record {
   same = λ s out.
       let all : trace_of s calls' ≡ trace_next s (trace_of s calls) call = ap (λ (l : List Call). trace_of s l) e3 ∙ fold_push (trace_next s) trace_start calls call in
       ap (λ (u : Trace). bytes_at start' written' s u.handed) all
       ∙ ap (λ (p : Place). bytes_at start' written' s p) (same s out (trace_of s calls))
       ∙ (λ j. bytes_at (e1 j) (e2 j) s (trace_of s calls).handed)
       ∙ bytes_more start written more s (trace_of s calls).handed (placed sectors (length written) s calls (subst (λ (n : ℕ). All (IsWithin sectors n) calls) wide within)).handed;
+  whole = λ s.
+      let before = subst (λ (n : ℕ). All (IsWithin sectors n) calls) wide within in
+      let last = subst (λ (n : ℕ). IsWithin sectors n call) (omega (arith, wide, length-append written more)) next in
+      (λ j. length (bytes_at (e1 j) (e2 j) s (trace_of s (e3 j)).handed))
+      ∙ sym (same_handed_width sectors start written (written ++ more) calls (calls ++ call ∷ []) whole before
+      (All-push (IsWithin sectors (length (written ++ more))) calls call (all_further sectors (length written) (length (written ++ more)) calls (omega (arith, length-append written more)) before) last) s);
 }
 
 torn_last : (t : Trace) (o : Option Place) → (trace_torn t o).last ≡ t.last

@@ -4,3 +4,4 @@ pub mod Moments
 pub mod Reaching
 pub mod RecordLemmas
 pub mod Settling
+pub mod Widths

@@ -17,7 +17,7 @@ use Rattle.disk.specs.declared.record.Place.{Place}
 use Rattle.disk.specs.declared.record.Place.TheVariants.{Start}
 use Rattle.disk.specs.declared.record.Trace.{Trace}
 use Rattle.disk.proofs.RecordLemmas.{trace_more}
-use Rattle.disk.proofs.Calls.{place_none}
+use Rattle.disk.proofs.Widths.{past_end, sector_past}
 
 -- a sector that is not open holds what was last synced
 record IsKept (t : Trace) : Type 0 where
@@ -130,35 +130,6 @@ settled_more after new bytes i content is size width here so_far s below =
     ap (λ (l : List ℕ). take 512 l) (drop_at after bytes (512 * s) at) ∙ take_all 512 bytes (omega arith)
     ∙ here ∙ ap content (sym same))
     (cases_lt s i)
-
--- a sector past the end is none of a call's
-place_past : (sectors written : ℕ) (span : Span) (s : ℕ) → span.first + span.sectors ≤ sectors → sectors ≤ s → place_in span s ≡ None
-place_past sectors written span s within past = place_none span s (inr (omega arith))
-
-past_next : (sectors written s : ℕ) (call : Call) → IsWithin sectors written call → sectors ≤ s → (t : Trace) → t.last ≡ Start → t.is_open ≡ false → ((trace_next s t call).last ≡ Start) × ((trace_next s t call).is_open ≡ false)
-past_next sectors written s Quiet within past t start shut = (start, shut)
-past_next sectors written s Synced within past t start shut = (start, refl)
-past_next sectors written s (Written span) within past t start shut =
-    let none : place_in span s ≡ None = place_past sectors written span s within.below past in
-    (ap (λ (o : Option Place). (trace_written t o).last) none ∙ start, ap (λ (o : Option Place). (trace_written t o).is_open) none ∙ shut)
-past_next sectors written s (Torn span) within past t start shut =
-    let none : place_in span s ≡ None = place_past sectors written span s within.below past in
-    (ap (λ (o : Option Place). (trace_torn t o).last) none ∙ start, ap (λ (o : Option Place). (trace_torn t o).is_open) none ∙ shut)
-
-past_from : (sectors written s : ℕ) (calls : List Call) → AllByRecursion (IsWithin sectors written) calls → sectors ≤ s → (t : Trace) → t.last ≡ Start → t.is_open ≡ false
-    → ((fold (trace_next s) t calls).last ≡ Start) × ((fold (trace_next s) t calls).is_open ≡ false)
-past_from sectors written s [] within past t start shut = (start, shut)
-past_from sectors written s (call ∷ calls) within past t start shut =
-    let next = past_next sectors written s call within.0 past t start shut in
-    past_from sectors written s calls within.1 past (trace_next s t call) next.0 next.1
-
--- past the end nothing is written and nothing is open
-pub past_end : (sectors written s : ℕ) (calls : List Call) → All (IsWithin sectors written) calls → sectors ≤ s → ((trace_of s calls).last ≡ Start) × ((trace_of s calls).is_open ≡ false)
-past_end sectors written s calls within past = past_from sectors written s calls (recursion_from_All (IsWithin sectors written) calls within) past trace_start refl refl
-
--- so many bytes have no sector past their end
-pub sector_past : (bytes : List ℕ) (sectors s : ℕ) → length bytes ≡ 512 * sectors → sectors ≤ s → sector_of bytes s ≡ []
-sector_past bytes sectors s size past = ap (λ (l : List ℕ). take 512 l) (drop_of_length-le bytes (omega arith)) ∙ refl
 
 -- past the end a cut leaves nothing
 pub settled_past : (sectors faults width : ℕ) (start written : List ℕ) (calls : List Call) (handed : ℕ → List ℕ) (choices : List Choice) (s : ℕ)

@@ -36,6 +36,6 @@ IsChoice Old = Unit {0}
 IsChoice New = Unit {0}
 IsChoice (Given bytes) = IsSector bytes
 
--- each sector of a disk of so many has 512 bytes (this project's profile)
-abbrev pub HasWholeSectors : ℕ → (ℕ → List ℕ) → Type 0
-HasWholeSectors sectors c = (s : ℕ) → s < sectors → IsSector (c s)
+-- each sector is made of bytes (this project's profile)
+abbrev pub HoldsBytes : (ℕ → List ℕ) → Type 0
+HoldsBytes c = (s : ℕ) → All (λ b. b < 256) (c s)

@@ -3,7 +3,7 @@ use Rattle.std.specs.Prelude.{◌≡◌, ℕ, ◌+◌, ◌-◌, ◌%◌, ◌^◌
 use Rattle.disk.specs.State.{State, now, contents_of, IsImage, IsSynced}
 use Rattle.disk.specs.Record.{bytes_at, trace_of, state_of}
 use Rattle.disk.specs.Plan.{fate_of, fails, takes}
-use Rattle.disk.specs.Choice.{settled_sector, IsChoice, HasWholeSectors}
+use Rattle.disk.specs.Choice.{settled_sector, IsChoice, HoldsBytes}
 use Rattle.disk.specs.declared.DiskFault.{DiskFault}
 use Rattle.disk.specs.declared.choice.Choice.{Choice}
 use Rattle.disk.specs.declared.memory.Plan.{Plan}
@@ -81,13 +81,14 @@ SameHanded old new = (s : ℕ) → handed_of new s ≡ handed_of old s
 abbrev pub SameContents : Memory → Memory → Type 0
 SameContents old new = (s : ℕ) → contents_of (memory_state new) s ≡ contents_of (memory_state old) s
 
--- every list of choices settles the disk to an image of it (this project's profile)
+-- every list of choices settles the disk to an image of it, if the bytes that are given are whole sectors (this project's
+-- profile)
 abbrev pub SettlesToImages : Memory → Type 0
-SettlesToImages m = (choices : List Choice) → IsImage (now (memory_state m)) (settled_sector (memory_state m) (handed_of m) choices)
+SettlesToImages m = (choices : List Choice) → All IsChoice choices → IsImage (now (memory_state m)) (settled_sector (memory_state m) (handed_of m) choices)
 
--- each image of the disk, if its sectors are whole, is what some list of choices settles it to (this project's profile)
+-- each image of the disk that is made of bytes is what some list of choices settles it to (this project's profile)
 abbrev pub ReachesEachImage : Memory → Type 0
-ReachesEachImage m = (c : ℕ → List ℕ) → IsImage (now (memory_state m)) c → HasWholeSectors (memory_state m).sectors c
+ReachesEachImage m = (c : ℕ → List ℕ) → IsImage (now (memory_state m)) c → HoldsBytes c
     → (choices : List Choice) × All IsChoice choices × ((s : ℕ) → settled_sector (memory_state m) (handed_of m) choices s ≡ c s)
 
 -- A call was added to the record, with the bytes that it hands in, and all else is as it was (this project's

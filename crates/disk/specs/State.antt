@@ -1,7 +1,6 @@
 -- What a disk holds, and what a loss of power may leave of it. This is this project's profile of a storage
 -- device: sectors of 512 bytes, numbered from 0.
-use Rattle.std.specs.Prelude.{◌≡◌, ◌⊎◌, ℕ, suc, zero, ◌+◌, ◌*◌, ◌%◌, ◌^◌, ◌<◌, ◌≤◌, Bool, true, false, if◌then◌else◌, List, length, take, drop, Result, MatchResult}
-use Rattle.disk.specs.declared.DiskFault.{DiskFault}
+use Rattle.std.specs.Prelude.{◌≡◌, ◌⊎◌, ℕ, suc, zero, ◌+◌, ◌*◌, ◌%◌, ◌^◌, ◌<◌, ◌≤◌, Bool, true, false, if◌then◌else◌, List, length, take, drop}
 
 -- contents, sector by sector (this project's profile)
 abbrev pub Image : Type 0
@@ -13,10 +12,11 @@ pub record Platter : Type 0 where
   pub contents : ℕ → List ℕ
   pub is_open : ℕ → Bool
 
--- An image, which is what a cut may leave: any contents that agree on all sectors that are not open (this
--- project's profile).
-abbrev pub IsImage : Platter → (ℕ → List ℕ) → Type 0
-IsImage p c = (s : ℕ) → p.is_open s ≡ false → c s ≡ p.contents s
+-- An image, which is what a cut may leave: contents of whole sectors, each as long as it was, that agree on all sectors
+-- that are not open (this project's profile).
+pub record IsImage (p : Platter) (c : ℕ → List ℕ) : Type 0 where
+  pub shut : (s : ℕ) → p.is_open s ≡ false → c s ≡ p.contents s
+  pub whole : (s : ℕ) → length (c s) ≡ length (p.contents s)
 
 -- All that contracts see of a disk (this project's profile): `at k` is the medium at moment k, from 0 to `clock`,
 -- which is now; `honest` says that the disk keeps to this model; `faults` counts the calls that answered
@@ -44,10 +44,12 @@ EachImage d P = (c : ℕ → List ℕ) → IsImage (now d) c → P c
 abbrev pub Outside : ℕ → ℕ → ℕ → Type 0
 Outside first bytes s = (s < first) ⊎ (512 * first + bytes ≤ 512 * s)
 
--- Outside these sectors the contents are the same, and what was not open is not open (this project's profile).
+-- Outside these sectors the contents are the same, and what was not open is not open; each sector stays whole (this
+-- project's profile).
 pub record SameOutside (first bytes : ℕ) (old new : Platter) : Type 0 where
   pub contents : (s : ℕ) → Outside first bytes s → new.contents s ≡ old.contents s
   pub closed : (s : ℕ) → Outside first bytes s → old.is_open s ≡ false → new.is_open s ≡ false
+  pub whole : (s : ℕ) → length (new.contents s) ≡ length (old.contents s)
 
 -- The clock is not turned back, earlier moments stay as they were, and at each moment from old to new the medium
 -- is as it was when the call began, but for these sectors (this project's profile).
@@ -56,12 +58,12 @@ pub record Touches (first bytes : ℕ) (old new : State) : Type 0 where
   pub kept : (k : ℕ) → k ≤ old.clock → new.at k ≡ old.at k
   pub since : (k : ℕ) → old.clock ≤ k → k ≤ new.clock → SameOutside first bytes (now old) (new.at k)
 
--- What no call changes, and the count of failures: it stays at Ok, and goes up by one, modulo 2 ^ 64, at
--- DiskFault (this project's profile).
-pub record Stays {T : Type 0} (result : Result T DiskFault) (old new : State) : Type 0 where
+-- What no call changes, of any disk, and the count of failures: it goes up by one, modulo 2 ^ 64, exactly where the
+-- device failed (this project's profile).
+pub record Counted (failed : Bool) (old new : State) : Type 0 where
   pub sectors : new.sectors ≡ old.sectors
   pub honest : new.honest ≡ old.honest
-  pub faults : MatchResult result (λ _. new.faults ≡ old.faults) (λ _. new.faults ≡ (old.faults + 1) % 2 ^ 64)
+  pub faults : new.faults ≡ (if failed then (old.faults + 1) % 2 ^ 64 else old.faults)
 
 -- so many bytes from sector `first` on are one or more whole sectors below the end (this project's profile)
 pub record AreSectors (first bytes sectors : ℕ) : Type 0 where
@@ -106,9 +108,10 @@ pub record AtEachMoment (old new : State) (P : (ℕ → List ℕ) → Type 0) : 
   pub kept : (k : ℕ) → k ≤ old.clock → new.at k ≡ old.at k
   pub each : (k : ℕ) → old.clock ≤ k → k ≤ new.clock → (c : ℕ → List ℕ) → IsImage (new.at k) c → P c
 
--- the contents are the same but for these sectors (this project's profile)
+-- the contents are the same but for these sectors, and each sector is whole (this project's profile)
 pub record SameBut (first bytes : ℕ) (old new : ℕ → List ℕ) : Type 0 where
   pub same : (s : ℕ) → Outside first bytes s → new s ≡ old s
+  pub whole : (s : ℕ) → length (new s) ≡ length (old s)
 
 -- what sector s held when it was last not open, at moment k or before (this project's profile)
 abbrev pub settled_at : (ℕ → Platter) → ℕ → ℕ → List ℕ

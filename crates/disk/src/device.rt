@@ -1,6 +1,6 @@
 // A device of sectors.
-ghost use Rattle.std.specs.Prelude.{◌≡◌, ◌↔◌, ℕ, length, IsTrue, OnOk, OnErr};
-ghost use Rattle.disk.specs.State.{State, contents_of, AreSectors, Stays, Touches, Holds, AreOpen, OpenOrSame, SameOpenOutside, SameOpen, IsSynced};
+ghost use Rattle.std.specs.Prelude.{◌≡◌, ◌↔◌, ℕ, length, IsTrue, OnOk, OnErr, is_err};
+ghost use Rattle.disk.specs.State.{State, contents_of, AreSectors, Counted, Touches, Holds, AreOpen, OpenOrSame, SameOpenOutside, SameOpen, IsSynced};
 
 use crate::{DiskFault, SECTOR_BYTES};
 
@@ -32,7 +32,7 @@ pub trait Disk {
     /// may be any.
     fn read(&mut self, first: u64, bytes: &mut [u8]) -> Result<(), DiskFault>
         requires { AreSectors first (length bytes.old) (state self.old).sectors }
-        ensures stays { Stays result (state self.old) (state self.new) }
+        ensures counted { Counted (is_err result) (state self.old) (state self.new) }
         ensures moments { IsTrue (state self.old).honest → Touches 0 0 (state self.old) (state self.new) }
         ensures same_open { IsTrue (state self.old).honest → SameOpen (state self.old) (state self.new) }
         ensures bytes { IsTrue (state self.old).honest → OnOk result (Holds (contents_of (state self.old)) first bytes.new) };
@@ -41,7 +41,7 @@ pub trait Disk {
     /// open; at DiskFault each of them is open, or nothing happened to it. The others stay as they are.
     fn write(&mut self, first: u64, bytes: &[u8]) -> Result<(), DiskFault>
         requires { AreSectors first (length bytes.now) (state self.old).sectors }
-        ensures stays { Stays result (state self.old) (state self.new) }
+        ensures counted { Counted (is_err result) (state self.old) (state self.new) }
         ensures moments { IsTrue (state self.old).honest → Touches first (length bytes.now) (state self.old) (state self.new) }
         ensures opened { IsTrue (state self.old).honest → OnOk result (AreOpen (state self.new) first (length bytes.now)) }
         ensures failed { IsTrue (state self.old).honest → OnErr result (OpenOrSame first (length bytes.now) (state self.old) (state self.new)) }
@@ -50,7 +50,7 @@ pub trait Disk {
 
     /// Settles all that was written: at Ok no sector is open. One that fails settles nothing.
     fn sync(&mut self) -> Result<(), DiskFault>
-        ensures stays { Stays result (state self.old) (state self.new) }
+        ensures counted { Counted (is_err result) (state self.old) (state self.new) }
         ensures moments { IsTrue (state self.old).honest → Touches 0 0 (state self.old) (state self.new) }
         ensures synced { IsTrue (state self.old).honest → OnOk result (IsSynced (state self.new)) }
         ensures failed { IsTrue (state self.old).honest → OnErr result (SameOpen (state self.old) (state self.new)) };

@@ -1,6 +1,6 @@
 // A write that is on the medium when it returns.
-ghost use Rattle.std.specs.Prelude.{◌≡◌, length, IsTrue, OnOk};
-ghost use Rattle.disk.specs.State.{contents_of, AreSectors, Stays, Touches, Holds, IsSynced, AtEachMoment, SameBut};
+ghost use Rattle.std.specs.Prelude.{◌≡◌, length, IsTrue, OnOk, is_err};
+ghost use Rattle.disk.specs.State.{contents_of, AreSectors, Counted, Touches, Holds, IsSynced, AtEachMoment, SameBut};
 
 use crate::{Disk, DiskFault};
 
@@ -9,7 +9,7 @@ use crate::{Disk, DiskFault};
 pub fn put<D: Disk>(disk: &mut D, first: u64, bytes: &[u8]) -> Result<(), DiskFault>
     requires { AreSectors first (length bytes.now) (D.state disk.old).sectors }
 
-    ensures stays { Stays result (D.state disk.old) (D.state disk.new) }
+    ensures counted { Counted (is_err result) (D.state disk.old) (D.state disk.new) }
 
     // At each moment the medium is as it was, but for these sectors.
     ensures moments { IsTrue (D.state disk.old).honest → Touches first (length bytes.now) (D.state disk.old) (D.state disk.new) }

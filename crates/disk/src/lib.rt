@@ -16,7 +16,6 @@ mod record;
 pub use choice::Choice;
 pub use device::Disk;
 pub use durable::put;
-pub use faults::NoMemory;
 pub use laws::settling_gives_each_image;
 pub use liar::Liar;
 pub use memory::{Memory, Plan};

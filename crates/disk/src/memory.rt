@@ -1,14 +1,15 @@
 // A disk in memory, which keeps a record of its calls.
-ghost use Rattle.std.specs.Prelude.{◌≡◌, ◌≢◌, ℕ, ◌+◌, ◌-◌, ◌*◌, ◌%◌, ◌^◌, ◌<◌, ◌≤◌, ◌++◌, ◌∷◌, [], List, All, length, vec_len, vec_capacity, IsTrue, if◌then◌else◌, IfOk, OnOk, OnErr};
-ghost use Rattle.disk.specs.State.{now, contents_of, IsImage, AreSectors, Stays, Touches, Holds, AreOpen, OpenOrSame, SameOpenOutside, SameOpen, IsSynced, SameBut, sector_of, last_synced};
+ghost use Rattle.std.specs.Prelude.{◌≡◌, ◌≢◌, ℕ, ◌+◌, ◌-◌, ◌*◌, ◌%◌, ◌^◌, ◌<◌, ◌≤◌, ◌++◌, ◌∷◌, [], List, All, length, vec_len, vec_capacity, IsTrue, if◌then◌else◌, IfOk, OnOk, OnErr, is_err};
+ghost use Rattle.disk.specs.State.{now, contents_of, IsImage, AreSectors, Counted, Touches, Holds, AreOpen, OpenOrSame, SameOpenOutside, SameOpen, IsSynced, SameBut, sector_of, last_synced};
 ghost use Rattle.disk.specs.Record.{IsWithin, AllPlaced, trace_of};
 ghost use Rattle.disk.specs.Plan.{fate_of};
 ghost use Rattle.disk.specs.Choice.{chosen, settled_sector};
 
 use crate::choice::{Choice, nth};
 use crate::record::{Call, Span, Trace, bytes_in, follow};
-use crate::{Disk, DiskFault, NoMemory, SECTOR_BYTES};
+use crate::{Disk, DiskFault, SECTOR_BYTES};
 use std::alloc::{AllocError, Global};
+use units::NoMemory;
 
 /// What is to go wrong. Calls of `read`, `write` and `sync` are counted from 0 since the plan was made; one that is
 /// beyond the room is not counted.
@@ -278,7 +279,7 @@ impl Disk for Memory {
 
     fn read(&mut self, first: u64, bytes: &mut [u8]) -> Result<(), DiskFault>
         requires { AreSectors first (length bytes.old) (memory_state self.old).sectors }
-        ensures stays { Stays result (memory_state self.old) (memory_state self.new) }
+        ensures counted { Counted (is_err result) (memory_state self.old) (memory_state self.new) }
         ensures moments { Touches 0 0 (memory_state self.old) (memory_state self.new) }
         ensures same_open { SameOpen (memory_state self.old) (memory_state self.new) }
         ensures bytes { OnOk result (Holds (contents_of (memory_state self.old)) first bytes.new) }
@@ -301,7 +302,7 @@ impl Disk for Memory {
 
     fn write(&mut self, first: u64, bytes: &[u8]) -> Result<(), DiskFault>
         requires { AreSectors first (length bytes.now) (memory_state self.old).sectors }
-        ensures stays { Stays result (memory_state self.old) (memory_state self.new) }
+        ensures counted { Counted (is_err result) (memory_state self.old) (memory_state self.new) }
         ensures moments { Touches first (length bytes.now) (memory_state self.old) (memory_state self.new) }
         ensures opened { OnOk result (AreOpen (memory_state self.new) first (length bytes.now)) }
         ensures failed { OnErr result (OpenOrSame first (length bytes.now) (memory_state self.old) (memory_state self.new)) }
@@ -345,7 +346,7 @@ impl Disk for Memory {
     }
 
     fn sync(&mut self) -> Result<(), DiskFault>
-        ensures stays { Stays result (memory_state self.old) (memory_state self.new) }
+        ensures counted { Counted (is_err result) (memory_state self.old) (memory_state self.new) }
         ensures moments { Touches 0 0 (memory_state self.old) (memory_state self.new) }
         ensures synced { OnOk result (IsSynced (memory_state self.new)) }
         ensures failed { OnErr result (SameOpen (memory_state self.old) (memory_state self.new)) }

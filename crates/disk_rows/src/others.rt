@@ -1,6 +1,6 @@
 // Sizes, `put`, and the disk that lies.
 use crate::calls::read;
-use disk::{Choice, Disk, Liar, Memory, NoMemory, put};
+use disk::{Choice, Disk, Liar, Memory, put};
 use std::test::Fail;
 
 #[test]

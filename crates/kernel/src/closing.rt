@@ -100,8 +100,9 @@ impl<G: ProfileStore<Permille> + Drop, S: ProfileStore<CategorySpeeds> + Drop> S
         take_all_values(&mut self.national, packets, used);
         announce_all(&mut self.links, packets, used);
         accept_all(&mut self.authority, packets, used);
-        replace_gradients(&mut self.gradients, packets, used)?;
-        replace_speeds(&mut self.speeds, packets, used)?;
+        let mark = self.restrictions.mark();
+        replace_gradients(&mut self.gradients, mark, packets, used)?;
+        replace_speeds(&mut self.speeds, mark, packets, used)?;
         add_all(&mut self.restrictions, alloc, packets, used)?;
         revoke_all(&mut self.restrictions, packets, used);
         Ok(())

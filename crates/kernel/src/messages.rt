@@ -150,14 +150,15 @@ fn accept(authority: &mut Authority, packet: &Packet<'_>, used: &Use)
     }
 }
 
-// Takes a packet, where it tells gradients and is used.
+// Takes a packet, where it tells gradients and is used; no track before a mark counts.
 fn replace_gradient<G: ProfileStore<Permille>>(
     store: &mut G,
+    mark: Cm,
     packet: &Packet<'_>,
     used: &Use,
 ) -> Result<(), NoMemory>
-    ensures { OnOk result ((told : Told ℤ) → profile_with G.value G.mark store.old ≡ profile_of told
-        → profile_with G.value G.mark store.new ≡ profile_of (record told { facts = if is_valid used.now.direction packet.now then after_gradients (fact_of used.now packet.now) told.facts else told.facts })) }
+    ensures { OnOk result ((told : Told ℤ) → told.mark ≡ mark → profile_with G.value store.old ≡ profile_of told
+        → profile_with G.value store.new ≡ profile_of (record told { facts = if is_valid used.now.direction packet.now then after_gradients (fact_of used.now packet.now) told.facts else told.facts })) }
 {
     let Packet::Gradients(packet) = packet else {
         return Ok(());
@@ -165,18 +166,20 @@ fn replace_gradient<G: ProfileStore<Permille>>(
     if is_passed(packet.direction, &used.direction) {
         let told = gradients(packet, used.place);
         store.replace_from(told.start, told.steps.as_slice())?;
+        store.drop_behind(mark);
     }
     Ok(())
 }
 
-// Takes a packet, where it tells static speeds and is used.
+// Takes a packet, where it tells static speeds and is used; no track before a mark counts.
 fn replace_speed<S: ProfileStore<CategorySpeeds>>(
     store: &mut S,
+    mark: Cm,
     packet: &Packet<'_>,
     used: &Use,
 ) -> Result<(), NoMemory>
-    ensures { OnOk result ((told : Told CategorySpeeds) → profile_with S.value S.mark store.old ≡ profile_of told
-        → profile_with S.value S.mark store.new ≡ profile_of (record told { facts = if is_valid used.now.direction packet.now then after_speeds (fact_of used.now packet.now) told.facts else told.facts })) }
+    ensures { OnOk result ((told : Told CategorySpeeds) → told.mark ≡ mark → profile_with S.value store.old ≡ profile_of told
+        → profile_with S.value store.new ≡ profile_of (record told { facts = if is_valid used.now.direction packet.now then after_speeds (fact_of used.now packet.now) told.facts else told.facts })) }
 {
     let Packet::StaticSpeeds(packet) = packet else {
         return Ok(());
@@ -184,6 +187,7 @@ fn replace_speed<S: ProfileStore<CategorySpeeds>>(
     if is_passed(packet.direction, &used.direction) {
         let told = static_speeds(packet, used.place);
         store.replace_from(told.start, told.steps.as_slice())?;
+        store.drop_behind(mark);
     }
     Ok(())
 }
@@ -249,32 +253,34 @@ pub fn accept_all(authority: &mut Authority, packets: &GroupPackets, used: &Use)
     }
 }
 
-/// Takes the gradients (packet 21) of a group.
+/// Takes the gradients (packet 21) of a group; no track before the forgetting mark counts.
 pub fn replace_gradients<G: ProfileStore<Permille>>(
     store: &mut G,
+    mark: Cm,
     packets: &GroupPackets,
     used: &Use,
 ) -> Result<(), NoMemory>
-    ensures { OnOk result ((told : Told ℤ) → profile_with G.value G.mark store.old ≡ profile_of told
-        → profile_with G.value G.mark store.new ≡ profile_of (record told { facts = after_facts after_gradients (facts used.now packets.now) told.facts })) }
+    ensures { OnOk result ((told : Told ℤ) → told.mark ≡ mark → profile_with G.value store.old ≡ profile_of told
+        → profile_with G.value store.new ≡ profile_of (record told { facts = after_facts after_gradients (facts used.now packets.now) told.facts })) }
 {
     for item in packets.iter() {
-        replace_gradient(store, item.packet(), used)?;
+        replace_gradient(store, mark, item.packet(), used)?;
     }
     Ok(())
 }
 
-/// Takes the static speeds (packet 27) of a group.
+/// Takes the static speeds (packet 27) of a group; no track before the forgetting mark counts.
 pub fn replace_speeds<S: ProfileStore<CategorySpeeds>>(
     store: &mut S,
+    mark: Cm,
     packets: &GroupPackets,
     used: &Use,
 ) -> Result<(), NoMemory>
-    ensures { OnOk result ((told : Told CategorySpeeds) → profile_with S.value S.mark store.old ≡ profile_of told
-        → profile_with S.value S.mark store.new ≡ profile_of (record told { facts = after_facts after_speeds (facts used.now packets.now) told.facts })) }
+    ensures { OnOk result ((told : Told CategorySpeeds) → told.mark ≡ mark → profile_with S.value store.old ≡ profile_of told
+        → profile_with S.value store.new ≡ profile_of (record told { facts = after_facts after_speeds (facts used.now packets.now) told.facts })) }
 {
     for item in packets.iter() {
-        replace_speed(store, item.packet(), used)?;
+        replace_speed(store, mark, item.packet(), used)?;
     }
     Ok(())
 }

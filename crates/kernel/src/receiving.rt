@@ -114,7 +114,7 @@ impl<G: ProfileStore<Permille> + Drop, S: ProfileStore<CategorySpeeds> + Drop> S
 
     /// The track is forgotten that lies far behind a train on this stretch.
     pub(crate) fn forget_behind(&mut self, train: &Stretch)
-        requires { unsigned_abs train.now.rear ≤ 2 ^ 42 - 2 ^ 25 }
+        requires { HasReach train.now.rear }
         ensures { (life : Life) (entry : Entry) → entry.mark ≡ None → StandsForLife G.profile S.profile self.old (grown life entry)
             → StandsForLife G.profile S.profile self.new (grown life (record entry { mark = Some (train.now.rear -ℤ pos 100_000) })) }
     {

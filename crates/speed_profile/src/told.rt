@@ -7,7 +7,7 @@ ghost use Rattle.speed_profile.specs.Told.{speed_of, speed_for, speeds_for, firs
 
 use arrayvec::ArrayVec;
 use packets::{Difference, Gradient, Gradients, StaticSpeeds, StaticStep};
-use track_store::Step;
+use track_store::{Same, Step};
 use units::{Cm, GroupPlace, Mph, Permille};
 use vars::{Distance, Scale, StaticSpeed, TrainCategory, TrainLengthDelay, Variable};
 
@@ -26,6 +26,12 @@ impl CategorySpeeds {
         ensures { result ≡ speed_of self.now category }
     {
         self.speeds[category.number() as usize]
+    }
+}
+
+impl Same for CategorySpeeds {
+    fn is_same(&self, other: &CategorySpeeds) -> bool {
+        self == other
     }
 }
 

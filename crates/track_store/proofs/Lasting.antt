@@ -1,11 +1,12 @@
--- What was told gives the same up to the nearest place of a step, of a fact or of the mark.
-use Rattle.std.proofs.Common.{◌≡◌, ℤ, ◌≤ℤ◌, ◌<ℤ◌, List, [], ◌∷◌, Bool, true, false, cond, refl, ap, arith}
+-- What was told gives the same up to the nearest place of a step, of a fact or of its mark.
+use Rattle.std.proofs.Common.{◌≡◌, ℤ, ◌≤ℤ◌, ◌<ℤ◌, List, [], ◌∷◌, Bool, true, false, cond, refl, arith}
 use Rattle.std.specs.Prelude.{Option, None, Some, int_lt, not, ◌&&◌, is_none}
 use Rattle.std.specs.List.{list_any}
 use Rattle.std.proofs.lemmas.Int.{ints}
 use Rattle.track_store.specs.declared.profile.Step.{Step}
-use Rattle.track_store.specs.Facts.{Fact, Told, passed, latest, last_value, value_in}
-use Rattle.track_store.specs.Changes.{nearer, nearest_step, nearest_fact}
+use Rattle.track_store.specs.Facts.{passed, last_value}
+use Rattle.track_store.specs.Remembered.{Remembered, value_remembered}
+use Rattle.track_store.specs.Changes.{nearer, nearest_step, nearest_in, nearest_fact}
 use Rattle.track_store.specs.Profiles.{Lasts}
 
 -- a later place lies before the nearest
@@ -70,29 +71,39 @@ module _ {A : Type 0} (place : ℤ) where
       let rest = step_same (nearer place near step.place) steps later ahead h in
       λ i. cond (not (here i)) (step ∷ rest i) (rest i)
 
-  fact_ahead : (near : Option ℤ) (facts : List (Fact A)) → IsAhead place near → IsAhead place (nearest_fact place near facts)
-  fact_ahead near [] h = h
-  fact_ahead near (fact ∷ facts) h =
-      fact_ahead (nearest_step place (nearer place near fact.start) fact.steps) facts
-      (step_ahead (nearer place near fact.start) fact.steps (nearer_ahead place near fact.start h))
+  in_ahead : (near : Option ℤ) (fact : Remembered A) → IsAhead place near → IsAhead place (nearest_in place near fact)
+  in_ahead near fact h =
+      step_ahead (nearer place (nearer place near fact.start) fact.mark) fact.steps
+      (nearer_ahead place (nearer place near fact.start) fact.mark (nearer_ahead place near fact.start h))
 
-  fact_before : (near : Option ℤ) (facts : List (Fact A)) (later : ℤ) → IsBefore later (nearest_fact place near facts) →
+  in_before : (near : Option ℤ) (fact : Remembered A) (later : ℤ) → IsBefore later (nearest_in place near fact) → IsBefore later near
+  in_before near fact later h =
+      nearer_before place near fact.start later (nearer_before place (nearer place near fact.start) fact.mark later
+      (step_before (nearer place (nearer place near fact.start) fact.mark) fact.steps later h))
+
+  fact_ahead : (near : Option ℤ) (facts : List (Remembered A)) → IsAhead place near → IsAhead place (nearest_fact place near facts)
+  fact_ahead near [] h = h
+  fact_ahead near (fact ∷ facts) h = fact_ahead (nearest_in place near fact) facts (in_ahead near fact h)
+
+  fact_before : (near : Option ℤ) (facts : List (Remembered A)) (later : ℤ) → IsBefore later (nearest_fact place near facts) →
       IsBefore later near
   fact_before near [] later h = h
-  fact_before near (fact ∷ facts) later h =
-      nearer_before place near fact.start later (step_before (nearer place near fact.start) fact.steps later
-      (fact_before (nearest_step place (nearer place near fact.start) fact.steps) facts later h))
+  fact_before near (fact ∷ facts) later h = in_before near fact later (fact_before (nearest_in place near fact) facts later h)
 
-  fact_same : (near : Option ℤ) (facts : List (Fact A)) (later : ℤ) → place ≤ℤ later →
-      IsBefore later (nearest_fact place near facts) → latest facts later ≡ latest facts place
+  fact_same : (near : Option ℤ) (facts : List (Remembered A)) (later : ℤ) → place ≤ℤ later →
+      IsBefore later (nearest_fact place near facts) → value_remembered facts later ≡ value_remembered facts place
   fact_same near [] later ahead h = refl
   fact_same near (fact ∷ facts) later ahead h =
-      let k = fact_before (nearest_step place (nearer place near fact.start) fact.steps) facts later h in
-      let start = nearer_same place near fact.start later ahead (step_before (nearer place near fact.start) fact.steps later k) in
-      let steps = step_same (nearer place near fact.start) fact.steps later ahead k in
-      let rest = fact_same (nearest_step place (nearer place near fact.start) fact.steps) facts later ahead h in
+      let began = nearer place near fact.start in
+      let marked = nearer place began fact.mark in
+      let k = fact_before (nearest_in place near fact) facts later h in
+      let to_mark = step_before marked fact.steps later k in
+      let start = nearer_same place near fact.start later ahead (nearer_before place began fact.mark later to_mark) in
+      let mark = nearer_same place began fact.mark later ahead to_mark in
+      let steps = step_same marked fact.steps later ahead k in
+      let rest = fact_same (nearest_in place near fact) facts later ahead h in
       λ i. cond (start i) (rest i)
-      (cond (list_any (λ step. is_none step.value) (steps i)) None (last_value None (steps i)))
+      (cond (mark i) None (cond (list_any (λ step. is_none step.value) (steps i)) None (last_value None (steps i))))
 
   lasts_up_to : (value : ℤ → Option A) (near : Option ℤ) → IsAhead place near →
       ((later : ℤ) → place ≤ℤ later → IsBefore later near → value later ≡ value place) → Lasts value place near
@@ -100,18 +111,8 @@ module _ {A : Type 0} (place : ℤ) where
   lasts_up_to value (Some near) ahead same = (ahead, same)
 
   -- up to the nearest of all places, what was told gives the same
-  pub lasts : (told : Told A) (near : Option ℤ) → nearest_fact place (nearer place None told.mark) told.facts ≡ near →
-      Lasts (value_in told) place near
-  lasts told near is =
-      let first = nearer place None told.mark in
-      rw (← is) (lasts_up_to (value_in told) (nearest_fact place first told.facts)
-      (fact_ahead first told.facts (nearer_ahead place None told.mark tt))
-      (λ later a h. let mark = nearer_same place None told.mark later a (fact_before first told.facts later h) in
-      let facts = fact_same first told.facts later a h in
-      λ i. cond (mark i) None (facts i)))
-
-pub same_mark : {A : Type 0} {told other : Told A} → told ≡ other → told.mark ≡ other.mark
-same_mark is = ap (λ t. t.mark) is
-
-pub same_facts : {A : Type 0} {told other : Told A} → told ≡ other → told.facts ≡ other.facts
-same_facts is = ap (λ t. t.facts) is
+  pub lasts : (facts : List (Remembered A)) (near : Option ℤ) → nearest_fact place None facts ≡ near →
+      Lasts (value_remembered facts) place near
+  lasts facts near is =
+      rw (← is) (lasts_up_to (value_remembered facts) (nearest_fact place None facts) (fact_ahead None facts tt)
+      (λ later a h. fact_same None facts later a h))

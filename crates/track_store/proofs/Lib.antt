@@ -6,3 +6,6 @@ pub mod Jumps
 pub mod Telling
 pub mod Segmenting
 pub mod Searching
+pub mod Forgetting
+pub mod Apart
+pub mod Throughout

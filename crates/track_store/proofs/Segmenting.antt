@@ -1,14 +1,14 @@
 -- What segments give once some are dropped, and one or more are put behind them.
 use Rattle.std.proofs.Common.{◌≡◌, ℤ, ◌≤ℤ◌, ◌<ℤ◌, List, [], ◌∷◌, ◌++◌, Bool, true, false, cond, refl, ap, sym, subst, ◌∙◌, arith}
 use Rattle.std.specs.Prelude.{Option, None, Some, int_lt, not, is_none, filter}
-use Rattle.std.specs.List.{list_any, remove}
+use Rattle.std.specs.List.{list_any}
 use Rattle.std.specs.Int.{int_max}
 use Rattle.std.proofs.lemmas.Int.{ints, by_lt_z}
 use Rattle.track_store.specs.declared.profile.Step.{Step}
 use Rattle.track_store.specs.declared.segments.Segment.{Segment}
-use Rattle.track_store.specs.Facts.{passed, last_value, from_mark, replaced}
+use Rattle.track_store.specs.Facts.{passed, last_value, replaced}
 use Rattle.track_store.specs.Profiles.{Lasts}
-use Rattle.track_store.specs.Segments.{value_among, value_of_segments, IsRisingFrom, IsRising, is_first_passed, next_among, Kept, value_kept}
+use Rattle.track_store.specs.Segments.{value_among, value_of_segments, value_behind, IsRisingFrom, IsRising, next_among}
 
 pub below : (a b : ℤ) → a <ℤ b → int_lt a b ≡ true
 below a b h = grind (arith, ints)
@@ -54,6 +54,41 @@ module _ {A : Type 0} where
       (λ (h : there <ℤ place). rw (below there place h) (cut_below place there value None segments h))
       (λ (h : place ≤ℤ there). rw (not_below there place h) (cut_from place there value None (filter (λ s. int_lt s.start place) segments) h))
 
+  -- .. or followed by none: the value behind them
+  front_from : (place there : ℤ) (otherwise : Option A) (segments : List (Segment A)) → place ≤ℤ there →
+      value_among otherwise (filter (λ s. int_lt s.start place) segments) there ≡ value_behind otherwise (filter (λ s. int_lt s.start place) segments)
+  front_from place there otherwise [] h = refl
+  front_from place there otherwise (s ∷ segments) h =
+      let rest = filter (λ s. int_lt s.start place) segments in
+      let cases : (b : Bool) → int_lt s.start place ≡ b → value_among otherwise (cond b (s ∷ rest) rest) there ≡ value_behind otherwise (cond b (s ∷ rest) rest) =
+      elim [
+        | true ↦ λ e. (let k : s.start ≤ℤ there = grind (arith, ints) in
+            ap (λ c. value_among (cond c otherwise s.value) rest there) (not_below there s.start k) ∙ front_from place there s.value segments h)
+        | false ↦ λ e. front_from place there otherwise segments h
+      ] in
+      cases (int_lt s.start place) refl
+
+  front_below : (place there : ℤ) (otherwise : Option A) (segments : List (Segment A)) → there <ℤ place →
+      value_among otherwise (filter (λ s. int_lt s.start place) segments) there ≡ value_among otherwise segments there
+  front_below place there otherwise [] h = refl
+  front_below place there otherwise (s ∷ segments) h =
+      let rest = filter (λ s. int_lt s.start place) segments in
+      let cases : (b : Bool) → int_lt s.start place ≡ b →
+      value_among otherwise (cond b (s ∷ rest) rest) there ≡ value_among (cond (int_lt there s.start) otherwise s.value) segments there =
+      elim [
+        | true ↦ λ e. front_below place there (cond (int_lt there s.start) otherwise s.value) segments h
+        | false ↦ λ e. (let k : there <ℤ s.start = grind (arith, ints) in rw (below there s.start k) (front_below place there otherwise segments h))
+      ] in
+      cases (int_lt s.start place) refl
+
+  pub value_of_front : (place : ℤ) (value : Option A) (segments : List (Segment A)) (there : ℤ) →
+      value_behind None (filter (λ s. int_lt s.start place) segments) ≡ value →
+      value_of_segments (filter (λ s. int_lt s.start place) segments) there ≡ cond (int_lt there place) (value_of_segments segments there) value
+  value_of_front place value segments there is =
+      by_lt_z there place
+      (λ (h : there <ℤ place). rw (below there place h) (front_below place there None segments h))
+      (λ (h : place ≤ℤ there). rw (not_below there place h) (front_from place there None segments h ∙ is))
+
   rising_lower : (low lower : ℤ) (segments : List (Segment A)) → lower ≤ℤ low → IsRisingFrom low segments → IsRisingFrom lower segments
   rising_lower low lower [] h r = tt
   rising_lower low lower (s ∷ segments) h r = (omega (arith, ints, h, r.0), r.1)
@@ -71,7 +106,7 @@ module _ {A : Type 0} where
       ] in
       cases (int_lt s.start place) refl
 
-  rising_of : (low : ℤ) (segments : List (Segment A)) → IsRisingFrom low segments → IsRising segments
+  pub rising_of : (low : ℤ) (segments : List (Segment A)) → IsRisingFrom low segments → IsRising segments
   rising_of low [] r = tt
   rising_of low (s ∷ segments) r = r.1
 
@@ -88,25 +123,8 @@ module _ {A : Type 0} where
       ] in
       cases (int_lt s.start place) refl
 
-  -- without the first segment, where it lies wholly before a mark, the same counts
-  pub value_of_rest : (mark : ℤ) (segments : List (Segment A)) → is_first_passed mark segments ≡ true → (place : ℤ) →
-      from_mark mark (value_of_segments (remove segments 0)) place ≡ from_mark mark (value_of_segments segments) place
-  value_of_rest mark [] h place = absurd cc
-  value_of_rest mark (first ∷ []) h place = absurd cc
-  value_of_rest mark (first ∷ second ∷ segments) h place =
-      by_lt_z place mark
-      (λ (k : place <ℤ mark). rw (below place mark k))
-      (λ (k : mark ≤ℤ place). (let behind : second.start ≤ℤ place = grind (arith, ints) in
-      let rest : value_among None (second ∷ segments) place ≡ value_among second.value segments place = rw (not_below place second.start behind) in
-      let all : value_among None (first ∷ second ∷ segments) place ≡ value_among second.value segments place = rw (not_below place second.start behind) in
-      rw (not_below place mark k) (rest ∙ sym all)))
-
-  pub rising_rest : (segments : List (Segment A)) → IsRising segments → IsRising (remove segments 0)
-  rising_rest [] r = tt
-  rising_rest (first ∷ segments) r = rising_of first.start segments r
-
   -- segments that rise from a place that isn't below another one don't count there
-  before_rising : (otherwise : Option A) (low there : ℤ) (segments : List (Segment A)) → IsRisingFrom low segments → there ≤ℤ low →
+  pub before_rising : (otherwise : Option A) (low there : ℤ) (segments : List (Segment A)) → IsRisingFrom low segments → there ≤ℤ low →
       value_among otherwise segments there ≡ otherwise
   before_rising otherwise low there [] r h = refl
   before_rising otherwise low there (s ∷ segments) r h =
@@ -138,14 +156,11 @@ module _ {A : Type 0} where
       (λ (h : place <ℤ s.start). rw (below place s.start h) (ahead h))
       (λ (h : s.start ≤ℤ place). rw (not_below place s.start h) (behind h))
 
-  pub lasts_kept : (mark place : ℤ) (segments : List (Segment A)) (kept : Kept A) (next : Option ℤ) → record { mark = mark; segments = segments } ≡ kept →
-      IsRising segments → mark ≤ℤ place → next ≡ next_among place segments → Lasts (value_kept kept) place next
-  lasts_kept mark place segments kept next is r h e =
-      subst (λ (k : Kept A). Lasts (value_kept k) place next) is
-      (subst (λ (n : Option ℤ). Lasts (from_mark mark (value_of_segments segments)) place n) (sym e)
-      (lasts_along (value_of_segments segments) (from_mark mark (value_of_segments segments)) place (next_among place segments)
-      (λ later a. (let k : mark ≤ℤ later = omega (arith, ints, h, a) in rw (not_below later mark k)))
-      (lasts_among None place segments r) (omega (arith, ints))))
+  pub lasts_kept : (place : ℤ) (segments kept : List (Segment A)) (next : Option ℤ) → segments ≡ kept → IsRising segments →
+      next ≡ next_among place segments → Lasts (value_of_segments kept) place next
+  lasts_kept place segments kept next is r e =
+      subst (λ (k : List (Segment A)). Lasts (value_of_segments k) place next) is
+      (subst (λ (n : Option ℤ). Lasts (value_of_segments segments) place n) (sym e) (lasts_among None place segments r))
 
   -- a step more, which holds from its place or the start on
   last_passed : (place : ℤ) (value : Option A) (step : Step A) (steps : List (Step A)) →
@@ -187,16 +202,3 @@ module _ {A : Type 0} where
       (λ (h : place <ℤ start). rw (below place start h) (is ∙ ap (λ (b : Bool). cond b held None) (before_start start first end place top h) ∙ under h))
       (λ (h : start ≤ℤ place). rw (not_below place start h, ends)
       (is ∙ ap (λ (b : Bool). cond b held None) (behind_start start first end place top h) ∙ cases (int_lt place end) refl h))
-
-  -- without the segments that lie wholly before a mark that is raised, what lies ahead of it still counts
-  pub kept_from : (mark raised place there : ℤ) (segments rest : List (Segment A)) (kept : Kept A) →
-      record { mark = mark; segments = segments } ≡ kept → raised ≡ int_max mark place →
-      from_mark raised (value_of_segments rest) there ≡ from_mark raised (value_of_segments segments) there →
-      from_mark raised (value_of_segments rest) there ≡ from_mark place (value_kept kept) there
-  kept_from mark raised place there segments rest kept is top same =
-      subst (λ (k : Kept A). from_mark raised (value_of_segments rest) there ≡ from_mark place (value_kept k) there) is
-      (same ∙ by_lt_z there place
-      (λ (h : there <ℤ place). (let k : there <ℤ raised = grind (arith, ints) in rw (below there raised k, below there place h)))
-      (λ (h : place ≤ℤ there). by_lt_z there mark
-      (λ (l : there <ℤ mark). (let k : there <ℤ raised = grind (arith, ints) in rw (below there raised k, below there mark l, not_below there place h)))
-      (λ (l : mark ≤ℤ there). (let k : raised ≤ℤ there = grind (arith, ints) in rw (not_below there raised k, not_below there mark l, not_below there place h)))))

@@ -7,8 +7,8 @@ use Rattle.std.specs.Int.{int_max}
 use Rattle.track_store.specs.Profiles.{Profile}
 use Rattle.track_store.specs.Facts.{Told, Fact, latest, given_by, from_mark, replaced, profile_of}
 
-same_profile : {A : Type 0} (p q : Profile A) → p.value ≡ q.value → p.mark ≡ q.mark → p ≡ q
-same_profile p q value mark = λ i. record { value = value i; mark = mark i }
+same_profile : {A : Type 0} (p q : Profile A) → p.value ≡ q.value → p ≡ q
+same_profile p q value = λ i. record { value = value i }
 
 marked_once : {A : Type 0} (below before : Bool) (old new : Option A) →
     cond below None (cond before (cond below None old) new) ≡ cond below None (cond before old new)
@@ -24,35 +24,33 @@ below_greater : (place a b : ℤ) → int_lt place (int_max a b) ≡ cond (int_l
 below_greater place a b = grind (arith, ints)
 
 module _ {A : Type 0} (old new : Profile A) (told : Told A) (is : old ≡ profile_of told) where
-  -- one fact more
+  -- one fact more, without what lies below the mark
   pub one_more : (fact : Fact A) →
-      ((place : ℤ) → new.value place ≡ from_mark old.mark (replaced old.value fact.start fact.steps) place) → new.mark ≡ old.mark →
+      ((place : ℤ) → new.value place ≡ from_mark told.mark (replaced old.value fact.start fact.steps) place) →
       new ≡ profile_of (record told { facts = fact ∷ told.facts })
-  one_more fact values mark =
+  one_more fact values =
       same_profile new (profile_of (record told { facts = fact ∷ told.facts }))
       (fun_ext (λ place. values place
-      ∙ ap (λ (p : Profile A). from_mark p.mark (replaced p.value fact.start fact.steps) place) is
+      ∙ ap (λ (p : Profile A). from_mark told.mark (replaced p.value fact.start fact.steps) place) is
       ∙ marked_once (int_lt place told.mark) (int_lt place fact.start) (latest told.facts place) (given_by fact.steps place)))
-      (mark ∙ ap (λ (p : Profile A). p.mark) is)
 
   -- a mark ahead
-  pub marked_at : (mark : ℤ) → ((place : ℤ) → new.value place ≡ from_mark mark old.value place) → new.mark ≡ int_max mark old.mark →
+  pub marked_at : (mark : ℤ) → ((place : ℤ) → new.value place ≡ from_mark mark old.value place) →
       new ≡ profile_of (record told { mark = int_max mark told.mark })
-  marked_at mark values raised =
+  marked_at mark values =
       same_profile new (profile_of (record told { mark = int_max mark told.mark }))
       (fun_ext (λ place. values place
       ∙ ap (λ (p : Profile A). from_mark mark p.value place) is
       ∙ marked_twice (int_lt place mark) (int_lt place told.mark) (int_lt place (int_max mark told.mark)) (latest told.facts place)
       (below_greater place mark told.mark)))
-      (raised ∙ ap (λ (p : Profile A). int_max mark p.mark) is)
 
 same_none : {A : Type 0} (below : Bool) (value : Option A) → value ≡ None → value ≡ cond below None None
 same_none true value is = is
 same_none false value is = is
 
 -- nothing told
-pub none_told : {A : Type 0} (new : Profile A) (mark : ℤ) → ((place : ℤ) → new.value place ≡ None) → new.mark ≡ mark →
+pub none_told : {A : Type 0} (new : Profile A) (mark : ℤ) → ((place : ℤ) → new.value place ≡ None) →
     new ≡ profile_of (record { mark = mark; facts = [] })
-none_told new mark values is =
+none_told new mark values =
     same_profile new (profile_of (record { mark = mark; facts = [] }))
-    (fun_ext (λ place. same_none (int_lt place mark) (new.value place) (values place))) is
+    (fun_ext (λ place. same_none (int_lt place mark) (new.value place) (values place)))

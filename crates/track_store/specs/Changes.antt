@@ -1,7 +1,7 @@
 -- Where a profile may change next (this project's profile).
 use Rattle.std.specs.Prelude.{ℤ, ◌&&◌, if◌then◌else◌, int_lt, Option, None, Some, List, [], ◌∷◌}
 use Rattle.track_store.specs.declared.profile.Step.{Step}
-use Rattle.track_store.specs.Facts.{Fact}
+use Rattle.track_store.specs.Remembered.{Remembered}
 
 -- the nearer of the nearest place so far and of another one, which counts only ahead of a place
 abbrev pub nearer : ℤ → Option ℤ → ℤ → Option ℤ
@@ -13,8 +13,11 @@ abbrev pub nearest_step : {A : Type 0} → ℤ → Option ℤ → List (Step A) 
 nearest_step place near [] = near
 nearest_step place near (step ∷ steps) = nearest_step place (nearer place near step.place) steps
 
+-- .. of the places of a fact: where it begins, up to where it was forgotten, its steps
+abbrev pub nearest_in : {A : Type 0} → ℤ → Option ℤ → Remembered A → Option ℤ
+nearest_in place near fact = nearest_step place (nearer place (nearer place near fact.start) fact.mark) fact.steps
+
 -- .. of the places of facts
-abbrev pub nearest_fact : {A : Type 0} → ℤ → Option ℤ → List (Fact A) → Option ℤ
+abbrev pub nearest_fact : {A : Type 0} → ℤ → Option ℤ → List (Remembered A) → Option ℤ
 nearest_fact place near [] = near
-nearest_fact place near (fact ∷ facts) =
-    nearest_fact place (nearest_step place (nearer place near fact.start) fact.steps) facts
+nearest_fact place near (fact ∷ facts) = nearest_fact place (nearest_in place near fact) facts

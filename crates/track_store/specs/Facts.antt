@@ -44,7 +44,7 @@ abbrev pub value_in : {A : Type 0} → Told A → ℤ → Option A
 value_in told = from_mark told.mark (latest told.facts)
 
 abbrev pub profile_of : {A : Type 0} → Told A → Profile A
-profile_of told = record { value = value_in told; mark = told.mark }
+profile_of told = record { value = value_in told }
 
 -- a profile that steps replace from a first place on
 abbrev pub replaced : {A : Type 0} → (ℤ → Option A) → ℤ → List (Step A) → ℤ → Option A

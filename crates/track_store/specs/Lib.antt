@@ -2,5 +2,6 @@ pub mod Restrictions
 pub mod Meeting
 pub mod Profiles
 pub mod Facts
+pub mod Remembered
 pub mod Changes
 pub mod Segments

@@ -1,15 +1,14 @@
 -- A value at each centimetre of the track, which changes now and then (SUBSET-026, 3.11; 7.4.2, packets 21 and 27).
-use Rattle.std.specs.Prelude.{◌≡◌, ℕ, min, ◌^◌, ℤ, pos, neg_ℤ, ◌≤ℤ◌, ◌<ℤ◌, Bool, true, false, Option, None, Some, List, [], ◌∷◌}
+use Rattle.std.specs.Prelude.{◌≡◌, ℕ, min, ◌^◌, ℤ, pos, neg_ℤ, ◌≤ℤ◌, ◌<ℤ◌, Bool, true, false, Option, None, Some, IsSome, List, [], ◌∷◌}
 use Rattle.units.specs.Stretches.{over}
 
--- what a profile gives at each centimetre, and the place before which no track counts
+-- what a profile gives at each centimetre
 pub record Profile (A : Type 0) : Type 0 where
   pub value : ℤ → Option A
-  pub mark : ℤ
 
--- that of a store, whose values and mark are read so
-abbrev pub profile_with : {S A : Type 0} → (S → ℤ → Option A) → (S → ℤ) → S → Profile A
-profile_with value mark store = record { value = value store; mark = mark store }
+-- that of a store, whose values are read so
+abbrev pub profile_with : {S A : Type 0} → (S → ℤ → Option A) → S → Profile A
+profile_with value store = record { value = value store }
 
 -- the value of a place stays the same up to a place ahead, that one not included; where none is told, for ever
 abbrev pub Lasts : {A : Type 0} → (ℤ → Option A) → ℤ → Option ℤ → Type 0
@@ -34,6 +33,10 @@ is_any (value ∷ values) = true
 -- a value is known at a centimetre from one to another, both included
 abbrev pub is_known_over : {A : Type 0} → (ℤ → Option A) → ℤ → ℤ → Bool
 is_known_over value from to = is_any (over (λ place. listed (value place)) from to)
+
+-- a value is known at each centimetre from one up to another, that one not included
+abbrev pub IsKnownThroughout : {A : Type 0} → (ℤ → Option A) → ℤ → ℤ → Type 0
+IsKnownThroughout value from end = (place : ℤ) → from ≤ℤ place → place <ℤ end → IsSome (value place)
 
 -- .. at any centimetre that there is
 abbrev pub is_known : {A : Type 0} → (ℤ → Option A) → Bool

@@ -1,9 +1,9 @@
--- A profile as segments of one value each (SUBSET-026, 3.11; 7.4.2, packets 21 and 27; the forgetting mark and how the
--- segments are kept: this project's profile).
-use Rattle.std.specs.Prelude.{◌≡◌, ℕ, ◌≤◌, length, ℤ, ◌≤ℤ◌, ◌<ℤ◌, Bool, false, not, int_lt, Option, None, Some, if◌then◌else◌, List, [], ◌∷◌}
+-- A profile as segments of one value each (SUBSET-026, 3.11; 7.4.2, packets 21 and 27; how the segments are kept: this
+-- project's profile).
+use Rattle.std.specs.Prelude.{◌≢◌, ℕ, count_by, is_some, ◌≤◌, length, ℤ, ◌≤ℤ◌, ◌<ℤ◌, Bool, false, not, int_lt, Option, None, Some, if◌then◌else◌, List, [], ◌∷◌}
+use Rattle.std.specs.Int.{int_max}
 use Rattle.std.specs.List.Sorted.{IsPartitionPoint}
 use Rattle.track_store.specs.declared.segments.Segment.{Segment}
-use Rattle.track_store.specs.Facts.{from_mark}
 use Rattle.track_store.specs.Profiles.{Profile}
 
 -- the value of the last segment that starts at or below a place; without one, another value
@@ -16,17 +16,8 @@ value_among otherwise (segment ∷ segments) place =
 abbrev pub value_of_segments : {A : Type 0} → List (Segment A) → ℤ → Option A
 value_of_segments segments = value_among None segments
 
--- the segments that are kept, and the forgetting mark
-pub record Kept (A : Type 0) : Type 0 where
-  pub mark : ℤ
-  pub segments : List (Segment A)
-
--- the value that counts at a place
-abbrev pub value_kept : {A : Type 0} → Kept A → ℤ → Option A
-value_kept kept = from_mark kept.mark (value_of_segments kept.segments)
-
-abbrev pub profile_kept : {A : Type 0} → Kept A → Profile A
-profile_kept kept = record { value = value_kept kept; mark = kept.mark }
+abbrev pub profile_kept : {A : Type 0} → List (Segment A) → Profile A
+profile_kept segments = record { value = value_of_segments segments }
 
 -- segments that start behind a place, each behind the one before it
 abbrev pub IsRisingFrom : {A : Type 0} → ℤ → List (Segment A) → Type 0
@@ -50,9 +41,33 @@ IsStarted place segments count =
     (count ≤ length segments)
     × IsPartitionPoint (λ segment. segment.start ≤ℤ place) (λ segment. place <ℤ segment.start) segments count
 
--- the segments rise, and none of them lies wholly before the mark
-abbrev pub IsKept : {A : Type 0} → ℤ → List (Segment A) → Type 0
-IsKept mark segments = IsRising segments × (is_first_passed mark segments ≡ false)
+-- each segment has another value than what comes before it
+abbrev pub AreApart : {A : Type 0} → Option A → List (Segment A) → Type 0
+AreApart before [] = Unit {0}
+AreApart before (segment ∷ segments) = (before ≢ segment.value) × AreApart segment.value segments
+
+-- the segments rise, no two neighbours have one value, and the first has one
+abbrev pub IsKept : {A : Type 0} → List (Segment A) → Type 0
+IsKept segments = IsRising segments × AreApart None segments
+
+-- .. or the first may have none
+abbrev pub IsKeptBehind : {A : Type 0} → List (Segment A) → Type 0
+IsKeptBehind [] = Unit {0}
+IsKeptBehind (segment ∷ segments) = IsRisingFrom segment.start segments × AreApart segment.value segments
+
+-- the value behind all starts; without one, another value
+abbrev pub value_behind : {A : Type 0} → Option A → List (Segment A) → Option A
+value_behind otherwise [] = otherwise
+value_behind otherwise (segment ∷ segments) = value_behind segment.value segments
+
+-- the first segment starts at a mark, if it would start before it
+abbrev pub first_cut : {A : Type 0} → ℤ → List (Segment A) → List (Segment A)
+first_cut mark [] = []
+first_cut mark (segment ∷ segments) = record segment { start = int_max segment.start mark } ∷ segments
+
+-- how many segments have a value; the others are gaps
+abbrev pub count_of : {A : Type 0} → List (Segment A) → ℕ
+count_of segments = count_by (λ segment. is_some segment.value) segments
 
 -- the start of the first segment ahead of a place
 abbrev pub next_among : {A : Type 0} → ℤ → List (Segment A) → Option ℤ

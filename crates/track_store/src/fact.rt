@@ -1,6 +1,7 @@
 ghost use Rattle.std.specs.Prelude.{◌≡◌, ℤ, List, IfOk};
-ghost use Rattle.track_store.specs.Facts.{Fact as Told, given_by};
-ghost use Rattle.track_store.specs.Changes.{nearer, nearest_step};
+ghost use Rattle.track_store.specs.Facts.{given_by, from_mark};
+ghost use Rattle.track_store.specs.Changes.{nearer, nearest_in};
+ghost use Rattle.track_store.specs.Remembered.{forgotten};
 
 use crate::Step;
 use std::alloc::Global;
@@ -12,24 +13,27 @@ use units::{Cm, NoMemory};
 pub struct Fact<T> {
     start: Cm,
     steps: Vec<Step<T>>,
+    // What lies before it was forgotten since.
+    mark: Cm,
 }
 
 impl<T> Model for Fact<T> {
-    ghost use Rattle.track_store.specs.Facts.{Fact as Told};
+    ghost use Rattle.track_store.specs.Remembered.{Remembered};
 
-    ghost Value = { Told T };
+    ghost Value = { Remembered T };
 
-    ghost view = { λ f. record { start = f.start; steps = f.steps.items } };
+    ghost view = { λ f. record { start = f.start; steps = f.steps.items; mark = f.mark } };
 }
 
 impl<T: Copy> Fact<T> {
     /// A profile from a first place on, as steps give it.
     pub fn new(alloc: Global, start: Cm, steps: &[Step<T>]) -> Result<Self, NoMemory>
-        ensures { IfOk result (λ fact. fact ≡ record { start = start; steps = steps.now }) }
+        ensures { IfOk result (λ fact. fact ≡ record { start = start; steps = steps.now; mark = start }) }
     {
         Ok(Fact {
             start,
             steps: Vec::from_slice(alloc, steps)?,
+            mark: start,
         })
     }
 
@@ -40,10 +44,13 @@ impl<T: Copy> Fact<T> {
         self.start
     }
 
-    /// What the steps give at a place; None where no step or an end mark is at or below it.
+    /// What the steps give at a place; None where no step or an end mark is at or below it, or it was forgotten.
     pub fn at(&self, place: Cm) -> Option<T>
-        ensures { result ≡ given_by self.now.steps place }
+        ensures { result ≡ from_mark self.now.mark (given_by self.now.steps) place }
     {
+        if place < self.mark {
+            return None;
+        }
         let mut value = None;
         for step in &self.steps {
             if step.place <= place {
@@ -53,11 +60,19 @@ impl<T: Copy> Fact<T> {
         value
     }
 
+    /// Forgets what lies before a place.
+    pub fn forget(&mut self, mark: Cm)
+        ensures { self.new ≡ forgotten mark self.old }
+    {
+        self.mark = self.mark.max(mark);
+    }
+
     // The nearest of its changes ahead of a place, and of the nearest of others.
     pub(crate) fn nearest_change(&self, place: Cm, nearest: Option<Cm>) -> Option<Cm>
-        ensures { result ≡ nearest_step place (nearer place nearest self.now.start) self.now.steps }
+        ensures { result ≡ nearest_in place nearest self.now }
     {
         let mut nearest = nearer_of(place, nearest, self.start);
+        nearest = nearer_of(place, nearest, self.mark);
         for step in &self.steps {
             nearest = nearer_of(place, nearest, step.place);
         }
@@ -68,12 +83,16 @@ impl<T: Copy> Fact<T> {
     pub fn copy(&self, alloc: Global) -> Result<Self, NoMemory>
         ensures { IfOk result (λ copy. copy ≡ self.now) }
     {
-        Fact::new(alloc, self.start, &self.steps)
+        Ok(Fact {
+            start: self.start,
+            steps: Vec::from_slice(alloc, &self.steps)?,
+            mark: self.mark,
+        })
     }
 }
 
 // The nearer of a change, if it lies ahead of a place, and of the nearest so far.
-pub(crate) fn nearer_of(place: Cm, nearest: Option<Cm>, change: Cm) -> Option<Cm>
+fn nearer_of(place: Cm, nearest: Option<Cm>, change: Cm) -> Option<Cm>
     ensures { result ≡ nearer place nearest change }
 {
     match nearest {

@@ -1,7 +1,7 @@
 ghost use Rattle.std.specs.Prelude.{ℤ, List, Option};
-ghost use Rattle.track_store.specs.Facts.{value_in};
+ghost use Rattle.track_store.specs.Remembered.{value_remembered};
 
-use crate::fact::{Fact, nearer_of};
+use crate::fact::Fact;
 use crate::{Profile, ProfileStore, Step};
 use std::alloc::Global;
 use std::marker::Model;
@@ -10,29 +10,25 @@ use units::{Cm, NoMemory};
 /// A profile as the list of all that was told of it.
 #[derive(Drop)]
 pub struct FactStore<T> {
-    // No track before this place counts.
-    mark: Cm,
     // The newest first.
     facts: Vec<Fact<T>>,
 }
 
 impl<T> Model for FactStore<T> {
-    ghost use Rattle.track_store.specs.Facts.{Told};
+    ghost use Rattle.std.specs.Prelude.{List};
+    ghost use Rattle.track_store.specs.Remembered.{Remembered};
 
-    ghost Value = { Told T };
+    ghost Value = { List (Remembered T) };
 
-    ghost view = { λ s. record { mark = s.mark; facts = s.facts.items } };
+    ghost view = { λ s. s.facts.items };
 }
 
 impl<T: Copy> Profile<T> for FactStore<T> {
-    ghost use Rattle.track_store.specs.Facts.{value_in};
+    ghost use Rattle.track_store.specs.Remembered.{value_remembered};
 
-    ghost value = { value_in };
+    ghost value = { value_remembered };
 
     fn at(&self, place: Cm) -> Option<T> {
-        if place < self.mark {
-            return None;
-        }
         for fact in &self.facts {
             if fact.start() <= place {
                 return fact.at(place);
@@ -42,7 +38,7 @@ impl<T: Copy> Profile<T> for FactStore<T> {
     }
 
     fn next(&self, place: Cm) -> Option<Cm> {
-        let mut nearest = nearer_of(place, None, self.mark);
+        let mut nearest = None;
         for fact in &self.facts {
             nearest = fact.nearest_change(place, nearest);
         }
@@ -52,17 +48,14 @@ impl<T: Copy> Profile<T> for FactStore<T> {
 
 impl<T: Copy> ProfileStore<T> for FactStore<T> {
     ghost use Rattle.std.specs.Prelude.{refl};
-    ghost use Rattle.track_store.specs.Facts.{profile_of};
+    ghost use Rattle.track_store.specs.Remembered.{profile_remembered};
 
-    ghost mark = { λ told. told.mark };
-
-    ghost profile = { profile_of };
+    ghost profile = { profile_remembered };
 
     ghost profile_is = { λ _. refl };
 
     fn empty(alloc: Global) -> Self {
         FactStore {
-            mark: Cm::MIN,
             facts: Vec::new(alloc),
         }
     }
@@ -74,7 +67,9 @@ impl<T: Copy> ProfileStore<T> for FactStore<T> {
     }
 
     fn drop_behind(&mut self, place: Cm) {
-        self.mark = self.mark.max(place);
+        for fact in self.facts.iter_mut() {
+            fact.forget(place);
+        }
     }
 
     fn clear(&mut self) {
@@ -86,9 +81,6 @@ impl<T: Copy> ProfileStore<T> for FactStore<T> {
         for fact in &self.facts {
             facts.push(fact.copy(alloc)?)?;
         }
-        Ok(FactStore {
-            mark: self.mark,
-            facts,
-        })
+        Ok(FactStore { facts })
     }
 }

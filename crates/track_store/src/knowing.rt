@@ -1,5 +1,5 @@
-ghost use Rattle.std.specs.Prelude.{◌≡◌};
-ghost use Rattle.track_store.specs.Profiles.{is_known, is_known_over};
+ghost use Rattle.std.specs.Prelude.{◌≡◌, ◌↔◌, IsTrue};
+ghost use Rattle.track_store.specs.Profiles.{is_known, is_known_over, IsKnownThroughout};
 
 use crate::Profile;
 use units::Cm;
@@ -23,6 +23,27 @@ pub fn is_known_over<T: Copy, P: Profile<T>>(profile: &P, from: Cm, to: Cm) -> b
         }
     }
     false
+}
+
+/// Whether a profile has a value at each centimetre from one up to another, that one not included. It goes from change to
+/// change, and takes no memory.
+pub fn is_known_throughout<T: Copy, P: Profile<T>>(profile: &P, from: Cm, end: Cm) -> bool
+    ensures { IsTrue result ↔ IsKnownThroughout (P.value profile.now) from end }
+{
+    let mut place = from;
+    let mut near = 0;
+    while place < end {
+        let here = profile.piece(place, near);
+        if here.value.is_none() {
+            return false;
+        }
+        near = here.near;
+        match here.next {
+            Some(next) => place = next,
+            None => return true,
+        }
+    }
+    true
 }
 
 /// Whether a profile has a value at any centimetre of the track. It goes from change to change, and takes no memory.

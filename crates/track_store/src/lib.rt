@@ -8,14 +8,16 @@ mod knowing;
 mod profile;
 mod restriction;
 mod restrictions;
+mod same;
 mod segment_store;
 mod segments;
 mod stretches;
 
 pub use fact_store::FactStore;
-pub use knowing::{is_known, is_known_over};
+pub use knowing::{is_known, is_known_over, is_known_throughout};
 pub use profile::{Piece, Profile, ProfileStore, Step};
 pub use restriction::Restriction;
 pub use restrictions::Restrictions;
+pub use same::Same;
 pub use segment_store::SegmentStore;
 pub use stretches::least_over;

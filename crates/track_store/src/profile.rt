@@ -1,5 +1,4 @@
-ghost use Rattle.std.specs.Prelude.{◌≡◌, ◌^◌, ℤ, pos, neg_ℤ, Option, None, OnOk, OnErr, IfOk};
-ghost use Rattle.std.specs.Int.{int_max};
+ghost use Rattle.std.specs.Prelude.{◌≡◌, ℤ, Option, None, OnOk, OnErr, IfOk};
 ghost use Rattle.track_store.specs.Profiles as profiles;
 ghost use Rattle.track_store.specs.Profiles.{Lasts, profile_with};
 ghost use Rattle.track_store.specs.Facts.{from_mark, replaced};
@@ -65,40 +64,32 @@ pub trait Profile<T> {
     }
 }
 
-/// A profile that is told piece by piece, and forgotten behind a mark (SUBSET-026, 3.7.1.1; 7.4.2, packets 21 and 27;
-/// the forgetting mark: this project's profile).
+/// A profile that is told piece by piece, and forgotten behind the train (SUBSET-026, 3.7.1.1; 7.4.2, packets 21 and 27).
 pub trait ProfileStore<T>: Profile<T> {
-    ghost mark: { Self → ℤ };
-
     ghost profile: { Self → profiles.Profile T };
 
-    /// No value anywhere, and nothing forgotten. Takes no memory.
+    /// No value anywhere. Takes no memory.
     fn empty(alloc: Global) -> Self
-        ensures value { (place : ℤ) → Self.value result place ≡ None }
-        ensures mark { mark result ≡ neg_ℤ (pos (2 ^ 42)) };
+        ensures { (place : ℤ) → Self.value result place ≡ None };
 
     /// Takes what is told from a first place on, in place of all that was told there before. The last of the steps at or
     /// below a centimetre holds there, and nothing where an end mark or no step is at or below it. Where memory is
     /// refused, nothing changes.
     fn replace_from(&mut self, start: Cm, steps: &[Step<T>]) -> Result<(), NoMemory>
-        ensures value { OnOk result ((place : ℤ) → Self.value self.new place
-            ≡ from_mark (mark self.old) (replaced (Self.value self.old) start steps.now) place) }
-        ensures mark { OnOk result (mark self.new ≡ mark self.old) }
+        ensures ok { OnOk result ((place : ℤ) → Self.value self.new place ≡ replaced (Self.value self.old) start steps.now place) }
         ensures err { OnErr result (self.new ≡ self.old) };
 
-    /// Forgets all track before a place. What was forgotten before stays so.
+    /// Drops the values below a place, and no other ones. What is told there later counts.
     fn drop_behind(&mut self, place: Cm)
-        ensures value { (there : ℤ) → Self.value self.new there ≡ from_mark place (Self.value self.old) there }
-        ensures mark { mark self.new ≡ int_max place (mark self.old) };
+        ensures { (there : ℤ) → Self.value self.new there ≡ from_mark place (Self.value self.old) there };
 
-    /// Forgets all that was told, and keeps the mark.
+    /// Drops all values.
     fn clear(&mut self)
-        ensures value { (place : ℤ) → Self.value self.new place ≡ None }
-        ensures mark { mark self.new ≡ mark self.old };
+        ensures { (place : ℤ) → Self.value self.new place ≡ None };
 
-    /// An equal value: an equal profile with an equal mark.
+    /// An equal value: an equal profile.
     fn copy(&self, alloc: Global) -> Result<Self, NoMemory>
         ensures { IfOk result (λ copy. copy ≡ self.now) };
 
-    ghost profile_is: { (store : Self) → profile store ≡ profile_with Self.value mark store };
+    ghost profile_is: { (store : Self) → profile store ≡ profile_with Self.value store };
 }

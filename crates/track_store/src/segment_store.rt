@@ -1,68 +1,67 @@
-ghost use Rattle.std.specs.Prelude.{ℤ, List, Option};
-ghost use Rattle.track_store.specs.Segments.{value_kept};
+ghost use Rattle.std.specs.Prelude.{◌≡◌, ℤ, List, Option};
+ghost use Rattle.track_store.specs.Segments.{value_of_segments, IsKept, count_of};
 
-use crate::segments::{Segment, drop_passed, hold_steps, next_start, piece_at, value_at};
-use crate::{Piece, Profile, ProfileStore, Step};
+use crate::segments::{Segment, drop_below, hold_steps, next_start, piece_at, value_at};
+use crate::{Piece, Profile, ProfileStore, Same, Step};
 use std::alloc::Global;
 use std::marker::Model;
 use units::{Cm, NoMemory};
 
-/// A profile as segments of one value each (SUBSET-026, 3.11; the forgetting mark: this project's profile). What is
-/// replaced or lies wholly before the mark takes no place in it, so that it stays short however long the life.
+/// A profile as segments of one value each (SUBSET-026, 3.11). What is replaced or dropped takes no place in it, so that
+/// it stays short however long the life.
 #[derive(Drop)]
 pub struct SegmentStore<T> {
-    // No track before this place counts.
-    mark: Cm,
-    // Each starts behind the one before it, and none lies wholly before the mark.
+    // Each lasts up to the next one's start. Where nothing is known behind a value, a segment without one follows.
     segments: Vec<Segment<T>>,
 }
 
 impl<T> Model for SegmentStore<T> {
-    ghost use Rattle.track_store.specs.Segments.{Kept, IsKept};
+    ghost use Rattle.std.specs.Prelude.{List};
+    ghost use Rattle.track_store.specs.declared.segments.Segment.{Segment};
+    ghost use Rattle.track_store.specs.Segments.{IsKept};
 
-    ghost Value = { Kept T };
+    ghost Value = { List (Segment T) };
 
-    ghost view = { λ s. record { mark = s.mark; segments = s.segments.items } };
+    ghost view = { λ s. s.segments.items };
 
-    ghost invariant = { λ s. IsKept s.mark s.segments.items };
+    ghost invariant = { λ s. IsKept s.segments.items };
+}
+
+impl<T> SegmentStore<T> {
+    /// How many segments there are, a stretch without a value being none. They are in order, meet where a value is
+    /// stored on both sides, and no two neighbours have one value.
+    pub fn count(&self) -> usize
+        ensures number { result ≡ count_of self.now }
+        ensures kept { IsKept self.now }
+    {
+        self.segments
+            .iter()
+            .filter(|segment| segment.value.is_some())
+            .count()
+    }
 }
 
 impl<T: Copy> Profile<T> for SegmentStore<T> {
-    ghost use Rattle.track_store.specs.Segments.{value_kept};
+    ghost use Rattle.track_store.specs.Segments.{value_of_segments};
 
-    ghost value = { value_kept };
+    ghost value = { value_of_segments };
 
     fn at(&self, place: Cm) -> Option<T> {
-        if place < self.mark {
-            return None;
-        }
         value_at(&self.segments, place)
     }
 
     fn next(&self, place: Cm) -> Option<Cm> {
-        if place < self.mark {
-            return Some(self.mark);
-        }
         next_start(&self.segments, place)
     }
 
     fn piece(&self, place: Cm, near: usize) -> Piece<T> {
-        if place < self.mark {
-            return Piece {
-                value: None,
-                next: Some(self.mark),
-                near,
-            };
-        }
         piece_at(&self.segments, place, near)
     }
 }
 
-impl<T: Copy> ProfileStore<T> for SegmentStore<T> {
+impl<T: Copy + Same> ProfileStore<T> for SegmentStore<T> {
     ghost use Rattle.std.specs.Prelude.{refl};
     ghost use Rattle.track_store.specs.Segments.{profile_kept};
-
-    ghost mark = { λ kept. kept.mark };
 
     ghost profile = { profile_kept };
 
@@ -70,7 +69,6 @@ impl<T: Copy> ProfileStore<T> for SegmentStore<T> {
 
     fn empty(alloc: Global) -> Self {
         SegmentStore {
-            mark: Cm::MIN,
             segments: Vec::new(alloc),
         }
     }
@@ -79,13 +77,11 @@ impl<T: Copy> ProfileStore<T> for SegmentStore<T> {
         // One segment a step, one before the first of them and one from an end mark on.
         self.segments.reserve(steps.len().saturating_add(2))?;
         hold_steps(&mut self.segments, start, steps);
-        drop_passed(&mut self.segments, self.mark);
         Ok(())
     }
 
     fn drop_behind(&mut self, place: Cm) {
-        self.mark = self.mark.max(place);
-        drop_passed(&mut self.segments, self.mark);
+        drop_below(&mut self.segments, place);
     }
 
     fn clear(&mut self) {
@@ -94,7 +90,6 @@ impl<T: Copy> ProfileStore<T> for SegmentStore<T> {
 
     fn copy(&self, alloc: Global) -> Result<Self, NoMemory> {
         Ok(SegmentStore {
-            mark: self.mark,
             segments: Vec::from_slice(alloc, &self.segments)?,
         })
     }

@@ -1,9 +1,9 @@
-ghost use Rattle.std.specs.Prelude.{◌≡◌, ℕ, get_or, IsTrue, ◌+◌, ◌<◌, ◌≤◌, ℤ, ◌≤ℤ◌, ◌<ℤ◌, false, if◌then◌else◌, int_lt, is_none, Some, ◌||◌, length, vec_len, vec_capacity};
+ghost use Rattle.std.specs.Prelude.{◌≡◌, ℕ, get_or, IsTrue, ◌+◌, ◌<◌, ◌≤◌, ℤ, ◌≤ℤ◌, ◌<ℤ◌, false, if◌then◌else◌, int_lt, is_none, Some, ◌||◌, ◌↔◌, None, length, vec_len, vec_capacity};
 ghost use Rattle.std.specs.List.{list_any};
 ghost use Rattle.track_store.specs.Facts.{from_mark, passed, replaced};
-ghost use Rattle.track_store.specs.Segments.{value_of_segments, next_among, IsRising, IsStarted, is_first_passed, is_reached};
+ghost use Rattle.track_store.specs.Segments.{value_of_segments, value_behind, next_among, IsRising, IsStarted, IsKept, IsKeptBehind, is_first_passed, first_cut, is_reached};
 
-use crate::{Piece, Step};
+use crate::{Piece, Same, Step};
 use units::Cm;
 
 /// A piece of a profile with one value: from its start up to the next one's start, the last one without end
@@ -108,20 +108,41 @@ pub(crate) fn piece_at<T: Copy>(segments: &[Segment<T>], place: Cm, near: usize)
     }
 }
 
+// The value behind all starts.
+fn value_behind<T: Copy>(segments: &[Segment<T>]) -> Option<T>
+    ensures { result ≡ value_behind None segments.now }
+{
+    segments.last()?.value
+}
+
+// Whether there is no value at both, or an equal one.
+fn is_same<T: Same>(one: &Option<T>, other: &Option<T>) -> bool
+    ensures { IsTrue result ↔ (one.now ≡ other.now) }
+{
+    match (one, other) {
+        (Some(one), Some(other)) => one.is_same(other),
+        (None, None) => true,
+        _ => false,
+    }
+}
+
 // Takes one value from a place on, in place of all segments there. The list has room for one more.
-fn hold_from<T: Copy>(segments: &mut Vec<Segment<T>>, place: Cm, value: Option<T>)
-    requires { vec_len segments.old < vec_capacity segments.old }
+fn hold_from<T: Copy + Same>(segments: &mut Vec<Segment<T>>, place: Cm, value: Option<T>)
+    requires kept { IsKept segments.old.items }
+    requires room { vec_len segments.old < vec_capacity segments.old }
     ensures value { (there : ℤ) → value_of_segments segments.new.items there
         ≡ (if int_lt there place then value_of_segments segments.old.items there else value) }
-    ensures rising { IsRising segments.old.items → IsRising segments.new.items }
+    ensures kept { IsKept segments.new.items }
     ensures len { vec_len segments.new ≤ vec_len segments.old + 1 }
     ensures capacity { vec_capacity segments.new ≡ vec_capacity segments.old }
 {
     segments.retain(|segment| segment.start < place);
-    segments.push_reserved(Segment {
-        start: place,
-        value,
-    });
+    if !is_same(&value_behind(segments), &value) {
+        segments.push_reserved(Segment {
+            start: place,
+            value,
+        });
+    }
 }
 
 // The first place of end marks; None where there is none.
@@ -151,11 +172,16 @@ fn first_of(first: Option<Cm>, place: Cm) -> Cm
 
 // Takes what steps give from a first place on, in place of all segments there. Each step holds from its place on,
 // whatever the order of their places, and the first place of end marks ends them all. The list has room for them all.
-pub(crate) fn hold_steps<T: Copy>(segments: &mut Vec<Segment<T>>, start: Cm, steps: &[Step<T>])
-    requires { vec_len segments.old + length steps.now + 2 ≤ vec_capacity segments.old }
+pub(crate) fn hold_steps<T: Copy + Same>(
+    segments: &mut Vec<Segment<T>>,
+    start: Cm,
+    steps: &[Step<T>],
+)
+    requires kept { IsKept segments.old.items }
+    requires room { vec_len segments.old + length steps.now + 2 ≤ vec_capacity segments.old }
     ensures value { (place : ℤ) → value_of_segments segments.new.items place
         ≡ replaced (value_of_segments segments.old.items) start steps.now place }
-    ensures rising { IsRising segments.old.items → IsRising segments.new.items }
+    ensures kept { IsKept segments.new.items }
 {
     hold_from(segments, start, None);
     for step in steps {
@@ -177,13 +203,48 @@ fn is_first_passed<T: Copy>(segments: &[Segment<T>], mark: Cm) -> bool
 }
 
 // Drops the segments that lie wholly before a mark. Where it follows the train these are mostly none or one.
-pub(crate) fn drop_passed<T: Copy>(segments: &mut Vec<Segment<T>>, mark: Cm)
+fn drop_passed<T: Copy>(segments: &mut Vec<Segment<T>>, mark: Cm)
+    requires { IsKeptBehind segments.old.items }
     ensures value { (place : ℤ) → from_mark mark (value_of_segments segments.new.items) place
         ≡ from_mark mark (value_of_segments segments.old.items) place }
-    ensures rising { IsRising segments.old.items → IsRising segments.new.items }
+    ensures kept { IsKeptBehind segments.new.items }
     ensures none { is_first_passed mark segments.new.items ≡ false }
 {
     while is_first_passed(segments, mark) {
         segments.remove(0);
     }
+}
+
+// Cuts off what of the first segment lies before a mark.
+fn cut_first<T: Copy>(segments: &mut [Segment<T>], mark: Cm)
+    ensures { segments.new ≡ first_cut mark segments.old }
+{
+    if let [first, ..] = segments {
+        first.start = first.start.max(mark);
+    }
+}
+
+// Drops the first segment where it has no value.
+fn drop_gap<T: Copy>(segments: &mut Vec<Segment<T>>)
+    requires { IsKeptBehind segments.old.items }
+    ensures value { (place : ℤ) → value_of_segments segments.new.items place ≡ value_of_segments segments.old.items place }
+    ensures kept { IsKept segments.new.items }
+{
+    if let Some(first) = segments.first() {
+        if first.value.is_none() {
+            segments.remove(0);
+        }
+    }
+}
+
+// Drops what lies before a mark.
+pub(crate) fn drop_below<T: Copy>(segments: &mut Vec<Segment<T>>, mark: Cm)
+    requires { IsKept segments.old.items }
+    ensures value { (place : ℤ) → value_of_segments segments.new.items place
+        ≡ from_mark mark (value_of_segments segments.old.items) place }
+    ensures kept { IsKept segments.new.items }
+{
+    drop_passed(segments, mark);
+    cut_first(segments, mark);
+    drop_gap(segments);
 }

@@ -1,13 +1,13 @@
 use Rattle.std.proofs.Common.{◌≡◌, ℤ}
 use Rattle.std.specs.Prelude.{vec_len}
 use Rattle.track_store.specs.Facts.{from_mark}
-use Rattle.track_store.specs.Segments.{value_of_segments, IsRising}
+use Rattle.track_store.specs.Segments.{value_of_segments, IsKeptBehind}
 use Rattle.track_store.proofs.segments.drop_passed.Given as goal
 
 abbrev pub invariant-loop-mark : goal.invariant-loop-mark
 invariant-loop-mark g l =
     ((place : ℤ) → from_mark l.mark (value_of_segments l.segments.items) place ≡ from_mark l.mark (value_of_segments l.initial.segments.items) place)
-    × (IsRising l.initial.segments.items → IsRising l.segments.items)
+    × IsKeptBehind l.segments.items
 
 abbrev pub decreases-loop-mark : goal.decreases-loop-mark
 decreases-loop-mark g l = vec_len l.segments

@@ -1,22 +1,42 @@
-use Rattle.std.proofs.Common.{[], ◌∷◌, ◌++◌, ap, sym, subst, ◌∙◌, rules}
-use Rattle.std.specs.Prelude.{int_lt}
+use Rattle.std.proofs.Common.{◌≡◌, ◌≢◌, true, false, [], ◌∷◌, ◌++◌, List, ap, sym, subst, ◌∙◌, rules}
+use Rattle.std.specs.Prelude.{int_lt, filter, None}
 use Rattle.std.proofs.lemmas.Fn.{filter_same}
-use Rattle.track_store.specs.Segments.{value_of_segments, IsRising}
-use Rattle.track_store.proofs.Segmenting.{value_of_cut, rising_cut}
+use Rattle.track_store.specs.declared.segments.Segment.{Segment}
+use Rattle.track_store.specs.Segments.{value_of_segments, value_behind, IsKept}
+use Rattle.track_store.proofs.Segmenting.{value_of_cut, value_of_front}
+use Rattle.track_store.proofs.Apart.{kept_cut, kept_front}
 use Rattle.track_store.proofs.segments.hold_from.Goals as goal
 
-pub returns-clause-value : goal.returns-clause-value
-returns-clause-value g c there =
+pub returns-then-not-is_same-clause-value : goal.returns-then-not-is_same-clause-value
+returns-then-not-is_same-clause-value g c there =
     ap (λ segments. value_of_segments segments there)
     (c.push_reserved.ensures.items
     ∙ ap (λ segments. segments ++ record { start = c.args.place; value = c.args.value } ∷ [])
     (filter_same _ (λ s. int_lt s.start c.args.place) _ (λ x b f' k. search rules) _ _ c.retain.ensures.filtered))
     ∙ value_of_cut c.args.place c.args.value c.args.segments.now.items there
 
-pub returns-clause-rising : goal.returns-clause-rising
-returns-clause-rising g c rising =
-    subst IsRising
-    (sym (c.push_reserved.ensures.items
-    ∙ ap (λ segments. segments ++ record { start = c.args.place; value = c.args.value } ∷ [])
-    (filter_same _ (λ s. int_lt s.start c.args.place) _ (λ x b f' k. search rules) _ _ c.retain.ensures.filtered)))
-    (rising_cut c.args.place c.args.value c.args.segments.now.items rising)
+pub returns-then-not-is_same-clause-kept : goal.returns-then-not-is_same-clause-kept
+returns-then-not-is_same-clause-kept g c =
+    let front = filter (λ (s : Segment _). int_lt s.start c.args.place) c.args.segments.now.items in
+    let retained : c.retain.new.self.items ≡ front =
+    filter_same _ (λ s. int_lt s.start c.args.place) _ (λ x b f' k. search rules) _ _ c.retain.ensures.filtered in
+    let behind : c.value_behind.result ≡ value_behind None front =
+    c.value_behind.ensures ∙ ap (value_behind None) (c.deref.ensures.value ∙ retained) in
+    let other : value_behind None front ≢ c.args.value =
+    λ same. (let k : true ≡ false = sym (c.is_same.ensures.1 (behind ∙ same)) ∙ c.if-not-is_same.true in cc) in
+    subst IsKept
+    (sym (c.push_reserved.ensures.items ∙ ap (λ segments. segments ++ record { start = c.args.place; value = c.args.value } ∷ []) retained))
+    (kept_cut c.args.place c.args.value c.args.segments.now.items c.requires.kept other)
+
+pub returns-else-not-is_same-clause-value : goal.returns-else-not-is_same-clause-value
+returns-else-not-is_same-clause-value g c there =
+    let retained = filter_same _ (λ s. int_lt s.start c.args.place) _ (λ x b f' k. search rules) _ _ c.retain.ensures.filtered in
+    let same : c.value_behind.result ≡ c.args.value = c.is_same.ensures.0 (search rules) in
+    ap (λ segments. value_of_segments segments there) retained
+    ∙ value_of_front c.args.place c.args.value c.args.segments.now.items there
+    (ap (value_behind None) (sym (c.deref.ensures.value ∙ retained)) ∙ sym c.value_behind.ensures ∙ same)
+
+pub returns-else-not-is_same-clause-kept : goal.returns-else-not-is_same-clause-kept
+returns-else-not-is_same-clause-kept g c =
+    let retained = filter_same _ (λ s. int_lt s.start c.args.place) _ (λ x b f' k. search rules) _ _ c.retain.ensures.filtered in
+    subst IsKept (sym retained) (kept_front c.args.place c.args.segments.now.items c.requires.kept)

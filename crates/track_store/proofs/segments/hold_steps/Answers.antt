@@ -29,7 +29,7 @@ loop-step-preserved g c =
       (λ place h. one_step c.args.start c.max.result place _ _ _ step rest first h (c.hold_from-in-loop-step.ensures.value place)
           (ap (λ steps. last_value (value_of_segments c.loop-step.segments.items place) (passed place steps)) (sym front)
           ∙ c.loop-step.invariant.1 place h)),
-      (λ rising. c.hold_from-in-loop-step.ensures.rising (c.loop-step.invariant.2 rising)),
+      c.hold_from-in-loop-step.ensures.kept,
       omega arith,
     )
 

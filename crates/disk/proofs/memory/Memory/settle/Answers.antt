@@ -1,8 +1,10 @@
-use Rattle.std.proofs.Common.{rules, ◌≡◌, ◌*◌, length, ◌∙◌}
+use Rattle.std.proofs.Common.{rules, ◌≡◌, ◌*◌, length, ap, ◌∙◌}
+use Rattle.std.specs.Prelude.{vec_len}
 use Rattle.std.proofs.lemmas.Bool.{cond-false}
 use Rattle.disk.specs.Choice.{settled_sector}
 use Rattle.disk.specs.Memory.{memory_state, handed_of}
 use Rattle.disk.proofs.Settling.{settled_past, fresh_contents, settled_all}
+use Rattle.disk.proofs.Reaching.{width_settled}
 use Rattle.disk.proofs.memory.Memory.settle.Goals as goal
 
 pub returns-clause-contents : goal.returns-clause-contents
@@ -15,4 +17,13 @@ returns-clause-contents c = λ s.
     (λ t past. settled_past m.sectors m.faults _ m.start.items m.written.items m.calls.items (handed_of m) c.args.choices.now t m.recorded whole past) s
 
 pub returns-clause-image : goal.returns-clause-image
-returns-clause-image c = λ s shut. returns-clause-contents c s ∙ cond-false _ _ _ shut
+returns-clause-image c =
+    let m = c.args.self.now in
+    let size : length c.in_ok-settled.field-0.items ≡ 512 * m.sectors = search rules in
+    let whole : length m.start.items ≡ 512 * m.sectors = search rules in
+    let wide : vec_len m.written ≡ length m.written.items = search rules in
+    record {
+      shut = λ s shut. returns-clause-contents c s ∙ cond-false _ _ _ shut;
+      whole = λ s. ap length (fresh_contents _ _ _ s c.in_ok-with_capacity.ensures.items)
+          ∙ width_settled m.sectors (vec_len m.written) m.start.items m.written.items m.calls.items whole wide m.recorded c.in_ok-settled.field-0.items size s;
+    }

@@ -1,8 +1,9 @@
-use Rattle.std.proofs.Common.{rules, ◌≡◌, ◌*◌, ◌/◌, length, arith}
+use Rattle.std.proofs.Common.{rules, ◌≡◌, ◌+◌, ◌*◌, ◌/◌, length, arith}
 use Rattle.std.specs.Prelude.{vec_len}
+use Rattle.disk.specs.Record.{IsWithin}
 use Rattle.disk.specs.declared.record.Span.{Span}
-use Rattle.disk.specs.declared.record.Call.TheVariants.{Written, Torn}
-use Rattle.disk.proofs.Calls.{leaves_written_bytes, leaves_torn_bytes, touches_to, written_holds, hands_written, hands_torn, handed_holds, same_handed_written, same_handed_torn, others_handed, torn_contents}
+use Rattle.disk.specs.declared.record.Call.TheVariants.{Written, Torn, Quiet}
+use Rattle.disk.proofs.Calls.{quiet_to, leaves_quiet, within_quiet, leaves_written_bytes, leaves_torn_bytes, touches_to, written_holds, hands_written, hands_torn, handed_holds, same_handed_written, same_handed_torn, others_handed, torn_contents}
 use Rattle.disk.proofs.memory.MemoryDisk.write.Goals as goal
 
 pub returns-in-Runs-clause-moments : goal.returns-in-Runs-clause-moments
@@ -10,8 +11,14 @@ returns-in-Runs-clause-moments c =
     let m = c.args.self.now in
     let whole : length c.args.bytes.now ≡ 512 * (length c.args.bytes.now / 512) = omega (arith, c.requires.whole) in
     let wide : vec_len m.written ≡ length m.written.items = search rules in
+    let at : c.len.result ≡ length m.written.items = search rules in
     let span : Span = record { first = c.args.first; sectors = length c.args.bytes.now / 512; from = c.len.result } in
-    touches_to c.args.first (length c.args.bytes.now) (vec_len m.written) m.sectors m.faults _ m.start.items m.written.items c.args.bytes.now m.calls.items (Written span) _ _ _ _ m.recorded wide
+    let sized : length m.start.items ≡ 512 * m.sectors = search rules in
+    let inside : IsWithin m.sectors (vec_len m.written + length c.args.bytes.now) (Written span) = record {
+      below = omega (arith, whole, c.requires.within);
+      bytes = omega (arith, whole, at);
+    } in
+    touches_to c.args.first (length c.args.bytes.now) (vec_len m.written) m.sectors m.faults _ m.start.items m.written.items c.args.bytes.now m.calls.items (Written span) _ _ _ _ m.recorded wide sized inside
     (λ s out. leaves_written_bytes span (length c.args.bytes.now) s whole out) c.note.ensures.sectors (search rules) c.note.ensures.written c.note.ensures.calls
 
 pub returns-in-Runs-clause-written : goal.returns-in-Runs-clause-written
@@ -35,8 +42,14 @@ returns-in-Runs-clause-others_handed c =
     let m = c.args.self.now in
     let whole : length c.args.bytes.now ≡ 512 * (length c.args.bytes.now / 512) = omega (arith, c.requires.whole) in
     let wide : vec_len m.written ≡ length m.written.items = search rules in
+    let at : c.len.result ≡ length m.written.items = search rules in
     let span : Span = record { first = c.args.first; sectors = length c.args.bytes.now / 512; from = c.len.result } in
-    others_handed c.args.first (length c.args.bytes.now) (vec_len m.written) m.sectors m.start.items m.written.items c.args.bytes.now m.calls.items (Written span) _ _ _ m.recorded wide
+    let sized : length m.start.items ≡ 512 * m.sectors = search rules in
+    let inside : IsWithin m.sectors (vec_len m.written + length c.args.bytes.now) (Written span) = record {
+      below = omega (arith, whole, c.requires.within);
+      bytes = omega (arith, whole, at);
+    } in
+    others_handed c.args.first (length c.args.bytes.now) (vec_len m.written) m.sectors m.start.items m.written.items c.args.bytes.now m.calls.items (Written span) _ _ _ m.recorded wide sized inside
     (λ s out. same_handed_written span (length c.args.bytes.now) s whole out) (search rules) c.note.ensures.written c.note.ensures.calls
 
 pub returns-in-Fails-clause-moments : goal.returns-in-Fails-clause-moments
@@ -44,8 +57,14 @@ returns-in-Fails-clause-moments c =
     let m = c.args.self.now in
     let whole : length c.args.bytes.now ≡ 512 * (length c.args.bytes.now / 512) = omega (arith, c.requires.whole) in
     let wide : vec_len m.written ≡ length m.written.items = search rules in
+    let at : c.len.result ≡ length m.written.items = search rules in
     let span : Span = record { first = c.args.first; sectors = length c.args.bytes.now / 512; from = c.len.result } in
-    touches_to c.args.first (length c.args.bytes.now) (vec_len m.written) m.sectors m.faults _ m.start.items m.written.items c.args.bytes.now m.calls.items (Torn span) _ _ _ _ m.recorded wide
+    let sized : length m.start.items ≡ 512 * m.sectors = search rules in
+    let inside : IsWithin m.sectors (vec_len m.written + length c.args.bytes.now) (Torn span) = record {
+      below = omega (arith, whole, c.requires.within);
+      bytes = omega (arith, whole, at);
+    } in
+    touches_to c.args.first (length c.args.bytes.now) (vec_len m.written) m.sectors m.faults _ m.start.items m.written.items c.args.bytes.now m.calls.items (Torn span) _ _ _ _ m.recorded wide sized inside
     (λ s out. leaves_torn_bytes span (length c.args.bytes.now) s whole out) (search rules) (search rules) (search rules) (search rules)
 
 pub returns-in-Fails-clause-old_bytes : goal.returns-in-Fails-clause-old_bytes
@@ -68,6 +87,21 @@ returns-in-Fails-clause-others_handed c =
     let m = c.args.self.now in
     let whole : length c.args.bytes.now ≡ 512 * (length c.args.bytes.now / 512) = omega (arith, c.requires.whole) in
     let wide : vec_len m.written ≡ length m.written.items = search rules in
+    let at : c.len.result ≡ length m.written.items = search rules in
     let span : Span = record { first = c.args.first; sectors = length c.args.bytes.now / 512; from = c.len.result } in
-    others_handed c.args.first (length c.args.bytes.now) (vec_len m.written) m.sectors m.start.items m.written.items c.args.bytes.now m.calls.items (Torn span) c.fault-in-Fails.new.self.start.items c.fault-in-Fails.new.self.written.items c.fault-in-Fails.new.self.calls.items m.recorded wide
+    let sized : length m.start.items ≡ 512 * m.sectors = search rules in
+    let inside : IsWithin m.sectors (vec_len m.written + length c.args.bytes.now) (Torn span) = record {
+      below = omega (arith, whole, c.requires.within);
+      bytes = omega (arith, whole, at);
+    } in
+    others_handed c.args.first (length c.args.bytes.now) (vec_len m.written) m.sectors m.start.items m.written.items c.args.bytes.now m.calls.items (Torn span) c.fault-in-Fails.new.self.start.items c.fault-in-Fails.new.self.written.items c.fault-in-Fails.new.self.calls.items m.recorded wide sized inside
     (λ s out. same_handed_torn span (length c.args.bytes.now) s whole out) (search rules) (search rules) (search rules)
+
+pub returns-in-Dead-clause-moments : goal.returns-in-Dead-clause-moments
+returns-in-Dead-clause-moments c =
+    let m = c.args.self.now in
+    let wide : vec_len m.written ≡ length m.written.items = search rules in
+    let sized : length m.start.items ≡ 512 * m.sectors = search rules in
+    let after = c.fault-in-Dead.new.self in
+    quiet_to c.args.first (length c.args.bytes.now) (vec_len m.written) m.sectors m.faults after.faults m.start.items m.written.items m.calls.items Quiet after.sectors after.start.items after.written.items after.calls.items
+    m.recorded wide sized (λ s. leaves_quiet s) (within_quiet m.sectors (vec_len m.written)) (search rules) (search rules) (search rules) (search rules)

@@ -16,8 +16,8 @@ returns g c =
       moment_is = subst (λ o. IfSome o (λ m. m ≡ 0)) c.unwrap.ensures c.new-5.ensures.value;
       authority_is = c.new-6.ensures;
       gradients_are = g.met.G.ProfileStore.profile_is _
-          ∙ none_told (profile_with g.G.Profile.value g.G.ProfileStore.mark c.empty.result) (mark_of []) c.empty.ensures.value c.empty.ensures.mark;
+          ∙ none_told (profile_with g.G.Profile.value c.empty.result) (mark_of []) c.empty.ensures;
       speeds_are = g.met.S.ProfileStore.profile_is _
-          ∙ none_told (profile_with g.S.Profile.value g.S.ProfileStore.mark c.empty-2.result) (mark_of []) c.empty-2.ensures.value c.empty-2.ensures.mark;
+          ∙ none_told (profile_with g.S.Profile.value c.empty-2.result) (mark_of []) c.empty-2.ensures;
       lives_are = refl;
     }

@@ -24,10 +24,10 @@ returns g c life entry unmarked s =
       moment_is = (seen c.self.view_is s).moment_is;
       authority_is = (seen c.self.view_is s).authority_is;
       gradients_are = g.met.G.ProfileStore.profile_is _
-          ∙ marked_at (profile_with g.G.Profile.value g.G.ProfileStore.mark c.self.inside.gradients) (profile_with g.G.Profile.value g.G.ProfileStore.mark c.drop_behind-2.new.self)
-          (record { mark = mark_of entries; facts = gradients (entry ∷ entries) }) gradients_before c.args.mark c.drop_behind-2.ensures.value c.drop_behind-2.ensures.mark;
+          ∙ marked_at (profile_with g.G.Profile.value c.self.inside.gradients) (profile_with g.G.Profile.value c.drop_behind-2.new.self)
+          (record { mark = mark_of entries; facts = gradients (entry ∷ entries) }) gradients_before c.args.mark c.drop_behind-2.ensures;
       speeds_are = g.met.S.ProfileStore.profile_is _
-          ∙ marked_at (profile_with g.S.Profile.value g.S.ProfileStore.mark c.self.inside.speeds) (profile_with g.S.Profile.value g.S.ProfileStore.mark c.drop_behind-3.new.self)
-          (record { mark = mark_of entries; facts = speeds (entry ∷ entries) }) speeds_before c.args.mark c.drop_behind-3.ensures.value c.drop_behind-3.ensures.mark;
+          ∙ marked_at (profile_with g.S.Profile.value c.self.inside.speeds) (profile_with g.S.Profile.value c.drop_behind-3.new.self)
+          (record { mark = mark_of entries; facts = speeds (entry ∷ entries) }) speeds_before c.args.mark c.drop_behind-3.ensures;
       lives_are = (seen c.self.view_is s).lives_are;
     }

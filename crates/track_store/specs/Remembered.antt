@@ -1,0 +1,26 @@
+-- A profile as a list of what was told, where each fact keeps what of it was forgotten since (this project's profile). The
+-- newest stands first.
+use Rattle.std.specs.Prelude.{ℤ, int_lt, Option, None, if◌then◌else◌, List, [], ◌∷◌}
+use Rattle.std.specs.Int.{int_max}
+use Rattle.track_store.specs.declared.profile.Step.{Step}
+use Rattle.track_store.specs.Facts.{given_by, from_mark}
+use Rattle.track_store.specs.Profiles.{Profile}
+
+-- what was told at once, and the place before which it was forgotten since
+pub record Remembered (A : Type 0) : Type 0 where
+  pub start : ℤ
+  pub steps : List (Step A)
+  pub mark : ℤ
+
+-- .. and what lies before a mark was forgotten, too
+abbrev pub forgotten : {A : Type 0} → ℤ → Remembered A → Remembered A
+forgotten mark fact = record fact { mark = int_max fact.mark mark }
+
+-- the value at a place: that of the newest whose first place is at or below it
+abbrev pub value_remembered : {A : Type 0} → List (Remembered A) → ℤ → Option A
+value_remembered [] place = None
+value_remembered (fact ∷ facts) place =
+    if int_lt place fact.start then value_remembered facts place else from_mark fact.mark (given_by fact.steps) place
+
+abbrev pub profile_remembered : {A : Type 0} → List (Remembered A) → Profile A
+profile_remembered facts = record { value = value_remembered facts }

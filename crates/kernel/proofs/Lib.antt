@@ -1,6 +1,7 @@
 pub mod Carrying
-pub mod Fixing
-pub mod Marking
 pub mod OneInput
 pub mod Standing
+pub mod Telling
 pub mod Walking
+pub mod Wanting
+pub mod Marking

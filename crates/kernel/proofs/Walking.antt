@@ -2,12 +2,13 @@
 use Rattle.std.proofs.Common.{◌≡◌, Bool, true, false, List, ◌∷◌, cond, refl}
 use Rattle.std.specs.Prelude.{map, filter}
 use Rattle.packets.specs.declared.packet.Packet.{Packet}
-use Rattle.kernel.specs.declared.messages.Use.{Use}
-use Rattle.kernel.specs.History.{Fact, after_facts}
+use Rattle.kernel.specs.declared.using.Use.{Use}
+use Rattle.kernel.specs.Entry.{Fact}
+use Rattle.kernel.specs.History.{after_facts}
 use Rattle.kernel.specs.Sentences.{is_valid}
 use Rattle.kernel.specs.Steps.{fact_of, facts}
 
-module _ {A : Type 0} (tell : Fact → List A → List A) (used : Use) (packet : Packet) (rest : List Packet) (told : List A) where
+module _ {A : Type 0} (tell : Fact → A → A) (used : Use) (packet : Packet) (rest : List Packet) (told : A) where
   by_use : (b : Bool) →
       after_facts tell (map (fact_of used) (cond b (packet ∷ filter (is_valid used.direction) rest) (filter (is_valid used.direction) rest))) told
       ≡ after_facts tell (facts used rest) (cond b (tell (fact_of used packet) told) told)

@@ -1,22 +1,15 @@
--- What each event of a life did, its power-up included, the newest first, and what each part of the kernel sees of it (this project's profile).
+-- What each part of the kernel sees of the entries of a life, the newest first (this project's profile).
 use Rattle.std.specs.Prelude.{ℕ, ◌*◌, ◌^◌, ℤ, pos, neg_ℤ, ◌+ℤ◌, Option, Some, None, unwrap_or, List, [], ◌∷◌}
 use Rattle.std.specs.Int.{int_max}
 use Rattle.std.specs.Option.{option_map_or}
 use Rattle.units.specs.Stretches.{Span}
-use Rattle.vars.specs.declared.group.GroupIdentity.{GroupIdentity}
 use Rattle.vars.specs.Meanings.{centimetres_of}
-use Rattle.packets.specs.declared.packet.Packet.{Packet}
 use Rattle.packets.specs.declared.restrictions.SpeedRestriction.{SpeedRestriction}
 use Rattle.packets.specs.Packets.{as_national_values, as_linking, as_movement_authority, as_gradients, as_static_speeds, as_speed_restriction, as_revocation}
 use Rattle.authority.specs.Entries as authority
-use Rattle.authority.specs.Entries.Entry.{Ticked, Accepted, Passed}
+use Rattle.authority.specs.Entries.Entry.{Ticked, Accepted as Granted, Passed}
 use Rattle.authority.specs.Known.{known as known_authority, Known as Authority}
-use Rattle.balise_groups.specs.declared.message.Closed.{Closed}
-use Rattle.balise_groups.specs.declared.message.Closed.TheVariants.{Whole, Broken}
 use Rattle.balise_groups.specs.Groups as groups
-use Rattle.linking.specs.declared.announcement.Announcement.{Announcement}
-use Rattle.linking.specs.declared.effect.Effect.{Effect}
-use Rattle.linking.specs.declared.judgement.Verdict.{Verdict}
 use Rattle.linking.specs.declared.judgement.Verdict.TheVariants.{Accept, Ignore, Reaction}
 use Rattle.linking.specs.Linking as linking
 use Rattle.linking.specs.Linking.Entry.{Announced}
@@ -25,6 +18,7 @@ use Rattle.national.specs.InForce as national
 use Rattle.national.specs.InForce.Entry.{Announced as Told, Entered, Reached}
 use Rattle.odometry.specs.Place as odometry
 use Rattle.odometry.specs.declared.fix.Fix.{Fix}
+use Rattle.odometry.specs.Place.Entry.{Fixed}
 use Rattle.speed_profile.specs.declared.told.CategorySpeeds.{CategorySpeeds}
 use Rattle.speed_profile.specs.Told.{gradient_fact, speed_fact}
 use Rattle.track_store.specs.declared.restriction.Restriction.{Restriction}
@@ -33,47 +27,31 @@ use Rattle.track_store.specs.Profiles.{Profile}
 use Rattle.track_store.specs.Restrictions as track
 use Rattle.track_store.specs.Restrictions.Entry.{Restricted, Revoked, Forgotten}
 use Rattle.kernel.specs.Announcing.{announcements_of}
-
--- a packet that was used, its group, the place from which its distances count, and the moment
-pub record Fact : Type 0 where
-  pub group : GroupIdentity
-  pub place : ℤ
-  pub moment : ℕ
-  pub packet : Packet
-
--- what came of a group that closed
-pub record Outcome : Type 0 where
-  pub closed : Closed
-  pub verdict : Option Verdict  -- what linking says of a whole group
-  pub effect : Effect  -- what linking asks of the train
-  pub fix : Option Fix  -- the fix that the group made; one that was refused is none
-  pub facts : List Fact  -- those of its packets that were used, in the order of the message
-
--- what one event did: a field for each sentence of its order
-pub record Entry : Type 0 where
-  pub clock : Option ℕ  -- the moment that the clock told
-  pub movement : Option ℤ  -- what the odometer told
-  pub heard : Option groups.Entry  -- a telegram that was read, or the path that the life has come to
-  pub missed : List Announcement  -- the announced groups that the train has passed
-  pub groups : List Outcome  -- of the groups that closed, the newest first
-  pub train : Option Span  -- where the train stands once the groups are used
-  pub mark : Option ℤ  -- the track before this place is forgotten
+use Rattle.kernel.specs.Entry.{Entry, Outcome, Fact}
+use Rattle.kernel.specs.Entry.Outcome.{Broken, Ignored, Rejected, Accepted}
 
 -- ---- the moment: that of the last clock input, 0 before the first
 
 abbrev pub moment_of : List Entry → ℕ
 moment_of [] = 0
-moment_of (entry ∷ entries) = unwrap_or entry.clock (moment_of entries)
+moment_of (entry ∷ entries) = unwrap_or entry.begun.clock (moment_of entries)
 
 -- ---- what facts tell a part, one after another, and what the groups of an event tell it
 
-abbrev pub after_facts : {A : Type 0} → (Fact → List A → List A) → List Fact → List A → List A
+-- the packets of a group that were used; only an accepted group has some
+abbrev pub facts_in : Outcome → List Fact
+facts_in (Broken b) = []
+facts_in (Ignored message) = []
+facts_in (Rejected message a) = []
+facts_in (Accepted message announced fix facts) = facts
+
+abbrev pub after_facts : {A : Type 0} → (Fact → A → A) → List Fact → A → A
 after_facts tell [] told = told
 after_facts tell (fact ∷ facts) told = after_facts tell facts (tell fact told)
 
-abbrev pub after_told : {A : Type 0} → (Fact → List A → List A) → List Outcome → List A → List A
+abbrev pub after_told : {A : Type 0} → (Fact → A → A) → List Outcome → A → A
 after_told tell [] told = told
-after_told tell (outcome ∷ outcomes) told = after_facts tell outcome.facts (after_told tell outcomes told)
+after_told tell (outcome ∷ outcomes) told = after_facts tell (facts_in outcome) (after_told tell outcomes told)
 
 -- ---- what bears on the place: movements, and fixes behind them
 
@@ -83,15 +61,21 @@ after_movement (Some by) entries = odometry.after_movement entries by
 
 abbrev pub after_fix : Option Fix → List odometry.Entry → List odometry.Entry
 after_fix None entries = entries
-after_fix (Some fix) entries = odometry.Entry.Fixed fix ∷ entries
+after_fix (Some fix) entries = Fixed fix ∷ entries
+
+abbrev pub fix_in : Outcome → Option Fix
+fix_in (Broken b) = None
+fix_in (Ignored message) = None
+fix_in (Rejected message a) = None
+fix_in (Accepted message announced fix facts) = fix
 
 abbrev pub after_fixes : List Outcome → List odometry.Entry → List odometry.Entry
 after_fixes [] entries = entries
-after_fixes (outcome ∷ outcomes) entries = after_fix outcome.fix (after_fixes outcomes entries)
+after_fixes (outcome ∷ outcomes) entries = after_fix (fix_in outcome) (after_fixes outcomes entries)
 
 abbrev pub places : List Entry → List odometry.Entry
 places [] = []
-places (entry ∷ entries) = after_fixes entry.groups (after_movement entry.movement (places entries))
+places (entry ∷ entries) = after_fixes entry.used.groups (after_movement entry.begun.movement (places entries))
 
 abbrev pub place_of : List Entry → odometry.Known
 place_of entries = odometry.known (places entries)
@@ -104,7 +88,7 @@ after_heard (Some heard) entries = heard ∷ entries
 
 abbrev pub all_heard : List Entry → List groups.Entry
 all_heard [] = []
-all_heard (entry ∷ entries) = after_heard entry.heard (all_heard entries)
+all_heard (entry ∷ entries) = after_heard entry.begun.heard (all_heard entries)
 
 abbrev pub groups_of : List Entry → groups.Known
 groups_of entries = groups.known (all_heard entries)
@@ -112,9 +96,11 @@ groups_of entries = groups.known (all_heard entries)
 -- ---- what bears on linking: the groups that were missed; then of each group that closed what became of it, and behind
 -- that the lists of links that it told (packet 5)
 
-abbrev pub after_ruling : Closed → Option Verdict → List linking.Entry → List linking.Entry
-after_ruling (Broken b) verdict entries = after_broken (linking.known entries) b.group b.linked entries
-after_ruling (Whole message) verdict entries = option_map_or (λ v. after_verdict v entries) verdict entries
+abbrev pub after_ruling : Outcome → List linking.Entry → List linking.Entry
+after_ruling (Broken b) entries = after_broken (linking.known entries) b.group b.linked entries
+after_ruling (Ignored message) entries = after_verdict Ignore entries
+after_ruling (Rejected message a) entries = after_verdict (Reaction a) entries
+after_ruling (Accepted message announced fix facts) entries = after_verdict (Accept announced) entries
 
 abbrev pub after_links : Fact → List linking.Entry → List linking.Entry
 after_links fact entries =
@@ -123,11 +109,11 @@ after_links fact entries =
 abbrev pub after_groups : List Outcome → List linking.Entry → List linking.Entry
 after_groups [] entries = entries
 after_groups (outcome ∷ outcomes) entries =
-    after_facts after_links outcome.facts (after_ruling outcome.closed outcome.verdict (after_groups outcomes entries))
+    after_facts after_links (facts_in outcome) (after_ruling outcome (after_groups outcomes entries))
 
 abbrev pub links : List Entry → List linking.Entry
 links [] = []
-links (entry ∷ entries) = after_groups entry.groups (linking.after_misses entry.missed (links entries))
+links (entry ∷ entries) = after_groups entry.used.groups (linking.after_misses entry.begun.missed (links entries))
 
 abbrev pub links_of : List Entry → linking.Known
 links_of entries = linking.known (links entries)
@@ -135,14 +121,11 @@ links_of entries = linking.known (links entries)
 -- ---- what bears on the national values: of each group that was accepted its country, and behind that the values that it tells
 -- (packet 3); behind all groups where the greatest front is
 
-abbrev pub after_verdict_in : ℕ → Verdict → List national.Entry → List national.Entry
-after_verdict_in country (Accept announced) entries = Entered country ∷ entries
-after_verdict_in country Ignore entries = entries
-after_verdict_in country (Reaction a) entries = entries
-
-abbrev pub after_country : Closed → Option Verdict → List national.Entry → List national.Entry
-after_country (Broken b) verdict entries = entries
-after_country (Whole message) verdict entries = option_map_or (λ v. after_verdict_in message.group.country v entries) verdict entries
+abbrev pub after_country : Outcome → List national.Entry → List national.Entry
+after_country (Broken b) entries = entries
+after_country (Ignored message) entries = entries
+after_country (Rejected message a) entries = entries
+after_country (Accepted message announced fix facts) entries = Entered message.group.country ∷ entries
 
 abbrev pub after_values : Fact → List national.Entry → List national.Entry
 after_values fact entries =
@@ -151,7 +134,7 @@ after_values fact entries =
 abbrev pub after_countries : List Outcome → List national.Entry → List national.Entry
 after_countries [] entries = entries
 after_countries (outcome ∷ outcomes) entries =
-    after_facts after_values outcome.facts (after_country outcome.closed outcome.verdict (after_countries outcomes entries))
+    after_facts after_values (facts_in outcome) (after_country outcome (after_countries outcomes entries))
 
 abbrev pub after_front : Option Span → List national.Entry → List national.Entry
 after_front None entries = entries
@@ -159,7 +142,7 @@ after_front (Some train) entries = Reached train.max_front ∷ entries
 
 abbrev pub national_entries : List Entry → List national.Entry
 national_entries [] = []
-national_entries (entry ∷ entries) = after_front entry.train (after_countries entry.groups (national_entries entries))
+national_entries (entry ∷ entries) = after_front entry.train (after_countries entry.used.groups (national_entries entries))
 
 -- ---- what bears on the restrictions. Packets are taken in rising number, equal numbers in the order of the message:
 -- the restrictions (packet 65), then the revocations (packet 66); behind all groups the forgetting mark
@@ -184,7 +167,7 @@ after_revocation fact entries = option_map_or (λ p. Revoked p.number ∷ entrie
 abbrev pub after_messages : List Outcome → List track.Entry → List track.Entry
 after_messages [] entries = entries
 after_messages (outcome ∷ outcomes) entries =
-    after_facts after_revocation outcome.facts (after_facts after_restriction outcome.facts (after_messages outcomes entries))
+    after_facts after_revocation (facts_in outcome) (after_facts after_restriction (facts_in outcome) (after_messages outcomes entries))
 
 abbrev pub after_mark : Option ℤ → List track.Entry → List track.Entry
 after_mark None entries = entries
@@ -192,7 +175,7 @@ after_mark (Some mark) entries = Forgotten mark ∷ entries
 
 abbrev pub restrictions : List Entry → List track.Entry
 restrictions [] = []
-restrictions (entry ∷ entries) = after_mark entry.mark (after_messages entry.groups (restrictions entries))
+restrictions (entry ∷ entries) = after_mark entry.mark (after_messages entry.used.groups (restrictions entries))
 
 -- ---- what bears on the authority: the clock; then the authorities that were told (packet 12); behind all groups where the
 -- train stands
@@ -203,7 +186,7 @@ after_clock (Some moment) entries = Ticked moment ∷ entries
 
 abbrev pub after_authority : Fact → List authority.Entry → List authority.Entry
 after_authority fact entries =
-    option_map_or (λ p. Accepted (authority.fact_of p fact.place fact.moment) ∷ entries) (as_movement_authority fact.packet) entries
+    option_map_or (λ p. Granted (authority.fact_of p fact.place fact.moment) ∷ entries) (as_movement_authority fact.packet) entries
 
 abbrev pub after_train : Option Span → List authority.Entry → List authority.Entry
 after_train None entries = entries
@@ -212,7 +195,7 @@ after_train (Some train) entries = Passed train ∷ entries
 abbrev pub authorities : List Entry → List authority.Entry
 authorities [] = []
 authorities (entry ∷ entries) =
-    after_train entry.train (after_told after_authority entry.groups (after_clock entry.clock (authorities entries)))
+    after_train entry.train (after_told after_authority entry.used.groups (after_clock entry.begun.clock (authorities entries)))
 
 abbrev pub authority_of : List Entry → Authority
 authority_of entries = known_authority (authorities entries)
@@ -224,14 +207,14 @@ after_gradients fact told = option_map_or (λ p. gradient_fact fact.place p ∷ 
 
 abbrev pub gradients : List Entry → List (profiles.Fact ℤ)
 gradients [] = []
-gradients (entry ∷ entries) = after_told after_gradients entry.groups (gradients entries)
+gradients (entry ∷ entries) = after_told after_gradients entry.used.groups (gradients entries)
 
 abbrev pub after_speeds : Fact → List (profiles.Fact CategorySpeeds) → List (profiles.Fact CategorySpeeds)
 after_speeds fact told = option_map_or (λ p. speed_fact fact.place p ∷ told) (as_static_speeds fact.packet) told
 
 abbrev pub speeds : List Entry → List (profiles.Fact CategorySpeeds)
 speeds [] = []
-speeds (entry ∷ entries) = after_told after_speeds entry.groups (speeds entries)
+speeds (entry ∷ entries) = after_told after_speeds entry.used.groups (speeds entries)
 
 -- the greatest forgetting mark; without one, the least place that there is
 abbrev pub mark_of : List Entry → ℤ

@@ -1,5 +1,6 @@
 pub mod Bytes
 pub mod Announcing
+pub mod Entry
 pub mod History
 pub mod Sentences
 pub mod Steps
@@ -7,4 +8,5 @@ pub mod Inputs
 pub mod Lives
 pub mod Limit
 pub mod StandsFor
+pub mod Told
 pub mod Forgetting

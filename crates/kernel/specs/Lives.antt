@@ -6,7 +6,9 @@ use Rattle.kernel.specs.declared.events.Event.TheVariants.{PowerUp, Input}
 use Rattle.kernel.specs.declared.kept.Kept.{Kept}
 use Rattle.kernel.specs.declared.train.TrainData.{TrainData}
 use Rattle.national.specs.InForce as national
-use Rattle.kernel.specs.History.{Entry, national_entries}
+use Rattle.kernel.specs.declared.events.Happened.{Happened}
+use Rattle.kernel.specs.Entry.{Entry, nothing_happened}
+use Rattle.kernel.specs.History.{national_entries}
 use Rattle.kernel.specs.Sentences.{entry_of, powered_up}
 
 pub record Life : Type 0 where
@@ -29,9 +31,13 @@ nothing_kept = record { lives = 0; national = national.nothing_kept }
 abbrev pub no_life : Life
 no_life = record { lives = 0; kept = nothing_kept; entries = [] }
 
--- a power-up begins a life, and counts it, up to the greatest number of 32 bits
+-- one life more, up to the greatest number of 32 bits
+abbrev pub counted : ℕ → ℕ
+counted lives = min (lives + 1) (2 ^ 32 - 1)
+
+-- a power-up begins a life, and counts it
 abbrev pub begun_life : TrainData → Kept → Life
-begun_life train kept = record { lives = min (kept.lives + 1) (2 ^ 32 - 1); kept = kept; entries = powered_up train ∷ [] }
+begun_life train kept = record { lives = counted kept.lives; kept = kept; entries = powered_up train ∷ [] }
 
 abbrev pub life_after : TrainData → Life → events.Event → Life
 life_after train life PowerUp = begun_life train (kept_of life)
@@ -41,3 +47,11 @@ life_after train life (Input input) = record life { entries = entry_of train lif
 abbrev pub life_of : TrainData → List events.Event → Life
 life_of train [] = no_life
 life_of train (event ∷ events) = life_after train (life_of train events) event
+
+-- what the last event of a life brought about
+abbrev pub last_happened : List Entry → Happened
+last_happened [] = nothing_happened
+last_happened (entry ∷ entries) = entry.used.happened
+
+abbrev pub happened_in : Life → Happened
+happened_in life = last_happened life.entries

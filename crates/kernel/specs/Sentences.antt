@@ -2,6 +2,7 @@
 -- those of SUBSET-026, 3.4 and 3.16.2). So far the driver's actions do nothing.
 use Rattle.std.specs.Prelude.{ℕ, ◌*◌, ℤ, pos, ◌-ℤ◌, Bool, true, false, not, ◌&&◌, Option, Some, None, is_some, List, [], ◌∷◌, map, filter, if◌then◌else◌}
 use Rattle.std.specs.Option.{option_map, option_or}
+use Rattle.units.specs.Stretches.{Span}
 use Rattle.vars.specs.declared.group.GroupIdentity.{GroupIdentity}
 use Rattle.vars.specs.declared.linking.LinkOrientation.{LinkOrientation}
 use Rattle.vars.specs.declared.linking.LinkOrientation.TheVariants as orientation
@@ -10,53 +11,75 @@ use Rattle.vars.specs.declared.packet_head.ValidityDirection.TheVariants.{Revers
 use Rattle.packets.specs.declared.packet.Packet.{Packet}
 use Rattle.packets.specs.declared.packet.Packet.TheVariants as packets
 use Rattle.balise_groups.specs.declared.message.Closed.{Closed}
-use Rattle.balise_groups.specs.declared.message.Closed.TheVariants.{Whole, Broken}
+use Rattle.balise_groups.specs.declared.message.Closed.TheVariants as closed
 use Rattle.balise_groups.specs.declared.message.Message.{Message}
 use Rattle.balise_groups.specs.declared.assembler.Taken.{Taken}
 use Rattle.balise_groups.specs.Groups as groups
 use Rattle.balise_groups.specs.Groups.Entry.{Read, Went}
 use Rattle.linking.specs.declared.announcement.Announcement.{Announcement}
 use Rattle.linking.specs.declared.judgement.GroupRead.{GroupRead}
+use Rattle.linking.specs.declared.judgement.Judgement.{Judgement}
 use Rattle.linking.specs.declared.judgement.Verdict.{Verdict}
 use Rattle.linking.specs.declared.judgement.Verdict.TheVariants.{Accept, Ignore, Reaction}
-use Rattle.linking.specs.Linking.{is_any, is_passed_by}
+use Rattle.linking.specs.Linking.{is_any, is_passed_by, misses}
 use Rattle.linking.specs.Judging.{judgement, broken_effect}
 use Rattle.odometry.specs.Place as odometry
 use Rattle.odometry.specs.Sums.{Sums}
 use Rattle.odometry.specs.declared.fix.Fix.{Fix}
+use Rattle.kernel.specs.declared.events.Happened.{Happened}
 use Rattle.kernel.specs.declared.events.Input as inputs
 use Rattle.kernel.specs.declared.events.Input.TheVariants.{Telegram, Odometer, Clock, Driver}
 use Rattle.kernel.specs.declared.train.TrainData.{TrainData}
 use Rattle.kernel.specs.Bytes.{telegram_in}
 use Rattle.track_store.specs.Profiles.{is_known}
-use Rattle.authority.specs.Entries.{accepted}
-use Rattle.kernel.specs.History.{Entry, Outcome, Fact, place_of, groups_of, links_of, moment_of, authorities, gradients_of, speeds_of}
-
-abbrev pub nothing : Entry
-nothing = record { clock = None; movement = None; heard = None; missed = []; groups = []; train = None; mark = None }
+use Rattle.authority.specs.Entries.{accepted as granted}
+use Rattle.kernel.specs.Entry.{Entry, Begun, Used, Outcome, Fact, so_far, marked, nothing_happened, asking, no_groups, added}
+use Rattle.kernel.specs.Entry.Outcome.{Broken, Ignored, Rejected, Accepted}
+use Rattle.kernel.specs.History.{place_of, groups_of, links_of, moment_of, authorities, gradients_of, speeds_of}
 
 -- ---- first what the input itself does: a movement, then the path and the announced groups that the train has passed; or
 -- a telegram; or a moment
 
-abbrev pub with_path : List Entry → Entry → Entry
-with_path entries entry = record entry { heard = Some (Went (place_of (entry ∷ entries)).sums.path) }
+abbrev pub nothing : Begun
+nothing = record { clock = None; movement = None; heard = None; missed = [] }
 
-abbrev pub with_missed : List Entry → Entry → Entry
-with_missed entries entry =
-    record entry { missed = filter (is_passed_by (odometry.min_front (place_of (entry ∷ entries)))) (links_of entries).left }
+abbrev pub alone : Begun → Entry
+alone begun = so_far begun no_groups
 
-abbrev pub moved : List Entry → ℤ → Entry
-moved entries by = with_missed entries (with_path entries (record nothing { movement = Some by }))
+abbrev pub with_path : List Entry → Begun → Begun
+with_path entries begun = record begun { heard = Some (Went (place_of (alone begun ∷ entries)).sums.path) }
 
-abbrev pub heard : List Entry → List ℕ → Entry
+-- the announced groups left that the train has passed
+abbrev pub passed : List Entry → Begun → List Announcement
+passed entries begun = filter (is_passed_by (odometry.min_front (place_of (alone begun ∷ entries)))) (links_of entries).left
+
+abbrev pub moved : List Entry → ℤ → Begun
+moved entries by =
+    let went = with_path entries (record nothing { movement = Some by }) in record went { missed = passed entries went }
+
+abbrev pub heard : List Entry → List ℕ → Begun
 heard entries bytes =
     record nothing { heard = option_map (λ t. Read (record { telegram = t; sums = (place_of entries).sums })) (telegram_in bytes) }
 
-abbrev pub begun : List Entry → inputs.Input → Entry
+abbrev pub begun : List Entry → inputs.Input → Begun
 begun entries (Telegram bytes) = heard entries bytes
 begun entries (Odometer reading) = moved entries reading.movement
 begun entries (Clock moment) = record nothing { clock = Some moment }
 begun entries (Driver action) = nothing
+
+-- what a movement brings about: it is an overrun where it has no room, and the missed groups ask for something
+abbrev pub happened_by : List Entry → ℤ → Happened
+happened_by entries by =
+    record {
+      overrun = not (odometry.has_room (place_of entries) by);
+      asked = misses (links_of entries).has_missed (moved entries by).missed;
+    }
+
+abbrev pub happened_first : List Entry → inputs.Input → Happened
+happened_first entries (Telegram bytes) = nothing_happened
+happened_first entries (Odometer reading) = happened_by entries reading.movement
+happened_first entries (Clock moment) = nothing_happened
+happened_first entries (Driver action) = nothing_happened
 
 -- ---- then the groups that closed: the one that was ended, and behind it the one that is whole. Each is judged by linking,
 -- by the place of the train at its reading
@@ -65,19 +88,12 @@ abbrev pub group_read : odometry.Known → Message → GroupRead
 group_read place message =
     record { group = message.group; linked = message.linked; direction = message.direction; place = odometry.place_at place.fix message.sums }
 
-abbrev pub judged : List Entry → Entry → Closed → Outcome
-judged entries entry (Broken b) =
-    record { closed = Broken b; verdict = None; effect = broken_effect (links_of (entry ∷ entries)) b.group b.linked; fix = None; facts = [] }
-judged entries entry (Whole message) =
-    let j = judgement (links_of (entry ∷ entries)) (group_read (place_of (entry ∷ entries)) message) in
-    record { closed = Whole message; verdict = Some j.verdict; effect = j.effect; fix = None; facts = [] }
+abbrev pub judged : List Entry → Message → Judgement
+judged entries message = judgement (links_of entries) (group_read (place_of entries) message)
 
 -- ---- an accepted group makes its fix: an announced one where it was announced, another one at its own place, but only
 -- while the track is free of all that lies at known places: no group is announced, no authority is stored, and no centimetre has a
 -- gradient or a static speed
-
-abbrev pub added : Outcome → Entry → Entry
-added outcome entry = record entry { groups = outcome ∷ entry.groups }
 
 abbrev pub own_place : odometry.Known → Message → ℤ
 own_place place message = odometry.estimate_at place.fix message.sums
@@ -87,27 +103,16 @@ fix_at message at accuracy = record { at = at; accuracy = accuracy; sums = messa
 
 abbrev pub is_free : List Entry → Bool
 is_free entries =
-    not (is_any (links_of entries).left) && not (is_some (accepted (authorities entries)))
+    not (is_any (links_of entries).left) && not (is_some (granted (authorities entries)))
     && not (is_known (gradients_of entries).value) && not (is_known (speeds_of entries).value)
 
 -- a fix that would lie too far isn't made
 abbrev pub made : Sums → Fix → Option Fix
 made now fix = if odometry.is_made now fix then Some fix else None
 
-abbrev pub fix_of : odometry.Known → Bool → Message → Verdict → Option Fix
-fix_of place free message (Accept (Some a)) = made place.sums (fix_at message a.place (100 * a.accuracy))
-fix_of place free message (Accept None) = if free then made place.sums (fix_at message (own_place place message) 0) else None
-fix_of place free message Ignore = None
-fix_of place free message (Reaction a) = None
-
-abbrev pub fix_by : odometry.Known → Bool → Closed → Option Verdict → Option Fix
-fix_by place free (Broken b) verdict = None
-fix_by place free (Whole message) None = None
-fix_by place free (Whole message) (Some verdict) = fix_of place free message verdict
-
-abbrev pub with_fix : List Entry → Entry → Outcome → Outcome
-with_fix entries entry outcome =
-    record outcome { fix = fix_by (place_of (entry ∷ entries)) (is_free (added outcome entry ∷ entries)) outcome.closed outcome.verdict }
+abbrev pub fix_of : odometry.Known → Bool → Message → Option Announcement → Option Fix
+fix_of place free message (Some a) = made place.sums (fix_at message a.place (100 * a.accuracy))
+fix_of place free message None = if free then made place.sums (fix_at message (own_place place message) 0) else None
 
 -- ---- then the packets of an accepted group are used that are valid in the direction in which it was passed. That is what
 -- its balises tell, or else what its announcement does
@@ -146,27 +151,50 @@ abbrev pub facts_of : GroupIdentity → ℤ → ℕ → Option LinkOrientation �
 facts_of group place moment direction ps =
     map (λ p. record { group = group; place = place; moment = moment; packet = p }) (filter (is_valid direction) ps)
 
-abbrev pub facts_in : odometry.Known → ℕ → Option Fix → Message → Verdict → List Fact
-facts_in place moment fix message (Accept announced) =
-    facts_of message.group (place_by (own_place place message) fix) moment (direction_of message announced) message.packets
-facts_in place moment fix message Ignore = []
-facts_in place moment fix message (Reaction a) = []
+-- an accepted group, up to its fix and with its facts; the entries are those with its acceptance
+abbrev pub accepted : Message → Option Announcement → Outcome
+accepted message announced = Accepted message announced None []
 
-abbrev pub facts_by : odometry.Known → ℕ → Option Fix → Closed → Option Verdict → List Fact
-facts_by place moment fix (Broken b) verdict = []
-facts_by place moment fix (Whole message) None = []
-facts_by place moment fix (Whole message) (Some verdict) = facts_in place moment fix message verdict
+abbrev pub fix_in : List Entry → Message → Option Announcement → Option Fix
+fix_in entries message announced = fix_of (place_of entries) (is_free entries) message announced
 
-abbrev pub with_facts : List Entry → Entry → Outcome → Outcome
-with_facts entries entry outcome =
-    record outcome { facts = facts_by (place_of (entry ∷ entries)) (moment_of (entry ∷ entries)) outcome.fix outcome.closed outcome.verdict }
+abbrev pub facts_by : List Entry → Message → Option Announcement → Option Fix → List Fact
+facts_by entries message announced fix =
+    facts_of message.group (place_by (own_place (place_of entries) message) fix) (moment_of entries) (direction_of message announced) message.packets
 
-abbrev pub outcome_of : List Entry → Entry → Closed → Outcome
-outcome_of entries entry closed = with_facts entries entry (with_fix entries entry (judged entries entry closed))
+abbrev pub with_fix : List Entry → Message → Option Announcement → Outcome
+with_fix entries message announced = Accepted message announced (fix_in entries message announced) []
 
-abbrev pub with_closed : List Entry → Option Closed → Entry → Entry
-with_closed entries None entry = entry
-with_closed entries (Some closed) entry = added (outcome_of entries entry closed) entry
+abbrev pub with_facts : List Entry → Message → Option Announcement → Outcome
+with_facts entries message announced =
+    let fix = fix_in entries message announced in Accepted message announced fix (facts_by entries message announced fix)
+
+-- ---- what came of a group
+
+abbrev pub ruled : Message → Verdict → Outcome
+ruled message (Accept announced) = accepted message announced
+ruled message Ignore = Ignored message
+ruled message (Reaction a) = Rejected message a
+
+abbrev pub outcome_of : List Entry → Begun → Used → Message → Verdict → Outcome
+outcome_of entries begun used message (Accept announced) =
+    with_facts (so_far begun (added (accepted message announced) used) ∷ entries) message announced
+outcome_of entries begun used message Ignore = Ignored message
+outcome_of entries begun used message (Reaction a) = Rejected message a
+
+abbrev pub after_judgement : List Entry → Begun → Used → Message → Judgement → Used
+after_judgement entries begun used message j =
+    record { groups = outcome_of entries begun used message j.verdict ∷ used.groups; happened = asking used.happened j.effect }
+
+abbrev pub after_group : List Entry → Begun → Used → Closed → Used
+after_group entries begun used (closed.Broken b) =
+    record { groups = Broken b ∷ used.groups; happened = asking used.happened (broken_effect (links_of (so_far begun used ∷ entries)) b.group b.linked) }
+after_group entries begun used (closed.Whole message) =
+    after_judgement entries begun used message (judged (so_far begun used ∷ entries) message)
+
+abbrev pub with_closed : List Entry → Begun → Option Closed → Used → Used
+with_closed entries begun None used = used
+with_closed entries begun (Some group) used = after_group entries begun used group
 
 -- what was heard closes at most two groups
 abbrev pub closed_by : groups.Known → Option groups.Entry → Taken
@@ -174,28 +202,32 @@ closed_by known None = record { ended = None; whole = None }
 closed_by known (Some (Read reading)) = groups.taken_by reading known
 closed_by known (Some (Went path)) = record { ended = groups.ended_by path known; whole = None }
 
-abbrev pub with_groups : List Entry → Entry → Entry
-with_groups entries entry =
-    let closed = closed_by (groups_of entries) entry.heard in
-    with_closed entries closed.whole (with_closed entries closed.ended entry)
+abbrev pub with_groups : List Entry → Begun → Happened → Used
+with_groups entries begun happened =
+    let closed = closed_by (groups_of entries) begun.heard in
+    with_closed entries begun closed.whole (with_closed entries begun closed.ended (record { groups = []; happened = happened }))
+
+abbrev pub used_by : List Entry → inputs.Input → Used
+used_by entries input = with_groups entries (begun entries input) (happened_first entries input)
 
 -- ---- then the timers of the authority see where the train stands, and national values that are announced come into force
 -- where the greatest front has reached their place
 
-abbrev pub with_train : TrainData → List Entry → Entry → Entry
-with_train train entries entry = record entry { train = Some (odometry.stretch (place_of (entry ∷ entries)) train.length) }
+abbrev pub standing : TrainData → List Entry → Span
+standing train entries = odometry.stretch (place_of entries) train.length
 
 -- ---- at last the track is forgotten that lies more than a kilometre behind the least rear
 
-abbrev pub mark_at : TrainData → odometry.Known → ℤ
-mark_at train place = odometry.min_rear place train.length -ℤ pos 100_000
+abbrev pub mark_behind : Span → ℤ
+mark_behind train = train.rear -ℤ pos 100_000
 
-abbrev pub with_mark : TrainData → List Entry → Entry → Entry
-with_mark train entries entry = record entry { mark = Some (mark_at train (place_of (entry ∷ entries))) }
+abbrev pub ended : TrainData → List Entry → Begun → Used → Entry
+ended train entries begun used =
+    let stretch = standing train (so_far begun used ∷ entries) in marked begun used (Some stretch) (mark_behind stretch)
+
+abbrev pub entry_of : TrainData → List Entry → inputs.Input → Entry
+entry_of train entries input = ended train entries (begun entries input) (used_by entries input)
 
 -- a power-up is an exact fix at 0, and the track is forgotten behind the least rear there too
 abbrev pub powered_up : TrainData → Entry
-powered_up train = with_mark train [] nothing
-
-abbrev pub entry_of : TrainData → List Entry → inputs.Input → Entry
-entry_of train entries input = with_mark train entries (with_train train entries (with_groups entries (begun entries input)))
+powered_up train = marked nothing no_groups None (mark_behind (standing train []))

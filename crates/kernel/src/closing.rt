@@ -1,43 +1,38 @@
 //! What a balise group does that closed: it is judged, it makes its fix, its packets are used.
-ghost use Rattle.std.specs.Prelude.{◌≡◌, not, ◌&&◌, Some, None, List, [], ◌∷◌, OnOk, Option};
+ghost use Rattle.std.specs.Prelude.{◌≡◌, ◌∷◌, [], OnOk, IfOk, Option};
 ghost use Rattle.std.specs.Option.{option_map, option_or};
 ghost use Rattle.balise_groups.specs.declared.message.Closed.TheVariants as closed;
-ghost use Rattle.linking.specs.declared.effect.Effect.{Effect};
-ghost use Rattle.linking.specs.Judging.{judgement};
-ghost use Rattle.kernel.specs.History.{Entry, Outcome, place_of, links_of};
-ghost use Rattle.kernel.specs.Sentences.{group_read, judged, added, own_place, direction_of, place_by, is_free, with_fix, with_facts, outcome_of, with_closed};
-ghost use Rattle.kernel.specs.Steps.{ruled, accepted, fix_wanted, facts, using};
+ghost use Rattle.balise_groups.specs.declared.message.Message.{Message};
+ghost use Rattle.linking.specs.declared.announcement.Announcement.{Announcement};
+ghost use Rattle.linking.specs.Judging.{broken_effect};
+ghost use Rattle.odometry.specs.declared.fix.Fix.{Fix};
+ghost use Rattle.kernel.specs.Entry.{Begun, Used, added, so_far};
+ghost use Rattle.kernel.specs.Entry.Outcome.{Accepted, Broken as NoMessage};
+ghost use Rattle.kernel.specs.History.{links_of};
+ghost use Rattle.kernel.specs.Sentences.{judged, ruled, accepted, with_facts, outcome_of, after_group, with_closed};
+ghost use Rattle.kernel.specs.Steps.{facts};
 ghost use Rattle.kernel.specs.Lives.{Life};
-ghost use Rattle.kernel.specs.StandsFor.{StandsForLife, grown};
+ghost use Rattle.kernel.specs.StandsFor.{StandsForLife, Stands, parts_of, grown_so_far};
 
-use crate::messages::{
-    Use, accept_all, add_all, announce_all, replace_gradients, replace_speeds, revoke_all,
-    take_all_values,
-};
+use crate::events::Happened;
+use crate::parts::Parts;
 use crate::state::StateOver;
+use crate::using::{Earlier, Later, Use, take_all};
 use balise_groups::{Broken, Closed, GroupPackets, Message};
-use linking::{Announcement, GroupRead, Judgement, Verdict};
-use odometry::Fix;
+use linking::{Announcement, Effect, GroupRead, Judgement, Verdict};
 use speed_profile::CategorySpeeds;
 use std::alloc::Global;
-use track_store::{ProfileStore, is_known};
-use units::{Cm, GroupPlace, Length, NoMemory, Permille};
-use vars::{LinkOrientation, Variable};
+use track_store::ProfileStore;
+use units::{NoMemory, Permille};
+use vars::LinkOrientation;
 
-// Where a group is to be fixed, and how exactly that is known.
-#[derive(Clone, Copy)]
-struct Wanted {
-    place: Cm,
-    accuracy: Length,
-}
-
-impl<G: ProfileStore<Permille> + Drop, S: ProfileStore<CategorySpeeds> + Drop> StateOver<G, S> {
+impl Parts {
     // Linking judges a group. One that is accepted counts for the national values by its country.
     fn judge(&mut self, message: &Message) -> Judgement
-        ensures answer { (life : Life) (entry : Entry) → StandsForLife G.profile S.profile self.old (grown life entry)
-            → result ≡ judgement (links_of (entry ∷ life.entries)) (group_read (place_of (entry ∷ life.entries)) message.now) }
-        ensures stands { (life : Life) (entry : Entry) → entry.train ≡ None → StandsForLife G.profile S.profile self.old (grown life entry)
-            → StandsForLife G.profile S.profile self.new (grown life (added (ruled message.now result.verdict result.effect) entry)) }
+        ensures answer { (life : Life) (begun : Begun) (used : Used) → self.old ≡ parts_of (grown_so_far life begun used)
+            → result ≡ judged (so_far begun used ∷ life.entries) message.now }
+        ensures stands { (life : Life) (begun : Begun) (used : Used) → self.old ≡ parts_of (grown_so_far life begun used)
+            → self.new ≡ parts_of (grown_so_far life begun (added (ruled message.now result.verdict) used)) }
     {
         let place = self.place.place_at(&message.sums);
         let judgement = self.links.judge(&GroupRead {
@@ -52,40 +47,18 @@ impl<G: ProfileStore<Permille> + Drop, S: ProfileStore<CategorySpeeds> + Drop> S
         judgement
     }
 
-    // Whether a group that wasn't announced makes a fix: nothing is known that lies at places of its own.
-    fn is_free(&self) -> bool
-        ensures { (life : Life) (entry : Entry) → StandsForLife G.profile S.profile self.now (grown life entry) → result ≡ is_free (entry ∷ life.entries) }
+    // A broken group: what linking asks for it.
+    fn give_up(&mut self, group: &Broken) -> Effect
+        ensures answer { (life : Life) (begun : Begun) (used : Used) → self.old ≡ parts_of (grown_so_far life begun used)
+            → result ≡ broken_effect (links_of (so_far begun used ∷ life.entries)) group.now.group group.now.linked }
+        ensures stands { (life : Life) (begun : Begun) (used : Used) → self.old ≡ parts_of (grown_so_far life begun used)
+            → self.new ≡ parts_of (grown_so_far life begun (added (NoMessage group.now) used)) }
     {
-        let announced = self.links.is_in_use();
-        let authorised = self.authority.is_stored();
-        let gradient = is_known(&self.gradients);
-        let speed = is_known(&self.speeds);
-        is_none(announced, authorised, gradient, speed)
+        self.links.broken(group.group, group.linked)
     }
+}
 
-    // An accepted group makes its fix: the place from which its distances count.
-    fn fix(&mut self, message: &Message, announced: &Option<Announcement>) -> GroupPlace
-        ensures answer { (life : Life) (entry : Entry) (effect : Effect) → StandsForLife G.profile S.profile self.old (grown life (added (accepted message.now announced.now effect) entry))
-            → result ≡ place_by (own_place (place_of (entry ∷ life.entries)) message.now) (with_fix life.entries entry (accepted message.now announced.now effect)).fix }
-        ensures stands { (life : Life) (entry : Entry) (effect : Effect) → StandsForLife G.profile S.profile self.old (grown life (added (accepted message.now announced.now effect) entry))
-            → StandsForLife G.profile S.profile self.new (grown life (added (with_fix life.entries entry (accepted message.now announced.now effect)) entry)) }
-    {
-        let own = self.place.place_at(&message.sums).estimate;
-        let Some(wanted) = fix_wanted(self.is_free(), own, announced) else {
-            return own;
-        };
-        let fix = Fix {
-            at: wanted.place,
-            accuracy: wanted.accuracy,
-            sums: message.sums,
-            missed: message.missed,
-        };
-        match self.place.fix(fix) {
-            Ok(place) => place,
-            Err(_) => own,
-        }
-    }
-
+impl<G: ProfileStore<Permille> + Drop, S: ProfileStore<CategorySpeeds> + Drop> StateOver<G, S> {
     // The packets of an accepted group are used: in rising number, equal numbers in the order of the message.
     fn take_packets(
         &mut self,
@@ -93,19 +66,12 @@ impl<G: ProfileStore<Permille> + Drop, S: ProfileStore<CategorySpeeds> + Drop> S
         packets: &GroupPackets,
         used: &Use,
     ) -> Result<(), NoMemory>
-        ensures { OnOk result ((life : Life) (entry : Entry) (outcome : Outcome) → entry.train ≡ None → entry.mark ≡ None
-            → StandsForLife G.profile S.profile self.old (grown life (added (using [] outcome) entry))
-            → StandsForLife G.profile S.profile self.new (grown life (added (using (facts used.now packets.now) outcome) entry))) }
+        ensures { OnOk result ((life : Life) (begun : Begun) (groups : Used) (message : Message) (announced : Option Announcement) (fix : Option Fix)
+            → StandsForLife G.profile S.profile self.old (grown_so_far life begun (added (Accepted message announced fix []) groups))
+            → StandsForLife G.profile S.profile self.new (grown_so_far life begun (added (Accepted message announced fix (facts used.now packets.now)) groups))) }
     {
-        take_all_values(&mut self.national, packets, used);
-        announce_all(&mut self.links, packets, used);
-        accept_all(&mut self.authority, packets, used);
-        let mark = self.restrictions.mark();
-        replace_gradients(&mut self.gradients, mark, packets, used)?;
-        replace_speeds(&mut self.speeds, mark, packets, used)?;
-        add_all(&mut self.restrictions, alloc, packets, used)?;
-        revoke_all(&mut self.restrictions, packets, used);
-        Ok(())
+        take_all::<StateOver<G, S>, Earlier>(self, alloc, packets, used)?;
+        take_all::<StateOver<G, S>, Later>(self, alloc, packets, used)
     }
 
     // An accepted group is used.
@@ -115,89 +81,83 @@ impl<G: ProfileStore<Permille> + Drop, S: ProfileStore<CategorySpeeds> + Drop> S
         message: &Message,
         announced: &Option<Announcement>,
     ) -> Result<(), NoMemory>
-        ensures { OnOk result ((life : Life) (entry : Entry) (effect : Effect) → entry.train ≡ None → entry.mark ≡ None
-            → StandsForLife G.profile S.profile self.old (grown life (added (accepted message.now announced.now effect) entry))
-            → StandsForLife G.profile S.profile self.new (grown life (added (with_facts life.entries entry (with_fix life.entries entry (accepted message.now announced.now effect))) entry))) }
+        ensures { OnOk result ((life : Life) (begun : Begun) (used : Used)
+            → StandsForLife G.profile S.profile self.old (grown_so_far life begun (added (accepted message.now announced.now) used))
+            → StandsForLife G.profile S.profile self.new (grown_so_far life begun (added (with_facts (so_far begun (added (accepted message.now announced.now) used) ∷ life.entries) message.now announced.now) used))) }
     {
-        let place = self.fix(message, announced);
+        let free = self.is_free();
+        let place = self.parts.fix(message, announced, free);
         let used = Use {
             group: message.group,
             place,
-            moment: self.moment,
+            moment: self.parts.moment,
             direction: direction_by(&message.direction, announced),
         };
         self.take_packets(alloc, &message.packets, &used)
     }
 
-    // A whole group.
-    fn close_whole(&mut self, alloc: Global, message: &Message) -> Result<(), NoMemory>
-        ensures { OnOk result ((life : Life) (entry : Entry) → entry.train ≡ None → entry.mark ≡ None → StandsForLife G.profile S.profile self.old (grown life entry)
-            → StandsForLife G.profile S.profile self.new (grown life (added (outcome_of life.entries entry (closed.Whole message.now)) entry))) }
+    // A whole group that was judged: one that is accepted is used.
+    fn follow(
+        &mut self,
+        alloc: Global,
+        message: &Message,
+        verdict: Verdict,
+    ) -> Result<(), NoMemory>
+        ensures { OnOk result ((life : Life) (begun : Begun) (used : Used)
+            → StandsForLife G.profile S.profile self.old (grown_so_far life begun (added (ruled message.now verdict) used))
+            → StandsForLife G.profile S.profile self.new (grown_so_far life begun (added (outcome_of life.entries begun used message.now verdict) used))) }
     {
-        match self.judge(message).verdict {
-            Verdict::Accept(announced) => self.accept(alloc, message, &announced)?,
-            Verdict::Ignore | Verdict::Reaction(_) => {}
+        match verdict {
+            Verdict::Accept(announced) => self.accept(alloc, message, &announced),
+            Verdict::Ignore | Verdict::Reaction(_) => Ok(()),
         }
-        Ok(())
     }
 
-    // A broken group.
-    fn close_broken(&mut self, group: &Broken)
-        ensures { (life : Life) (entry : Entry) → entry.train ≡ None → entry.mark ≡ None → StandsForLife G.profile S.profile self.old (grown life entry)
-            → StandsForLife G.profile S.profile self.new (grown life (added (outcome_of life.entries entry (closed.Broken group.now)) entry)) }
+    // A whole group.
+    fn close_whole(
+        &mut self,
+        alloc: Global,
+        message: &Message,
+        happened: Happened,
+    ) -> Result<Happened, NoMemory>
+        ensures { IfOk result (λ after. (life : Life) (begun : Begun) (used : Used) → Stands G.profile S.profile self.old happened life begun used
+            → Stands G.profile S.profile self.new after life begun (after_group life.entries begun used (closed.Whole message.now))) }
     {
-        self.links.broken(group.group, group.linked);
+        let judgement = self.parts.judge(message);
+        self.follow(alloc, message, judgement.verdict)?;
+        Ok(happened.asking(judgement.effect))
     }
 
     // A group that closed.
-    fn close_one(&mut self, alloc: Global, closed: &Closed) -> Result<(), NoMemory>
-        ensures { OnOk result ((life : Life) (entry : Entry) → entry.train ≡ None → entry.mark ≡ None → StandsForLife G.profile S.profile self.old (grown life entry)
-            → StandsForLife G.profile S.profile self.new (grown life (added (outcome_of life.entries entry closed.now) entry))) }
+    fn close_one(
+        &mut self,
+        alloc: Global,
+        group: &Closed,
+        happened: Happened,
+    ) -> Result<Happened, NoMemory>
+        ensures { IfOk result (λ after. (life : Life) (begun : Begun) (used : Used) → Stands G.profile S.profile self.old happened life begun used
+            → Stands G.profile S.profile self.new after life begun (after_group life.entries begun used group.now)) }
     {
-        match closed {
-            Closed::Whole(message) => self.close_whole(alloc, message)?,
-            Closed::Broken(group) => self.close_broken(group),
+        match group {
+            Closed::Whole(message) => self.close_whole(alloc, message, happened),
+            Closed::Broken(broken) => Ok(happened.asking(self.parts.give_up(broken))),
         }
-        Ok(())
     }
 
-    /// A group that closed, if one did.
-    pub(crate) fn close(&mut self, alloc: Global, closed: &Option<Closed>) -> Result<(), NoMemory>
-        ensures { OnOk result ((life : Life) (entry : Entry) → entry.train ≡ None → entry.mark ≡ None → StandsForLife G.profile S.profile self.old (grown life entry)
-            → StandsForLife G.profile S.profile self.new (grown life (with_closed life.entries closed.now entry))) }
+    /// A group that closed, if one did: what has happened with it.
+    pub(crate) fn close(
+        &mut self,
+        alloc: Global,
+        group: &Option<Closed>,
+        happened: Happened,
+    ) -> Result<Happened, NoMemory>
+        ensures { IfOk result (λ after. (life : Life) (begun : Begun) (used : Used) → Stands G.profile S.profile self.old happened life begun used
+            → Stands G.profile S.profile self.new after life begun (with_closed life.entries begun group.now used)) }
     {
-        match closed {
-            None => {}
-            Some(closed) => self.close_one(alloc, closed)?,
+        match group {
+            None => Ok(happened),
+            Some(group) => self.close_one(alloc, group, happened),
         }
-        Ok(())
-    }
-}
-
-// Whether none of these is so.
-fn is_none(announced: bool, authorised: bool, gradient: bool, speed: bool) -> bool
-    ensures { result ≡ (not announced && not authorised && not gradient && not speed) }
-{
-    !announced && !authorised && !gradient && !speed
-}
-
-// Where an accepted group is to be fixed: where it was announced, else at its own place, but only while the track is free.
-fn fix_wanted(free: bool, own: GroupPlace, announced: &Option<Announcement>) -> Option<Wanted>
-    ensures { result ≡ fix_wanted free own announced.now }
-{
-    match announced {
-        Some(announcement) => {
-            let accuracy = 100 * announcement.accuracy.number();
-            Some(Wanted {
-                place: announcement.place,
-                accuracy: Length::new(accuracy).unwrap(),
-            })
-        }
-        None if free => Some(Wanted {
-            place: own.to_cm(),
-            accuracy: Length::ZERO,
-        }),
-        None => None,
     }
 }
 

@@ -1,4 +1,5 @@
 use crate::telegram_bytes::TelegramBytes;
+use linking::Effect;
 use units::{Movement, Mph, Ms};
 
 /// What the odometer tells.
@@ -40,4 +41,37 @@ pub enum Event {
     PowerUp,
     /// Something comes in.
     Input(Input),
+}
+
+/// What an event brings about for the train.
+#[derive(Clone, Copy)]
+pub struct Happened {
+    /// Whether its movement led too far, and wasn't added.
+    pub overrun: bool,
+    /// What linking asks of the train.
+    pub asked: Effect,
+}
+
+impl Happened {
+    ghost use Rattle.std.specs.Prelude.{◌≡◌};
+    ghost use Rattle.kernel.specs.Entry.{asking};
+
+    /// Nothing.
+    pub const NOTHING: Happened = Happened {
+        overrun: false,
+        asked: Effect {
+            trip: false,
+            service: false,
+        },
+    };
+
+    /// The same, where linking asks for something more.
+    pub fn asking(self, effect: Effect) -> Happened
+        ensures { result ≡ asking self effect }
+    {
+        Happened {
+            overrun: self.overrun,
+            asked: self.asked.both(effect),
+        }
+    }
 }

@@ -11,7 +11,7 @@ pub struct Kept {
 
 impl Kept {
     ghost use Rattle.std.specs.Prelude.{◌≡◌};
-    ghost use Rattle.kernel.specs.Lives.{nothing_kept};
+    ghost use Rattle.kernel.specs.Lives.{nothing_kept, counted};
 
     // Before the first power-up.
     pub(crate) fn nothing() -> Kept
@@ -21,5 +21,12 @@ impl Kept {
             lives: 0,
             national: National::new().in_force().copy(),
         }
+    }
+
+    /// How many lives there are with the one that begins now.
+    pub(crate) fn next_life(&self) -> u32
+        ensures { result ≡ counted self.now.lives }
+    {
+        self.lives.saturating_add(1)
     }
 }

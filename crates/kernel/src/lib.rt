@@ -3,15 +3,18 @@
 
 mod closing;
 mod events;
+mod fixing;
 mod kept;
 mod laws;
 mod limiting;
-mod messages;
+mod looking;
+mod parts;
 mod receiving;
 mod state;
 mod steps;
 mod telegram_bytes;
 mod train;
+mod using;
 
 pub use events::{Action, Event, Input, Reading};
 pub use kept::Kept;

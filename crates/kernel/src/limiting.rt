@@ -18,8 +18,8 @@ impl<G: ProfileStore<Permille> + Drop, S: ProfileStore<CategorySpeeds> + Drop> S
     fn responsible_limit(&self, stretch: &Stretch, train: &TrainData) -> Mph
         ensures { (life : Life) → StandsForLife G.profile S.profile self.now life → stretch.now ≡ train_of train.now life → result ≡ responsible_limit train.now life }
     {
-        let speed = self.national.in_force().values().staff_responsible;
-        self.restrictions.least(stretch, speed.min(train.maximum))
+        let speed = self.parts.national.in_force().values().staff_responsible;
+        self.parts.restrictions.least(stretch, speed.min(train.maximum))
     }
 
     // What limits the train wherever it stands.
@@ -29,8 +29,8 @@ impl<G: ProfileStore<Permille> + Drop, S: ProfileStore<CategorySpeeds> + Drop> S
         Bounds {
             maximum: train.maximum,
             category: train.category,
-            main: self.authority.main_speed(),
-            end: self.authority.end(),
+            main: self.parts.authority.main_speed(),
+            end: self.parts.authority.end(),
         }
     }
 
@@ -43,12 +43,12 @@ impl<G: ProfileStore<Permille> + Drop, S: ProfileStore<CategorySpeeds> + Drop> S
             front: stretch.max_front(),
             bounds: &bounds,
             speeds: &self.speeds,
-            restrictions: &self.restrictions,
+            restrictions: &self.parts.restrictions,
             gradient: &self.gradients,
             brakes: &train.brakes,
         };
-        let limit = limit_on(stretch, &bounds, &self.speeds, &self.restrictions);
-        let national = self.national.in_force().values().release;
+        let limit = limit_on(stretch, &bounds, &self.speeds, &self.parts.restrictions);
+        let national = self.parts.national.in_force().values().release;
         released_by(&ahead, limit, &bounds.end, national)
     }
 
@@ -56,7 +56,7 @@ impl<G: ProfileStore<Permille> + Drop, S: ProfileStore<CategorySpeeds> + Drop> S
     pub(crate) fn limit(&self, mode: Mode, train: &TrainData) -> Mph
         ensures { (life : Life) → StandsForLife G.profile S.profile self.now life → result ≡ limit mode train.now life }
     {
-        let stretch = self.place.stretch(train.length);
+        let stretch = self.parts.place.stretch(train.length);
         match mode {
             Mode::FullSupervision => self.permitted_speed(&stretch, train),
             Mode::StaffResponsible => self.responsible_limit(&stretch, train),

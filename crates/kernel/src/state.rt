@@ -6,31 +6,21 @@ ghost use Rattle.kernel.specs.Lives.{begun_life};
 ghost use Rattle.kernel.specs.StandsFor.{StandsForLife, StandsFor};
 
 use crate::kept::Kept;
+use crate::looking::mark_behind;
+use crate::parts::Parts;
 use crate::train::TrainData;
-use authority::Authority;
-use balise_groups::Assembler;
-use linking::Links;
-use national::National;
-use odometry::Place;
 use speed_profile::CategorySpeeds;
 use std::alloc::Global;
 use std::marker::Model;
-use track_store::{ProfileStore, Restrictions, SegmentStore};
-use units::{Ms, NoMemory, Permille};
+use track_store::{ProfileStore, SegmentStore};
+use units::{NoMemory, Permille};
 
 /// What the kernel knows, with stores for the gradients and the static speeds.
 #[derive(Drop)]
 pub struct StateOver<G, S> {
-    pub(crate) place: Place,
-    pub(crate) groups: Assembler,
-    pub(crate) links: Links,
-    pub(crate) national: National,
-    pub(crate) restrictions: Restrictions,
-    pub(crate) moment: Ms,
-    pub(crate) authority: Authority,
+    pub(crate) parts: Parts,
     pub(crate) gradients: G,
     pub(crate) speeds: S,
-    pub(crate) lives: u32,
 }
 
 /// What the kernel knows, with stores that stay short however long the life.
@@ -41,18 +31,7 @@ impl<G, S> Model for StateOver<G, S> {
 
     ghost Value = { Knowledge G S };
 
-    ghost view = { λ s. record {
-      place = s.place;
-      groups = s.groups;
-      links = s.links;
-      national = s.national;
-      restrictions = s.restrictions;
-      moment = s.moment;
-      authority = s.authority;
-      gradients = s.gradients;
-      speeds = s.speeds;
-      lives = s.lives;
-    } };
+    ghost view = { λ s. record { parts = s.parts; gradients = s.gradients; speeds = s.speeds } };
 }
 
 impl<G: ProfileStore<Permille> + Drop, S: ProfileStore<CategorySpeeds> + Drop> StateOver<G, S> {
@@ -68,10 +47,10 @@ impl<G: ProfileStore<Permille> + Drop, S: ProfileStore<CategorySpeeds> + Drop> S
     pub(crate) fn power_up(alloc: Global, kept: Kept, train: &TrainData) -> Self
         ensures { StandsForLife G.profile S.profile result (begun_life train.now kept) }
     {
-        let lives = kept.lives.saturating_add(1);
+        let lives = kept.next_life();
         let mut state = StateOver::before(alloc, kept, lives);
-        let stretch = state.place.stretch(train.length);
-        state.forget_behind(&stretch);
+        let stretch = state.parts.place.stretch(train.length);
+        state.forget(mark_behind(&stretch));
         state
     }
 
@@ -80,16 +59,9 @@ impl<G: ProfileStore<Permille> + Drop, S: ProfileStore<CategorySpeeds> + Drop> S
         ensures { StandsForLife G.profile S.profile result (record { lives = lives; kept = kept; entries = [] }) }
     {
         StateOver {
-            place: Place::new(),
-            groups: Assembler::new(),
-            links: Links::new(),
-            national: National::kept(kept.national),
-            restrictions: Restrictions::new(alloc),
-            moment: Ms::new(0).unwrap(),
-            authority: Authority::new(),
+            parts: Parts::new(alloc, kept, lives),
             gradients: G::empty(alloc),
             speeds: S::empty(alloc),
-            lives,
         }
     }
 
@@ -98,8 +70,8 @@ impl<G: ProfileStore<Permille> + Drop, S: ProfileStore<CategorySpeeds> + Drop> S
         ensures { (train : TrainData) (events : List Event) → StandsFor G.profile S.profile train self.now events → result ≡ kept train events }
     {
         Kept {
-            lives: self.lives,
-            national: self.national.in_force().copy(),
+            lives: self.parts.lives,
+            national: self.parts.national.in_force().copy(),
         }
     }
 
@@ -108,16 +80,9 @@ impl<G: ProfileStore<Permille> + Drop, S: ProfileStore<CategorySpeeds> + Drop> S
         ensures { IfOk result (λ copy. copy ≡ self.now) }
     {
         Ok(StateOver {
-            place: self.place,
-            groups: self.groups.copy(),
-            links: self.links.copy(),
-            national: self.national.copy(),
-            restrictions: self.restrictions.copy(alloc)?,
-            moment: self.moment,
-            authority: self.authority.copy(),
+            parts: self.parts.copy(alloc)?,
             gradients: self.gradients.copy(alloc)?,
             speeds: self.speeds.copy(alloc)?,
-            lives: self.lives,
         })
     }
 }

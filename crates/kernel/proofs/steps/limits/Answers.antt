@@ -19,7 +19,7 @@ loop-input-init c = (
 pub loop-input-preserved : goal.loop-input-preserved
 loop-input-preserved c =
     let so_far = c.loop-input.invariant in
-    let now = c.in_ok-receive.ensures (life_of c.args.train.now so_far.0) so_far.1 in
+    let now = (c.in_ok-receive.ensures (life_of c.args.train.now so_far.0) so_far.1).0 in
     let value = c.limit.ensures (life_of c.args.train.now (event.Input c.input-item.result ∷ so_far.0)) now in (
       event.Input c.input-item.result ∷ so_far.0,
       now,

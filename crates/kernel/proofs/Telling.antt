@@ -13,7 +13,7 @@ each_earlier facts told =
       grants = after_facts after_authority facts told.grants;
       restrictions = after_facts after_restriction facts told.restrictions;
       gradients = record { mark = told.gradients.mark; facts = after_facts after_gradients facts told.gradients.facts };
-      speeds = record { mark = told.speeds.mark; facts = after_facts after_speeds facts told.speeds.facts }
+      speeds = record { mark = told.speeds.mark; facts = after_facts after_speeds facts told.speeds.facts };
     }
 
 pub all_earlier : (facts : List Fact) (told : Told) → after_facts after_earlier facts told ≡ each_earlier facts told
@@ -36,7 +36,7 @@ earlier_where used fact told =
       grants = cond used (after_authority fact told.grants) told.grants;
       restrictions = cond used (after_restriction fact told.restrictions) told.restrictions;
       gradients = record { mark = told.gradients.mark; facts = cond used (after_gradients fact told.gradients.facts) told.gradients.facts };
-      speeds = record { mark = told.speeds.mark; facts = cond used (after_speeds fact told.speeds.facts) told.speeds.facts }
+      speeds = record { mark = told.speeds.mark; facts = cond used (after_speeds fact told.speeds.facts) told.speeds.facts };
     }
 
 pub told_where : (used : Bool) (fact : Fact) (told : Told) → earlier_where used fact told ≡ cond used (after_earlier fact told) told

@@ -31,7 +31,7 @@ known_of told =
       links = linking.known told.links;
       national = national.known told.kept told.values;
       restrictions = track.in_force told.restrictions;
-      authority = known_authority told.grants
+      authority = known_authority told.grants;
     }
 
 -- the state is what was told
@@ -49,7 +49,7 @@ after_earlier fact told =
       grants = after_authority fact told.grants;
       restrictions = after_restriction fact told.restrictions;
       gradients = record { mark = told.gradients.mark; facts = after_gradients fact told.gradients.facts };
-      speeds = record { mark = told.speeds.mark; facts = after_speeds fact told.speeds.facts }
+      speeds = record { mark = told.speeds.mark; facts = after_speeds fact told.speeds.facts };
     }
 
 -- .. and in the second

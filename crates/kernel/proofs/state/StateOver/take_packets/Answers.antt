@@ -6,7 +6,7 @@ use Rattle.kernel.specs.History.{links, national_entries, authorities, restricti
 use Rattle.kernel.specs.Steps.{facts}
 use Rattle.kernel.specs.StandsFor.{parts_of, grown}
 use Rattle.kernel.specs.Told.{Told, IsTold}
-use Rattle.kernel.proofs.Telling.{each_earlier, each_later, all_earlier, all_later}
+use Rattle.kernel.proofs.Telling.{each_later, all_earlier, all_later}
 use Rattle.kernel.proofs.state.StateOver.take_packets.Goals as goal
 
 pub returns : goal.returns

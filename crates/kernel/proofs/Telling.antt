@@ -13,7 +13,7 @@ each_earlier facts told =
       grants = after_facts after_authority facts told.grants;
       restrictions = after_facts after_restriction facts told.restrictions;
       gradients = after_facts after_gradients facts told.gradients;
-      speeds = after_facts after_speeds facts told.speeds
+      speeds = after_facts after_speeds facts told.speeds;
     }
 
 pub all_earlier : (facts : List Fact) (told : Told) → after_facts after_earlier facts told ≡ each_earlier facts told
@@ -36,7 +36,7 @@ earlier_where used fact told =
       grants = cond used (after_authority fact told.grants) told.grants;
       restrictions = cond used (after_restriction fact told.restrictions) told.restrictions;
       gradients = cond used (after_gradients fact told.gradients) told.gradients;
-      speeds = cond used (after_speeds fact told.speeds) told.speeds
+      speeds = cond used (after_speeds fact told.speeds) told.speeds;
     }
 
 pub told_where : (used : Bool) (fact : Fact) (told : Told) → earlier_where used fact told ≡ cond used (after_earlier fact told) told

@@ -19,13 +19,13 @@ pub record Fact : Type 0 where
   pub moment : ℕ
   pub packet : Packet
 
--- what came of a group that closed
+-- what came of a group that closed; of an accepted one also its announcement, if it had one, the fix that it made, if it
+-- made one, and those of its packets that were used, in the order of the message
 pub data Outcome : Type 0 where
   Broken : BrokenGroup → Outcome  -- it gave no message
   Ignored : Message → Outcome  -- it isn't announced while others are
   Rejected : Message → Announcement → Outcome  -- it was found too early or in the wrong direction
-  Accepted : Message → Option Announcement → Option Fix → List Fact → Outcome  -- as announced, if so; the fix that it
-    -- made, and those of its packets that were used, in the order of the message
+  Accepted : Message → Option Announcement → Option Fix → List Fact → Outcome
 
 -- what the input itself did
 pub record Begun : Type 0 where

@@ -1,7 +1,6 @@
 -- What stands between the sentences of one event.
 use Rattle.std.specs.Prelude.{◌*◌, ℤ, Bool, if◌then◌else◌, Option, Some, None, List}
 use Rattle.packets.specs.declared.packet.Packet.{Packet}
-use Rattle.balise_groups.specs.Groups as groups
 use Rattle.linking.specs.declared.announcement.Announcement.{Announcement}
 use Rattle.kernel.specs.declared.fixing.Wanted.{Wanted}
 use Rattle.kernel.specs.declared.receiving.Went.{Went}

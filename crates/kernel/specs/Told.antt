@@ -32,7 +32,7 @@ known_of told =
       links = linking.known told.links;
       national = national.known told.kept told.values;
       restrictions = track.in_force told.restrictions;
-      authority = known_authority told.grants
+      authority = known_authority told.grants;
     }
 
 -- the state is what was told
@@ -51,7 +51,7 @@ after_earlier fact told =
       grants = after_authority fact told.grants;
       restrictions = after_restriction fact told.restrictions;
       gradients = after_gradients fact told.gradients;
-      speeds = after_speeds fact told.speeds
+      speeds = after_speeds fact told.speeds;
     }
 
 -- .. and in the second

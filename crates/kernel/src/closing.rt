@@ -97,12 +97,7 @@ impl<G: ProfileStore<Permille> + Drop, S: ProfileStore<CategorySpeeds> + Drop> S
     }
 
     // A whole group that was judged: one that is accepted is used.
-    fn follow(
-        &mut self,
-        alloc: Global,
-        message: &Message,
-        verdict: Verdict,
-    ) -> Result<(), NoMemory>
+    fn follow(&mut self, alloc: Global, message: &Message, verdict: Verdict) -> Result<(), NoMemory>
         ensures { OnOk result ((life : Life) (begun : Begun) (used : Used)
             → StandsForLife G.profile S.profile self.old (grown_so_far life begun (added (ruled message.now verdict) used))
             → StandsForLife G.profile S.profile self.new (grown_so_far life begun (added (outcome_of life.entries begun used message.now verdict) used))) }

@@ -19,7 +19,9 @@ impl<G: ProfileStore<Permille> + Drop, S: ProfileStore<CategorySpeeds> + Drop> S
         ensures { (life : Life) → StandsForLife G.profile S.profile self.now life → stretch.now ≡ train_of train.now life → result ≡ responsible_limit train.now life }
     {
         let speed = self.parts.national.in_force().values().staff_responsible;
-        self.parts.restrictions.least(stretch, speed.min(train.maximum))
+        self.parts
+            .restrictions
+            .least(stretch, speed.min(train.maximum))
     }
 
     // What limits the train wherever it stands.

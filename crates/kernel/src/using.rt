@@ -59,12 +59,7 @@ pub trait Walk<T> {
     ghost after: { Fact → Told → Told };
 
     /// Takes what concerns this walk of a packet, where it is used. Where memory is refused, the state is no longer of use.
-    fn take(
-        state: &mut T,
-        alloc: Global,
-        packet: &Packet<'_>,
-        used: &Use,
-    ) -> Result<(), NoMemory>
+    fn take(state: &mut T, alloc: Global, packet: &Packet<'_>, used: &Use) -> Result<(), NoMemory>
         ensures { OnOk result ((told : Told) → IsTold state.old told
             → IsTold state.new (if is_valid used.now.direction packet.now then after (fact_of used.now packet.now) told else told)) };
 }
@@ -108,9 +103,8 @@ impl Parts {
 /// The walk over all kinds of packets but those that come behind another kind of the same part.
 pub struct Earlier;
 
-impl<G: ProfileStore<Permille> + Drop, S: ProfileStore<CategorySpeeds> + Drop>
-    Walk<StateOver<G, S>> for Earlier
-{
+impl<G: ProfileStore<Permille> + Drop, S: ProfileStore<CategorySpeeds> + Drop> Walk<StateOver<G, S>>
+    for Earlier {
     ghost Told = { AllTold };
 
     ghost IsTold = { λ state told. IsAllTold G.profile S.profile state told };
@@ -133,9 +127,8 @@ impl<G: ProfileStore<Permille> + Drop, S: ProfileStore<CategorySpeeds> + Drop>
 /// The walk over the revocations, behind the restrictions.
 pub struct Later;
 
-impl<G: ProfileStore<Permille> + Drop, S: ProfileStore<CategorySpeeds> + Drop>
-    Walk<StateOver<G, S>> for Later
-{
+impl<G: ProfileStore<Permille> + Drop, S: ProfileStore<CategorySpeeds> + Drop> Walk<StateOver<G, S>>
+    for Later {
     ghost Told = { AllTold };
 
     ghost IsTold = { λ state told. IsAllTold G.profile S.profile state told };

@@ -1,5 +1,4 @@
-use Rattle.std.proofs.Common.{◌∷◌, Some, ap, subst, ◌∙◌}
-use Rattle.units.specs.Stretches.{Span}
+use Rattle.std.proofs.Common.{Some, ap, subst, ◌∙◌}
 use Rattle.odometry.specs.Place as odometry
 use Rattle.kernel.specs.Entry.{Entry, marked}
 use Rattle.kernel.specs.Sentences.{mark_behind}

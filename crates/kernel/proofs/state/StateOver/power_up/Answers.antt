@@ -1,5 +1,4 @@
 use Rattle.std.proofs.Common.{◌≡◌, None, ◌∷◌, [], ap, subst, ◌∙◌}
-use Rattle.units.specs.Stretches.{Span}
 use Rattle.odometry.specs.Place as odometry
 use Rattle.kernel.specs.Entry.{looked, marked, no_groups}
 use Rattle.kernel.specs.Lives.{Life, counted}

@@ -7,7 +7,7 @@ use Rattle.kernel.specs.Steps.{facts}
 use Rattle.kernel.specs.StandsFor.{parts_of, grown}
 use Rattle.kernel.specs.Told.{Told, IsTold}
 use Rattle.kernel.proofs.Marking.{one_mark}
-use Rattle.kernel.proofs.Telling.{each_earlier, each_later, all_earlier, all_later}
+use Rattle.kernel.proofs.Telling.{each_later, all_earlier, all_later}
 use Rattle.kernel.proofs.state.StateOver.take_packets.Goals as goal
 
 pub returns : goal.returns

@@ -1,5 +1,5 @@
 -- Nothing sees where the train stands or marks the track before the last sentences.
-use Rattle.std.proofs.Common.{◌≡◌, ℤ, List, ◌∷◌, Option, Some, None, refl, ap, ◌∙◌}
+use Rattle.std.proofs.Common.{◌≡◌, ℤ, List, [], ◌∷◌, Option, Some, None, refl, ap, ◌∙◌}
 use Rattle.std.specs.Int.{int_max}
 use Rattle.std.specs.Option.{option_map_or}
 use Rattle.track_store.specs.Facts.{profile_of}

@@ -1,4 +1,4 @@
-use Rattle.std.proofs.Common.{◌∷◌, [], ℤ, Option, ap, sym, ◌∙◌}
+use Rattle.std.proofs.Common.{◌≡◌, ◌∷◌, [], ℤ, Option, ap, sym, ◌∙◌}
 use Rattle.units.specs.Stretches.{Span}
 use Rattle.track_store.specs.Restrictions as track
 use Rattle.authority.specs.Known.{known as known_authority}

@@ -1,10 +1,7 @@
 -- What a cut leaves.
-use Rattle.std.proofs.Common.{◌≡◌, inr, ⊎_elim, ℕ, suc, zero, ◌+◌, ◌-◌, ◌*◌, ◌<◌, ◌≤◌, Bool, true, false, List, [], ◌∷◌, ◌++◌, length, take, drop, get_or, refl, sym, ◌∙◌, ap, arith, add-one, replicate, Option, Some, None}
+use Rattle.std.proofs.Common.{◌≡◌, ⊎_elim, ℕ, suc, zero, ◌+◌, ◌-◌, ◌*◌, ◌<◌, ◌≤◌, Bool, true, false, List, [], ◌∷◌, ◌++◌, length, take, drop, get_or, refl, sym, ◌∙◌, ap, arith, add-one, replicate, Option, Some, None}
 use Rattle.std.specs.Prelude.{fold, All, if◌then◌else◌}
-use Rattle.std.specs.List.{AllByRecursion}
-use Rattle.std.proofs.lemmas.List.Elements.{recursion_from_All}
 use Rattle.std.proofs.lemmas.List.{take_all, take-append-le, drop_at, drop-take, drop-replicate, take-replicate}
-use Rattle.std.proofs.Math.ListN.{drop_of_length-le}
 use Rattle.std.proofs.lemmas.Bool.{cases_lt, cases_Bool, cond-true, cond-false, false≢true}
 use Rattle.disk.specs.State.{State, Platter, now, contents_of, sector_of, settled_at, last_synced}
 use Rattle.disk.specs.Record.{bytes_at, place_in, trace_written, trace_torn, trace_next, trace_start, trace_of, platter_of, state_of, IsWithin}
@@ -12,9 +9,7 @@ use Rattle.disk.specs.Choice.{chosen, choice_at, open_below, settled_sector}
 use Rattle.disk.specs.declared.choice.Choice.{Choice}
 use Rattle.disk.specs.declared.record.Call.{Call}
 use Rattle.disk.specs.declared.record.Call.TheVariants.{Quiet, Synced, Written, Torn}
-use Rattle.disk.specs.declared.record.Span.{Span}
 use Rattle.disk.specs.declared.record.Place.{Place}
-use Rattle.disk.specs.declared.record.Place.TheVariants.{Start}
 use Rattle.disk.specs.declared.record.Trace.{Trace}
 use Rattle.disk.proofs.RecordLemmas.{trace_more}
 use Rattle.disk.proofs.Widths.{past_end, sector_past}

@@ -5,7 +5,7 @@ ghost use Rattle.disk.specs.Choice.{choice_at};
 use crate::SECTOR_BYTES;
 
 /// What an open sector holds after a cut.
-#[derive(Clone, Copy, Debug)]
+#[derive(Clone, Copy)]
 pub enum Choice {
     /// Its bytes as last synced.
     Old,

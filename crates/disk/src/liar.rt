@@ -7,7 +7,7 @@ use crate::{Disk, DiskFault};
 /// last written anywhere, over and over, and each fourth call answers DiskFault. A sync does nothing.
 ///
 /// It is not honest, so that only safety, its number of sectors and the count of its faults are promised.
-#[derive(Clone, Copy, Debug)]
+#[derive(Clone, Copy)]
 pub struct Liar {
     sectors: u64,
     calls: u64,

@@ -13,7 +13,7 @@ use units::NoMemory;
 
 /// What is to go wrong. Calls of `read`, `write` and `sync` are counted from 0 since the plan was made; one that is
 /// beyond the room is not counted.
-#[derive(Clone, Copy, Debug, PartialEq, Eq)]
+#[derive(Clone, Copy)]
 pub enum Plan {
     Nothing,
     /// The call of this number answers DiskFault, once. A write then leaves the old bytes and opens its sectors.
@@ -24,7 +24,7 @@ pub enum Plan {
 }
 
 /// What the plan makes of a call.
-#[derive(Clone, Copy, Debug, PartialEq, Eq)]
+#[derive(Clone, Copy)]
 pub enum Fate {
     Runs,
     Fails,
@@ -60,7 +60,7 @@ impl Plan {
 }
 
 /// Room for a record: so many calls, and so many bytes handed in.
-#[derive(Clone, Copy, Debug)]
+#[derive(Clone, Copy)]
 pub struct Room {
     pub calls: usize,
     pub bytes: usize,

@@ -5,7 +5,7 @@ ghost use Rattle.disk.specs.Record.{bytes_at, place_in, trace_next, trace_of, Is
 use crate::SECTOR_BYTES;
 
 /// A call of the record.
-#[derive(Clone, Copy, Debug)]
+#[derive(Clone, Copy)]
 pub enum Call {
     /// A read, a sync that failed, or any call without power.
     Quiet,
@@ -18,7 +18,7 @@ pub enum Call {
 }
 
 /// What a write was handed: so many sectors from `first` on, whose bytes begin at `from` among the written ones.
-#[derive(Clone, Copy, Debug)]
+#[derive(Clone, Copy)]
 pub struct Span {
     pub first: u64,
     pub sectors: u64,
@@ -27,14 +27,14 @@ pub struct Span {
 
 /// Where the bytes of a sector stand: among those that the disk began with, or from an offset among the written
 /// ones.
-#[derive(Clone, Copy, Debug)]
+#[derive(Clone, Copy)]
 pub enum Place {
     Start,
     Record(usize),
 }
 
 /// What the record tells of one sector.
-#[derive(Clone, Copy, Debug)]
+#[derive(Clone, Copy)]
 pub struct Trace {
     /// What a read gives.
     pub last: Place,

@@ -2,6 +2,7 @@
 use crate::calls::read;
 use disk::{Choice, Disk, Liar, Memory, put};
 use std::test::Fail;
+use units::NoMemory;
 
 #[test]
 fn whole_sectors_below_the_end(rt: HostRuntime) -> Result<(), Fail> {

@@ -6,7 +6,7 @@ use std::alloc::Global;
 use std::mem::swap;
 use std::process::Abort;
 use std::test::Fail;
-use track_store::{FactStore, ProfileStore, SegmentStore, Step, least_over};
+use track_store::{FactStore, ProfileStore, SegmentStore, Step, is_known_throughout, least_over};
 use units::{Mph, NoMemory};
 
 /// A step to a speed in km/h, or an end mark.
@@ -28,9 +28,11 @@ enum Event {
     Lasts(i64, Option<i64>),
     /// The least speed from one place to another, in km/h, where 160 is allowed otherwise.
     Least(i64, i64, u16),
+    /// Whether there is a value at each centimetre from one place up to and without another.
+    Throughout(i64, i64, bool),
 }
 
-use Event::{Clear, DropBehind, Gives, Keep, Lasts, Least, Replace, Turn};
+use Event::{Clear, DropBehind, Gives, Keep, Lasts, Least, Replace, Throughout, Turn};
 
 fn replace<R: Abort, S: ProfileStore<Mph>>(
     rt: &R,
@@ -81,6 +83,10 @@ fn happens<R: Abort, S: ProfileStore<Mph>>(
         Least(from, to, speed) => {
             let least = least_over(store, cm(rt, *from), cm(rt, *to), kmh(rt, 160)).get();
             same(rt, &least, &(u32::from(*speed) * 1_000), row, number);
+        }
+        Throughout(from, end, known) => {
+            let all = is_known_throughout(store, cm(rt, *from), cm(rt, *end));
+            same(rt, &all, known, row, number);
         }
         Keep | Turn => {}
     }
@@ -198,7 +204,7 @@ const ROWS: &[(&str, &[Event])] = &[
             ]),
         ],
     ),
-    // Below the mark there is no value, whenever it was told.
+    // What was told lies behind the place no more, but what is told there later counts.
     (
         "forgotten",
         &[
@@ -210,7 +216,13 @@ const ROWS: &[(&str, &[Event])] = &[
             DropBehind(500),
             Gives(&[(1_999, 0), (2_000, 100)]),
             Replace(1_500, &[(1_500, Some(60)), (2_500, Some(120))]),
-            Gives(&[(1_500, 0), (1_999, 0), (2_000, 60), (2_500, 120)]),
+            Gives(&[
+                (1_499, 0),
+                (1_500, 60),
+                (1_999, 60),
+                (2_000, 60),
+                (2_500, 120),
+            ]),
         ],
     ),
     // Where the mark falls on the place of a step, that step counts from the mark on, and the one before it nowhere.
@@ -229,9 +241,12 @@ const ROWS: &[(&str, &[Event])] = &[
             Lasts(2_000, None),
             Replace(2_000, &[(2_000, Some(60))]),
             Gives(&[(1_999, 0), (2_000, 60)]),
+            Replace(1_000, &[(1_000, Some(40)), (1_500, None)]),
+            DropBehind(1_200),
+            Gives(&[(1_199, 0), (1_200, 40), (1_499, 40), (1_500, 0)]),
         ],
     ),
-    // A copy stays as it was, and a store that is cleared keeps its mark.
+    // A copy stays as it was, and in a store that is cleared all that is told counts.
     (
         "copied and cleared",
         &[
@@ -244,7 +259,29 @@ const ROWS: &[(&str, &[Event])] = &[
             Gives(&[(99, 0), (100, 80), (9_000, 80)]),
             Turn,
             Replace(0, &[(0, Some(60))]),
-            Gives(&[(99, 0), (100, 60)]),
+            Gives(&[(99, 60), (100, 60)]),
+        ],
+    ),
+    (
+        "known throughout",
+        &[
+            Throughout(0, 1, false),
+            Throughout(0, 0, true),
+            Replace(0, &[(0, Some(80)), (1_000, Some(100)), (3_000, None)]),
+            Throughout(0, 3_000, true),
+            Throughout(0, 3_001, false),
+            Throughout(-1, 1, false),
+            Throughout(-1, -1, true),
+            Throughout(2_999, 3_000, true),
+            Throughout(3_000, 3_001, false),
+            Throughout(5_000, 4_000, true),
+            DropBehind(500),
+            Throughout(499, 3_000, false),
+            Throughout(500, 3_000, true),
+            Replace(2_000, &[(2_100, Some(60))]),
+            Throughout(500, 2_000, true),
+            Throughout(500, 2_001, false),
+            Throughout(2_100, 4_000_000, true),
         ],
     ),
     (
@@ -273,5 +310,32 @@ const ROWS: &[(&str, &[Event])] = &[
 fn of_both_stores(rt: HostRuntime) -> Result<(), Fail> {
     rows::<HostRuntime, FactStore<Mph>>(&rt, rt.alloc())?;
     rows::<HostRuntime, SegmentStore<Mph>>(&rt, rt.alloc())?;
+    Ok(())
+}
+
+/// What is told, and how many segments it leaves.
+type Counted = (Event, usize);
+
+/// Neighbours of one value are one segment, and a stretch without a value is none.
+const COUNTS: &[Counted] = &[
+    (Replace(0, &[(0, Some(160))]), 1),
+    (Replace(5_000, &[(5_000, Some(160))]), 1),
+    (Replace(7_000, &[(7_000, Some(80))]), 2),
+    (Replace(9_000, &[(9_000, None)]), 2),
+    (Replace(9_500, &[(9_500, Some(80))]), 3),
+    (DropBehind(6_999), 3),
+    (DropBehind(7_000), 2),
+    (DropBehind(9_200), 1),
+    (DropBehind(9_400), 1),
+    (Clear, 0),
+];
+
+#[test]
+fn counted(rt: HostRuntime) -> Result<(), Fail> {
+    let mut store: SegmentStore<Mph> = SegmentStore::empty(rt.alloc());
+    for (number, (event, count)) in COUNTS.iter().enumerate() {
+        happens(&rt, &mut store, event, "counted", number)?;
+        same(&rt, &store.count(), count, "counted", number);
+    }
     Ok(())
 }

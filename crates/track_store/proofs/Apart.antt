@@ -111,8 +111,8 @@ module _ {A : Type 0} where
   rest_ahead_of_both a b [] r s = tt
   rest_ahead_of_both a b (first ∷ segments) r s = (
     let k : a <ℤ first.start = r.0 in
-    let l : b <ℤ first.start = s.0 in
-    grind (arith, ints),
+        let l : b <ℤ first.start = s.0 in
+        grind (arith, ints),
     r.1,
   )
 

@@ -1,5 +1,5 @@
 use Rattle.std.proofs.Common.{◌≡◌, ◌≤ℤ◌, ◌<ℤ◌, true, false, ap, sym, ◌∙◌, rules, arith}
-use Rattle.std.specs.Prelude.{Some, None, IsSome, is_none}
+use Rattle.std.specs.Prelude.{Some, None, is_none}
 use Rattle.std.proofs.lemmas.Int.{ints}
 use Rattle.track_store.specs.Profiles.{Lasts}
 use Rattle.track_store.proofs.Jumps.{fewer_left}

@@ -1,4 +1,4 @@
-use Rattle.std.proofs.Common.{ℤ, ◌≤ℤ◌}
+use Rattle.std.proofs.Common.{◌≤ℤ◌}
 use Rattle.units.specs.Stretches.{count_between}
 use Rattle.track_store.specs.Profiles.{IsKnownThroughout}
 use Rattle.track_store.proofs.knowing.is_known_throughout.Given as goal

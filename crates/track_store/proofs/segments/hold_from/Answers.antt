@@ -1,4 +1,4 @@
-use Rattle.std.proofs.Common.{◌≡◌, ◌≢◌, true, false, [], ◌∷◌, ◌++◌, List, ap, sym, subst, ◌∙◌, rules}
+use Rattle.std.proofs.Common.{◌≡◌, ◌≢◌, true, false, [], ◌∷◌, ◌++◌, ap, sym, subst, ◌∙◌, rules}
 use Rattle.std.specs.Prelude.{int_lt, filter, None}
 use Rattle.std.proofs.lemmas.Fn.{filter_same}
 use Rattle.track_store.specs.declared.segments.Segment.{Segment}

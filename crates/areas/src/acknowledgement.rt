@@ -1,0 +1,90 @@
+ghost use Rattle.std.specs.Prelude.{◌≡◌, List, ◌∷◌, []};
+ghost use Rattle.areas.specs.Acknowledging.{Entry, after_all, waits, brakes};
+ghost use Rattle.areas.specs.Acknowledging.Entry.{Acknowledged, Turned, Asking, Settled, Forgotten};
+
+use units::Ms;
+
+/// What the driver has to acknowledge of one kind.
+#[derive(Clone, Copy, Debug, PartialEq, Eq)]
+pub enum Acknowledgement {
+    /// Nothing.
+    Nothing,
+    /// It is asked for, before the transition.
+    Asked,
+    /// It was given before the transition.
+    Done,
+    /// It is owed since a transition at this moment.
+    Owed(Ms),
+}
+
+impl Acknowledgement {
+    /// Nothing is asked for.
+    pub fn new() -> Self
+        ensures { result ≡ after_all [] }
+    {
+        Acknowledgement::Nothing
+    }
+
+    /// The driver acknowledges.
+    pub fn acknowledge(&mut self)
+        ensures { (entries : List Entry) → self.old ≡ after_all entries → self.new ≡ after_all (Acknowledged ∷ entries) }
+    {
+        *self = match *self {
+            Acknowledgement::Asked => Acknowledgement::Done,
+            Acknowledgement::Owed(_) => Acknowledgement::Nothing,
+            other => other,
+        };
+    }
+
+    /// The transition: its mode is entered because of an area, or the announced level 0 comes into force.
+    pub fn turn(&mut self, moment: Ms)
+        ensures { (entries : List Entry) → self.old ≡ after_all entries → self.new ≡ after_all (Turned moment ∷ entries) }
+    {
+        *self = match *self {
+            Acknowledgement::Done => Acknowledgement::Nothing,
+            _ => Acknowledgement::Owed(moment),
+        };
+    }
+
+    /// An area or an announcement of the kind asks for it.
+    pub fn ask(&mut self)
+        ensures { (entries : List Entry) → self.old ≡ after_all entries → self.new ≡ after_all (Asking ∷ entries) }
+    {
+        if matches!(self, Acknowledgement::Nothing) {
+            *self = Acknowledgement::Asked;
+        }
+    }
+
+    /// No area or announcement of the kind is left.
+    pub fn settle(&mut self)
+        ensures { (entries : List Entry) → self.old ≡ after_all entries → self.new ≡ after_all (Settled ∷ entries) }
+    {
+        if !matches!(self, Acknowledgement::Owed(_)) {
+            *self = Acknowledgement::Nothing;
+        }
+    }
+
+    /// A mode is entered that deletes it.
+    pub fn clear(&mut self)
+        ensures { (entries : List Entry) → self.new ≡ after_all (Forgotten ∷ entries) }
+    {
+        *self = Acknowledgement::Nothing;
+    }
+
+    /// Whether it is asked for or owed.
+    pub fn waits(&self) -> bool
+        ensures { result ≡ waits self.now }
+    {
+        matches!(self, Acknowledgement::Asked | Acknowledgement::Owed(_))
+    }
+
+    /// Whether it has been owed for 5,000 ms, and so orders the service brake.
+    pub fn brakes(&self, now: Ms) -> bool
+        ensures { result ≡ brakes now self.now }
+    {
+        match self {
+            Acknowledgement::Owed(since) => since.get() + 5_000 <= now.get(),
+            _ => false,
+        }
+    }
+}

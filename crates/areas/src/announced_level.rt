@@ -1,0 +1,88 @@
+ghost use Rattle.std.specs.Prelude.{◌≡◌, ◌*◌, ◌^◌, ◌≤◌, List, [], ◌∷◌};
+ghost use Rattle.std.specs.Int.RustNames.{unsigned_abs};
+ghost use Rattle.areas.specs.Levels.{Entry, fact_of, waiting, coming, is_level_0_announced, any_asks_for};
+ghost use Rattle.areas.specs.Levels.Entry.{Announced, Reached, Forgotten};
+
+use crate::Announcement;
+use mode_table::TrainLevel;
+use packets::LevelTransition;
+use std::marker::Model;
+use units::Cm;
+
+/// The level that is announced, if one is.
+#[derive(Clone, Copy, Debug)]
+pub struct AnnouncedLevel {
+    announced: Option<Announcement>,
+}
+
+impl Model for AnnouncedLevel {
+    ghost use Rattle.std.specs.Prelude.{Option};
+    ghost use Rattle.areas.specs.declared.announcement.Announcement.{Announcement as Told};
+
+    ghost Value = { Option Told };
+
+    ghost view = { λ c. c.announced };
+
+    ghost inverse = { λ told. record { announced = told } };
+}
+
+impl AnnouncedLevel {
+    /// No level is announced.
+    pub fn new() -> Self
+        ensures { result ≡ waiting [] }
+    {
+        AnnouncedLevel { announced: None }
+    }
+
+    /// Takes packet 41 in place of the older announcement, unless the train can run in none of its levels.
+    pub fn announce(&mut self, packet: &LevelTransition, place: Cm)
+        requires { unsigned_abs place ≤ 3 * 2 ^ 40 }
+        ensures { (entries : List Entry) → self.old ≡ waiting entries
+            → self.new ≡ waiting (Announced (fact_of packet.now place) ∷ entries) }
+    {
+        if let Some(announced) = Announcement::of(packet, place) {
+            self.announced = Some(announced);
+        }
+    }
+
+    /// The look, once an event: answers the level that comes into force, which is then no longer announced.
+    pub fn reach(&mut self, max_front: Cm) -> Option<TrainLevel>
+        ensures stands { (entries : List Entry) → self.old ≡ waiting entries
+            → self.new ≡ waiting (Reached max_front ∷ entries) }
+        ensures level { result ≡ coming max_front self.old }
+    {
+        let announced = self.announced?;
+        if !announced.is_reached(max_front) {
+            return None;
+        }
+        self.announced = None;
+        Some(announced.level)
+    }
+
+    /// Deletes the announcement.
+    pub fn clear(&mut self)
+        ensures { (entries : List Entry) → self.new ≡ waiting (Forgotten ∷ entries) }
+    {
+        self.announced = None;
+    }
+
+    /// Whether an announcement of level 0 is left.
+    pub fn is_left(&self) -> bool
+        ensures { result ≡ is_level_0_announced self.now }
+    {
+        match self.announced {
+            None => false,
+            Some(announced) => matches!(announced.level, TrainLevel::Level0),
+        }
+    }
+
+    /// Whether an announcement of level 0 asks for an acknowledgement.
+    pub fn asks(&self, max_front: Cm) -> bool
+        ensures { result ≡ any_asks_for max_front self.now }
+    {
+        match self.announced {
+            None => false,
+            Some(announced) => announced.asks(max_front),
+        }
+    }
+}

@@ -1,0 +1,10 @@
+pub mod Limits
+pub mod Data
+pub mod Overriding
+pub mod Entries
+pub mod Telling
+pub mod Revalidating
+pub mod Known
+pub mod Accepting
+pub mod Laws
+pub mod LastGiven

@@ -1,0 +1,65 @@
+// Quantities and variables made of words.
+ghost use Rattle.std.specs.Prelude.{◌*◌, ◌^◌, ◌≤◌, IfSome};
+ghost use Rattle.std.specs.Int.RustNames.{unsigned_abs};
+
+use units::{Cm, Length, Mph, Ms, Stretch};
+use vars::{AreaSpeed, Distance, OpenLength, StartPlace, Variable};
+
+pub fn number(word: &str) -> Option<u64> {
+    word.parse::<u64>().ok()
+}
+
+pub fn mph(word: &str) -> Option<Mph> {
+    Mph::new(word.parse::<u32>().ok()?)
+}
+
+pub fn ms(word: &str) -> Option<Ms> {
+    Ms::new(number(word)?)
+}
+
+pub fn length(word: &str) -> Option<Length> {
+    Length::new(number(word)?)
+}
+
+pub fn cm(word: &str) -> Option<Cm>
+    ensures { IfSome result (λ place. unsigned_abs place ≤ 3 * 2 ^ 40) }
+{
+    let number = word.parse::<u32>().ok()?;
+    Cm::new(i64::from(number))
+}
+
+// The front lies from one place to another, and the rear where the front may least be.
+pub fn stretch(min_front: &str, max_front: &str) -> Option<Stretch> {
+    let min_front = cm(min_front)?;
+    Stretch::new(min_front, min_front, cm(max_front)?)
+}
+
+// A variable of 15 bits.
+fn fifteen_bits(word: &str) -> Option<u64>
+    ensures { IfSome result (λ n. n ≤ 32_767) }
+{
+    let number = number(word)?;
+    if number <= 32_767 { Some(number) } else { None }
+}
+
+pub fn distance(word: &str) -> Option<Distance> {
+    Distance::of_number(fifteen_bits(word)?).ok()
+}
+
+pub fn open_length(word: &str) -> Option<OpenLength> {
+    OpenLength::of_number(fifteen_bits(word)?).ok()
+}
+
+pub fn start_place(word: &str) -> Option<StartPlace> {
+    StartPlace::of_number(fifteen_bits(word)?).ok()
+}
+
+// V_MAMODE: in steps of 5 km/h; 127 is the national value.
+pub fn area_speed(word: &str) -> Option<AreaSpeed> {
+    let number = number(word)?;
+    if number <= 127 {
+        AreaSpeed::of_number(number).ok()
+    } else {
+        None
+    }
+}

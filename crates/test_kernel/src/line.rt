@@ -1,0 +1,116 @@
+// What a line says.
+use arrayvec::ArrayVec;
+use braking::{Brakes, Deceleration, Reaction};
+use kernel::{Action, Event, Input, Mode, Reading, TrainData};
+use std::alloc::Global;
+use units::{Cm, Length, Mph, Ms};
+use vars::{TrainCategory, Variable};
+
+/// One line.
+#[derive(Drop)]
+pub enum Line<'a> {
+    /// No word, or a comment.
+    Nothing,
+    /// A row of this name begins.
+    Row(&'a str),
+    Train(TrainData),
+    Mode(Mode),
+    /// What happens, and the limit that is wanted after it, in metres per hour.
+    Told(Event, u32),
+}
+
+/// What a line says; None where it says nothing that can be.
+pub fn read_line(alloc: Global, text: &str) -> Option<Line<'_>> {
+    let text = text.trim();
+    if text.is_empty() || text.starts_with('#') {
+        return Some(Line::Nothing);
+    }
+    let (word, rest) = text.split_once(' ').unwrap_or((text, ""));
+    match word {
+        "row" => Some(Line::Row(rest)),
+        "train" => Some(Line::Train(train(rest)?)),
+        "mode" => Some(Line::Mode(mode(rest)?)),
+        _ => told(alloc, text),
+    }
+}
+
+fn mode(text: &str) -> Option<Mode> {
+    match text {
+        "FS" => Some(Mode::FullSupervision),
+        "SR" => Some(Mode::StaffResponsible),
+        _ => None,
+    }
+}
+
+fn train(text: &str) -> Option<TrainData> {
+    let mut words = text.split_whitespace();
+    let length = Length::new(words.next()?.parse().ok()?)?;
+    let maximum = Mph::new(words.next()?.parse().ok()?)?;
+    let deceleration = Deceleration::new(words.next()?.parse().ok()?)?;
+    let reaction = Reaction::new(words.next()?.parse().ok()?)?;
+    let category = category(words.next()?.parse().ok()?)?;
+    if words.next().is_some() {
+        return None;
+    }
+    Some(TrainData {
+        length,
+        maximum,
+        category,
+        brakes: Brakes {
+            deceleration,
+            reaction,
+        },
+    })
+}
+
+fn category(number: u8) -> Option<TrainCategory> {
+    if number < 16 {
+        TrainCategory::of_number(u64::from(number)).ok()
+    } else {
+        None
+    }
+}
+
+fn told<'a>(alloc: Global, text: &'a str) -> Option<Line<'a>> {
+    let (happens, limit) = text.split_once("->")?;
+    let limit = limit.trim().parse().ok()?;
+    let happens = happens.trim();
+    let (word, value) = happens.split_once(' ').unwrap_or((happens, ""));
+    Some(Line::Told(event(alloc, word, value)?, limit))
+}
+
+fn event(alloc: Global, word: &str, value: &str) -> Option<Event> {
+    match word {
+        "power-up" if value.is_empty() => Some(Event::PowerUp),
+        "hear" => Some(Event::Input(Input::Telegram(bytes(alloc, value)?))),
+        "move" => Some(Event::Input(Input::Odometer(reading(value)?))),
+        "clock" => Some(Event::Input(Input::Clock(Ms::new(value.parse().ok()?)?))),
+        "driver" => Some(Event::Input(Input::Driver(action(value)?))),
+        _ => None,
+    }
+}
+
+fn bytes(alloc: Global, digits: &str) -> Option<ArrayVec<u8, 104>> {
+    let bytes = hex::decode(alloc, digits).ok()?;
+    let mut held = ArrayVec::new();
+    held.try_extend_from_slice(&bytes).ok()?;
+    Some(held)
+}
+
+fn reading(movement: &str) -> Option<Reading> {
+    Some(Reading {
+        movement: Cm::new(movement.parse().ok()?)?,
+        speed: Mph::new(0)?,
+    })
+}
+
+fn action(word: &str) -> Option<Action> {
+    match word {
+        "start" => Some(Action::Start),
+        "choose-shunting" => Some(Action::ChooseShunting),
+        "leave-shunting" => Some(Action::LeaveShunting),
+        "override" => Some(Action::Override),
+        "close-desk" => Some(Action::CloseDesk),
+        _ => None,
+    }
+}

@@ -1,0 +1,58 @@
+// What was counted, and what is printed of differences.
+use anyhow::Result;
+
+/// The limit that is wanted after an input, in metres per hour, and the line that says so.
+#[derive(Clone, Copy)]
+pub struct Wanted {
+    pub line: u64,
+    pub limit: u32,
+}
+
+/// How many there were.
+#[derive(Clone, Copy)]
+pub struct Tally {
+    pub rows: u64,
+    pub inputs: u64,
+    pub differences: u64,
+}
+
+impl Tally {
+    /// Nothing was counted.
+    pub const NOTHING: Tally = Tally {
+        rows: 0,
+        inputs: 0,
+        differences: 0,
+    };
+
+    pub fn count_row(&mut self) {
+        self.rows = self.rows.wrapping_add(1);
+    }
+
+    pub fn count_input(&mut self) {
+        self.inputs = self.inputs.wrapping_add(1);
+    }
+
+    /// Says where another limit was found than is wanted.
+    pub fn compare(
+        &mut self,
+        rt: &impl Print,
+        name: &str,
+        by: &str,
+        wanted: Wanted,
+        found: u32,
+    ) -> Result<()> {
+        let Wanted { line, limit } = wanted;
+        if found != limit {
+            self.differences = self.differences.wrapping_add(1);
+            println!(rt; "{name}, line {line}: wanted {limit}, found {found} by {by}")?;
+        }
+        Ok(())
+    }
+
+    /// Says what else is wrong at a line.
+    pub fn refuse(&mut self, rt: &impl Print, line: u64, text: &str) -> Result<()> {
+        self.differences = self.differences.wrapping_add(1);
+        println!(rt; "line {line}: {text}")?;
+        Ok(())
+    }
+}

@@ -8,37 +8,37 @@ use units::{NoMemory, Permille};
 /// What the kernel knows, with stores that keep all that was told.
 pub type Listing = StateOver<FactStore<Permille>, FactStore<CategorySpeeds>>;
 
-/// How a row's train is supervised.
-#[derive(Clone, Copy)]
-pub struct Supervision {
-    pub mode: Mode,
-    pub train: TrainData,
-}
-
-/// What is known before the first power-up.
-pub fn nothing_known(alloc: Global) -> Listing {
-    Listing::empty(alloc)
+/// What is known after the first event, and the limit in metres per hour.
+pub fn after_first(
+    alloc: Global,
+    mode: Mode,
+    train: &TrainData,
+    event: &Event,
+) -> Result<(Listing, u32), NoMemory> {
+    after(alloc, mode, train, &Listing::empty(alloc), event)
 }
 
 /// What is known after an event, and the limit in metres per hour.
 pub fn after(
     alloc: Global,
-    supervision: &Supervision,
+    mode: Mode,
+    train: &TrainData,
     state: &Listing,
     event: &Event,
 ) -> Result<(Listing, u32), NoMemory> {
-    let (next, limit) = step(alloc, supervision.mode, &supervision.train, state, event)?;
+    let (next, limit) = step(alloc, mode, train, state, event)?;
     Ok((next, limit.get()))
 }
 
 /// The limits after each input of one life, in metres per hour.
 pub fn limits_after(
     alloc: Global,
-    supervision: &Supervision,
+    mode: Mode,
+    train: &TrainData,
     inputs: &[Input],
 ) -> Result<Vec<u32>, NoMemory> {
     let mut speeds = Vec::new(alloc);
-    for limit in &limits(alloc, supervision.mode, &supervision.train, inputs)? {
+    for limit in &limits(alloc, mode, train, inputs)? {
         speeds.push(limit.get())?;
     }
     Ok(speeds)

@@ -3,6 +3,7 @@ use arrayvec::ArrayVec;
 use braking::{Brakes, Deceleration, Reaction};
 use kernel::{Action, Event, Input, Mode, Reading, TrainData};
 use std::alloc::Global;
+use std::str::{FromStr, SplitWhitespace};
 use units::{Cm, Length, Mph, Ms};
 use vars::{TrainCategory, Variable};
 
@@ -21,8 +22,8 @@ pub enum Line<'a> {
 
 /// What a line says; None where it says nothing that can be.
 pub fn read_line(alloc: Global, text: &str) -> Option<Line<'_>> {
-    let text = text.trim();
-    if text.is_empty() || text.starts_with('#') {
+    let text = text.split_once('#').map_or(text, |(said, _)| said).trim();
+    if text.is_empty() {
         return Some(Line::Nothing);
     }
     let (word, rest) = text.split_once(' ').unwrap_or((text, ""));
@@ -42,24 +43,35 @@ fn mode(text: &str) -> Option<Mode> {
     }
 }
 
+// The next word of a line as a number.
+fn number<T: FromStr>(words: &mut SplitWhitespace<'_>) -> Option<T>
+where
+    T::Err: Drop,
+{
+    words.next()?.parse().ok()
+}
+
 fn train(text: &str) -> Option<TrainData> {
     let mut words = text.split_whitespace();
-    let length = Length::new(words.next()?.parse().ok()?)?;
-    let maximum = Mph::new(words.next()?.parse().ok()?)?;
-    let deceleration = Deceleration::new(words.next()?.parse().ok()?)?;
-    let reaction = Reaction::new(words.next()?.parse().ok()?)?;
-    let category = category(words.next()?.parse().ok()?)?;
+    let length = number(&mut words)?;
+    let maximum = number(&mut words)?;
+    let brakes = brakes(number(&mut words)?, number(&mut words)?)?;
+    let category = category(number(&mut words)?)?;
     if words.next().is_some() {
         return None;
     }
     Some(TrainData {
-        length,
-        maximum,
+        length: Length::new(length)?,
+        maximum: Mph::new(maximum)?,
         category,
-        brakes: Brakes {
-            deceleration,
-            reaction,
-        },
+        brakes,
+    })
+}
+
+fn brakes(deceleration: u16, reaction: u16) -> Option<Brakes> {
+    Some(Brakes {
+        deceleration: Deceleration::new(deceleration)?,
+        reaction: Reaction::new(reaction)?,
     })
 }
 

@@ -1,5 +1,5 @@
 // One row, as far as it was read.
-use crate::calls::{Listing, Supervision, after, limits_after, nothing_known};
+use crate::calls::{Listing, after, after_first, limits_after};
 use crate::tally::{Tally, Wanted};
 use anyhow::Result;
 use kernel::{Event, Input, Mode, TrainData};
@@ -10,8 +10,7 @@ pub struct Row {
     pub name: String,
     pub train: Option<TrainData>,
     pub mode: Option<Mode>,
-    state: Listing,
-    is_powered: bool,
+    state: Option<Listing>,
     has_more_lives: bool,
     inputs: Vec<Input>,
     wanted: Vec<Wanted>,
@@ -24,8 +23,7 @@ impl Row {
             name: String::new(alloc),
             train: None,
             mode: None,
-            state: nothing_known(alloc),
-            is_powered: false,
+            state: None,
             has_more_lives: false,
             inputs: Vec::new(alloc),
             wanted: Vec::new(alloc),
@@ -37,31 +35,22 @@ impl Row {
         self.wanted.is_empty()
     }
 
-    /// How it is supervised, once that is told.
-    pub fn supervision(&self) -> Option<Supervision> {
-        Some(Supervision {
-            mode: self.mode?,
-            train: self.train?,
-        })
-    }
-
     /// The next event, over the store of all facts: the limit after it. Before the first input power comes on.
     pub fn tell(
         &mut self,
         alloc: Global,
-        supervision: &Supervision,
+        mode: Mode,
+        train: &TrainData,
         event: Event,
-        wanted: Wanted,
     ) -> Result<u32> {
-        self.wanted.push(wanted)?;
         match &event {
             Event::PowerUp => self.has_more_lives = true,
-            Event::Input(_) if !self.is_powered => {
-                self.step(alloc, supervision, &Event::PowerUp)?;
+            Event::Input(_) if self.state.is_none() => {
+                self.step(alloc, mode, train, &Event::PowerUp)?;
             }
             Event::Input(_) => {}
         }
-        let limit = self.step(alloc, supervision, &event)?;
+        let limit = self.step(alloc, mode, train, &event)?;
         if let Event::Input(input) = event {
             self.inputs.push(input)?;
         }
@@ -69,18 +58,32 @@ impl Row {
     }
 
     // The limit after one event.
-    fn step(&mut self, alloc: Global, supervision: &Supervision, event: &Event) -> Result<u32> {
-        let (next, limit) = after(alloc, supervision, &self.state, event)?;
-        self.state = next;
-        self.is_powered = true;
+    fn step(
+        &mut self,
+        alloc: Global,
+        mode: Mode,
+        train: &TrainData,
+        event: &Event,
+    ) -> Result<u32> {
+        let (next, limit) = match &self.state {
+            None => after_first(alloc, mode, train, event)?,
+            Some(state) => after(alloc, mode, train, state, event)?,
+        };
+        self.state = Some(next);
         Ok(limit)
+    }
+
+    /// The limit that is wanted after this event.
+    pub fn want(&mut self, wanted: Wanted) -> Result<()> {
+        self.wanted.push(wanted)?;
+        Ok(())
     }
 
     /// The row is complete, and is run as a whole, if it has one life.
     pub fn run(&self, rt: &impl Print, alloc: Global, tally: &mut Tally) -> Result<()> {
-        match self.supervision() {
-            Some(supervision) if !self.has_more_lives => {
-                let limits = limits_after(alloc, &supervision, &self.inputs)?;
+        match (self.mode, &self.train) {
+            (Some(mode), Some(train)) if !self.has_more_lives => {
+                let limits = limits_after(alloc, mode, train, &self.inputs)?;
                 self.compare(rt, &limits, tally)
             }
             _ => Ok(()),

@@ -55,12 +55,13 @@ impl Rows {
     // The next event of the row.
     fn tell(&mut self, rt: &impl Print, event: Event, limit: u32) -> Result<()> {
         let line = self.line;
-        let wanted = Wanted { line, limit };
-        let Some(supervision) = self.row.supervision() else {
+        let (Some(mode), Some(train)) = (self.row.mode, self.row.train) else {
             return self.tally.refuse(rt, line, "no train or no mode");
         };
         self.tally.count_input();
-        let found = self.row.tell(self.alloc, &supervision, event, wanted)?;
+        let found = self.row.tell(self.alloc, mode, &train, event)?;
+        let wanted = Wanted { line, limit };
+        self.row.want(wanted)?;
         let name = self.row.name.as_str();
         self.tally.compare(rt, name, "step", wanted, found)
     }

@@ -6,20 +6,10 @@ use track_store::FactStore;
 use units::{NoMemory, Permille};
 
 /// What the kernel knows, with stores that keep all that was told.
-pub type Listing = StateOver<FactStore<Permille>, FactStore<CategorySpeeds>>;
-
-/// What is known after the first event, and the limit in metres per hour.
-pub fn after_first(
-    alloc: Global,
-    mode: Mode,
-    train: &TrainData,
-    event: &Event,
-) -> Result<(Listing, u32), NoMemory> {
-    after(alloc, mode, train, &Listing::empty(alloc), event)
-}
+type Listing = StateOver<FactStore<Permille>, FactStore<CategorySpeeds>>;
 
 /// What is known after an event, and the limit in metres per hour.
-pub fn after(
+fn after(
     alloc: Global,
     mode: Mode,
     train: &TrainData,
@@ -30,8 +20,32 @@ pub fn after(
     Ok((next, limit.get()))
 }
 
-/// The limits after each input of one life, in metres per hour.
-pub fn limits_after(
+/// What is known when power comes on for the first time.
+fn powered_up(alloc: Global, mode: Mode, train: &TrainData) -> Result<Listing, NoMemory> {
+    let nothing = Listing::empty(alloc);
+    let (state, _) = after(alloc, mode, train, &nothing, &Event::PowerUp)?;
+    Ok(state)
+}
+
+/// The limit after each event, step by step, in metres per hour. Before the first one power has come on.
+pub fn limits_by_step(
+    alloc: Global,
+    mode: Mode,
+    train: &TrainData,
+    events: &[Event],
+) -> Result<Vec<u32>, NoMemory> {
+    let mut speeds = Vec::new(alloc);
+    let mut state = powered_up(alloc, mode, train)?;
+    for event in events {
+        let (next, limit) = after(alloc, mode, train, &state, event)?;
+        state = next;
+        speeds.push(limit)?;
+    }
+    Ok(speeds)
+}
+
+/// The limit after each input of one life, in metres per hour.
+pub fn limits_of_life(
     alloc: Global,
     mode: Mode,
     train: &TrainData,

@@ -31,9 +31,7 @@ fn main(rt: HostRuntime) -> anyhow::Result<()> {
     let tally = rows.tally();
     println!(rt;
         "{} rows, {} inputs, {} differences",
-        tally.rows,
-        tally.inputs,
-        tally.differences
+        tally.rows, tally.inputs, tally.differences
     )?;
     Ok(())
 }

@@ -5,6 +5,7 @@ use crate::tally::{Tally, Wanted};
 use anyhow::Result;
 use kernel::Event;
 use std::alloc::Global;
+use std::mem;
 
 #[derive(Drop)]
 pub struct Rows {
@@ -29,14 +30,15 @@ impl Rows {
         self.tally
     }
 
-    /// One more line. A row's train and mode stand before its inputs.
+    /// One more line. A row's train and mode stand before its events.
     pub fn take(&mut self, rt: &impl Print, text: &str) -> Result<()> {
         self.line = self.line.wrapping_add(1);
+        let is_new = self.row.events.is_empty();
         match read_line(self.alloc, text) {
             Some(Line::Nothing) => {}
             Some(Line::Row(name)) => self.begin(rt, name)?,
-            Some(Line::Train(train)) if self.row.is_new() => self.row.train = Some(train),
-            Some(Line::Mode(mode)) if self.row.is_new() => self.row.mode = Some(mode),
+            Some(Line::Train(train)) if is_new => self.row.train = Some(train),
+            Some(Line::Mode(mode)) if is_new => self.row.mode = Some(mode),
             Some(Line::Told(event, limit)) => self.tell(rt, event, limit)?,
             _ => self.tally.refuse(rt, self.line, "what is that?")?,
         }
@@ -46,7 +48,6 @@ impl Rows {
     // Another row.
     fn begin(&mut self, rt: &impl Print, name: &str) -> Result<()> {
         self.end(rt)?;
-        self.row = Row::new(self.alloc);
         self.row.name.push_str(name)?;
         self.tally.count_row();
         Ok(())
@@ -55,19 +56,18 @@ impl Rows {
     // The next event of the row.
     fn tell(&mut self, rt: &impl Print, event: Event, limit: u32) -> Result<()> {
         let line = self.line;
-        let (Some(mode), Some(train)) = (self.row.mode, self.row.train) else {
+        if self.row.mode.is_none() || self.row.train.is_none() {
             return self.tally.refuse(rt, line, "no train or no mode");
-        };
+        }
         self.tally.count_input();
-        let found = self.row.tell(self.alloc, mode, &train, event)?;
-        let wanted = Wanted { line, limit };
-        self.row.want(wanted)?;
-        let name = self.row.name.as_str();
-        self.tally.compare(rt, name, "step", wanted, found)
+        self.row.events.push(event)?;
+        self.row.wanted.push(Wanted { line, limit })?;
+        Ok(())
     }
 
     /// The row is complete.
     pub fn end(&mut self, rt: &impl Print) -> Result<()> {
-        self.row.run(rt, self.alloc, &mut self.tally)
+        let row = mem::replace(&mut self.row, Row::new(self.alloc));
+        row.run(rt, self.alloc, &mut self.tally)
     }
 }

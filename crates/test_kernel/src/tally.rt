@@ -32,8 +32,25 @@ impl Tally {
         self.inputs = self.inputs.wrapping_add(1);
     }
 
-    /// Says where another limit was found than is wanted.
-    pub fn compare(
+    /// Says where another limit was found than is wanted, or none.
+    pub fn compare_all(
+        &mut self,
+        rt: &impl Print,
+        name: &str,
+        by: &str,
+        all_wanted: &[Wanted],
+        found: &[u32],
+    ) -> Result<()> {
+        for (number, wanted) in all_wanted.iter().enumerate() {
+            match found.get(number) {
+                Some(found) => self.compare(rt, name, by, *wanted, *found)?,
+                None => self.refuse(rt, wanted.line, "no limit is found")?,
+            }
+        }
+        Ok(())
+    }
+
+    fn compare(
         &mut self,
         rt: &impl Print,
         name: &str,

@@ -14,6 +14,10 @@ mod numbers;
 #[cfg(test)]
 mod permitted_speed;
 #[cfg(test)]
+mod places;
+#[cfg(test)]
 mod profiles;
+#[cfg(test)]
+mod restrictions;
 #[cfg(test)]
 mod wanted;

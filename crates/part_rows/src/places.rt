@@ -1,12 +1,10 @@
+// Worked rows of the place.
+use crate::numbers::cm;
 use odometry::{Fix, Overrun, Place, Sums};
 use std::process::Abort;
 use units::{Cm, Length, Movement};
 
 const FARTHEST: i64 = 1 << 40;
-
-fn cm<R: Abort>(rt: &R, number: i64) -> Cm {
-    Cm::new(number).expect(rt, "a place")
-}
 
 fn length<R: Abort>(rt: &R, number: u64) -> Length {
     Length::new(number).expect(rt, "a length")

@@ -1,16 +1,10 @@
+// Worked rows of restrictions.
+use crate::numbers::{cm, kmh};
 use std::process::Abort;
 use std::test::Fail;
 use track_store::{Restriction, Restrictions};
-use units::{Cm, Mph, Stretch};
+use units::{Cm, Stretch};
 use vars::{RestrictionNumber, TrainLengthDelay, Variable};
-
-fn cm<R: Abort>(rt: &R, number: i64) -> Cm {
-    Cm::new(number).expect(rt, "a place")
-}
-
-fn kmh<R: Abort>(rt: &R, speed: u32) -> Mph {
-    Mph::new(speed.checked_mul(1_000).expect(rt, "a speed")).expect(rt, "a speed")
-}
 
 fn number<R: Abort>(rt: &R, nid_tsr: u8) -> RestrictionNumber {
     RestrictionNumber::of_number(u64::from(nid_tsr))

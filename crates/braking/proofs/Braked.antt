@@ -80,3 +80,12 @@ module _ (gradient : ℤ → Option ℤ) (deceleration : ℕ) where
       let there : place +ℤ pos n ≡ end = rw count (omega (arith, ints)) in
       let even = braked_same (gradient place) place n (λ later c d. same later c (rw there at d)) in
       omega (arith, braked_over place end to a b, even)
+
+  -- .. and on one gradient
+  pub braked_even : (place end : ℤ) → place ≤ℤ end → ((later : ℤ) → place ≤ℤ later → later <ℤ end → gradient later ≡ gradient place) →
+      braked gradient deceleration place (natural (end -ℤ place)) ≡ 2592 * slowing_on deceleration (gradient place) * natural (end -ℤ place)
+  braked_even place end a same =
+      let n : ℕ = natural (end -ℤ place) in
+      let count : pos n ≡ end -ℤ place = natural_is (end -ℤ place) (omega (arith, ints)) in
+      let there : place +ℤ pos n ≡ end = rw count (omega (arith, ints)) in
+      braked_same (gradient place) place n (λ later c d. same later c (rw there at d))

@@ -1,23 +1,26 @@
 -- A speed below one that fits also fits.
-use Rattle.std.proofs.Common.{◌≡◌, ℕ, ℤ, pos, ◌+ℤ◌, ◌+◌, ◌-◌, ◌*◌, ◌<◌, ◌≤◌, ◌-ℤ◌, ◌<ℤ◌, Bool, true, false, List, ◌∷◌, refl, ap, sym, ◌∙◌, arith}
+use Rattle.std.proofs.Common.{◌≡◌, ℕ, ℤ, pos, negsuc, ◌⊎◌, inl, inr, ◌+ℤ◌, ◌≤ℤ◌, ◌+◌, ◌-◌, ◌*◌, ◌<◌, ◌≤◌, ◌-ℤ◌, ◌<ℤ◌, Bool, true, false, List, ◌∷◌, refl, ap, sym, ◌∙◌, arith}
 use Rattle.std.specs.Prelude.{IsTrue, nat_le, nat_lt, ◌&&◌, ◌||◌, Option}
 use Rattle.std.proofs.lemmas.Bool.Decides.{nat_tests}
 use Rattle.std.proofs.lemmas.Int.{ints}
 use Rattle.braking.specs.declared.brakes.Brakes.{Brakes}
 use Rattle.braking.specs.declared.target.Target.{Target}
 use Rattle.units.specs.Stretches.{natural}
-use Rattle.braking.specs.Braking.{braked, reaction_way, distance_to, fits, fits_all, greatest}
+use Rattle.braking.specs.Braking.{braked, reaction_way, distance_to, fits, fits_all, greatest, IsSummed}
 use Rattle.braking.proofs.Naturals.{natural_is}
+use Rattle.braking.specs.declared.summed.Summed.{Summed}
 use Rattle.braking.proofs.Greatest.{greatest_both}
-use Rattle.braking.proofs.Braked.{braked_later}
+use Rattle.braking.proofs.Roots.{square_less}
+use Rattle.braking.proofs.Braked.{braked_later, braked_over}
 
 pub way_less : (reaction v w : ℕ) → w ≤ v → reaction_way reaction w ≤ reaction_way reaction v
 way_less reaction v w h =
     let p : w * reaction ≤ v * reaction = grind arith in
     omega (arith, p)
 
-square_less : (v w : ℕ) → w ≤ v → w * w ≤ v * v
-square_less v w h = grind arith
+no_farther : (z : ℤ) (n : ℕ) → z ≤ℤ pos n → natural z ≤ n
+no_farther (pos m) n h = omega (arith, ints)
+no_farther (negsuc m) n h = omega arith
 
 settled : (u v w rv rw' d vv ww uu sv sw : ℕ) → w ≤ v → rw' ≤ rv → ww ≤ vv → (rv < d → sv ≤ sw) →
     (nat_le v u || (nat_lt rv d && nat_le vv (uu + sv))) ≡ true → (nat_le w u || (nat_lt rw' d && nat_le ww (uu + sw))) ≡ true
@@ -57,11 +60,10 @@ module _ (front : ℤ) (gradient : ℤ → Option ℤ) (brakes : Brakes) where
       rw slow
 
   -- .. and a greater one where the brakes act before it and take off enough
-  pub braking_fits : (t : Target) (v from to taken : ℕ) (start : ℤ) → from ≡ v → to ≡ t.speed → t.speed < v →
+  pub braking_fits : (t : Target) (v : ℕ) (start : ℤ) → t.speed < v →
       start ≡ front +ℤ pos (reaction_way brakes.reaction v) → start <ℤ t.place →
-      taken ≡ braked gradient brakes.deceleration start (natural (t.place -ℤ start)) →
-      nat_le (from * from) (to * to + taken) ≡ fits front gradient brakes t v
-  braking_fits t v from to taken start same top faster at ahead is =
+      nat_le (v * v) (t.speed * t.speed + braked gradient brakes.deceleration start (natural (t.place -ℤ start))) ≡ fits front gradient brakes t v
+  braking_fits t v start faster at ahead =
       let way : ℕ = reaction_way brakes.reaction v in
       let all = natural_is (t.place -ℤ front) (omega (arith, ints)) in
       let left = natural_is (t.place -ℤ start) (omega (arith, ints)) in
@@ -69,9 +71,47 @@ module _ (front : ℤ) (gradient : ℤ → Option ℤ) (brakes : Brakes) where
       let before : way < distance_to front t = omega (arith, ints, all, left) in
       let fast : nat_le v t.speed ≡ false = grind (arith, nat_tests) in
       let acts : nat_lt way (distance_to front t) ≡ true = grind (arith, nat_tests) in
-      let off : taken ≡ braked gradient brakes.deceleration (front +ℤ pos way) (distance_to front t - way) =
-      is ∙ (λ i. braked gradient brakes.deceleration (at i) (count i)) in
-      λ i. sym fast i || (sym acts i && nat_le (same i * same i) (top i * top i + off i))
+      λ i. sym fast i || (sym acts i && nat_le (v * v) (t.speed * t.speed + braked gradient brakes.deceleration (at i) (count i)))
+
+  -- what is lacking is told apart by what is summed, if that is all or enough
+  lacking_less : (v u lacking taken all : ℕ) → u ≤ v → lacking ≡ v - u → taken ≤ all → (taken ≡ all) ⊎ (lacking ≤ taken) →
+      nat_le lacking taken ≡ nat_le v (u + all)
+  lacking_less v u lacking taken all a b c either = elim either [ inl e ↦ grind (arith, nat_tests) | inr h ↦ grind (arith, nat_tests) ]
+
+  -- what a stretch up to before a target takes off
+  pub summed_less : (t : Target) (sum : Summed) → IsSummed gradient brakes.deceleration sum → sum.to ≤ℤ t.place →
+      sum.taken_off ≤ braked gradient brakes.deceleration sum.from (natural (t.place -ℤ sum.from))
+  summed_less t sum summed within =
+      omega (arith, braked_over gradient brakes.deceleration sum.from sum.to t.place summed.0 within, summed.1)
+
+  pub summed_whole : (t : Target) (sum : Summed) → IsSummed gradient brakes.deceleration sum → sum.to ≡ t.place →
+      sum.taken_off ≡ braked gradient brakes.deceleration sum.from (natural (t.place -ℤ sum.from))
+  summed_whole t sum summed there = summed.1 ∙ ap (λ (z : ℤ). braked gradient brakes.deceleration sum.from (natural (z -ℤ sum.from))) there
+
+  pub summed_fits : (t : Target) (v lacking : ℕ) (sum : Summed) → t.speed < v → (front +ℤ pos (reaction_way brakes.reaction v)) <ℤ t.place →
+      lacking ≡ v * v - t.speed * t.speed → IsSummed gradient brakes.deceleration sum →
+      sum.from ≡ front +ℤ pos (reaction_way brakes.reaction v) → sum.to ≤ℤ t.place →
+      (sum.to ≡ t.place) ⊎ ((v * v - t.speed * t.speed) ≤ sum.taken_off) →
+      nat_le lacking sum.taken_off ≡ fits front gradient brakes t v
+  summed_fits t v lacking sum faster acts is summed from to reached =
+      let squares : t.speed * t.speed ≤ v * v = square_less v t.speed (omega (arith, faster)) in
+      let all : ℕ = braked gradient brakes.deceleration sum.from (natural (t.place -ℤ sum.from)) in
+      let either : (sum.taken_off ≡ all) ⊎ (lacking ≤ sum.taken_off) = elim reached [
+        | inl there ↦ inl (summed_whole t sum summed there)
+        | inr enough ↦ inr (rw is enough)
+      ] in
+      lacking_less (v * v) (t.speed * t.speed) lacking sum.taken_off all squares is (summed_less t sum summed to) either
+      ∙ braking_fits t v sum.from faster from (omega (arith, ints, acts, from))
+
+  -- brakes that act too late
+  pub late_fails : (t : Target) (v : ℕ) → t.speed < v → t.place ≤ℤ (front +ℤ pos (reaction_way brakes.reaction v)) →
+      fits front gradient brakes t v ≡ false
+  late_fails t v faster late = 
+      let way : ℕ = reaction_way brakes.reaction v in
+      let fast : nat_le v t.speed ≡ false = grind (arith, nat_tests) in
+      let short : distance_to front t ≤ way = no_farther (t.place -ℤ front) way (omega (arith, ints)) in
+      let acts : nat_lt way (distance_to front t) ≡ false = grind (arith, nat_tests) in
+      rw fast (rw acts refl)
 
   -- target by target
   pub one_more : (t : Target) (targets : List Target) (limit speed : ℕ) → speed ≡ greatest (fits front gradient brakes t) limit →
@@ -86,6 +126,15 @@ module _ (front : ℤ) (gradient : ℤ → Option ℤ) (brakes : Brakes) where
       let cases : (b : Bool) → fits front gradient brakes t v ≡ b → b ≡ false =
       elim [ true ↦ λ e. absurd (let k : true ≡ false = sym (slower_fits t v w h e) ∙ f in cc) | false ↦ λ e. refl ] in
       cases (fits front gradient brakes t v) refl
+
+  -- a speed that fits is below one that doesn't
+  pub slower_than : (t : Target) (v w : ℕ) → fits front gradient brakes t v ≡ true → fits front gradient brakes t w ≡ false → v ≤ w
+  slower_than t v w fit fail =
+      let order : (v ≤ w) ⊎ (w ≤ v) = grind arith in
+      elim order [
+        | inl below ↦ below
+        | inr over ↦ absurd (let k : true ≡ false = sym (slower_fits t v w over fit) ∙ fail in cc)
+      ]
 
   pub slower_true : (t : Target) (v : ℕ) (b : Bool) → b ≡ fits front gradient brakes t v → IsTrue b →
       (w : ℕ) → w ≤ v → IsTrue (fits front gradient brakes t w)

@@ -1,13 +1,12 @@
 -- The speeds from which a train can still brake for what lies ahead (this project's profile). Places are in centimetres,
 -- speeds in metres per hour, decelerations in cm/s^2, gradients in per mille, uphill positive.
-use Rattle.std.specs.Prelude.{◌≡◌, ℕ, zero, suc, ◌≤◌, ◌+◌, ◌-◌, ◌*◌, ℤ, pos, ◌+ℤ◌, ◌-ℤ◌, ◌*ℤ◌, ◌≤ℤ◌, ◌<ℤ◌, Bool, ◌&&◌, ◌||◌, nat_le, nat_lt, if◌then◌else◌, Option, None, Some, List}
+use Rattle.std.specs.Prelude.{◌≡◌, ℕ, zero, suc, ◌≤◌, ◌+◌, ◌-◌, ◌*◌, ℤ, pos, ◌+ℤ◌, ◌-ℤ◌, ◌*ℤ◌, ◌≤ℤ◌, Bool, ◌&&◌, ◌||◌, nat_le, nat_lt, if◌then◌else◌, Option, None, Some, List}
 use Rattle.std.specs.Int.{div_ceil, int_div_euclid}
 use Rattle.std.specs.List.{list_all}
 use Rattle.units.specs.Stretches.{natural}
 use Rattle.braking.specs.declared.brakes.Brakes.{Brakes}
 use Rattle.braking.specs.declared.target.Target.{Target}
-use Rattle.braking.specs.declared.slowing.Rest.{Rest}
-use Rattle.braking.specs.declared.slowing.Summed.{Summed}
+use Rattle.braking.specs.declared.summed.Summed.{Summed}
 
 -- the deceleration on a gradient, which 1 per mille changes by 0.981 cm/s^2, rounded down; never below 0, and 0 where no
 -- gradient is known
@@ -24,25 +23,16 @@ braked gradient deceleration place zero = 0
 braked gradient deceleration place (suc n) =
     2592 * slowing_on deceleration (gradient place) + braked gradient deceleration (place +ℤ pos 1) n
 
--- what is known of the last stretch before a place: what it takes off, which is little enough to add up
-abbrev pub IsRest : (ℤ → Option ℤ) → ℕ → ℤ → Rest → Type 0
-IsRest gradient deceleration to rest =
-    (rest.from ≤ℤ to)
-    × (rest.taken_off ≡ braked gradient deceleration rest.from (natural (to -ℤ rest.from)))
-    × (rest.taken_off ≤ 1_423_008 * natural (to -ℤ rest.from))
-
--- .. of the last stretch that is summed, up to its own end
+-- what is known of a stretch: what it takes off, which is little enough to add up
 abbrev pub IsSummed : (ℤ → Option ℤ) → ℕ → Summed → Type 0
-IsSummed gradient deceleration summed = IsRest gradient deceleration summed.to summed.rest
+IsSummed gradient deceleration summed =
+    (summed.from ≤ℤ summed.to)
+    × (summed.taken_off ≡ braked gradient deceleration summed.from (natural (summed.to -ℤ summed.from)))
+    × (summed.taken_off ≤ 1_423_008 * natural (summed.to -ℤ summed.from))
 
 -- the way that a train runs before its brakes act, rounded up: 36,000 m/h in 1 ms are 1 cm
 abbrev pub reaction_way : ℕ → ℕ → ℕ
 reaction_way reaction speed = div_ceil (speed * reaction) 36_000
-
--- where the brakes act at a speed, if that is before a target, is at or before another place
-abbrev pub ActsBy : ℤ → ℕ → ℤ → ℤ → ℕ → Type 0
-ActsBy front reaction to place speed =
-    (front +ℤ pos (reaction_way reaction speed)) <ℤ to → (front +ℤ pos (reaction_way reaction speed)) ≤ℤ place
 
 -- how far a target lies ahead of the front
 abbrev pub distance_to : ℤ → Target → ℕ

@@ -1,3 +1,4 @@
 pub mod Limits
 pub mod Braking
+pub mod Sums
 pub mod Approaches

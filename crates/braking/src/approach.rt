@@ -1,10 +1,11 @@
 //! The permitted speed, target by target.
 ghost use Rattle.std.specs.Prelude.{◌≡◌};
-ghost use Rattle.braking.specs.Braking.{fits_all, greatest};
+ghost use Rattle.braking.specs.Braking.{fits, fits_all, greatest};
 ghost use Rattle.braking.specs.Approaches.{lowered};
 
-use crate::slowing::Summed;
-use crate::speeds::{permitted_before, rest_behind};
+use crate::seeking::permitted_before;
+use crate::speeds::fits_summed;
+use crate::summed::Summed;
 use crate::{Brakes, Target};
 use std::marker::Model;
 use track_store::Profile;
@@ -68,6 +69,27 @@ impl<'a, P: Profile<Permille>> Approach<'a, P> {
         self.speed
     }
 
+    /// Whether the speed so far fits a target. Keeps what it summed for that.
+    pub fn fits(&mut self, target: &Target) -> bool
+        ensures value { result ≡ fits self.old.front (P.value self.old.gradient) self.old.brakes target.now self.old.speed }
+        ensures same { self.new ≡ self.old }
+    {
+        if self.speed <= target.speed {
+            return true;
+        }
+        let (front, speed) = (self.front, self.speed);
+        let (fits, sum) = fits_summed(
+            front,
+            speed,
+            target,
+            self.gradient,
+            self.brakes,
+            &self.summed,
+        );
+        self.summed = self.summed.farther(sum);
+        fits
+    }
+
     /// Tells it of a target: the greatest speed up to the one so far that fits the target. A target whose speed is no less
     /// than the one so far costs nothing.
     pub fn lower(&mut self, target: &Target)
@@ -77,7 +99,7 @@ impl<'a, P: Profile<Permille>> Approach<'a, P> {
             return;
         }
         let (front, speed) = (self.front, self.speed);
-        let rest = rest_behind(
+        let (speed, sum) = permitted_before(
             front,
             speed,
             target,
@@ -85,9 +107,8 @@ impl<'a, P: Profile<Permille>> Approach<'a, P> {
             self.brakes,
             &self.summed,
         );
-        self.speed = permitted_before(front, speed, target, self.gradient, self.brakes, &rest);
-        let to = target.place;
-        self.summed = self.summed.farther(Summed { to, rest });
+        self.speed = speed;
+        self.summed = self.summed.farther(sum);
     }
 }
 

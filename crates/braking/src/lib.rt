@@ -3,8 +3,10 @@
 
 mod approach;
 mod brakes;
+mod seeking;
 mod slowing;
 mod speeds;
+mod summed;
 mod target;
 
 pub use approach::{Approach, permitted};

@@ -1,8 +1,9 @@
-ghost use Rattle.std.specs.Prelude.{◌≡◌, ℕ, ◌+◌, ◌^◌, ◌<◌, ◌≤◌, ℤ, pos, ◌+ℤ◌, ◌-ℤ◌, ◌<ℤ◌, ◌↔◌, IsTrue, IsSome, IfSome, MatchOption};
+ghost use Rattle.std.specs.Prelude.{◌≡◌, ℕ, ◌*◌, ◌-◌, ◌^◌, ◌<◌, ◌≤◌, ℤ, pos, ◌+ℤ◌, ◌-ℤ◌, ◌≤ℤ◌, ◌<ℤ◌, ◌↔◌, IsTrue, IsSome, IfSome, MatchOption};
 ghost use Rattle.units.specs.Stretches.{natural};
-ghost use Rattle.braking.specs.Braking.{fits, greatest, reaction_way, ActsBy, IsRest, IsSummed};
+ghost use Rattle.braking.specs.Braking.{fits, reaction_way, IsSummed};
+ghost use Rattle.braking.specs.Sums.{IsSummedBefore};
 
-use crate::slowing::{Rest, Summed, taken_off_before, taken_off_over};
+use crate::summed::Summed;
 use crate::{Brakes, Reaction, Target};
 use track_store::Profile;
 use units::{Cm, Mph, Permille};
@@ -20,96 +21,71 @@ pub fn fits<P: Profile<Permille>>(
     ensures slower { IsTrue result → (v : ℕ) → v ≤ speed
         → IsTrue (fits front (P.value gradient.now) brakes.now target.now v) }
 {
-    let rest = Rest::none(target.place);
-    fits_before(front, speed, target, gradient, brakes, &rest)
+    if speed <= target.speed {
+        return true;
+    }
+    let none = Summed::none(front);
+    let (fits, _) = fits_summed(front, speed, target, gradient, brakes, &none);
+    fits
 }
 
-// The greatest speed up to a limit above a target's that fits the target, where it is known what the last stretch before the
-// target takes off.
-pub fn permitted_before<P: Profile<Permille>>(
-    front: Cm,
-    limit: Mph,
-    target: &Target,
-    gradient: &P,
-    brakes: &Brakes,
-    rest: &Rest,
-) -> Mph
-    requires faster { target.now.speed < limit }
-    requires rest { IsRest (P.value gradient.now) brakes.now.deceleration target.now.place rest.now }
-    requires acts { (v : ℕ) → v ≤ limit → ActsBy front brakes.now.reaction target.now.place rest.now.from v }
-    ensures { result ≡ greatest (fits front (P.value gradient.now) brakes.now target.now) limit }
-{
-    if fits_before(front, limit, target, gradient, brakes, rest) {
-        return limit;
-    }
-    let mut low = target.speed;
-    let mut high = limit;
-    while let Some(middle) = halfway(low, high) {
-        if fits_before(front, middle, target, gradient, brakes, rest) {
-            low = middle;
-        } else {
-            high = middle;
-        }
-    }
-    low
-}
-
-// The last stretch before a target: from where the brakes act at a speed. No slower one has them act behind that.
-pub fn rest_behind<P: Profile<Permille>>(
+// Whether a speed above a target's fits it, and what was summed on the way.
+pub fn fits_summed<P: Profile<Permille>>(
     front: Cm,
     speed: Mph,
     target: &Target,
     gradient: &P,
     brakes: &Brakes,
     summed: &Summed,
-) -> Rest
+) -> (bool, Summed)
+    requires faster { target.now.speed < speed }
     requires summed { IsSummed (P.value gradient.now) brakes.now.deceleration summed.now }
-    ensures rest { IsRest (P.value gradient.now) brakes.now.deceleration target.now.place result }
-    ensures acts { (v : ℕ) → v ≤ speed → ActsBy front brakes.now.reaction target.now.place result.from v }
+    ensures fits { result.0 ≡ fits front (P.value gradient.now) brakes.now target.now speed }
+    ensures summed { IsSummed (P.value gradient.now) brakes.now.deceleration result.1 }
 {
-    match brakes_act(front, reaction_way(brakes.reaction, speed), target.place) {
-        None => Rest::none(target.place),
-        Some(from) => Rest {
-            from,
-            taken_off: taken_off_over(gradient, brakes.deceleration, from, target.place, summed),
-        },
+    match summed_before(front, speed, target, gradient, brakes, summed) {
+        None => (false, *summed),
+        Some(sum) => (lacking(speed, target.speed) <= sum.taken_off, sum),
     }
 }
 
-// Whether a speed fits a target, where it is known what the last stretch before the target takes off.
-fn fits_before<P: Profile<Permille>>(
+// What the brakes take off before a target from where they act at a speed above its own, as far as is needed to see whether the
+// speed fits; None where they don't act before it. What is summed already isn't gone through again, where it lies within.
+pub fn summed_before<P: Profile<Permille>>(
     front: Cm,
     speed: Mph,
     target: &Target,
     gradient: &P,
     brakes: &Brakes,
-    rest: &Rest,
-) -> bool
-    requires rest { IsRest (P.value gradient.now) brakes.now.deceleration target.now.place rest.now }
-    requires acts { ActsBy front brakes.now.reaction target.now.place rest.now.from speed }
-    ensures { result ≡ fits front (P.value gradient.now) brakes.now target.now speed }
+    summed: &Summed,
+) -> Option<Summed>
+    requires faster { target.now.speed < speed }
+    requires summed { IsSummed (P.value gradient.now) brakes.now.deceleration summed.now }
+    ensures late { IsSome result ↔ (front +ℤ pos (reaction_way brakes.now.reaction speed)) <ℤ target.now.place }
+    ensures sum { IfSome result (IsSummedBefore front (P.value gradient.now) brakes.now target.now speed) }
 {
-    if speed <= target.speed {
-        return true;
-    }
-    match brakes_act(front, reaction_way(brakes.reaction, speed), target.place) {
-        None => false,
-        Some(start) => {
-            let taken_off = taken_off_before(
-                gradient,
-                brakes.deceleration,
-                start,
-                target.place,
-                rest,
-            );
-            let (from, to) = (u64::from(speed.get()), u64::from(target.speed.get()));
-            from * from <= to * to + taken_off
-        }
-    }
+    let place = target.place;
+    let start = brakes_act(front, reaction_way(brakes.reaction, speed), place)?;
+    let begun = if start <= summed.from && summed.to <= place {
+        summed.begun(gradient, brakes.deceleration, start)
+    } else {
+        Summed::none(start)
+    };
+    let enough = lacking(speed, target.speed);
+    Some(begun.gone_on(gradient, brakes.deceleration, place, enough))
+}
+
+// What the brakes must take off the square of the speed, from one speed down to another.
+pub fn lacking(from: Mph, to: Mph) -> u64
+    requires { to ≤ from }
+    ensures { result ≡ from * from - to * to }
+{
+    let (from, to) = (u64::from(from.get()), u64::from(to.get()));
+    from * from - to * to
 }
 
 // The way that a train runs before its brakes act, in centimetres.
-fn reaction_way(reaction: Reaction, speed: Mph) -> u32
+pub fn reaction_way(reaction: Reaction, speed: Mph) -> u32
     ensures value { result ≡ reaction_way reaction speed }
     ensures small { result ≤ 166_667 }
 {
@@ -117,7 +93,7 @@ fn reaction_way(reaction: Reaction, speed: Mph) -> u32
 }
 
 // Where the brakes act after a way from the front; None where this isn't before a place.
-fn brakes_act(front: Cm, way: u32, place: Cm) -> Option<Cm>
+pub fn brakes_act(front: Cm, way: u32, place: Cm) -> Option<Cm>
     requires { way ≤ 166_667 }
     ensures found { IsSome result ↔ (front +ℤ pos way) <ℤ place }
     ensures value { IfSome result (λ start. start ≡ front +ℤ pos way) }
@@ -128,18 +104,5 @@ fn brakes_act(front: Cm, way: u32, place: Cm) -> Option<Cm>
         Cm::new(start)
     } else {
         None
-    }
-}
-
-// A speed between two; None where there is none.
-fn halfway(low: Mph, high: Mph) -> Option<Mph>
-    requires { low ≤ high }
-    ensures { MatchOption result (high ≤ low + 1) (λ middle. (low < middle) × (middle < high)) }
-{
-    let part = (high.get() - low.get()) / 2;
-    if part == 0 {
-        None
-    } else {
-        Mph::new(low.get() + part)
     }
 }

@@ -1,7 +1,7 @@
 use units::{Cm, Mph};
 
 /// A place ahead that a train may reach at no more than a speed; 0 at a place where it must stop.
-#[derive(Clone, Copy, Debug, PartialEq, Eq)]
+#[derive(Clone, Copy)]
 pub struct Target {
     /// The place.
     pub place: Cm,

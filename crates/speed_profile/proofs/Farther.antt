@@ -1,4 +1,4 @@
--- A target farther ahead with the same speed fits where a nearer one does.
+-- A target farther ahead that asks for no lower speed fits where a nearer one does.
 use Rattle.std.proofs.Common.{◌≡◌, ℕ, ℤ, pos, negsuc, ◌+ℤ◌, ◌-ℤ◌, ◌≤ℤ◌, ◌+◌, ◌-◌, ◌*◌, ◌<◌, ◌≤◌, true, ap, arith}
 use Rattle.std.specs.Prelude.{nat_le, nat_lt, ◌&&◌, ◌||◌, Option}
 use Rattle.std.proofs.lemmas.Bool.Decides.{nat_tests}
@@ -8,11 +8,12 @@ use Rattle.braking.specs.declared.brakes.Brakes.{Brakes}
 use Rattle.braking.specs.declared.target.Target.{Target}
 use Rattle.braking.specs.Braking.{braked, reaction_way, distance_to, fits}
 use Rattle.braking.proofs.Braked.{braked_parts}
+use Rattle.braking.proofs.Roots.{square_less}
 
--- a target of the same speed that is no nearer
+-- a target that is no nearer and asks for no lower speed
 pub record IsNoNearer (near far : Target) : Type 0 where
   pub place : near.place ≤ℤ far.place
-  pub speed : near.speed ≡ far.speed
+  pub speed : near.speed ≤ far.speed
 
 natural_grows : (a b : ℤ) → a ≤ℤ b → natural a ≤ natural b
 natural_grows (pos m) (pos n) h = omega (arith, ints)
@@ -20,7 +21,7 @@ natural_grows (pos m) (negsuc n) h = absurd (omega (arith, ints))
 natural_grows (negsuc m) (pos n) h = omega arith
 natural_grows (negsuc m) (negsuc n) h = omega arith
 
-settled : (v u u' way d d' vv uu uu' s s' : ℕ) → u ≡ u' → uu ≡ uu' → d ≤ d' → (way < d → s ≤ s') →
+settled : (v u u' way d d' vv uu uu' s s' : ℕ) → u ≤ u' → uu ≤ uu' → d ≤ d' → (way < d → s ≤ s') →
     (nat_le v u || (nat_lt way d && nat_le vv (uu + s))) ≡ true → (nat_le v u' || (nat_lt way d' && nat_le vv (uu' + s'))) ≡ true
 settled v u u' way d d' vv uu uu' s s' a b c e f = grind (arith, nat_tests)
 
@@ -48,4 +49,4 @@ module _ (front : ℤ) (gradient : ℤ → Option ℤ) (brakes : Brakes) where
       let place : near.place ≤ℤ far.place = no_nearer.place in
       let longer : d ≤ d' = natural_grows (near.place -ℤ front) (far.place -ℤ front) (omega (arith, ints, place)) in
       settled v near.speed far.speed way d d' (v * v) (near.speed * near.speed) (far.speed * far.speed) (taken_off way d) (taken_off way d')
-      no_nearer.speed (ap (λ (n : ℕ). n * n) no_nearer.speed) longer (more_taken_off way d d' longer) f
+      no_nearer.speed (square_less far.speed near.speed no_nearer.speed) longer (more_taken_off way d d' longer) f

@@ -1,5 +1,5 @@
 -- One pass after another finds the greatest speed that fits all targets.
-use Rattle.std.proofs.Common.{◌≡◌, ℕ, zero, suc, ◌<◌, ◌≤◌, ℤ, List, [], ◌∷◌, ◌⊎◌, inl, inr, Bool, true, false, cond, refl, ap, sym, ◌∙◌, arith}
+use Rattle.std.proofs.Common.{◌≡◌, ℕ, zero, suc, ◌<◌, ◌≤◌, ℤ, ◌≤ℤ◌, List, [], ◌∷◌, ◌⊎◌, inl, inr, Bool, true, false, cond, refl, ap, sym, ◌∙◌, arith}
 use Rattle.std.specs.Prelude.{Option, nat_le, ◌&&◌, ◌||◌}
 use Rattle.std.proofs.lemmas.Bool.Decides.{nat_tests}
 use Rattle.std.proofs.Math.Nat.{eq-or-lt_of_le}
@@ -147,3 +147,14 @@ module _ {G : Type 0} (value : G → ℤ → Option ℤ) where
       lowered_by (value course.gradient) targets course ≡ course
   nothing_told [] course none = lowered_by_none value course
   nothing_told (target ∷ targets) course none = absurd (none target (inl refl))
+
+  -- where a train can come to a stop, it can for all that lies ahead of that
+  pub stop_told : (place : ℤ) (targets : List Target) (course : Course G) →
+      fits course.front (value course.gradient) course.brakes (record { place = place; speed = 0 }) course.speed ≡ true →
+      ((t : Target) → IsIn t targets → place ≤ℤ t.place) → lowered_by (value course.gradient) targets course ≡ course
+  stop_told place targets course stops ahead =
+      let stop : Target = record { place = place; speed = 0 } in
+      let each : (t : Target) → IsIn t targets → fits course.front (value course.gradient) course.brakes t course.speed ≡ true = λ t there.
+      farther_fits course.front (value course.gradient) course.brakes stop t course.speed (record { place = ahead t there; speed = omega arith }) stops in
+      ap (at_speed course) (greatest_is (fits_all course.front (value course.gradient) course.brakes targets) course.speed course.speed (omega arith)
+      (inr (fit_all course.front (value course.gradient) course.brakes targets course.speed each)) (λ k above below. absurd (omega arith)))

@@ -26,7 +26,7 @@ use Rattle.speed_profile.proofs.Farther.{IsNoNearer}
 use Rattle.speed_profile.proofs.Passes.{AreCovered, told_on}
 
 itself : (t : Target) → IsNoNearer t t
-itself t = record { place = omega (arith, ints); speed = refl }
+itself t = record { place = omega (arith, ints); speed = omega arith }
 
 -- a nearer one among some targets
 abbrev pub HasNearer : List Target → Target → Type 0
@@ -37,7 +37,7 @@ there_nearer : (place c : ℤ) (speed : ℕ) (t : Target) → place ≤ℤ c →
 there_nearer place c speed t ahead is =
     let at : t.place ≡ c = ap (λ (x : Target). x.place) is in
     let of : t.speed ≡ speed = ap (λ (x : Target). x.speed) is in
-    record { place = rw at ahead; speed = sym of }
+    record { place = rw at ahead; speed = omega (arith, of) }
 
 -- ---- static speeds
 
@@ -128,6 +128,28 @@ module _ (bounds : Bounds) (profile : ℤ → Option CategorySpeeds) (place : �
         (λ (behind : next ≤ℤ at.0).
         (t, inr (in_over (static_targets bounds profile) next greatest_place t at.0 behind at.2 at.3), itself t));
   }
+
+-- a target of a centimetre lies there
+unknown_place : (end : Option End) (c : ℤ) (t : Target) → IsIn t (listed (unknown_target end c)) → t.place ≡ c
+unknown_place None c t h = absurd h
+unknown_place (Some end) c t h =
+    let stop : Target = record { place = c; speed = 0 } in
+    let cases : (b : Bool) → IsIn t (listed (cond b (Some stop) None)) → t.place ≡ c = elim [
+      | true ↦ λ k. elim k [ inl is ↦ ap (λ (x : Target). x.place) is | inr never ↦ absurd never ]
+      | false ↦ λ k. absurd k
+    ] in
+    cases (int_lt c end.end) h
+
+value_place : (bounds : Bounds) (c : ℤ) (t : Target) (value : Option CategorySpeeds) → IsIn t (listed (static_target bounds c value)) → t.place ≡ c
+value_place bounds c t None h = unknown_place bounds.end c t h
+value_place bounds c t (Some speeds) h = elim h [ inl is ↦ ap (λ (x : Target). x.place) is | inr never ↦ absurd never ]
+
+-- those from a place on lie there or farther ahead
+pub rest_ahead : (bounds : Bounds) (profile : ℤ → Option CategorySpeeds) (place : ℤ) (t : Target) →
+    IsIn t (rest (static_targets bounds profile) (Some place)) → place ≤ℤ t.place
+rest_ahead bounds profile place t h =
+    let at = over_at (static_targets bounds profile) place greatest_place t h in
+    rw (value_place bounds at.0 t (profile at.0) at.3) at.1
 
 -- ---- restrictions
 

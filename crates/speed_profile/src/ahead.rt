@@ -69,7 +69,7 @@ impl<'a, S: Profile<CategorySpeeds>, G: Profile<Permille>> Ahead<'a, S, G> {
         approach
     }
 
-    // Tells of the static speeds ahead.
+    // Tells of the static speeds ahead, up to where the train can come to a stop: it fits all from there on.
     fn tell_static_speeds(&self, approach: &mut Approach<'a, G>)
         ensures { approach.new ≡ lowered_by (G.value approach.old.gradient)
             (over_ahead self.now.front (static_targets self.now.bounds.now (S.value self.now.speeds.now))) approach.old }
@@ -77,6 +77,9 @@ impl<'a, S: Profile<CategorySpeeds>, G: Profile<Permille>> Ahead<'a, S, G> {
         let mut start = next_after(self.front);
         let mut near = 0;
         while let Some(place) = start {
+            if approach.fits(&stop_at(place)) {
+                return;
+            }
             let here = self.speeds.piece(place, near);
             tell(approach, static_target(self.bounds, place, here.value));
             start = here.next;
@@ -131,11 +134,18 @@ fn unknown_target(end: &Option<End>, place: Cm) -> Option<Target>
     ensures { result ≡ unknown_target end.now place }
 {
     match end {
-        Some(end) if place < end.end => Some(Target {
-            place,
-            speed: Mph::new(0).unwrap(),
-        }),
+        Some(end) if place < end.end => Some(stop_at(place)),
         _ => None,
+    }
+}
+
+// A place where the train must stop.
+fn stop_at(place: Cm) -> Target
+    ensures { result ≡ record { place = place; speed = 0 } }
+{
+    Target {
+        place,
+        speed: Mph::new(0).unwrap(),
     }
 }
 

@@ -1,6 +1,6 @@
 use Rattle.std.proofs.Common.{◌≡◌, ◌≤◌, ◌-◌, true, false}
 use Rattle.braking.specs.Braking.{fits}
-use Rattle.braking.proofs.speeds.permitted_before.Given as goal
+use Rattle.braking.proofs.seeking.halved.Given as goal
 
 -- a speed that fits, and one that doesn't
 abbrev pub invariant-loop-middle : goal.invariant-loop-middle

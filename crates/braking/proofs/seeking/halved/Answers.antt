@@ -1,0 +1,28 @@
+use Rattle.std.proofs.Common.{◌≡◌, ◌≤◌, ◌<◌, ◌+◌, ◌⊎◌, inl, inr, true, false, sym, ◌∙◌, arith}
+use Rattle.std.proofs.lemmas.Int.{ints, clamps}
+use Rattle.braking.specs.Braking.{fits}
+use Rattle.braking.proofs.Slower.{faster_fails, slower_than, way_less}
+use Rattle.braking.proofs.Greatest.{greatest_is}
+use Rattle.braking.proofs.seeking.halved.Goals as goal
+
+pub loop-middle-init : goal.loop-middle-init
+loop-middle-init g c = record {
+  ordered = slower_than c.args.front (g.P.Profile.value c.args.gradient.now) c.args.brakes.now c.args.target.now c.args.low c.args.high
+      c.requires.fits c.requires.fails;
+  within = c.requires.within;
+  low_fits = c.requires.fits;
+  high_fails = c.requires.fails;
+}
+
+pub fits_before-requires-clause-acts : goal.fits_before-requires-clause-acts
+fits_before-requires-clause-acts g c = λ acts.
+    let less : c.in-Some.middle ≤ c.args.limit = omega (arith, c.in-Some.ensures, c.loop-middle.invariant.within) in
+    omega (arith, ints, clamps, acts, c.requires.whole.from, way_less c.args.brakes.now.reaction c.args.limit c.in-Some.middle less)
+
+pub returns : goal.returns
+returns g c =
+    let kept = c.loop-middle.invariant in
+    let none : c.loop-middle.high ≤ c.loop-middle.low + 1 = rw c.in_default.is at c.halfway.ensures in
+    sym (greatest_is (fits c.args.front (g.P.Profile.value c.args.gradient.now) c.args.brakes.now c.args.target.now) c.loop-middle.low c.args.limit
+    (omega (arith, kept.ordered, kept.within)) (inr kept.low_fits)
+    (λ k above below. faster_fails c.args.front (g.P.Profile.value c.args.gradient.now) c.args.brakes.now c.args.target.now k c.loop-middle.high (omega arith) kept.high_fails))

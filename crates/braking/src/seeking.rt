@@ -1,0 +1,154 @@
+ghost use Rattle.std.specs.Prelude.{◌≡◌, ◌+◌, ◌-◌, ◌^◌, ◌<◌, ◌≤◌, true, false, MatchOption};
+ghost use Rattle.braking.specs.Braking.{fits, greatest, IsSummed};
+ghost use Rattle.braking.specs.Sums.{ActsBy, IsSummedWhole, IsRoot};
+
+use crate::speeds::{brakes_act, lacking, reaction_way, summed_before};
+use crate::summed::Summed;
+use crate::{Brakes, Target};
+use track_store::Profile;
+use units::{Cm, Mph, Permille};
+
+// The greatest speed up to a limit above a target's that fits the target, and what was summed on the way.
+pub fn permitted_before<P: Profile<Permille>>(
+    front: Cm,
+    limit: Mph,
+    target: &Target,
+    gradient: &P,
+    brakes: &Brakes,
+    summed: &Summed,
+) -> (Mph, Summed)
+    requires faster { target.now.speed < limit }
+    requires summed { IsSummed (P.value gradient.now) brakes.now.deceleration summed.now }
+    ensures speed { result.0 ≡ greatest (fits front (P.value gradient.now) brakes.now target.now) limit }
+    ensures summed { IsSummed (P.value gradient.now) brakes.now.deceleration result.1 }
+{
+    let Some(sum) = summed_before(front, limit, target, gradient, brakes, summed) else {
+        let none = Summed::none(target.place);
+        return (sought(front, limit, target, gradient, brakes, &none), *summed);
+    };
+    if lacking(limit, target.speed) <= sum.taken_off {
+        return (limit, sum);
+    }
+    (sought(front, limit, target, gradient, brakes, &sum), sum)
+}
+
+// The greatest speed below one that doesn't fit a target, where it is known what the stretch from where the brakes act at that one
+// takes off. The speed whose brakes acted there and took off just so much fits, and so would a greater one only as far as they
+// act sooner: at most what they take off from where they act at the lower one.
+fn sought<P: Profile<Permille>>(
+    front: Cm,
+    limit: Mph,
+    target: &Target,
+    gradient: &P,
+    brakes: &Brakes,
+    sum: &Summed,
+) -> Mph
+    requires faster { target.now.speed < limit }
+    requires fails { fits front (P.value gradient.now) brakes.now target.now limit ≡ false }
+    requires whole { IsSummedWhole front (P.value gradient.now) brakes.now target.now limit sum.now }
+    ensures { result ≡ greatest (fits front (P.value gradient.now) brakes.now target.now) limit }
+{
+    let low = root(target.speed, sum.taken_off, limit);
+    let Some(start) = brakes_act(front, reaction_way(brakes.reaction, low), target.place) else {
+        return low;
+    };
+    let most = sum.begun(gradient, brakes.deceleration, start);
+    let high = above(root(target.speed, most.taken_off, limit), limit);
+    halved(front, low, high, limit, target, gradient, brakes, sum)
+}
+
+// The greatest speed that fits a target, between one that fits and one that doesn't.
+fn halved<P: Profile<Permille>>(
+    front: Cm,
+    low: Mph,
+    high: Mph,
+    limit: Mph,
+    target: &Target,
+    gradient: &P,
+    brakes: &Brakes,
+    sum: &Summed,
+) -> Mph
+    requires within { high ≤ limit }
+    requires fits { fits front (P.value gradient.now) brakes.now target.now low ≡ true }
+    requires fails { fits front (P.value gradient.now) brakes.now target.now high ≡ false }
+    requires whole { IsSummedWhole front (P.value gradient.now) brakes.now target.now limit sum.now }
+    ensures { result ≡ greatest (fits front (P.value gradient.now) brakes.now target.now) limit }
+{
+    let mut low = low;
+    let mut high = high;
+    while let Some(middle) = halfway(low, high) {
+        if fits_before(front, middle, target, gradient, brakes, sum) {
+            low = middle;
+        } else {
+            high = middle;
+        }
+    }
+    low
+}
+
+// Whether a speed fits a target, where it is known what the last stretch before the target takes off.
+fn fits_before<P: Profile<Permille>>(
+    front: Cm,
+    speed: Mph,
+    target: &Target,
+    gradient: &P,
+    brakes: &Brakes,
+    sum: &Summed,
+) -> bool
+    requires summed { IsSummed (P.value gradient.now) brakes.now.deceleration sum.now }
+    requires to { sum.now.to ≡ target.now.place }
+    requires acts { ActsBy front brakes.now.reaction target.now.place sum.now.from speed }
+    ensures { result ≡ fits front (P.value gradient.now) brakes.now target.now speed }
+{
+    if speed <= target.speed {
+        return true;
+    }
+    match brakes_act(front, reaction_way(brakes.reaction, speed), target.place) {
+        None => false,
+        Some(start) => {
+            let sum = sum.begun(gradient, brakes.deceleration, start);
+            lacking(speed, target.speed) <= sum.taken_off
+        }
+    }
+}
+
+// A speed between two; None where there is none.
+fn halfway(low: Mph, high: Mph) -> Option<Mph>
+    requires { low ≤ high }
+    ensures { MatchOption result (high ≤ low + 1) (λ middle. (low < middle) × (middle < high)) }
+{
+    let part = (high.get() - low.get()) / 2;
+    if part == 0 {
+        None
+    } else {
+        Mph::new(low.get() + part)
+    }
+}
+
+// The speed after another one, but none above a limit.
+fn above(speed: Mph, limit: Mph) -> Mph
+    requires { speed ≤ limit }
+    ensures within { result ≤ limit }
+    ensures next { speed < limit → result ≡ speed + 1 }
+    ensures last { limit ≤ speed → result ≡ limit }
+{
+    if speed < limit {
+        Mph::new(speed.get() + 1).unwrap()
+    } else {
+        limit
+    }
+}
+
+// The greatest speed up to a limit from which a train comes down to another one where so much is taken off: a whole square
+// root, by Newton's way from above.
+fn root(speed: Mph, taken_off: u64, limit: Mph) -> Mph
+    requires { taken_off < 2 ^ 64 - 2 ^ 62 }
+    ensures { IsRoot speed taken_off limit result }
+{
+    let square = u64::from(speed.get()) * u64::from(speed.get()) + taken_off;
+    let mut root = u64::from(limit.get());
+    while square < root * root {
+        root = (root + square / root) / 2;
+    }
+    Mph::new(root as u32).unwrap()
+}

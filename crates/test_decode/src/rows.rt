@@ -1,27 +1,38 @@
-use crate::copies::{copied_bits, copied_telegram, each_room};
+use crate::copies::{again, bits, long};
 use crate::mutations::mutated;
-use crate::numbers::each_number;
-use crate::packet::{each_place, packet, sizes};
+use crate::numbers::numbers;
+use crate::packet::{packet, places, sizes};
 use crate::program::{program, short};
 use std::alloc::Global;
 use std::io;
 use std::io::Write;
 
-/// Writes a row of the input, and what comes of it. A row that begins with no word of these is told alone.
+/// What comes of a word with others behind it. Nothing comes of a word that is none of these.
+fn done(alloc: Global, word: &str, others: &[&str], out: &mut Vec<u8>) -> io::Result<()> {
+    match word {
+        "etcs" => program(alloc, others, out),
+        "short" => short(alloc, others, out),
+        "numbers" => numbers(alloc, others, out),
+        "again" => again(alloc, others, out),
+        "packet" => packet(alloc, others, out),
+        "places" => places(alloc, others, out),
+        "long" => long(alloc, others, out),
+        "bits" => bits(alloc, others, out),
+        "sizes" => sizes(out),
+        "mutated" => mutated(alloc, others, out),
+        _ => Ok(()),
+    }
+}
+
+/// Writes a row of the input, and what comes of it.
 pub fn answer(alloc: Global, row: &str, out: &mut Vec<u8>) -> io::Result<()> {
     writeln!(out, "{row}")?;
-    let words: Vec<&str> = row.split(' ').collect(alloc)?;
+    let mut words = Vec::new(alloc);
+    for word in row.split(' ') {
+        words.push(word)?;
+    }
     match words.as_slice() {
-        ["etcs", words @ ..] => program(alloc, words, out),
-        ["short", room, words @ ..] => short(alloc, room, words, out),
-        ["numbers", at, width, text] => each_number(alloc, at, width, text, out),
-        ["again", text] => copied_telegram(alloc, text, out),
-        ["packet", text] => packet(alloc, text, out),
-        ["places", text] => each_place(alloc, text, out),
-        ["room", text] => each_room(alloc, text, out),
-        ["sizes"] => sizes(out),
-        ["bits", numbers @ ..] => copied_bits(alloc, numbers, out),
-        ["mutated", count, texts @ ..] => mutated(alloc, count, texts, out),
-        _ => Ok(()),
+        [word, others @ ..] => done(alloc, word, others, out),
+        [] => Ok(()),
     }
 }

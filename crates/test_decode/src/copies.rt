@@ -1,6 +1,6 @@
 use crate::spelled::{bytes_of, number_of};
 use bits::{BitReader, BitWriter};
-use packet_coding::read_packet;
+use packet_coding::{read_packet, write_packet};
 use std::alloc::Global;
 use std::io;
 use std::io::Write;
@@ -44,14 +44,35 @@ fn fits(bytes: &[u8]) -> Option<(bool, bool)> {
     Some((fits, array == [BEFORE; 104]))
 }
 
-/// Whether a packet fits into a telegram.
+/// Whether the packet that the bytes begin with has room in 160 bytes.
+fn has_160_bytes(bytes: &[u8]) -> bool {
+    let mut writer: BitWriter<160> = BitWriter::new();
+    match read_packet(&mut BitReader::new(bytes)) {
+        Ok(packet) => write_packet(&mut writer, &packet).is_ok(),
+        Err(_) => false,
+    }
+}
+
+/// .. in 161 bytes.
+fn has_161_bytes(bytes: &[u8]) -> bool {
+    let mut writer: BitWriter<161> = BitWriter::new();
+    match read_packet(&mut BitReader::new(bytes)) {
+        Ok(packet) => write_packet(&mut writer, &packet).is_ok(),
+        Err(_) => false,
+    }
+}
+
+/// Where a packet has room.
 pub fn long(alloc: Global, words: &[&str], out: &mut Vec<u8>) -> io::Result<()> {
     let [text] = words else {
         return Ok(());
     };
     let bytes = bytes_of(alloc, text)?;
-    match fits(bytes.as_slice()) {
-        Some((fits, stays)) => writeln!(out, "fits: {fits}, array as it was: {stays}"),
+    let bytes = bytes.as_slice();
+    writeln!(out, "in 160 bytes: {}", has_160_bytes(bytes))?;
+    writeln!(out, "in 161 bytes: {}", has_161_bytes(bytes))?;
+    match fits(bytes) {
+        Some((fits, stays)) => writeln!(out, "in a telegram: {fits}, array as it was: {stays}"),
         None => writeln!(out, "no packet"),
     }
 }

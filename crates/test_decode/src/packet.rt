@@ -1,4 +1,4 @@
-use crate::spelled::{bytes_of, number_of};
+use crate::spelled::bytes_of;
 use bits::{BitReader, BitWriter};
 use packet_coding::{read_packet, write_packet};
 use packets::Packet;
@@ -22,35 +22,26 @@ fn elements(packet: &Packet<'_>) -> (usize, usize) {
     }
 }
 
-/// How the packet that the bytes begin with is read, and written into so many bytes.
-fn copied<const N: usize>(alloc: Global, bytes: &[u8], out: &mut Vec<u8>) -> io::Result<()> {
-    let packet = match read_packet(&mut BitReader::new(bytes)) {
+/// How a packet is read and written.
+pub fn packet(alloc: Global, words: &[&str], out: &mut Vec<u8>) -> io::Result<()> {
+    let [text] = words else {
+        return Ok(());
+    };
+    let bytes = bytes_of(alloc, text)?;
+    let packet = match read_packet(&mut BitReader::new(bytes.as_slice())) {
         Ok(packet) => packet,
         Err(fault) => return writeln!(out, "{fault}"),
     };
     let (elements, differences) = elements(&packet);
     writeln!(out, "{elements} elements, {differences} differences")?;
-    let mut writer: BitWriter<N> = BitWriter::new();
+    let mut writer: BitWriter<256> = BitWriter::new();
     if write_packet(&mut writer, &packet).is_err() {
         return writeln!(out, "no room");
     }
-    let mut array = [0u8; N];
+    let mut array = [0u8; 256];
     let len = writer.copy_to(&mut array);
     let text = hex::encode_upper(alloc, array.get(..len).unwrap_or(&[]))?;
     writeln!(out, "{text}")
-}
-
-/// How a packet is read, and written into 160, 161 or 256 bytes.
-pub fn packet(alloc: Global, words: &[&str], out: &mut Vec<u8>) -> io::Result<()> {
-    let [room, text] = words else {
-        return Ok(());
-    };
-    let bytes = bytes_of(alloc, text)?;
-    match number_of(room) {
-        160 => copied::<160>(alloc, bytes.as_slice(), out),
-        161 => copied::<161>(alloc, bytes.as_slice(), out),
-        _ => copied::<256>(alloc, bytes.as_slice(), out),
-    }
 }
 
 /// The packets of a telegram where they lie.

@@ -1,22 +1,12 @@
 use crate::spelled::number_of;
 use commands::etcs_main;
-use std::alloc::{AllocError, Global};
+use std::alloc::Global;
 use std::io;
 use std::io::Write;
 
-/// The words, with an empty one for ''.
-fn words_of<'a>(alloc: Global, words: &[&'a str]) -> Result<Vec<&'a str>, AllocError> {
-    let mut all = Vec::new(alloc);
-    for word in words {
-        all.push(if *word == "''" { "" } else { *word })?;
-    }
-    Ok(all)
-}
-
 /// What the program writes on these words, and its status.
 pub fn program(alloc: Global, words: &[&str], out: &mut Vec<u8>) -> io::Result<()> {
-    let words = words_of(alloc, words)?;
-    let status = etcs_main(alloc, words.as_slice(), out);
+    let status = etcs_main(alloc, words, out);
     writeln!(out, "status {status}")
 }
 

@@ -7,7 +7,19 @@ use std::alloc::Global;
 use std::io;
 use std::io::Write;
 
-/// What comes of a word with others behind it. Nothing comes of a word that is none of these.
+/// What comes of a row's first word and the others. Nothing comes of one that is none of these, as in a comment.
+///
+/// - `etcs WORDS`: what the program writes, and its status.
+/// - `short N WORDS`: its status where N bytes of its text are taken and no more.
+/// - `numbers AT WIDTH HEX`: how a telegram is answered with each number of so many bits put over those from a bit on.
+/// - `again HEX`: the digits of a telegram that was read and written.
+/// - `packet HEX`: what the lists of a packet hold, and the digits of a packet that was read and written.
+/// - `places HEX`: where the packets of a telegram lie in its bytes.
+/// - `long HEX`: whether a packet has room in 160 bytes, in 161, and in a telegram.
+/// - `bits WIDTH NUMBER ..`: numbers put one behind another into two bytes.
+/// - `sizes`: whether values are as small as they are to be.
+/// - `mutated N HEX`: how N telegrams are answered that are made of one by turning bits behind its header, and for how
+///   many of them all ways of reading agree.
 fn done(alloc: Global, word: &str, others: &[&str], out: &mut Vec<u8>) -> io::Result<()> {
     match word {
         "etcs" => program(alloc, others, out),
@@ -24,12 +36,12 @@ fn done(alloc: Global, word: &str, others: &[&str], out: &mut Vec<u8>) -> io::Re
     }
 }
 
-/// Writes a row of the input, and what comes of it.
+/// Writes a row of the input, and what comes of it. A word '' is an empty one.
 pub fn answer(alloc: Global, row: &str, out: &mut Vec<u8>) -> io::Result<()> {
     writeln!(out, "{row}")?;
     let mut words = Vec::new(alloc);
     for word in row.split(' ') {
-        words.push(word)?;
+        words.push(if word == "''" { "" } else { word })?;
     }
     match words.as_slice() {
         [word, others @ ..] => done(alloc, word, others, out),

@@ -1,6 +1,4 @@
 // The kernel beside the plain program, over pseudo-random lists of inputs that are the same in every run.
-ghost use Rattle.std.specs.Prelude.{◌<◌, length};
-
 use crate::told::Told::{self, At, Hear, Move};
 use crate::told::{brakes, same_limits, train};
 use kernel::{Mode, TrainData};
@@ -133,31 +131,32 @@ struct Numbers {
 }
 
 impl Numbers {
-    /// The next number below a bound.
-    fn below(&mut self, bound: u64) -> u64
-        requires { 0 < bound }
-        ensures { result < bound }
-    {
+    /// The next number below a bound, which isn't 0.
+    fn below(&mut self, bound: u64) -> u64 {
         self.last = self
             .last
             .wrapping_mul(6_364_136_223_846_793_005)
             .wrapping_add(1_442_695_040_888_963_407);
-        (self.last >> 33) % bound
+        (self.last >> 33) % bound.max(1)
     }
 }
 
+/// One of a list.
+fn chosen<T: Copy>(numbers: &mut Numbers, list: &[T]) -> Option<T> {
+    let at = numbers.below(list.len() as u64) as usize;
+    list.get(at).copied()
+}
+
 /// One of these telegrams, a movement near the bounds, any one from -2,000 to 3,000 cm, or a moment up to 4 s later.
-fn told(numbers: &mut Numbers, telegrams: &[&'static str]) -> Told
-    requires { 0 < length telegrams.now }
-{
+fn told(numbers: &mut Numbers, telegrams: &[&'static str]) -> Told {
     match numbers.below(5) {
-        0 => Move(numbers.below(5_001) as i64 - 2_000),
-        1 => Move(MOVEMENTS[numbers.below(8) as usize]),
+        0 => Move(-2_000i64.saturating_add_unsigned(numbers.below(5_001))),
+        1 => Move(chosen(numbers, &MOVEMENTS).unwrap_or(0)),
         2 => {
             numbers.moment = numbers.moment.saturating_add(numbers.below(4_001));
             At(numbers.moment)
         }
-        _ => Hear(telegrams[numbers.below(telegrams.len() as u64) as usize]),
+        _ => Hear(chosen(numbers, telegrams).unwrap_or("")),
     }
 }
 
@@ -167,9 +166,7 @@ fn list<R: AllocGlobal>(
     numbers: &mut Numbers,
     telegrams: &[&'static str],
     count: u32,
-) -> Result<Vec<Told>, Fail>
-    requires { 0 < length telegrams.now }
-{
+) -> Result<Vec<Told>, Fail> {
     numbers.moment = 0;
     let mut list = Vec::new(rt.alloc());
     for _ in 0..count {
@@ -198,9 +195,7 @@ fn same_over<R: Abort + AllocGlobal>(
     telegrams: &[&'static str],
     rounds: u32,
     count: u32,
-) -> Result<(), Fail>
-    requires { 0 < length telegrams.now }
-{
+) -> Result<(), Fail> {
     let mut numbers = Numbers {
         last: 2026,
         moment: 0,
@@ -208,7 +203,7 @@ fn same_over<R: Abort + AllocGlobal>(
     let mut train = train(rt, 300, 3);
     for _ in 0..rounds {
         let told = list(rt, &mut numbers, telegrams, count)?;
-        train.brakes = brakes(rt, numbers.below(1_001) as u16);
+        train.brakes = brakes(rt, u16::try_from(numbers.below(1_001)).unwrap_or(0));
         same_in(rt, modes, &train, &told)?;
     }
     Ok(())

@@ -118,6 +118,32 @@ fn running_direction(
     }
 }
 
+/// The fix of an accepted group, if it tells a place. From where its packets count.
+fn made_fix(
+    alloc: Global,
+    life: &mut Life,
+    group: &[Reading],
+    reading: &Reading,
+    announcement: Option<&Announcement>,
+) -> Result<i64, AllocError> {
+    let own = place::estimate_at(&life.steps, reading.moved);
+    let Some((at, accuracy)) = told_place(alloc, life, own, announcement)? else {
+        return Ok(own);
+    };
+    let fix = Fix {
+        at,
+        accuracy,
+        moved: place::moved_after(&life.steps, reading.moved),
+        path: place::path_after(&life.steps, reading.path),
+        missed: group::at(group, 0).is_none(),
+    };
+    if place::add_fix(&mut life.steps, fix)? {
+        Ok(at)
+    } else {
+        Ok(own)
+    }
+}
+
 /// A group is accepted, whose place one of its readings tells: it makes its fix, and then its packets are used.
 fn accept(
     alloc: Global,
@@ -131,20 +157,7 @@ fn accept(
         life.facts.links.push(Word::Accepted(announcement.number))?;
     }
     life.facts.values.enter(reading.header.group.country)?;
-    let own = place::estimate_at(&life.steps, reading.moved);
-    let mut from = own;
-    if let Some((at, accuracy)) = told_place(alloc, life, own, announcement)? {
-        let fix = Fix {
-            at,
-            accuracy,
-            moved: place::moved_after(&life.steps, reading.moved),
-            path: place::path_after(&life.steps, reading.path),
-            missed: group::at(group, 0).is_none(),
-        };
-        if place::add_fix(&mut life.steps, fix)? {
-            from = at;
-        }
-    }
+    let from = made_fix(alloc, life, group, reading, announcement)?;
     let running = running_direction(group, announcement);
     use_packets(alloc, life, inputs, group, from, running)
 }

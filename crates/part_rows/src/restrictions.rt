@@ -30,21 +30,43 @@ fn limit<R: Abort>(rt: &R, track: &Restrictions, rear: i64, min_front: i64, max_
     track.least(&train, kmh(rt, 160)).get() / 1_000
 }
 
+// With no clauses, so that those of the restrictions don't come to the rows.
+fn add<R: AllocGlobal>(
+    rt: &R,
+    track: &mut Restrictions,
+    restriction: Restriction,
+) -> Result<(), Fail> {
+    track.add(rt.alloc(), restriction)?;
+    Ok(())
+}
+
+fn revoke<R: Abort>(rt: &R, track: &mut Restrictions, nid_tsr: u8) {
+    track.revoke(number(rt, nid_tsr));
+}
+
+fn drop_behind<R: Abort>(rt: &R, track: &mut Restrictions, place: i64) {
+    track.drop_behind(cm(rt, place));
+}
+
+fn copy<R: AllocGlobal>(rt: &R, track: &Restrictions) -> Result<Restrictions, Fail> {
+    Ok(track.copy(rt.alloc())?)
+}
+
 #[test]
 fn replaced_and_revoked(rt: HostRuntime) -> Result<(), Fail> {
     let mut track = Restrictions::new(rt.alloc());
-    track.add(rt.alloc(), restriction(&rt, 7, 80))?;
+    add(&rt, &mut track, restriction(&rt, 7, 80))?;
     assert_eq!(rt; limit(&rt, &track, 0, 9_000, 10_000), 80);
-    track.add(rt.alloc(), restriction(&rt, 7, 100))?;
+    add(&rt, &mut track, restriction(&rt, 7, 100))?;
     assert_eq!(rt; limit(&rt, &track, 0, 9_000, 10_000), 100);
-    track.add(rt.alloc(), restriction(&rt, 8, 40))?;
-    track.revoke(number(&rt, 7));
+    add(&rt, &mut track, restriction(&rt, 8, 40))?;
+    revoke(&rt, &mut track, 7);
     assert_eq!(rt; limit(&rt, &track, 0, 9_000, 10_000), 40);
-    track.revoke(number(&rt, 8));
+    revoke(&rt, &mut track, 8);
     assert_eq!(rt; limit(&rt, &track, 0, 9_000, 10_000), 160);
-    track.add(rt.alloc(), restriction(&rt, 255, 5))?;
-    track.add(rt.alloc(), restriction(&rt, 255, 30))?;
-    track.revoke(number(&rt, 255));
+    add(&rt, &mut track, restriction(&rt, 255, 5))?;
+    add(&rt, &mut track, restriction(&rt, 255, 30))?;
+    revoke(&rt, &mut track, 255);
     assert_eq!(rt; limit(&rt, &track, 0, 9_000, 10_000), 5);
     Ok(())
 }
@@ -52,11 +74,11 @@ fn replaced_and_revoked(rt: HostRuntime) -> Result<(), Fail> {
 #[test]
 fn first_and_last_centimetre(rt: HostRuntime) -> Result<(), Fail> {
     let mut by_front = Restrictions::new(rt.alloc());
-    by_front.add(rt.alloc(), restriction(&rt, 7, 20))?;
+    add(&rt, &mut by_front, restriction(&rt, 7, 20))?;
     let mut by_rear = Restrictions::new(rt.alloc());
     let mut delayed = restriction(&rt, 7, 20);
     delayed.delay = TrainLengthDelay::Applied;
-    by_rear.add(rt.alloc(), delayed)?;
+    add(&rt, &mut by_rear, delayed)?;
     for (rear, min_front, max_front, front, whole) in [
         (-12_000, 8_000, 9_999, 160, 160),
         (-12_000, 8_000, 10_000, 20, 20),
@@ -77,10 +99,10 @@ fn first_and_last_centimetre(rt: HostRuntime) -> Result<(), Fail> {
 #[test]
 fn no_length(rt: HostRuntime) -> Result<(), Fail> {
     let mut track = Restrictions::new(rt.alloc());
-    track.add(rt.alloc(), restriction(&rt, 7, 20))?;
+    add(&rt, &mut track, restriction(&rt, 7, 20))?;
     let mut empty = restriction(&rt, 7, 10);
     empty.length = Cm::ZERO;
-    track.add(rt.alloc(), empty)?;
+    add(&rt, &mut track, empty)?;
     assert_eq!(rt; limit(&rt, &track, 0, 10_000, 10_000), 160);
     Ok(())
 }
@@ -88,14 +110,14 @@ fn no_length(rt: HostRuntime) -> Result<(), Fail> {
 #[test]
 fn forgotten_for_good(rt: HostRuntime) -> Result<(), Fail> {
     let mut track = Restrictions::new(rt.alloc());
-    track.add(rt.alloc(), restriction(&rt, 7, 20))?;
-    track.drop_behind(cm(&rt, 14_999));
+    add(&rt, &mut track, restriction(&rt, 7, 20))?;
+    drop_behind(&rt, &mut track, 14_999);
     assert_eq!(rt; limit(&rt, &track, 9_000, 9_000, 14_998), 160);
     assert_eq!(rt; limit(&rt, &track, 9_000, 9_000, 14_999), 20);
-    let mut later = track.copy(rt.alloc())?;
-    later.drop_behind(cm(&rt, 15_000));
-    later.drop_behind(cm(&rt, 0));
-    later.add(rt.alloc(), restriction(&rt, 8, 30))?;
+    let mut later = copy(&rt, &track)?;
+    drop_behind(&rt, &mut later, 15_000);
+    drop_behind(&rt, &mut later, 0);
+    add(&rt, &mut later, restriction(&rt, 8, 30))?;
     assert_eq!(rt; limit(&rt, &later, 9_000, 9_000, 20_000), 160);
     assert_eq!(rt; limit(&rt, &track, 9_000, 9_000, 20_000), 20);
     Ok(())

@@ -6,64 +6,75 @@ use std::io;
 use std::io::Write;
 use telegram::{decode, encode};
 
-/// How a telegram is written again, in the front of 104 bytes of 55.
-pub fn copied_telegram(alloc: Global, text: &str, out: &mut Vec<u8>) -> io::Result<()> {
-    let bytes = bytes_of(alloc, text)?;
-    let telegram = match decode(bytes.as_slice()) {
-        Ok(telegram) => telegram,
-        Err(fault) => return writeln!(out, "{fault}"),
+/// What stands in an array before a telegram is written into it.
+const BEFORE: u8 = 0x55;
+
+/// The array that the telegram in bytes is written into.
+fn written(bytes: &[u8]) -> Option<[u8; 104]> {
+    let telegram = decode(bytes).ok()?;
+    let mut array = [BEFORE; 104];
+    encode(&telegram, &mut array).ok()?;
+    Some(array)
+}
+
+/// How a telegram is written again, up to the bytes of 55 that stay behind it.
+pub fn again(alloc: Global, words: &[&str], out: &mut Vec<u8>) -> io::Result<()> {
+    let [text] = words else {
+        return Ok(());
     };
-    let mut array = [0x55u8; 104];
-    if let Err(fault) = encode(&telegram, &mut array) {
-        return writeln!(out, "{fault}");
-    }
-    let written = hex::encode_upper(alloc, array.as_slice())?;
-    let front = written.as_str().trim_end_matches("55");
+    let bytes = bytes_of(alloc, text)?;
+    let Some(array) = written(bytes.as_slice()) else {
+        return writeln!(out, "no telegram");
+    };
+    let text = hex::encode_upper(alloc, array.as_slice())?;
+    let front = text.as_str().trim_end_matches("55");
     writeln!(out, "{front}")
 }
 
 /// The telegram with no packets.
 const ALONE: [u8; 8] = [0x90, 0x00, 0x7F, 0x80, 0x20, 0x01, 0x7F, 0xC0];
 
-/// Whether a packet finds room in so many bytes, and in a telegram, and whether a telegram that is too long leaves the
-/// array as it was.
-#[derive(Clone, Copy)]
-struct Rooms {
-    in_160_bytes: bool,
-    in_161_bytes: bool,
-    in_a_telegram: bool,
-    leaves_the_array: bool,
-}
-
-fn rooms_of(bytes: &[u8]) -> Option<Rooms> {
+/// Whether the packet that the bytes begin with fits into a telegram, and whether the array stays as it was.
+fn fits(bytes: &[u8]) -> Option<(bool, bool)> {
     let packet = read_packet(&mut BitReader::new(bytes)).ok()?;
-    let mut small: BitWriter<160> = BitWriter::new();
-    let in_160_bytes = write_packet(&mut small, &packet).is_ok();
-    let mut large: BitWriter<161> = BitWriter::new();
-    let in_161_bytes = write_packet(&mut large, &packet).is_ok();
     let mut telegram = decode(&ALONE).ok()?;
     telegram.push(packet).ok()?;
-    let mut array = [0x55u8; 104];
-    let in_a_telegram = encode(&telegram, &mut array).is_ok();
-    Some(Rooms {
-        in_160_bytes,
-        in_161_bytes,
-        in_a_telegram,
-        leaves_the_array: array.iter().all(|byte| *byte == 0x55),
-    })
+    let mut array = [BEFORE; 104];
+    let fits = encode(&telegram, &mut array).is_ok();
+    Some((fits, array == [BEFORE; 104]))
 }
 
-/// Where the packet that the bytes begin with finds room.
-pub fn each_room(alloc: Global, text: &str, out: &mut Vec<u8>) -> io::Result<()> {
-    let bytes = bytes_of(alloc, text)?;
-    let Some(rooms) = rooms_of(bytes.as_slice()) else {
-        return writeln!(out, "no packet");
+/// Whether the packet that the bytes begin with has room in 160 bytes.
+fn has_160_bytes(bytes: &[u8]) -> bool {
+    let mut writer: BitWriter<160> = BitWriter::new();
+    match read_packet(&mut BitReader::new(bytes)) {
+        Ok(packet) => write_packet(&mut writer, &packet).is_ok(),
+        Err(_) => false,
+    }
+}
+
+/// .. in 161 bytes.
+fn has_161_bytes(bytes: &[u8]) -> bool {
+    let mut writer: BitWriter<161> = BitWriter::new();
+    match read_packet(&mut BitReader::new(bytes)) {
+        Ok(packet) => write_packet(&mut writer, &packet).is_ok(),
+        Err(_) => false,
+    }
+}
+
+/// Where a packet has room.
+pub fn long(alloc: Global, words: &[&str], out: &mut Vec<u8>) -> io::Result<()> {
+    let [text] = words else {
+        return Ok(());
     };
-    writeln!(
-        out,
-        "in 160 bytes: {}, in 161 bytes: {}, in a telegram: {}, array as it was: {}",
-        rooms.in_160_bytes, rooms.in_161_bytes, rooms.in_a_telegram, rooms.leaves_the_array
-    )
+    let bytes = bytes_of(alloc, text)?;
+    let bytes = bytes.as_slice();
+    writeln!(out, "in 160 bytes: {}", has_160_bytes(bytes))?;
+    writeln!(out, "in 161 bytes: {}", has_161_bytes(bytes))?;
+    match fits(bytes) {
+        Some((fits, stays)) => writeln!(out, "in a telegram: {fits}, array as it was: {stays}"),
+        None => writeln!(out, "no packet"),
+    }
 }
 
 /// Puts a number of so many bits behind those before, and writes whether it had room, and the bytes then.
@@ -85,11 +96,11 @@ fn put(
 }
 
 /// Numbers that are put one behind another into two bytes, each behind the number of its bits.
-pub fn copied_bits(alloc: Global, numbers: &[&str], out: &mut Vec<u8>) -> io::Result<()> {
+pub fn bits(alloc: Global, words: &[&str], out: &mut Vec<u8>) -> io::Result<()> {
     let mut writer: BitWriter<2> = BitWriter::new();
-    for pair in numbers.chunks(2) {
+    for pair in words.chunks(2) {
         if let [width, number] = pair {
-            put(alloc, &mut writer, number_of(width)?, number_of(number)?, out)?;
+            put(alloc, &mut writer, number_of(width), number_of(number), out)?;
         }
     }
     Ok(())

@@ -12,12 +12,13 @@ mod spelled;
 
 use rows::answer;
 use std::io;
-use std::io::{BufRead, BufReader, Write};
+use std::io::Write;
 
 fn main(rt: HostRuntime) -> io::Result<()> {
+    let text = io::read_to_string(rt.alloc(), rt.reader())?;
     let mut out = Vec::new(rt.alloc());
-    for line in BufReader::new(rt.alloc(), rt.reader())?.lines(rt.alloc()) {
-        answer(rt.alloc(), line?.as_str(), &mut out)?;
+    for row in text.as_str().lines() {
+        answer(rt.alloc(), row, &mut out)?;
     }
     io::writer(&rt).write_all(out.as_slice())
 }

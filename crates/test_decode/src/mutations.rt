@@ -19,12 +19,6 @@ struct Numbers {
 }
 
 impl Numbers {
-    fn new() -> Numbers {
-        Numbers {
-            state: 0x9E37_79B9_7F4A_7C15,
-        }
-    }
-
     /// The next one, below a number.
     fn below(&mut self, most: u32) -> u32 {
         self.state ^= self.state.wrapping_shl(13);
@@ -53,7 +47,9 @@ fn mutate(numbers: &mut Numbers, bytes: &mut Vec<u8>) -> Result<(), AllocError> 
     match numbers.below(16) {
         0 => {
             let len = u32::try_from(bytes.len()).unwrap_or(0);
-            let kept = numbers.below(len.saturating_sub(HEADER_BYTES)).saturating_add(HEADER_BYTES);
+            let kept = numbers
+                .below(len.saturating_sub(HEADER_BYTES))
+                .saturating_add(HEADER_BYTES);
             bytes.truncate(kept as usize);
         }
         1 => bytes.resize(105, 0)?,
@@ -72,53 +68,43 @@ const FAULTS: [TelegramFault; 6] = [
     TelegramFault::TooLong,
 ];
 
-/// How many telegrams are answered in each way, 0 being those without a fault, and how many agree.
-#[derive(Drop)]
-struct Counts {
-    answered: [u32; 10],
-    agreeing: u32,
-}
-
-impl Counts {
-    fn count(&mut self, fault: Option<TelegramFault>, agrees: bool) {
-        let at = fault.map_or(0, |fault| fault as usize);
-        if let Some(count) = self.answered.get_mut(at) {
-            *count = count.saturating_add(1);
-        }
-        if agrees {
-            self.agreeing = self.agreeing.saturating_add(1);
-        }
-    }
-
-    fn of(&self, at: usize) -> u32 {
-        self.answered.get(at).copied().unwrap_or(0)
-    }
-}
-
-/// How so many telegrams are answered that are made of others, in turn, by turning bits behind their headers.
-pub fn mutated(alloc: Global, count: &str, texts: &[&str], out: &mut Vec<u8>) -> io::Result<()> {
-    let mut numbers = Numbers::new();
-    let mut counts = Counts {
-        answered: [0; 10],
-        agreeing: 0,
+/// Counts how a telegram is answered: 0 without a fault, else by the number of the fault.
+fn count(answered: &mut [u32; 10], bytes: &[u8]) {
+    let at = match fault_of(bytes) {
+        None => 0,
+        Some(fault) => fault as usize,
     };
-    for _ in 0..number_of(count)? {
-        for text in texts {
-            let mut bytes = bytes_of(alloc, text)?;
-            mutate(&mut numbers, &mut bytes)?;
-            let agrees = agree(alloc, bytes.as_slice())?;
-            counts.count(fault_of(bytes.as_slice()), agrees);
-        }
+    if let Some(count) = answered.get_mut(at) {
+        *count = count.saturating_add(1);
     }
-    write_counts(&counts, out)
 }
 
-fn write_counts(counts: &Counts, out: &mut Vec<u8>) -> io::Result<()> {
-    let (decoded, agreeing) = (counts.of(0), counts.agreeing);
-    writeln!(out, "decoded: {decoded}")?;
+fn write_counts(answered: &[u32; 10], agreeing: u32, out: &mut Vec<u8>) -> io::Result<()> {
+    writeln!(out, "decoded: {}", answered[0])?;
     for fault in FAULTS {
-        let refused = counts.of(fault as usize);
+        let refused = answered.get(fault as usize).copied().unwrap_or(0);
         writeln!(out, "refused {fault}: {refused}")?;
     }
     writeln!(out, "in agreement: {agreeing}")
+}
+
+/// How so many telegrams are answered that are made of another by turning bits behind its header.
+pub fn mutated(alloc: Global, words: &[&str], out: &mut Vec<u8>) -> io::Result<()> {
+    let [rounds, text] = words else {
+        return Ok(());
+    };
+    let mut numbers = Numbers {
+        state: 0x9E37_79B9_7F4A_7C15,
+    };
+    let mut answered = [0; 10];
+    let mut agreeing = 0u32;
+    for _ in 0..number_of(rounds) {
+        let mut bytes = bytes_of(alloc, text)?;
+        mutate(&mut numbers, &mut bytes)?;
+        count(&mut answered, bytes.as_slice());
+        if agree(alloc, bytes.as_slice())? {
+            agreeing = agreeing.saturating_add(1);
+        }
+    }
+    write_counts(&answered, agreeing, out)
 }

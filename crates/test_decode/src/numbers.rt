@@ -27,28 +27,20 @@ fn put_over(bytes: &mut [u8], at: u32, width: u32, number: u32) {
 }
 
 /// Writes numbers that are answered alike.
-fn told(
-    first: u32,
-    last: u32,
-    fault: Option<TelegramFault>,
-    out: &mut Vec<u8>,
-) -> io::Result<()> {
+fn told(first: u32, last: u32, fault: Option<TelegramFault>, out: &mut Vec<u8>) -> io::Result<()> {
     match fault {
         None => writeln!(out, "{first} to {last}: decoded"),
         Some(fault) => writeln!(out, "{first} to {last}: {fault}"),
     }
 }
 
-/// How the telegram is answered with each number of so many bits in place of those from a bit on.
-pub fn each_number(
-    alloc: Global,
-    at: &str,
-    width: &str,
-    text: &str,
-    out: &mut Vec<u8>,
-) -> io::Result<()> {
-    let at = number_of(at)?;
-    let width = number_of(width)?.min(8);
+/// How a telegram is answered with each number of so many bits in place of those from a bit on.
+pub fn numbers(alloc: Global, words: &[&str], out: &mut Vec<u8>) -> io::Result<()> {
+    let [at, width, text] = words else {
+        return Ok(());
+    };
+    let at = number_of(at);
+    let width = number_of(width).min(8);
     let mut bytes = bytes_of(alloc, text)?;
     let mut first = 0;
     let mut before = None;

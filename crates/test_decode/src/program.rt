@@ -1,21 +1,12 @@
 use crate::spelled::number_of;
 use commands::etcs_main;
-use std::alloc::{AllocError, Global};
+use std::alloc::Global;
 use std::io;
 use std::io::Write;
 
-/// The words, with an empty one for ''.
-fn words_of<'a>(alloc: Global, words: &[&'a str]) -> Result<Vec<&'a str>, AllocError> {
-    words
-        .iter()
-        .map(|word| if *word == "''" { "" } else { *word })
-        .collect(alloc)
-}
-
 /// What the program writes on these words, and its status.
 pub fn program(alloc: Global, words: &[&str], out: &mut Vec<u8>) -> io::Result<()> {
-    let words = words_of(alloc, words)?;
-    let status = etcs_main(alloc, words.as_slice(), out);
+    let status = etcs_main(alloc, words, out);
     writeln!(out, "status {status}")
 }
 
@@ -41,9 +32,11 @@ impl Write for Narrow {
 }
 
 /// The status of the program where so many bytes of its text are taken.
-pub fn short(alloc: Global, room: &str, words: &[&str], out: &mut Vec<u8>) -> io::Result<()> {
-    let words = words_of(alloc, words)?;
-    let room = number_of(room)? as usize;
-    let status = etcs_main(alloc, words.as_slice(), &mut Narrow { room });
+pub fn short(alloc: Global, words: &[&str], out: &mut Vec<u8>) -> io::Result<()> {
+    let [room, words @ ..] = words else {
+        return Ok(());
+    };
+    let room = number_of(room) as usize;
+    let status = etcs_main(alloc, words, &mut Narrow { room });
     writeln!(out, "status {status}")
 }

@@ -1,27 +1,50 @@
-use crate::copies::{copied_bits, copied_telegram, each_room};
+use crate::copies::{again, bits, long};
 use crate::mutations::mutated;
-use crate::numbers::each_number;
-use crate::packet::{each_place, packet, sizes};
+use crate::numbers::numbers;
+use crate::packet::{packet, places, sizes};
 use crate::program::{program, short};
 use std::alloc::Global;
 use std::io;
 use std::io::Write;
 
-/// Writes a row of the input, and what comes of it. A row that begins with no word of these is told alone.
+/// What comes of a row's first word and the others. Nothing comes of one that is none of these, as in a comment.
+///
+/// - `etcs WORDS`: what the program writes, and its status.
+/// - `short N WORDS`: its status where N bytes of its text are taken and no more.
+/// - `numbers AT WIDTH HEX`: how a telegram is answered with each number of so many bits put over those from a bit on.
+/// - `again HEX`: the digits of a telegram that was read and written.
+/// - `packet HEX`: what the lists of a packet hold, and the digits of a packet that was read and written.
+/// - `places HEX`: where the packets of a telegram lie in its bytes.
+/// - `long HEX`: whether a packet has room in 160 bytes, in 161, and in a telegram.
+/// - `bits WIDTH NUMBER ..`: numbers put one behind another into two bytes.
+/// - `sizes`: whether values are as small as they are to be.
+/// - `mutated N HEX`: how N telegrams are answered that are made of one by turning bits behind its header, and for how
+///   many of them all ways of reading agree.
+fn done(alloc: Global, word: &str, others: &[&str], out: &mut Vec<u8>) -> io::Result<()> {
+    match word {
+        "etcs" => program(alloc, others, out),
+        "short" => short(alloc, others, out),
+        "numbers" => numbers(alloc, others, out),
+        "again" => again(alloc, others, out),
+        "packet" => packet(alloc, others, out),
+        "places" => places(alloc, others, out),
+        "long" => long(alloc, others, out),
+        "bits" => bits(alloc, others, out),
+        "sizes" => sizes(out),
+        "mutated" => mutated(alloc, others, out),
+        _ => Ok(()),
+    }
+}
+
+/// Writes a row of the input, and what comes of it. A word '' is an empty one.
 pub fn answer(alloc: Global, row: &str, out: &mut Vec<u8>) -> io::Result<()> {
     writeln!(out, "{row}")?;
-    let words: Vec<&str> = row.split(' ').collect(alloc)?;
+    let mut words = Vec::new(alloc);
+    for word in row.split(' ') {
+        words.push(if word == "''" { "" } else { word })?;
+    }
     match words.as_slice() {
-        ["etcs", words @ ..] => program(alloc, words, out),
-        ["short", room, words @ ..] => short(alloc, room, words, out),
-        ["numbers", at, width, text] => each_number(alloc, at, width, text, out),
-        ["again", text] => copied_telegram(alloc, text, out),
-        ["packet", text] => packet(alloc, text, out),
-        ["places", text] => each_place(alloc, text, out),
-        ["room", text] => each_room(alloc, text, out),
-        ["sizes"] => sizes(out),
-        ["bits", numbers @ ..] => copied_bits(alloc, numbers, out),
-        ["mutated", count, texts @ ..] => mutated(alloc, count, texts, out),
-        _ => Ok(()),
+        [word, others @ ..] => done(alloc, word, others, out),
+        [] => Ok(()),
     }
 }

@@ -1,3 +1,1 @@
-pub mod Lengths
-pub mod Writes
-pub mod Spelled
+pub mod StaticSteps

@@ -78,7 +78,11 @@ pub(crate) fn from_first<T: Element, S: FieldSink>(
 {
     let first = elements.len().min(1);
     list(&elements[..first], sink)?;
-    sink.field(VariableName::NIter, 5, (elements.len() as u64).saturating_sub(1))?;
+    sink.field(
+        VariableName::NIter,
+        5,
+        (elements.len() as u64).saturating_sub(1),
+    )?;
     list(&elements[first..], sink)?;
     Ok(())
 }

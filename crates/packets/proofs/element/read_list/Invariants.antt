@@ -1,6 +1,6 @@
 use Rattle.std.proofs.Common.{◌≡◌, ◌+◌, ◌-◌, length}
 use Rattle.bits.specs.Layout.{read, read_more}
-use Rattle.packets.proofs.element.list.Given as goal
+use Rattle.packets.proofs.element.read_list.Given as goal
 
 abbrev pub invariant-loop-i : goal.invariant-loop-i
 invariant-loop-i g l = record {

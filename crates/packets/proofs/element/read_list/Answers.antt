@@ -2,7 +2,7 @@ use Rattle.std.proofs.Common.{arith}
 use Rattle.std.proofs.lemmas.Result.{err_from_is_err_and}
 use Rattle.bits.specs.Layout.{read}
 use Rattle.bits.proofs.Lists.{more_step, more_ends, more_done}
-use Rattle.packets.proofs.element.list.Goals as goal
+use Rattle.packets.proofs.element.read_list.Goals as goal
 
 pub returns-in_err-element-clause-value : goal.returns-in_err-element-clause-value
 returns-in_err-element-clause-value g c =

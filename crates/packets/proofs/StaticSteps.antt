@@ -1,0 +1,101 @@
+-- A static speed profile step by step.
+use Rattle.std.proofs.Common.{◌≡◌, ℕ, zero, suc, ◌+◌, ◌-◌, ◌<◌, ◌≤◌, Bool, List, [], ◌∷◌, ◌++◌, length, take, drop, get_or, min, refl, sym, ap, subst, ◌∙◌, arith, append_assoc, drop-cons, length-append, length-take, length-drop}
+use Rattle.std.specs.Prelude.{slice_index_or}
+use Rattle.std.proofs.lemmas.List.{drop_all, take_min, drop_min, drop-take, drop-drop}
+use Rattle.bits.specs.Layout.{folded}
+use Rattle.bits.specs.Sums.{total}
+use Rattle.bits.specs.Writing.{Shown, named, each_taken, taken, size, with_bits, appended}
+use Rattle.bits.specs.declared.name.VariableName.TheVariants as names
+use Rattle.bits.proofs.WritingLaws.{length-appended, length-each}
+use Rattle.vars.specs.Variables.{direction_number, scale_number}
+use Rattle.packets.specs.Packets.{difference, no_step, step_at, differences_to, static_step, static_speeds_telling}
+use Rattle.packets.specs.StaticSteps.{step_taken, steps_taken, step_size, steps_size}
+use Rattle.packets.specs.declared.static_speeds.Difference.{Difference}
+use Rattle.packets.specs.declared.static_speeds.StaticSpeeds.{StaticSpeeds}
+use Rattle.packets.specs.declared.static_speeds.StaticStep.{StaticStep}
+
+-- the differences that steps count
+abbrev pub counted : List StaticStep → ℕ
+counted xs = total (λ (s : StaticStep). s.differences) xs
+
+-- ---- the differences of one more step
+
+-- the own ones are those behind all before
+own_of : (n k : ℕ) (ds : List Difference) → drop (length (take n ds)) (take (n + k) ds) ≡ take k (drop n ds)
+own_of zero k ds = refl
+own_of (suc n) k [] = refl
+own_of (suc n) k (d ∷ ds) = let e : suc n + k ≡ suc (n + k) = omega arith in rw e (own_of n k ds)
+
+counted_more : (i : ℕ) (steps : List StaticStep) (x : StaticStep) (xs : List StaticStep) → drop i steps ≡ x ∷ xs → counted (take (i + 1) steps) ≡ counted (take i steps) + x.differences
+counted_more zero [] x xs e = absurd cc
+counted_more zero (y ∷ ys) x xs e = ap (λ (t : List StaticStep). counted (take 1 t)) e ∙ omega arith
+counted_more (suc i) [] x xs e = absurd cc
+counted_more (suc i) (y ∷ ys) x xs e = let k : suc i + 1 ≡ suc (i + 1) = omega arith in rw k (omega (arith, counted_more i ys x xs e))
+
+here : (i : ℕ) (steps : List StaticStep) (x : StaticStep) (xs : List StaticStep) → drop i steps ≡ x ∷ xs → slice_index_or steps i no_step ≡ x
+here zero [] x xs e = absurd cc
+here zero (y ∷ ys) x xs e = cc
+here (suc i) [] x xs e = absurd cc
+here (suc i) (y ∷ ys) x xs e = here i ys x xs e
+
+next : (i : ℕ) (steps : List StaticStep) (x : StaticStep) (xs : List StaticStep) → drop i steps ≡ x ∷ xs → drop (i + 1) steps ≡ xs
+next zero [] x xs e = absurd cc
+next zero (y ∷ ys) x xs e = cc
+next (suc i) [] x xs e = absurd cc
+next (suc i) (y ∷ ys) x xs e = next i ys x xs e
+
+-- ---- what takes a profile takes its steps
+
+-- the profile that is read of p after a step more
+abbrev after_step : StaticSpeeds → StaticSpeeds → StaticSpeeds
+after_step p s = record {
+  direction = s.direction;
+  scale = s.scale;
+  steps = record { items = s.steps.items ++ record { distance = (step_at (length s.steps.items) p).distance; speed = (step_at (length s.steps.items) p).speed; delay = (step_at (length s.steps.items) p).delay; differences = (step_at (length s.steps.items) p).differences } ∷ [] };
+  differences = record { items = differences_to (length s.steps.items) p };
+}
+
+one_step : {S : Type 0} (t : S → Shown → S) (p s : StaticSpeeds) (left : S)
+    → taken t (static_step s) p left ≡ step_taken t (step_at (length s.steps.items) p) (drop (length s.differences.items) (differences_to (length s.steps.items) p)) left
+unfolding static_step
+one_step t p s left = refl
+
+folded_one : {S : Type 0} (t : S → Shown → S) (p s : StaticSpeeds) (n : ℕ) (left : S)
+    → taken t (folded static_step (suc n) s) p left ≡ taken t (folded static_step n (after_step p s)) p (taken t (static_step s) p left)
+unfolding folded static_step
+folded_one t p s n left = refl
+
+folded_none : {S : Type 0} (t : S → Shown → S) (p s : StaticSpeeds) (left : S) → taken t (folded static_step 0 s) p left ≡ left
+unfolding folded
+folded_none t p s left = refl
+
+-- a step more, as the list tells it
+step_more : {S : Type 0} (t : S → Shown → S) (p s : StaticSpeeds) (x : StaticStep) (xs : List StaticStep) (left : S)
+    → drop (length s.steps.items) p.steps.items ≡ x ∷ xs → s.differences.items ≡ take (counted (take (length s.steps.items) p.steps.items)) p.differences.items
+    → taken t (static_step s) p left ≡ step_taken t x (take x.differences (drop (counted (take (length s.steps.items) p.steps.items)) p.differences.items)) left
+step_more t p s x xs left e behind =
+    let own : drop (length s.differences.items) (differences_to (length s.steps.items) p) ≡ take x.differences (drop (counted (take (length s.steps.items) p.steps.items)) p.differences.items) =
+        ap (λ (ds : List Difference). drop (length ds) (differences_to (length s.steps.items) p)) behind
+        ∙ ap (λ (n : ℕ). drop (length (take (counted (take (length s.steps.items) p.steps.items)) p.differences.items)) (take n p.differences.items)) (counted_more (length s.steps.items) p.steps.items x xs e)
+        ∙ own_of (counted (take (length s.steps.items) p.steps.items)) x.differences p.differences.items in
+    one_step t p s left ∙ ap (λ (ds : List Difference). step_taken t (step_at (length s.steps.items) p) ds left) own
+    ∙ ap (λ (y : StaticStep). step_taken t y (take x.differences (drop (counted (take (length s.steps.items) p.steps.items)) p.differences.items)) left) (here (length s.steps.items) p.steps.items x xs e)
+
+steps_folded : {S : Type 0} (t : S → Shown → S) (p : StaticSpeeds) (xs : List StaticStep) (s : StaticSpeeds) (left : S)
+    → drop (length s.steps.items) p.steps.items ≡ xs → s.differences.items ≡ take (counted (take (length s.steps.items) p.steps.items)) p.differences.items
+    → taken t (folded static_step (length xs) s) p left ≡ steps_taken t xs (drop (counted (take (length s.steps.items) p.steps.items)) p.differences.items) left
+unfolding steps_taken
+steps_folded t p [] s left e behind = folded_none t p s left
+steps_folded t p (x ∷ xs) s left e behind =
+    let i : ℕ = length s.steps.items in
+    let n : ℕ = counted (take i p.steps.items) in
+    let long : length (after_step p s).steps.items ≡ i + 1 = length-append s.steps.items _ in
+    let more : counted (take (i + 1) p.steps.items) ≡ n + x.differences = counted_more i p.steps.items x xs e in
+    let others = steps_folded t p xs (after_step p s) (taken t (static_step s) p left)
+        (ap (λ (k : ℕ). drop k p.steps.items) long ∙ next i p.steps.items x xs e)
+        (ap (λ (k : ℕ). take (counted (take k p.steps.items)) p.differences.items) (sym long)) in
+    let cut : drop (counted (take (length (after_step p s).steps.items) p.steps.items)) p.differences.items ≡ drop x.differences (drop n p.differences.items) =
+        ap (λ (k : ℕ). drop (counted (take k p.steps.items)) p.differences.items) long ∙ ap (λ (k : ℕ). drop k p.differences.items) more ∙ sym (drop-drop x.differences n p.differences.items) in
+    folded_one t p s (length xs) left ∙ others
+    ∙ ap (λ (ds : List Difference). steps_taken t xs ds (taken t (static_step s) p left)) cut
+    ∙ ap (λ (y : _). steps_taken t xs (drop x.differences (drop n p.differences.items)) y) (step_more t p s x xs left e behind)

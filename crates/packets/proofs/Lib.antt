@@ -1,1 +1,3 @@
+pub mod Kinds
 pub mod StaticSteps
+pub mod Told

@@ -1,13 +1,15 @@
 -- A static speed profile step by step.
-use Rattle.std.proofs.Common.{◌≡◌, ℕ, zero, suc, ◌+◌, ◌-◌, ◌<◌, ◌≤◌, Bool, List, [], ◌∷◌, ◌++◌, length, take, drop, get_or, min, refl, sym, ap, subst, ◌∙◌, arith, append_assoc, drop-cons, length-append, length-take, length-drop}
+use Rattle.std.proofs.Common.{◌≡◌, ℕ, zero, suc, ◌+◌, ◌-◌, ◌*◌, ◌<◌, ◌≤◌, Bool, List, [], ◌∷◌, ◌++◌, length, take, drop, get_or, min, max, refl, sym, ap, subst, ◌∙◌, arith, append_assoc, drop-cons, length-append, length-take, length-drop}
 use Rattle.std.specs.Prelude.{slice_index_or}
 use Rattle.std.proofs.lemmas.List.{drop_all, take_min, drop_min, drop-take, drop-drop}
+use Rattle.bits.specs.Bits.{number_bits}
 use Rattle.bits.specs.Layout.{folded}
 use Rattle.bits.specs.Sums.{total}
 use Rattle.bits.specs.Writing.{Shown, named, each_taken, taken, size, with_bits, appended}
 use Rattle.bits.specs.declared.name.VariableName.TheVariants as names
+use Rattle.bits.proofs.Numbers.{length-number_bits}
 use Rattle.bits.proofs.WritingLaws.{length-appended, length-each}
-use Rattle.vars.specs.Variables.{direction_number, scale_number}
+use Rattle.vars.specs.Variables.{direction_number, scale_number, static_number, delay_number}
 use Rattle.packets.specs.Packets.{difference, no_step, step_at, differences_to, static_step, static_speeds_telling}
 use Rattle.packets.specs.StaticSteps.{step_taken, steps_taken, step_size, steps_size}
 use Rattle.packets.specs.declared.static_speeds.Difference.{Difference}
@@ -75,9 +77,9 @@ step_more : {S : Type 0} (t : S → Shown → S) (p s : StaticSpeeds) (x : Stati
     → taken t (static_step s) p left ≡ step_taken t x (take x.differences (drop (counted (take (length s.steps.items) p.steps.items)) p.differences.items)) left
 step_more t p s x xs left e behind =
     let own : drop (length s.differences.items) (differences_to (length s.steps.items) p) ≡ take x.differences (drop (counted (take (length s.steps.items) p.steps.items)) p.differences.items) =
-        ap (λ (ds : List Difference). drop (length ds) (differences_to (length s.steps.items) p)) behind
-        ∙ ap (λ (n : ℕ). drop (length (take (counted (take (length s.steps.items) p.steps.items)) p.differences.items)) (take n p.differences.items)) (counted_more (length s.steps.items) p.steps.items x xs e)
-        ∙ own_of (counted (take (length s.steps.items) p.steps.items)) x.differences p.differences.items in
+    ap (λ (ds : List Difference). drop (length ds) (differences_to (length s.steps.items) p)) behind
+    ∙ ap (λ (n : ℕ). drop (length (take (counted (take (length s.steps.items) p.steps.items)) p.differences.items)) (take n p.differences.items)) (counted_more (length s.steps.items) p.steps.items x xs e)
+    ∙ own_of (counted (take (length s.steps.items) p.steps.items)) x.differences p.differences.items in
     one_step t p s left ∙ ap (λ (ds : List Difference). step_taken t (step_at (length s.steps.items) p) ds left) own
     ∙ ap (λ (y : StaticStep). step_taken t y (take x.differences (drop (counted (take (length s.steps.items) p.steps.items)) p.differences.items)) left) (here (length s.steps.items) p.steps.items x xs e)
 
@@ -92,10 +94,115 @@ steps_folded t p (x ∷ xs) s left e behind =
     let long : length (after_step p s).steps.items ≡ i + 1 = length-append s.steps.items _ in
     let more : counted (take (i + 1) p.steps.items) ≡ n + x.differences = counted_more i p.steps.items x xs e in
     let others = steps_folded t p xs (after_step p s) (taken t (static_step s) p left)
-        (ap (λ (k : ℕ). drop k p.steps.items) long ∙ next i p.steps.items x xs e)
-        (ap (λ (k : ℕ). take (counted (take k p.steps.items)) p.differences.items) (sym long)) in
+    (ap (λ (k : ℕ). drop k p.steps.items) long ∙ next i p.steps.items x xs e)
+    (ap (λ (k : ℕ). take (counted (take k p.steps.items)) p.differences.items) (sym long)) in
     let cut : drop (counted (take (length (after_step p s).steps.items) p.steps.items)) p.differences.items ≡ drop x.differences (drop n p.differences.items) =
-        ap (λ (k : ℕ). drop (counted (take k p.steps.items)) p.differences.items) long ∙ ap (λ (k : ℕ). drop k p.differences.items) more ∙ sym (drop-drop x.differences n p.differences.items) in
+    ap (λ (k : ℕ). drop (counted (take k p.steps.items)) p.differences.items) long ∙ ap (λ (k : ℕ). drop k p.differences.items) more ∙ sym (drop-drop x.differences n p.differences.items) in
     folded_one t p s (length xs) left ∙ others
     ∙ ap (λ (ds : List Difference). steps_taken t xs ds (taken t (static_step s) p left)) cut
     ∙ ap (λ (y : _). steps_taken t xs (drop x.differences (drop n p.differences.items)) y) (step_more t p s x xs left e behind)
+
+-- ---- the whole profile
+
+abbrev no_steps_yet : StaticSpeeds → StaticSpeeds
+no_steps_yet p = record { direction = p.direction; scale = p.scale; steps = record { items = [] }; differences = record { items = [] } }
+
+-- the first step and the other steps
+first_taken : {S : Type 0} (t : S → Shown → S) (p : StaticSpeeds) (told : ℕ) (s : S)
+    → taken t (static_speeds_telling (λ _. told)) p s
+    ≡ taken t (folded static_step (length p.steps.items - 1) (after_step p (no_steps_yet p))) p
+    (t (taken t (static_step (no_steps_yet p)) p (t (t (t s (named names.QDir 2 (direction_number p.direction))) (named names.LPacket 13 told)) (named names.QScale 2 (scale_number p.scale)))) (named names.NIter 5 (length p.steps.items - 1)))
+unfolding static_speeds_telling
+first_taken t p told s = refl
+
+counted_first : (steps : List StaticStep) → counted (take 1 steps) ≡ (slice_index_or steps 0 no_step).differences
+counted_first [] = refl
+counted_first (x ∷ xs) = omega arith
+
+-- the first step, N_ITER and the other steps, each with its own differences
+abbrev pub profile_taken : {S : Type 0} → (S → Shown → S) → StaticSpeeds → S → S
+profile_taken t p s =
+    steps_taken t (drop 1 p.steps.items) (drop (step_at 0 p).differences p.differences.items)
+    (t (step_taken t (step_at 0 p) (take (step_at 0 p).differences p.differences.items) s) (named names.NIter 5 (length p.steps.items - 1)))
+
+abbrev head_taken : {S : Type 0} → (S → Shown → S) → StaticSpeeds → ℕ → S → S
+head_taken t p told s = t (t (t s (named names.QDir 2 (direction_number p.direction))) (named names.LPacket 13 told)) (named names.QScale 2 (scale_number p.scale))
+
+pub speeds_taken : {S : Type 0} (t : S → Shown → S) (p : StaticSpeeds) (told : ℕ) (s : S)
+    → taken t (static_speeds_telling (λ _. told)) p s ≡ profile_taken t p (head_taken t p told s)
+speeds_taken t p told s =
+    let start : _ = head_taken t p told s in
+    let count : counted (take 1 p.steps.items) ≡ (step_at 0 p).differences = counted_first p.steps.items in
+    let one : taken t (static_step (no_steps_yet p)) p start ≡ step_taken t (step_at 0 p) (take (step_at 0 p).differences p.differences.items) start =
+    one_step t p (no_steps_yet p) start ∙ ap (λ (n : ℕ). step_taken t (step_at 0 p) (take n p.differences.items) start) count in
+    let last : _ = t (step_taken t (step_at 0 p) (take (step_at 0 p).differences p.differences.items) start) (named names.NIter 5 (length p.steps.items - 1)) in
+    first_taken t p told s
+    ∙ ap (λ (y : _). taken t (folded static_step (length p.steps.items - 1) (after_step p (no_steps_yet p))) p (t y (named names.NIter 5 (length p.steps.items - 1)))) one
+    ∙ ap (λ (n : ℕ). taken t (folded static_step n (after_step p (no_steps_yet p))) p last) (sym (length-drop 1 p.steps.items))
+    ∙ steps_folded t p (drop 1 p.steps.items) (after_step p (no_steps_yet p)) last refl refl
+    ∙ ap (λ (n : ℕ). steps_taken t (drop 1 p.steps.items) (drop n p.differences.items) last) count
+
+-- ---- its bits
+
+own_size : (own : List Difference) → total (λ d. size difference d) own ≡ 11 * length own
+unfolding difference
+own_size [] = omega arith
+own_size (d ∷ ds) = omega (arith, own_size ds)
+
+pub steps_bits : (xs : List StaticStep) (ds : List Difference) → steps_size xs ds ≡ 28 * length xs + 11 * min (counted xs) (length ds)
+unfolding steps_size
+steps_bits [] ds = omega arith
+steps_bits (x ∷ xs) ds =
+    omega (arith, own_size (take x.differences ds), length-take x.differences ds, steps_bits xs (drop x.differences ds), length-drop x.differences ds)
+
+long_step : (step : StaticStep) (own : List Difference) (front : List Bool) → length (step_taken with_bits step own front) ≡ length front + step_size own
+long_step step own front =
+    omega (
+      arith,
+      length-each (λ x left. appended difference x left) (λ d. size difference d) own _ (λ x left. length-appended difference x left),
+      length-append front (number_bits 15 step.distance),
+      length-number_bits 15 step.distance,
+      length-append (front ++ number_bits 15 step.distance) (number_bits 7 (static_number step.speed)),
+      length-number_bits 7 (static_number step.speed),
+      length-append ((front ++ number_bits 15 step.distance) ++ number_bits 7 (static_number step.speed)) (number_bits 1 (delay_number step.delay)),
+      length-number_bits 1 (delay_number step.delay),
+      length-append (((front ++ number_bits 15 step.distance) ++ number_bits 7 (static_number step.speed)) ++ number_bits 1 (delay_number step.delay)) (number_bits 5 step.differences),
+      length-number_bits 5 step.differences,
+    )
+
+long_steps : (xs : List StaticStep) (ds : List Difference) (front : List Bool) → length (steps_taken with_bits xs ds front) ≡ length front + steps_size xs ds
+unfolding steps_taken steps_size
+long_steps [] ds front = omega arith
+long_steps (x ∷ xs) ds front =
+    omega (arith, long_steps xs (drop x.differences ds) (step_taken with_bits x (take x.differences ds) front), long_step x (take x.differences ds) front)
+
+pub speeds_size : (p : StaticSpeeds) (told : ℕ)
+    → size (static_speeds_telling (λ _. told)) p ≡ 22 + (step_size (take (step_at 0 p).differences p.differences.items) + steps_size (drop 1 p.steps.items) (drop (step_at 0 p).differences p.differences.items))
+speeds_size p told =
+    let start : List Bool = head_taken with_bits p told [] in
+    let first : List Bool = step_taken with_bits (step_at 0 p) (take (step_at 0 p).differences p.differences.items) start in
+    let n : ℕ = length p.steps.items - 1 in
+    omega (
+      arith,
+      length-appended (static_speeds_telling (λ _. told)) p [],
+      ap length (speeds_taken with_bits p told []),
+      long_steps (drop 1 p.steps.items) (drop (step_at 0 p).differences p.differences.items) (first ++ number_bits 5 n),
+      length-append first (number_bits 5 n),
+      length-number_bits 5 n,
+      long_step (step_at 0 p) (take (step_at 0 p).differences p.differences.items) start,
+      length-append (number_bits 2 (direction_number p.direction)) (number_bits 13 told),
+      length-append (number_bits 2 (direction_number p.direction) ++ number_bits 13 told) (number_bits 2 (scale_number p.scale)),
+      length-number_bits 2 (direction_number p.direction),
+      length-number_bits 13 told,
+      length-number_bits 2 (scale_number p.scale),
+    )
+
+profile_bits : (steps : List StaticStep) (ds : List Difference)
+    → step_size (take (slice_index_or steps 0 no_step).differences ds) + steps_size (drop 1 steps) (drop (slice_index_or steps 0 no_step).differences ds)
+    ≡ 28 * max 1 (length steps) + 11 * min (counted steps) (length ds)
+unfolding steps_size
+profile_bits [] ds = omega arith
+profile_bits (x ∷ xs) ds = omega (arith, own_size (take x.differences ds), length-take x.differences ds, steps_bits xs (drop x.differences ds), length-drop x.differences ds)
+
+pub speeds_bits : (p : StaticSpeeds) (told : ℕ) → size (static_speeds_telling (λ _. told)) p ≡ 22 + 28 * max 1 (length p.steps.items) + 11 * min (counted p.steps.items) (length p.differences.items)
+speeds_bits p told = omega (arith, speeds_size p told, profile_bits p.steps.items p.differences.items)

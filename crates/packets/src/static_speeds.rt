@@ -1,4 +1,4 @@
-ghost use Rattle.std.specs.Prelude.{◌≡◌, ◌+◌, ◌≤◌, ◌<◌, ◌^◌, length, min, slice_index_or, OnOk};
+ghost use Rattle.std.specs.Prelude.{◌≡◌, ◌+◌, ◌≤◌, ◌<◌, ◌^◌, length, drop, min, slice_index_or, take, OnOk};
 ghost use Rattle.bits.specs.Layout.{Gives, folded, kind, read};
 ghost use Rattle.bits.specs.Sums.{total};
 ghost use Rattle.bits.specs.Writing.{size, taken};
@@ -178,11 +178,19 @@ fn first_step(steps: &[StaticStep]) -> StaticStep
     }
 }
 
-/// The number of a step's own differences, of those that are left.
-fn own_count(step: &StaticStep, left: usize) -> usize
-    ensures { result ≡ min step.now.differences left }
+/// The steps behind the first.
+fn other_steps(steps: &[StaticStep]) -> &[StaticStep]
+    ensures { result.now ≡ drop 1 steps.now }
 {
-    usize::from(step.differences.count()).min(left)
+    &steps[steps.len().min(1)..]
+}
+
+/// The step's own of the differences that are left, and those behind them.
+fn split_own<'a>(step: &StaticStep, left: &'a [Difference]) -> (&'a [Difference], &'a [Difference])
+    ensures own { result.0.now ≡ take step.now.differences left.now }
+    ensures others { result.1.now ≡ drop step.now.differences left.now }
+{
+    left.split_at(usize::from(step.differences.count()).min(left.len()))
 }
 
 /// Hands a step to a sink, with its own differences.
@@ -213,7 +221,7 @@ fn steps_fields<S: FieldSink>(
 {
     let mut left = differences;
     for step in steps {
-        let (own, others) = left.split_at(own_count(step, left.len()));
+        let (own, others) = split_own(step, left);
         step_fields(step, own, sink)?;
         left = others;
     }
@@ -253,7 +261,7 @@ impl StaticSpeeds {
         let steps = self.steps.as_slice();
         let differences = self.differences.as_slice();
         let first = first_step(steps);
-        let (own, left) = differences.split_at(own_count(&first, differences.len()));
+        let (own, left) = split_own(&first, differences);
         put(sink, VariableName::QDir, &self.direction)?;
         sink.field(VariableName::LPacket, 13, told)?;
         put(sink, VariableName::QScale, &self.scale)?;
@@ -263,6 +271,6 @@ impl StaticSpeeds {
             5,
             (steps.len() as u64).saturating_sub(1),
         )?;
-        steps_fields(&steps[steps.len().min(1)..], left, sink)
+        steps_fields(other_steps(steps), left, sink)
     }
 }

@@ -1,3 +1,3 @@
-pub mod Kinds
+pub mod AnyPacket
 pub mod StaticSteps
 pub mod Told

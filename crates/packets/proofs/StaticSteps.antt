@@ -1,17 +1,18 @@
 -- A static speed profile step by step.
 use Rattle.std.proofs.Common.{◌≡◌, ℕ, zero, suc, ◌+◌, ◌-◌, ◌*◌, ◌<◌, ◌≤◌, Bool, List, [], ◌∷◌, ◌++◌, length, take, drop, get_or, min, max, refl, sym, ap, subst, ◌∙◌, arith, append_assoc, drop-cons, length-append, length-take, length-drop}
-use Rattle.std.specs.Prelude.{slice_index_or}
+use Rattle.std.specs.Prelude.{slice_index_or, Option, Some, None}
+use Rattle.std.specs.Option.{option_map_or}
 use Rattle.std.proofs.lemmas.List.{drop_all, take_min, drop_min, drop-take, drop-drop}
 use Rattle.bits.specs.Bits.{number_bits}
 use Rattle.bits.specs.Layout.{folded}
 use Rattle.bits.specs.Sums.{total}
-use Rattle.bits.specs.Writing.{Shown, named, each_taken, taken, size, with_bits, appended}
+use Rattle.bits.specs.Writing.{Shown, named, value, taken, size, with_bits, appended}
 use Rattle.bits.specs.declared.name.VariableName.TheVariants as names
 use Rattle.bits.proofs.Numbers.{length-number_bits}
 use Rattle.bits.proofs.WritingLaws.{length-appended, length-each}
 use Rattle.vars.specs.Variables.{direction_number, scale_number, static_number, delay_number}
 use Rattle.packets.specs.Packets.{difference, no_step, step_at, differences_to, static_step, static_speeds_telling}
-use Rattle.packets.specs.StaticSteps.{step_taken, steps_taken, step_size, steps_size}
+use Rattle.packets.specs.StaticSteps.{step_taken, steps_taken, step_size, steps_size, profile_taken, profile_size}
 use Rattle.packets.specs.declared.static_speeds.Difference.{Difference}
 use Rattle.packets.specs.declared.static_speeds.StaticSpeeds.{StaticSpeeds}
 use Rattle.packets.specs.declared.static_speeds.StaticStep.{StaticStep}
@@ -22,10 +23,17 @@ counted xs = total (λ (s : StaticStep). s.differences) xs
 
 -- ---- the differences of one more step
 
+abbrev no_difference : List Difference
+no_difference = []
+
+take_none : (n : ℕ) → take n no_difference ≡ no_difference
+take_none zero = refl
+take_none (suc n) = refl
+
 -- the own ones are those behind all before
 own_of : (n k : ℕ) (ds : List Difference) → drop (length (take n ds)) (take (n + k) ds) ≡ take k (drop n ds)
-own_of zero k ds = refl
-own_of (suc n) k [] = refl
+own_of zero k ds = let e : 0 + k ≡ k = omega arith in rw e refl
+own_of (suc n) k [] = take_none (suc n + k) ∙ sym (take_none k)
 own_of (suc n) k (d ∷ ds) = let e : suc n + k ≡ suc (n + k) = omega arith in rw e (own_of n k ds)
 
 counted_more : (i : ℕ) (steps : List StaticStep) (x : StaticStep) (xs : List StaticStep) → drop i steps ≡ x ∷ xs → counted (take (i + 1) steps) ≡ counted (take i steps) + x.differences
@@ -44,7 +52,7 @@ next : (i : ℕ) (steps : List StaticStep) (x : StaticStep) (xs : List StaticSte
 next zero [] x xs e = absurd cc
 next zero (y ∷ ys) x xs e = cc
 next (suc i) [] x xs e = absurd cc
-next (suc i) (y ∷ ys) x xs e = next i ys x xs e
+next (suc i) (y ∷ ys) x xs e = let k : suc i + 1 ≡ suc (i + 1) = omega arith in rw k (next i ys x xs e)
 
 -- ---- what takes a profile takes its steps
 
@@ -107,29 +115,27 @@ steps_folded t p (x ∷ xs) s left e behind =
 abbrev no_steps_yet : StaticSpeeds → StaticSpeeds
 no_steps_yet p = record { direction = p.direction; scale = p.scale; steps = record { items = [] }; differences = record { items = [] } }
 
+abbrev head_taken : {S : Type 0} → (S → Shown → S) → StaticSpeeds → ℕ → S → S
+head_taken t p told s = t (t (t s (named names.QDir 2 (direction_number p.direction))) (named names.LPacket 13 told)) (named names.QScale 2 (scale_number p.scale))
+
+-- what is told last takes no field
+all_told : {A S : Type 0} (o : Option A) (s : S) → option_map_or (λ x. s) o s ≡ s
+all_told None s = refl
+all_told (Some x) s = refl
+
 -- the first step and the other steps
 first_taken : {S : Type 0} (t : S → Shown → S) (p : StaticSpeeds) (told : ℕ) (s : S)
     → taken t (static_speeds_telling (λ _. told)) p s
-    ≡ taken t (folded static_step (length p.steps.items - 1) (after_step p (no_steps_yet p))) p
-    (t (taken t (static_step (no_steps_yet p)) p (t (t (t s (named names.QDir 2 (direction_number p.direction))) (named names.LPacket 13 told)) (named names.QScale 2 (scale_number p.scale)))) (named names.NIter 5 (length p.steps.items - 1)))
-unfolding static_speeds_telling
-first_taken t p told s = refl
+    ≡ taken t (folded static_step (length p.steps.items - 1) (after_step p (no_steps_yet p))) p (t (taken t (static_step (no_steps_yet p)) p (head_taken t p told s)) (named names.NIter 5 (length p.steps.items - 1)))
+unfolding static_speeds_telling static_step
+first_taken t p told s = all_told (value (folded static_step (length p.steps.items - 1) (after_step p (no_steps_yet p))) p) _
 
 counted_first : (steps : List StaticStep) → counted (take 1 steps) ≡ (slice_index_or steps 0 no_step).differences
 counted_first [] = refl
 counted_first (x ∷ xs) = omega arith
 
--- the first step, N_ITER and the other steps, each with its own differences
-abbrev pub profile_taken : {S : Type 0} → (S → Shown → S) → StaticSpeeds → S → S
-profile_taken t p s =
-    steps_taken t (drop 1 p.steps.items) (drop (step_at 0 p).differences p.differences.items)
-    (t (step_taken t (step_at 0 p) (take (step_at 0 p).differences p.differences.items) s) (named names.NIter 5 (length p.steps.items - 1)))
-
-abbrev head_taken : {S : Type 0} → (S → Shown → S) → StaticSpeeds → ℕ → S → S
-head_taken t p told s = t (t (t s (named names.QDir 2 (direction_number p.direction))) (named names.LPacket 13 told)) (named names.QScale 2 (scale_number p.scale))
-
 pub speeds_taken : {S : Type 0} (t : S → Shown → S) (p : StaticSpeeds) (told : ℕ) (s : S)
-    → taken t (static_speeds_telling (λ _. told)) p s ≡ profile_taken t p (head_taken t p told s)
+    → taken t (static_speeds_telling (λ _. told)) p s ≡ profile_taken t p.steps.items p.differences.items (head_taken t p told s)
 speeds_taken t p told s =
     let start : _ = head_taken t p told s in
     let count : counted (take 1 p.steps.items) ≡ (step_at 0 p).differences = counted_first p.steps.items in
@@ -157,16 +163,20 @@ steps_bits (x ∷ xs) ds =
 
 long_step : (step : StaticStep) (own : List Difference) (front : List Bool) → length (step_taken with_bits step own front) ≡ length front + step_size own
 long_step step own front =
+    let a : List Bool = front ++ number_bits 15 step.distance in
+    let b : List Bool = a ++ number_bits 7 (static_number step.speed) in
+    let c : List Bool = b ++ number_bits 1 (delay_number step.delay) in
+    let d : List Bool = c ++ number_bits 5 step.differences in
     omega (
       arith,
-      length-each (λ x left. appended difference x left) (λ d. size difference d) own _ (λ x left. length-appended difference x left),
+      length-each (λ x left. appended difference x left) (λ x. size difference x) own d (λ x left. length-appended difference x left),
       length-append front (number_bits 15 step.distance),
       length-number_bits 15 step.distance,
-      length-append (front ++ number_bits 15 step.distance) (number_bits 7 (static_number step.speed)),
+      length-append a (number_bits 7 (static_number step.speed)),
       length-number_bits 7 (static_number step.speed),
-      length-append ((front ++ number_bits 15 step.distance) ++ number_bits 7 (static_number step.speed)) (number_bits 1 (delay_number step.delay)),
+      length-append b (number_bits 1 (delay_number step.delay)),
       length-number_bits 1 (delay_number step.delay),
-      length-append (((front ++ number_bits 15 step.distance) ++ number_bits 7 (static_number step.speed)) ++ number_bits 1 (delay_number step.delay)) (number_bits 5 step.differences),
+      length-append c (number_bits 5 step.differences),
       length-number_bits 5 step.differences,
     )
 
@@ -176,33 +186,57 @@ long_steps [] ds front = omega arith
 long_steps (x ∷ xs) ds front =
     omega (arith, long_steps xs (drop x.differences ds) (step_taken with_bits x (take x.differences ds) front), long_step x (take x.differences ds) front)
 
-pub speeds_size : (p : StaticSpeeds) (told : ℕ)
-    → size (static_speeds_telling (λ _. told)) p ≡ 22 + (step_size (take (step_at 0 p).differences p.differences.items) + steps_size (drop 1 p.steps.items) (drop (step_at 0 p).differences p.differences.items))
-speeds_size p told =
-    let start : List Bool = head_taken with_bits p told [] in
+pub speeds_size : (p : StaticSpeeds) → size (static_speeds_telling (λ _. 0)) p ≡ 17 + profile_size p.steps.items p.differences.items
+speeds_size p =
+    let start : List Bool = head_taken with_bits p 0 [] in
     let first : List Bool = step_taken with_bits (step_at 0 p) (take (step_at 0 p).differences p.differences.items) start in
     let n : ℕ = length p.steps.items - 1 in
     omega (
       arith,
-      length-appended (static_speeds_telling (λ _. told)) p [],
-      ap length (speeds_taken with_bits p told []),
+      length-appended (static_speeds_telling (λ _. 0)) p [],
+      ap length (speeds_taken with_bits p 0 []),
       long_steps (drop 1 p.steps.items) (drop (step_at 0 p).differences p.differences.items) (first ++ number_bits 5 n),
       length-append first (number_bits 5 n),
       length-number_bits 5 n,
       long_step (step_at 0 p) (take (step_at 0 p).differences p.differences.items) start,
-      length-append (number_bits 2 (direction_number p.direction)) (number_bits 13 told),
-      length-append (number_bits 2 (direction_number p.direction) ++ number_bits 13 told) (number_bits 2 (scale_number p.scale)),
+      length-append (number_bits 2 (direction_number p.direction)) (number_bits 13 0),
+      length-append (number_bits 2 (direction_number p.direction) ++ number_bits 13 0) (number_bits 2 (scale_number p.scale)),
       length-number_bits 2 (direction_number p.direction),
-      length-number_bits 13 told,
+      length-number_bits 13 0,
       length-number_bits 2 (scale_number p.scale),
     )
 
-profile_bits : (steps : List StaticStep) (ds : List Difference)
-    → step_size (take (slice_index_or steps 0 no_step).differences ds) + steps_size (drop 1 steps) (drop (slice_index_or steps 0 no_step).differences ds)
-    ≡ 28 * max 1 (length steps) + 11 * min (counted steps) (length ds)
+profile_bits : (steps : List StaticStep) (ds : List Difference) → profile_size steps ds ≡ 5 + 28 * max 1 (length steps) + 11 * min (counted steps) (length ds)
 unfolding steps_size
 profile_bits [] ds = omega arith
 profile_bits (x ∷ xs) ds = omega (arith, own_size (take x.differences ds), length-take x.differences ds, steps_bits xs (drop x.differences ds), length-drop x.differences ds)
 
-pub speeds_bits : (p : StaticSpeeds) (told : ℕ) → size (static_speeds_telling (λ _. told)) p ≡ 22 + 28 * max 1 (length p.steps.items) + 11 * min (counted p.steps.items) (length p.differences.items)
-speeds_bits p told = omega (arith, speeds_size p told, profile_bits p.steps.items p.differences.items)
+pub speeds_bits : (p : StaticSpeeds) → size (static_speeds_telling (λ _. 0)) p ≡ 22 + 28 * max 1 (length p.steps.items) + 11 * min (counted p.steps.items) (length p.differences.items)
+speeds_bits p = omega (arith, speeds_size p, profile_bits p.steps.items p.differences.items)
+
+-- ---- a loop over steps
+
+cut_at : (xs : List StaticStep) (i : ℕ) (x d : StaticStep) → i < length xs → x ≡ get_or xs i d → drop i xs ≡ x ∷ drop (i + 1) xs
+cut_at xs i x d lt e =
+    let k : suc i ≡ i + 1 = omega arith in
+    drop-cons xs i d lt ∙ ap (λ (y : StaticStep). y ∷ drop (suc i) xs) (sym e) ∙ ap (λ (n : ℕ). x ∷ drop n xs) k
+
+pub steps_more : {S : Type 0} (t : S → Shown → S) (xs : List StaticStep) (i : ℕ) (x d : StaticStep) (left own others : List Difference) (old new all : S)
+    → i < length xs → x ≡ get_or xs i d → own ≡ take x.differences left → others ≡ drop x.differences left → new ≡ step_taken t x own old
+    → steps_taken t (drop i xs) left old ≡ all → steps_taken t (drop (i + 1) xs) others new ≡ all
+unfolding steps_taken
+steps_more t xs i x d left own others old new all lt e its rest put so_far =
+    let one : steps_taken t (drop i xs) left old ≡ steps_taken t (drop (i + 1) xs) (drop x.differences left) (step_taken t x (take x.differences left) old) =
+    ap (λ (ys : List StaticStep). steps_taken t ys left old) (cut_at xs i x d lt e) in
+    rw (put, its, rest) (sym one ∙ so_far)
+
+pub steps_end : {S : Type 0} (t : S → Shown → S) (xs : List StaticStep) (i : ℕ) (left : List Difference) (old all : S) → length xs ≤ i → steps_taken t (drop i xs) left old ≡ all → old ≡ all
+unfolding steps_taken
+steps_end t xs i left old all le so_far =
+    let none : drop i xs ≡ [] = drop_all i xs le in
+    rw none at so_far
+
+pub size_more : (xs : List StaticStep) (i : ℕ) (x d : StaticStep) (left own others : List Difference) → i < length xs → x ≡ get_or xs i d → own ≡ take x.differences left → others ≡ drop x.differences left
+    → steps_size (drop i xs) left ≡ step_size own + steps_size (drop (i + 1) xs) others
+unfolding steps_size
+size_more xs i x d left own others lt e its rest = rw (cut_at xs i x d lt e, its, rest) refl

@@ -141,7 +141,7 @@ own_there : (s c : StaticSpeeds) (x : StaticStep) (own : List Difference) (more 
     → c.steps.items ≡ (s.steps.items ++ x ∷ []) ++ more → c.differences.items ≡ (s.differences.items ++ own) ++ others → differences_to (length s.steps.items) c ≡ s.differences.items ++ own
 own_there s c x own more others even long steps differences =
     let cut : take (length s.steps.items + 1) c.steps.items ≡ s.steps.items ++ x ∷ [] =
-        ap (take (length s.steps.items + 1)) steps ∙ take_at (s.steps.items ++ x ∷ []) more (length s.steps.items + 1) (length-append s.steps.items (x ∷ [])) in
+    ap (take (length s.steps.items + 1)) steps ∙ take_at (s.steps.items ++ x ∷ []) more (length s.steps.items + 1) (length-append s.steps.items (x ∷ [])) in
     let count : counted (s.steps.items ++ x ∷ []) ≡ length (s.differences.items ++ own) = omega (arith, counted_one s.steps.items x, even, long, length-append s.differences.items own) in
     ap (λ (t : List StaticStep). take (counted t) c.differences.items) cut ∙ ap (λ (n : ℕ). take n c.differences.items) count ∙ ap (take (length (s.differences.items ++ own))) differences
     ∙ take_at (s.differences.items ++ own) others (length (s.differences.items ++ own)) refl
@@ -155,18 +155,45 @@ record Grown (s x : StaticSpeeds) (Q : StaticSpeeds → Type 0) : Type 0 where
 
 found_step : (s : StaticSpeeds) → Even s → (k : StaticSpeeds → (StaticSpeeds → Type 0) → Type 0) → ((x : StaticSpeeds) (Q : StaticSpeeds → Type 0) → Grown s x Q → k x Q) → Found (static_step s) k
 unfolding static_step
-found_step s even k h =
-    (back (plain_back 15), λ d _. (back v_static_back, λ v _. (back q_front_back, λ delay _. (back (plain_back 5), λ count _. (found-difference, λ own long.
-    let step : StaticStep = record { distance = d; speed = v; delay = delay; differences = count } in
-    h _ _ (record {
-      ahead = record { steps = step ∷ []; own = own; direction = refl; scale = refl; all_steps = refl; all_differences = refl };
-      count = length-append s.steps.items (step ∷ []);
-      even = omega (arith, counted_one s.steps.items step, even, long, length-append s.differences.items own);
-      holds = λ c a.
-          let there = step_there s c step a.steps a.all_steps in
-          (ap (λ (y : StaticStep). y.distance) there, (ap (λ (y : StaticStep). y.speed) there, (ap (λ (y : StaticStep). y.delay) there, (ap (λ (y : StaticStep). y.differences) there, (tt,
-          (own_there s c step own a.steps a.own even long a.all_steps a.all_differences, tt))))));
-    }))))))
+found_step s even k h = (
+  back (plain_back 15),
+  λ d _. (
+    back v_static_back,
+    λ v _. (
+      back q_front_back,
+      λ delay _. (
+        back (plain_back 5),
+        λ count _. (
+          found-difference,
+          λ own long.
+              let step : StaticStep = record { distance = d; speed = v; delay = delay; differences = count } in
+              h _ _ (record {
+                ahead = record { steps = step ∷ []; own = own; direction = refl; scale = refl; all_steps = refl; all_differences = refl };
+                count = length-append s.steps.items (step ∷ []);
+                even = omega (arith, counted_one s.steps.items step, even, long, length-append s.differences.items own);
+                holds = λ c a.
+                    let there = step_there s c step a.steps a.all_steps in (
+                      ap (λ (y : StaticStep). y.distance) there,
+                      (
+                        ap (λ (y : StaticStep). y.speed) there,
+                        (
+                          ap (λ (y : StaticStep). y.delay) there,
+                          (
+                            ap (λ (y : StaticStep). y.differences) there,
+                            (
+                              tt,
+                              (own_there s c step own a.steps a.own even long a.all_steps a.all_differences, tt),
+                            ),
+                          ),
+                        ),
+                      ),
+                    );
+              }),
+        ),
+      ),
+    ),
+  ),
+)
 
 -- steps more
 record GrownBy (n : ℕ) (s x : StaticSpeeds) (Q : StaticSpeeds → Type 0) : Type 0 where
@@ -194,10 +221,59 @@ Anything c = Unit {0}
 pub told-national_values : Tells national_values_telling Anything
 unfolding national_values_telling
 told-national_values = record {
-  found = λ t. (back q_dir_back, λ _ _. (back (plain_back 13), λ _ small. (back q_scale_back, λ _ _. (back start_place_back, λ _ _. (back (plain_back 5), λ _ _. (found-country, λ _ long.
-      (back (up_to_back 7 120), λ _ _. (back (up_to_back 7 120), λ _ _. (back (up_to_back 7 120), λ _ _. (back (up_to_back 7 120), λ _ _. (back (up_to_back 7 120), λ _ _. (back (plain_back 15), λ _ _.
-      (back (up_to_back 7 120), λ _ _. (back (up_to_back 7 120), λ _ _. (back (plain_back 15), λ _ _. (back (plain_back 8), λ _ _. (back open_length_back, λ _ _ e.
-      (small, (tt, (refl, (sym e, (refl, (refl, (long, (refl, (refl, (refl, (refl, (refl, (refl, (refl, (refl, (refl, (refl, (refl, (refl, tt))))))))))))))))))))))))))))))))))));
+  found = λ t. (
+    back q_dir_back,
+    λ _ _. (
+      back (plain_back 13),
+      λ _ small. (
+        back q_scale_back,
+        λ _ _. (
+          back start_place_back,
+          λ _ _. (
+            back (plain_back 5),
+            λ _ _. (
+              found-country,
+              λ _ long. (
+                back (up_to_back 7 120),
+                λ _ _. (
+                  back (up_to_back 7 120),
+                  λ _ _. (
+                    back (up_to_back 7 120),
+                    λ _ _. (
+                      back (up_to_back 7 120),
+                      λ _ _. (
+                        back (up_to_back 7 120),
+                        λ _ _. (
+                          back (plain_back 15),
+                          λ _ _. (
+                            back (up_to_back 7 120),
+                            λ _ _. (
+                              back (up_to_back 7 120),
+                              λ _ _. (
+                                back (plain_back 15),
+                                λ _ _. (
+                                  back (plain_back 8),
+                                  λ _ _. (
+                                    back open_length_back,
+                                    λ _ _ e.
+                                        (small, tt, (refl, (sym e, (refl, (refl, (long, (refl, (refl, (refl, (refl, (refl, (refl, (refl, (refl, (refl, (refl, (refl, (refl, tt)))))))))))))))))),
+                                  ),
+                                ),
+                              ),
+                            ),
+                          ),
+                        ),
+                      ),
+                    ),
+                  ),
+                ),
+              ),
+            ),
+          ),
+        ),
+      ),
+    ),
+  );
   anyhow = λ g h p bits s. s;
   sized = λ g h c. refl;
 }
@@ -205,8 +281,26 @@ told-national_values = record {
 pub told-linking : Tells linking_telling Anything
 unfolding linking_telling
 told-linking = record {
-  found = λ t. (back q_dir_back, λ _ _. (back (plain_back 13), λ _ small. (back q_scale_back, λ _ _. (found-link, λ first one. (back (plain_back 5), λ _ _. (found-link, λ others more e.
-      (small, (tt, (refl, (sym e, (refl, (take_at first others 1 one, (omega (arith, length-append first others, one, more), (refl, tt))))))))))))));
+  found = λ t. (
+    back q_dir_back,
+    λ _ _. (
+      back (plain_back 13),
+      λ _ small. (
+        back q_scale_back,
+        λ _ _. (
+          found-link,
+          λ first one. (
+            back (plain_back 5),
+            λ _ _. (
+              found-link,
+              λ others more e.
+                  (small, tt, (refl, (sym e, (refl, (take_at first others 1 one, (omega (arith, length-append first others, one, more), (refl, tt))))))),
+            ),
+          ),
+        ),
+      ),
+    ),
+  );
   anyhow = λ g h p bits s. s;
   sized = λ g h c. refl;
 }
@@ -214,10 +308,53 @@ told-linking = record {
 pub told-movement_authority : Tells movement_authority_telling Anything
 unfolding movement_authority_telling
 told-movement_authority = record {
-  found = λ t. (back q_dir_back, λ _ _. (back (plain_back 13), λ _ small. (back q_scale_back, λ _ _. (back (up_to_back 7 120), λ _ _. (back (up_to_back 7 120), λ _ _. (back (plain_back 10), λ _ _. (back (plain_back 5), λ _ _.
-      (found-section names.LSection, λ _ long. (found-section names.LEndsection, λ _. (back flag_back, λ _ _. (found-end_timer, λ _ timed. (back flag_back, λ _ _. (found-danger_point, λ _ endangered.
-      (back flag_back, λ _ _. (found-overlap, λ _ overlapped e.
-      (small, (tt, (refl, (sym e, (refl, (refl, (refl, (refl, (long, (refl, (refl, ((timed, refl), ((endangered, refl), ((overlapped, refl), tt)))))))))))))))))))))))))))));
+  found = λ t. (
+    back q_dir_back,
+    λ _ _. (
+      back (plain_back 13),
+      λ _ small. (
+        back q_scale_back,
+        λ _ _. (
+          back (up_to_back 7 120),
+          λ _ _. (
+            back (up_to_back 7 120),
+            λ _ _. (
+              back (plain_back 10),
+              λ _ _. (
+                back (plain_back 5),
+                λ _ _. (
+                  found-section names.LSection,
+                  λ _ long. (
+                    found-section names.LEndsection,
+                    λ _. (
+                      back flag_back,
+                      λ _ _. (
+                        found-end_timer,
+                        λ _ timed. (
+                          back flag_back,
+                          λ _ _. (
+                            found-danger_point,
+                            λ _ endangered. (
+                              back flag_back,
+                              λ _ _. (
+                                found-overlap,
+                                λ _ overlapped e.
+                                    (small, tt, (refl, (sym e, (refl, (refl, (refl, (refl, (long, (refl, (refl, ((timed, refl), ((endangered, refl), ((overlapped, refl), tt))))))))))))),
+                              ),
+                            ),
+                          ),
+                        ),
+                      ),
+                    ),
+                  ),
+                ),
+              ),
+            ),
+          ),
+        ),
+      ),
+    ),
+  );
   anyhow = λ g h p bits s. s;
   sized = λ g h c. refl;
 }
@@ -225,8 +362,26 @@ told-movement_authority = record {
 pub told-gradients : Tells gradients_telling Anything
 unfolding gradients_telling
 told-gradients = record {
-  found = λ t. (back q_dir_back, λ _ _. (back (plain_back 13), λ _ small. (back q_scale_back, λ _ _. (found-gradient, λ first one. (back (plain_back 5), λ _ _. (found-gradient, λ others more e.
-      (small, (tt, (refl, (sym e, (refl, (take_at first others 1 one, (omega (arith, length-append first others, one, more), (refl, tt))))))))))))));
+  found = λ t. (
+    back q_dir_back,
+    λ _ _. (
+      back (plain_back 13),
+      λ _ small. (
+        back q_scale_back,
+        λ _ _. (
+          found-gradient,
+          λ first one. (
+            back (plain_back 5),
+            λ _ _. (
+              found-gradient,
+              λ others more e.
+                  (small, tt, (refl, (sym e, (refl, (take_at first others 1 one, (omega (arith, length-append first others, one, more), (refl, tt))))))),
+            ),
+          ),
+        ),
+      ),
+    ),
+  );
   anyhow = λ g h p bits s. s;
   sized = λ g h c. refl;
 }
@@ -234,9 +389,21 @@ told-gradients = record {
 pub told-static_speeds : Tells static_speeds_telling Anything
 unfolding static_speeds_telling
 told-static_speeds = record {
-  found = λ t. (back q_dir_back, λ direction _. (back (plain_back 13), λ _ small. (back q_scale_back, λ scale _. found_step (no_speeds direction scale) refl _ (λ first P one. (back (plain_back 5), λ count _.
-      found_steps count first one.even _ (λ all Q more e.
-      (small, (tt, (more.ahead.direction ∙ one.ahead.direction, (sym e, (more.ahead.scale ∙ one.ahead.scale, (one.holds all more.ahead, (omega (arith, one.count, more.count), (more.holds all (itself all), tt))))))))))))));
+  found = λ t. (
+    back q_dir_back,
+    λ direction _. (
+      back (plain_back 13),
+      λ _ small. (
+        back q_scale_back,
+        λ scale _. found_step (no_speeds direction scale) refl _ (λ first P one. (
+          back (plain_back 5),
+          λ count _.
+              found_steps count first one.even _ (λ all Q more e.
+              (small, tt, (more.ahead.direction ∙ one.ahead.direction, (sym e, (more.ahead.scale ∙ one.ahead.scale, (one.holds all more.ahead, (omega (arith, one.count, more.count), (more.holds all (itself all), tt)))))))),
+        )),
+      ),
+    ),
+  );
   anyhow = λ g h p bits s. s;
   sized = λ g h c. refl;
 }
@@ -244,8 +411,29 @@ told-static_speeds = record {
 pub told-level_transition : Tells level_transition_telling Anything
 unfolding level_transition_telling
 told-level_transition = record {
-  found = λ t. (back q_dir_back, λ _ _. (back (plain_back 13), λ _ small. (back q_scale_back, λ _ _. (back start_place_back, λ _ _. (found-level_order, λ first one. (back (plain_back 5), λ _ _. (found-level_order, λ others more e.
-      (small, (tt, (refl, (sym e, (refl, (refl, (take_at first others 1 one, (omega (arith, length-append first others, one, more), (refl, tt))))))))))))))));
+  found = λ t. (
+    back q_dir_back,
+    λ _ _. (
+      back (plain_back 13),
+      λ _ small. (
+        back q_scale_back,
+        λ _ _. (
+          back start_place_back,
+          λ _ _. (
+            found-level_order,
+            λ first one. (
+              back (plain_back 5),
+              λ _ _. (
+                found-level_order,
+                λ others more e.
+                    (small, tt, (refl, (sym e, (refl, (refl, (take_at first others 1 one, (omega (arith, length-append first others, one, more), (refl, tt)))))))),
+              ),
+            ),
+          ),
+        ),
+      ),
+    ),
+  );
   anyhow = λ g h p bits s. s;
   sized = λ g h c. refl;
 }
@@ -253,8 +441,32 @@ told-level_transition = record {
 pub told-speed_restriction : Tells speed_restriction_telling Anything
 unfolding speed_restriction_telling
 told-speed_restriction = record {
-  found = λ t. (back q_dir_back, λ _ _. (back (plain_back 13), λ _ small. (back q_scale_back, λ _ _. (back (plain_back 8), λ _ _. (back (plain_back 15), λ _ _. (back (plain_back 15), λ _ _. (back q_front_back, λ _ _. (back (up_to_back 7 120), λ _ _ e.
-      (small, (tt, (refl, (sym e, (refl, (refl, (refl, (refl, (refl, (refl, tt))))))))))))))))));
+  found = λ t. (
+    back q_dir_back,
+    λ _ _. (
+      back (plain_back 13),
+      λ _ small. (
+        back q_scale_back,
+        λ _ _. (
+          back (plain_back 8),
+          λ _ _. (
+            back (plain_back 15),
+            λ _ _. (
+              back (plain_back 15),
+              λ _ _. (
+                back q_front_back,
+                λ _ _. (
+                  back (up_to_back 7 120),
+                  λ _ _ e.
+                      (small, tt, (refl, (sym e, (refl, (refl, (refl, (refl, (refl, (refl, tt))))))))),
+                ),
+              ),
+            ),
+          ),
+        ),
+      ),
+    ),
+  );
   anyhow = λ g h p bits s. s;
   sized = λ g h c. refl;
 }
@@ -262,7 +474,7 @@ told-speed_restriction = record {
 pub told-restriction_revocation : Tells restriction_revocation_telling Anything
 unfolding restriction_revocation_telling
 told-restriction_revocation = record {
-  found = λ t. (back q_dir_back, λ _ _. (back (plain_back 13), λ _ small. (back (plain_back 8), λ _ _ e. (small, (tt, (refl, (sym e, (refl, tt))))))));
+  found = λ t. (back q_dir_back, λ _ _. (back (plain_back 13), λ _ small. (back (plain_back 8), λ _ _ e. (small, tt, (refl, (sym e, (refl, tt)))))));
   anyhow = λ g h p bits s. s;
   sized = λ g h c. refl;
 }
@@ -270,8 +482,26 @@ told-restriction_revocation = record {
 pub told-mode_profile : Tells mode_profile_telling Anything
 unfolding mode_profile_telling
 told-mode_profile = record {
-  found = λ t. (back q_dir_back, λ _ _. (back (plain_back 13), λ _ small. (back q_scale_back, λ _ _. (found-mode_area, λ first one. (back (plain_back 5), λ _ _. (found-mode_area, λ others more e.
-      (small, (tt, (refl, (sym e, (refl, (take_at first others 1 one, (omega (arith, length-append first others, one, more), (refl, tt))))))))))))));
+  found = λ t. (
+    back q_dir_back,
+    λ _ _. (
+      back (plain_back 13),
+      λ _ small. (
+        back q_scale_back,
+        λ _ _. (
+          found-mode_area,
+          λ first one. (
+            back (plain_back 5),
+            λ _ _. (
+              found-mode_area,
+              λ others more e.
+                  (small, tt, (refl, (sym e, (refl, (take_at first others 1 one, (omega (arith, length-append first others, one, more), (refl, tt))))))),
+            ),
+          ),
+        ),
+      ),
+    ),
+  );
   anyhow = λ g h p bits s. s;
   sized = λ g h c. refl;
 }
@@ -279,7 +509,7 @@ told-mode_profile = record {
 pub told-skipped : (number : ℕ) → Tells (skipped_telling number) (λ p. p.number ≡ number)
 unfolding skipped_telling
 told-skipped number = record {
-  found = λ t. (back (plain_back 2), λ _ _. (back (plain_back 13), λ _ small. λ _ e. (small, (refl, (refl, (sym e, (tt, (refl, tt))))))));
+  found = λ t. (back (plain_back 2), λ _ _. (back (plain_back 13), λ _ small. λ _ e. (small, refl, (refl, (sym e, (tt, (refl, tt)))))));
   anyhow = λ g h p bits s. s;
   sized = λ g h c. refl;
 }

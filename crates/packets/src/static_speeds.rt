@@ -3,7 +3,7 @@ ghost use Rattle.bits.specs.Layout.{Gives, folded, kind, read};
 ghost use Rattle.bits.specs.Sums.{total};
 ghost use Rattle.bits.specs.Writing.{size, taken};
 ghost use Rattle.packets.specs.Packets.{as_packet, as_static_speeds, no_step, static_step, static_speeds, static_speeds_telling};
-ghost use Rattle.packets.specs.StaticSteps.{step_size, step_taken, steps_size, steps_taken};
+ghost use Rattle.packets.specs.StaticSteps.{profile_size, profile_taken, step_size, step_taken, steps_size, steps_taken};
 ghost use Rattle.packets.specs.declared.packet.Packet.TheVariants as packets;
 
 use crate::element::{Element, read_list};
@@ -228,6 +228,27 @@ fn steps_fields<S: FieldSink>(
     Ok(())
 }
 
+/// Hands a profile to a sink: the first step, N_ITER and the other steps, each with its own of the differences.
+fn profile_fields<S: FieldSink>(
+    steps: &[StaticStep],
+    differences: &[Difference],
+    sink: &mut S,
+) -> Result<(), S::Error>
+    requires few { length steps.now ≤ 32 }
+    requires room { S.held sink.old + profile_size steps.now differences.now ≤ S.most }
+    ensures { OnOk result (S.seen sink.new ≡ profile_taken S.took steps.now differences.now (S.seen sink.old)) }
+{
+    let first = first_step(steps);
+    let (own, left) = split_own(&first, differences);
+    step_fields(&first, own, sink)?;
+    sink.field(
+        VariableName::NIter,
+        5,
+        (steps.len() as u64).saturating_sub(1),
+    )?;
+    steps_fields(other_steps(steps), left, sink)
+}
+
 /// How many differences are some step's own.
 fn owned_differences(steps: &[StaticStep], differences: usize) -> u64
     requires few { length steps.now ≤ 32 }
@@ -253,24 +274,16 @@ impl StaticSpeeds {
     }
 
     /// Hands the fields behind NID_PACKET to a sink, with the length that L_PACKET tells.
+    #[tactic(auto, using(crate::proofs::StaticSteps::speeds_size))]
     pub(crate) fn fields<S: FieldSink>(&self, told: u64, sink: &mut S) -> Result<(), S::Error>
         requires told { told < 2 ^ 13 }
         requires room { S.held sink.old + size (static_speeds_telling (λ _. 0)) self.now ≤ S.most }
         ensures { OnOk result (S.seen sink.new ≡ taken S.took (static_speeds_telling (λ _. told)) self.now (S.seen sink.old)) }
     {
-        let steps = self.steps.as_slice();
-        let differences = self.differences.as_slice();
-        let first = first_step(steps);
-        let (own, left) = split_own(&first, differences);
         put(sink, VariableName::QDir, &self.direction)?;
         sink.field(VariableName::LPacket, 13, told)?;
         put(sink, VariableName::QScale, &self.scale)?;
-        step_fields(&first, own, sink)?;
-        sink.field(
-            VariableName::NIter,
-            5,
-            (steps.len() as u64).saturating_sub(1),
-        )?;
-        steps_fields(other_steps(steps), left, sink)
+        profile_fields(self.steps.as_slice(), self.differences.as_slice(), sink)?;
+        Ok(())
     }
 }

@@ -1,5 +1,5 @@
 use Rattle.std.proofs.Common.{sym, ◌∙◌}
-use Rattle.packets.proofs.Kinds.{spelled-packet}
+use Rattle.packets.proofs.AnyPacket.{spelled-packet}
 use Rattle.packets.proofs.packet.Packet.length.Goals as goal
 
 pub returns-clause-spelled : goal.returns-clause-spelled

@@ -8,7 +8,7 @@ use Rattle.bits.proofs.WritingLaws.{glue, glue_none, field_bits, number_below}
 use Rattle.vars.specs.Variables.{nid_packet}
 use Rattle.vars.proofs.Numbers.{plain_back}
 use Rattle.packets.specs.Parts.{telling}
-use Rattle.packets.specs.Packets.{national_values_telling, linking_telling, movement_authority_telling, gradients_telling, static_speeds_telling, level_transition_telling, speed_restriction_telling, restriction_revocation_telling, mode_profile_telling, skipped_telling, length_of, number_of, packet_taken, as_packet, body_of, packet_of, packet}
+use Rattle.packets.specs.Packets.{national_values_telling, linking_telling, movement_authority_telling, gradients_telling, static_speeds_telling, level_transition_telling, speed_restriction_telling, restriction_revocation_telling, mode_profile_telling, skipped_telling, length_of, number_of, packet_taken, as_packet, as_national_values, as_linking, as_movement_authority, as_gradients, as_static_speeds, as_level_transition, as_speed_restriction, as_revocation, as_mode_profile, as_other, body_of, packet_of, packet}
 use Rattle.packets.specs.declared.fault.PacketFault.{PacketFault}
 use Rattle.packets.specs.declared.packet.Other.{Other}
 use Rattle.packets.specs.declared.packet.Packet.{Packet}
@@ -58,16 +58,16 @@ same make m n length_is number_is taken_is = record { length_is = λ c _. length
 whole : (n : ℕ) (q : ℕ × Packet) (bits : List Bool) → q.0 ≡ 8 + length bits → Spells (body_of n) q bits → Whole n q bits
 unfolding body_of
 whole n q bits all =
-    pick (nat_eq n 3) _ _ q bits (known packets.NationalValues _ national_values_telling 3 n told-national_values (same _ _ 3 (λ _. refl) (λ _. refl) (λ _ _ _. refl)) q bits all) (
-    pick (nat_eq n 5) _ _ q bits (known packets.Linking _ linking_telling 5 n told-linking (same _ _ 5 (λ _. refl) (λ _. refl) (λ _ _ _. refl)) q bits all) (
-    pick (nat_eq n 12) _ _ q bits (known packets.MovementAuthority _ movement_authority_telling 12 n told-movement_authority (same _ _ 12 (λ _. refl) (λ _. refl) (λ _ _ _. refl)) q bits all) (
-    pick (nat_eq n 21) _ _ q bits (known packets.Gradients _ gradients_telling 21 n told-gradients (same _ _ 21 (λ _. refl) (λ _. refl) (λ _ _ _. refl)) q bits all) (
-    pick (nat_eq n 27) _ _ q bits (known packets.StaticSpeeds _ static_speeds_telling 27 n told-static_speeds (same _ _ 27 (λ _. refl) (λ _. refl) (λ _ _ _. refl)) q bits all) (
-    pick (nat_eq n 41) _ _ q bits (known packets.LevelTransition _ level_transition_telling 41 n told-level_transition (same _ _ 41 (λ _. refl) (λ _. refl) (λ _ _ _. refl)) q bits all) (
-    pick (nat_eq n 65) _ _ q bits (known packets.SpeedRestriction _ speed_restriction_telling 65 n told-speed_restriction (same _ _ 65 (λ _. refl) (λ _. refl) (λ _ _ _. refl)) q bits all) (
-    pick (nat_eq n 66) _ _ q bits (known packets.RestrictionRevocation _ restriction_revocation_telling 66 n told-restriction_revocation (same _ _ 66 (λ _. refl) (λ _. refl) (λ _ _ _. refl)) q bits all) (
-    pick (nat_eq n 80) _ _ q bits (known packets.ModeProfile _ mode_profile_telling 80 n told-mode_profile (same _ _ 80 (λ _. refl) (λ _. refl) (λ _ _ _. refl)) q bits all) (
-    one packets.Other _ (skipped_telling n) (λ p. p.number ≡ n) n (told-skipped n) (record {
+    pick (nat_eq n 3) _ _ q bits (known packets.NationalValues as_national_values national_values_telling 3 n told-national_values (same _ _ 3 (λ _. refl) (λ _. refl) (λ _ _ _. refl)) q bits all) (
+    pick (nat_eq n 5) _ _ q bits (known packets.Linking as_linking linking_telling 5 n told-linking (same _ _ 5 (λ _. refl) (λ _. refl) (λ _ _ _. refl)) q bits all) (
+    pick (nat_eq n 12) _ _ q bits (known packets.MovementAuthority as_movement_authority movement_authority_telling 12 n told-movement_authority (same _ _ 12 (λ _. refl) (λ _. refl) (λ _ _ _. refl)) q bits all) (
+    pick (nat_eq n 21) _ _ q bits (known packets.Gradients as_gradients gradients_telling 21 n told-gradients (same _ _ 21 (λ _. refl) (λ _. refl) (λ _ _ _. refl)) q bits all) (
+    pick (nat_eq n 27) _ _ q bits (known packets.StaticSpeeds as_static_speeds static_speeds_telling 27 n told-static_speeds (same _ _ 27 (λ _. refl) (λ _. refl) (λ _ _ _. refl)) q bits all) (
+    pick (nat_eq n 41) _ _ q bits (known packets.LevelTransition as_level_transition level_transition_telling 41 n told-level_transition (same _ _ 41 (λ _. refl) (λ _. refl) (λ _ _ _. refl)) q bits all) (
+    pick (nat_eq n 65) _ _ q bits (known packets.SpeedRestriction as_speed_restriction speed_restriction_telling 65 n told-speed_restriction (same _ _ 65 (λ _. refl) (λ _. refl) (λ _ _ _. refl)) q bits all) (
+    pick (nat_eq n 66) _ _ q bits (known packets.RestrictionRevocation as_revocation restriction_revocation_telling 66 n told-restriction_revocation (same _ _ 66 (λ _. refl) (λ _. refl) (λ _ _ _. refl)) q bits all) (
+    pick (nat_eq n 80) _ _ q bits (known packets.ModeProfile as_mode_profile mode_profile_telling 80 n told-mode_profile (same _ _ 80 (λ _. refl) (λ _. refl) (λ _ _ _. refl)) q bits all) (
+    one packets.Other as_other (skipped_telling n) (λ p. p.number ≡ n) n (told-skipped n) (record {
       length_is = λ c is. ap (λ (i : ℕ). 8 + size (skipped_telling i (λ _. 0)) c) is;
       number_is = λ c is. is;
       taken_is = λ c t front is. ap (λ (i : ℕ). appended (skipped_telling i (λ _. t)) c front) is;
@@ -97,7 +97,7 @@ unfolding packet
 spelled-packet p bits s =
     let behind = spelled-packet_of s.0 p s.2 s.5 in
     let number_is : s.1 ≡ number_bits 8 (number_of p) =
-        field_bits 8 (number_of p) s.1 s.4.0 (behind.2 ∙ (plain_back 8).back (number s.1) s.0 (number_below 8 s.1 s.4.0) s.4.1) in
+    field_bits 8 (number_of p) s.1 s.4.0 (behind.2 ∙ (plain_back 8).back (number s.1) s.0 (number_below 8 s.1 s.4.0) s.4.1) in
     record {
       length_is = omega (arith, ap length s.3, length-append s.1 s.2, s.4.0, behind.0);
       small = behind.1;

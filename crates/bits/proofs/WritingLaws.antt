@@ -57,7 +57,7 @@ total_step w xs i x d lt e =
 
 -- ---- how many bits are appended
 
-length-each : {D : Type 0} (w : D → List Bool → List Bool) (n : D → ℕ) (xs : List D) (front : List Bool) → ((x : D) (left : List Bool) → length (w x left) ≡ length left + n x)
+pub length-each : {D : Type 0} (w : D → List Bool → List Bool) (n : D → ℕ) (xs : List D) (front : List Bool) → ((x : D) (left : List Bool) → length (w x left) ≡ length left + n x)
     → length (each_taken w xs front) ≡ length front + total n xs
 unfolding each_taken
 length-each w n [] front one = omega arith

@@ -13,6 +13,7 @@ use Rattle.packets.specs.declared.fault.PacketFault.{PacketFault}
 use Rattle.packets.specs.declared.packet.Other.{Other}
 use Rattle.packets.specs.declared.packet.Packet.{Packet}
 use Rattle.packets.specs.declared.packet.Packet.TheVariants as packets
+use Rattle.packets.proofs.StaticSteps.{speeds_size}
 use Rattle.packets.proofs.Told.{Tells, Anything, told, told-national_values, told-linking, told-movement_authority, told-gradients, told-static_speeds, told-level_transition, told-speed_restriction, told-restriction_revocation, told-mode_profile, told-skipped}
 
 -- what a spelling of a packet behind its number is
@@ -103,3 +104,17 @@ spelled-packet p bits s =
       small = behind.1;
       written = λ front. glue front bits s.1 s.2 (front ++ number_bits 8 (number_of p)) _ s.3 (ap (λ (t : List Bool). front ++ t) number_is) (behind.3 (front ++ number_bits 8 (number_of p)));
     }
+
+-- each packet has its head
+pub length_of-least : (p : Packet) → 23 ≤ length_of p
+unfolding national_values_telling linking_telling movement_authority_telling gradients_telling level_transition_telling speed_restriction_telling restriction_revocation_telling mode_profile_telling skipped_telling
+length_of-least (packets.NationalValues p) = omega arith
+length_of-least (packets.Linking p) = omega arith
+length_of-least (packets.MovementAuthority p) = omega arith
+length_of-least (packets.Gradients p) = omega arith
+length_of-least (packets.StaticSpeeds p) = omega (arith, speeds_size p)
+length_of-least (packets.LevelTransition p) = omega arith
+length_of-least (packets.SpeedRestriction p) = omega arith
+length_of-least (packets.RestrictionRevocation p) = omega arith
+length_of-least (packets.ModeProfile p) = omega arith
+length_of-least (packets.Other p) = omega arith

@@ -19,7 +19,7 @@ use vars::{
 };
 
 /// The timer of a section.
-#[derive(Clone, Copy, Debug, PartialEq, Eq)]
+#[derive(Clone, Copy)]
 pub struct SectionTimer {
     /// T_SECTIONTIMER.
     pub time: Timer,
@@ -62,7 +62,7 @@ impl Element for SectionTimer {
 }
 
 /// A section of an authority.
-#[derive(Clone, Copy, Debug, PartialEq, Eq)]
+#[derive(Clone, Copy)]
 pub struct Section {
     /// L_SECTION or L_ENDSECTION.
     pub length: Distance,
@@ -129,7 +129,7 @@ fn section_fields<S: FieldSink>(
 }
 
 /// The timer of the end section.
-#[derive(Clone, Copy, Debug, PartialEq, Eq)]
+#[derive(Clone, Copy)]
 pub struct EndTimer {
     /// T_ENDTIMER.
     pub time: Timer,
@@ -172,7 +172,7 @@ impl Element for EndTimer {
 }
 
 /// The danger point behind the end.
-#[derive(Clone, Copy, Debug, PartialEq, Eq)]
+#[derive(Clone, Copy)]
 pub struct DangerPoint {
     /// D_DP: from the end.
     pub distance: Distance,
@@ -215,7 +215,7 @@ impl Element for DangerPoint {
 }
 
 /// The overlap behind the end.
-#[derive(Clone, Copy, Debug, PartialEq, Eq)]
+#[derive(Clone, Copy)]
 pub struct Overlap {
     /// D_STARTOL: from the end back to where its timer starts.
     pub start: Distance,

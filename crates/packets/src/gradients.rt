@@ -18,7 +18,7 @@ use vars::{
 };
 
 /// A gradient from a place on.
-#[derive(Clone, Copy, Debug, PartialEq, Eq)]
+#[derive(Clone, Copy)]
 pub struct Gradient {
     /// D_GRADIENT: from the place before, the first from the group.
     pub distance: Distance,

@@ -49,7 +49,7 @@ impl Element for StmIdentity {
 }
 
 /// A level that a transition leads to; a train takes the first that it can run in.
-#[derive(Clone, Copy, Debug, PartialEq, Eq)]
+#[derive(Clone, Copy)]
 pub struct LevelOrder {
     /// M_LEVELTR.
     pub level: Level,

@@ -18,7 +18,7 @@ use vars::{
 };
 
 /// A group that packet 5 announces.
-#[derive(Clone, Copy, Debug, PartialEq, Eq)]
+#[derive(Clone, Copy)]
 pub struct Link {
     /// D_LINK: from the group announced before, the first from this group.
     pub distance: Distance,

@@ -18,7 +18,7 @@ use vars::{
 };
 
 /// An area in which a mode is asked for.
-#[derive(Clone, Copy, Debug, PartialEq, Eq)]
+#[derive(Clone, Copy)]
 pub struct ModeArea {
     /// D_MAMODE: from the start of the area before, the first from the group.
     pub distance: Distance,

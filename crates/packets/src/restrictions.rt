@@ -15,7 +15,7 @@ use vars::{
 };
 
 /// Packet 65: a temporary speed restriction.
-#[derive(Clone, Copy, Debug, PartialEq, Eq)]
+#[derive(Clone, Copy)]
 pub struct SpeedRestriction {
     /// Q_DIR.
     pub direction: ValidityDirection,
@@ -34,7 +34,7 @@ pub struct SpeedRestriction {
 }
 
 /// Packet 66: a temporary speed restriction is revoked.
-#[derive(Clone, Copy, Debug, PartialEq, Eq)]
+#[derive(Clone, Copy)]
 pub struct RestrictionRevocation {
     /// Q_DIR.
     pub direction: ValidityDirection,

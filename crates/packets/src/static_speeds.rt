@@ -20,7 +20,7 @@ use vars::{
 };
 
 /// A speed for trains of a category.
-#[derive(Clone, Copy, Debug, PartialEq, Eq)]
+#[derive(Clone, Copy)]
 pub struct Difference {
     /// NC_DIFF.
     pub category: TrainCategory,
@@ -63,7 +63,7 @@ impl Element for Difference {
 }
 
 /// A static speed from a place on.
-#[derive(Clone, Copy, Debug, PartialEq, Eq)]
+#[derive(Clone, Copy)]
 pub struct StaticStep {
     /// D_STATIC: from the place before, the first from the group.
     pub distance: Distance,

@@ -33,8 +33,38 @@ only_back n v fault = record { back = λ k x lt e. only_number n v k fault x (na
 
 pub found-header : Appends header
 unfolding header
-found-header = element _ (only_back 1 1 _, λ _ _. (only_back 7 16 _, λ _ _. (only_back 1 0 _, λ _ _. (back (plain_back 3), λ _ _. (back (plain_back 3), λ _ _. (back m_dup_back, λ _ _. (back (plain_back 8), λ _ _. (back (plain_back 10), λ _ _. (back (plain_back 14), λ _ _. (back flag_back, λ _ _.
-    (refl, (refl, (refl, (refl, (refl, (tt, (refl, (refl, (refl, (refl, (refl, tt))))))))))))))))))))))
+found-header = element _ (
+  only_back 1 1 _,
+  λ _ _. (
+    only_back 7 16 _,
+    λ _ _. (
+      only_back 1 0 _,
+      λ _ _. (
+        back (plain_back 3),
+        λ _ _. (
+          back (plain_back 3),
+          λ _ _. (
+            back m_dup_back,
+            λ _ _. (
+              back (plain_back 8),
+              λ _ _. (
+                back (plain_back 10),
+                λ _ _. (
+                  back (plain_back 14),
+                  λ _ _. (
+                    back flag_back,
+                    λ _ _.
+                        (refl, (refl, (refl, (refl, (refl, (tt, (refl, (refl, (refl, (refl, (refl, tt))))))))))),
+                  ),
+                ),
+              ),
+            ),
+          ),
+        ),
+      ),
+    ),
+  ),
+)
 
 length-header : (h : Header) (bits : List Bool) → Spells header h bits → length bits ≡ 50
 unfolding header

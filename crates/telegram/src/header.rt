@@ -12,7 +12,7 @@ use vars::{
 };
 
 /// The header of a telegram. Its direction is up, its version 16 and its medium a balise.
-#[derive(Clone, Copy, Debug, PartialEq, Eq)]
+#[derive(Clone, Copy)]
 pub struct Header {
     /// N_PIG: the place of the balise in its group.
     pub position: PositionInGroup,

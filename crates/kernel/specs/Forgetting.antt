@@ -18,10 +18,9 @@ power_ups [] = 0
 power_ups (event.PowerUp ∷ events) = power_ups events + 1
 power_ups (event.Input input ∷ events) = power_ups events
 
--- what is kept, read off the whole list: the count of power-ups with the one that keeps it, up to the greatest number of
--- 32 bits
+-- what is kept, read off the whole list: the count of power-ups, up to the greatest number of 32 bits
 abbrev pub KeepsTheLast : Type 0
-KeepsTheLast = (train : TrainData) (events : List Event) → (kept train events).lives ≡ min (power_ups events + 1) (2 ^ 32 - 1)
+KeepsTheLast = (train : TrainData) (events : List Event) → (kept train events).lives ≡ min (power_ups events) (2 ^ 32 - 1)
 
 -- where a power-up keeps the same of two lists, the limits are the same after it, whatever comes later
 abbrev pub Forgets : Type 0

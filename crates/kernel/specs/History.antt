@@ -1,4 +1,4 @@
--- What each input of a life did, the newest first, and what each part of the kernel sees of it (this project's profile).
+-- What each event of a life did, its power-up included, the newest first, and what each part of the kernel sees of it (this project's profile).
 use Rattle.std.specs.Prelude.{ℕ, ◌*◌, ◌^◌, ℤ, pos, neg_ℤ, ◌+ℤ◌, Option, Some, None, unwrap_or, List, [], ◌∷◌}
 use Rattle.std.specs.Int.{int_max}
 use Rattle.std.specs.Option.{option_map_or}
@@ -45,10 +45,10 @@ pub record Outcome : Type 0 where
   pub closed : Closed
   pub verdict : Option Verdict  -- what linking says of a whole group
   pub effect : Effect  -- what linking asks of the train
-  pub fix : Option odometry.Fix  -- the fix that the group made
+  pub fix : Option odometry.Fix  -- the fix that the group made; one that was refused is none
   pub facts : List Fact  -- those of its packets that were used, in the order of the message
 
--- what one input did: a field for each sentence of the order of one event
+-- what one event did: a field for each sentence of its order
 pub record Entry : Type 0 where
   pub clock : Option ℕ  -- the moment that the clock told
   pub movement : Option ℤ  -- what the odometer told
@@ -82,7 +82,7 @@ after_movement (Some by) entries = odometry.after_movement entries by
 
 abbrev pub after_fix : Option odometry.Fix → List odometry.Entry → List odometry.Entry
 after_fix None entries = entries
-after_fix (Some fix) entries = odometry.after_fix entries fix
+after_fix (Some fix) entries = odometry.Entry.Fixed fix ∷ entries
 
 abbrev pub after_fixes : List Outcome → List odometry.Entry → List odometry.Entry
 after_fixes [] entries = entries

@@ -89,9 +89,13 @@ is_free entries =
     not (is_any (links_of entries).left) && not (is_some (accepted (authorities entries)))
     && not (is_known (gradients_of entries).value) && not (is_known (speeds_of entries).value)
 
+-- a fix that would lie too far isn't made
+abbrev pub made : odometry.Fix → Option odometry.Fix
+made fix = if odometry.is_made fix then Some fix else None
+
 abbrev pub fix_of : odometry.Known → Bool → Message → Verdict → Option odometry.Fix
-fix_of place free message (Accept (Some a)) = Some (fix_at place message a.place (100 * a.accuracy))
-fix_of place free message (Accept None) = if free then Some (fix_at place message (own_place place message) 0) else None
+fix_of place free message (Accept (Some a)) = made (fix_at place message a.place (100 * a.accuracy))
+fix_of place free message (Accept None) = if free then made (fix_at place message (own_place place message) 0) else None
 fix_of place free message Ignore = None
 fix_of place free message (Reaction a) = None
 
@@ -135,7 +139,7 @@ direction_of message announced = option_or message.direction (option_map (λ a. 
 -- distances count from the place of the group's fix, and where none was made from the group's own place
 abbrev pub place_by : ℤ → Option odometry.Fix → ℤ
 place_by own None = own
-place_by own (Some fix) = if odometry.is_made fix then fix.at else own
+place_by own (Some fix) = fix.at
 
 abbrev pub facts_of : GroupIdentity → ℤ → ℕ → Option LinkOrientation → List Packet → List Fact
 facts_of group place moment direction ps =
@@ -187,6 +191,10 @@ mark_at train place = odometry.min_rear place train.length -ℤ pos 100_000
 
 abbrev pub with_mark : TrainData → List Entry → Entry → Entry
 with_mark train entries entry = record entry { mark = Some (mark_at train (place_of (entry ∷ entries))) }
+
+-- a power-up is an exact fix at 0, and the track is forgotten behind the least rear there too
+abbrev pub powered_up : TrainData → Entry
+powered_up train = with_mark train [] nothing
 
 abbrev pub entry_of : TrainData → List Entry → inputs.Input → Entry
 entry_of train entries input = with_mark train entries (with_train train entries (with_groups entries (begun entries input)))

@@ -37,7 +37,7 @@ pub record StandsForLife {G S : Type 0} (gradients_in : G → Profile ℤ) (spee
   pub authority_is : known.authority ≡ authority_of life.entries
   pub gradients_are : gradients_in known.gradients ≡ gradients_of life.entries
   pub speeds_are : speeds_in known.speeds ≡ speeds_of life.entries
-  pub lives_are : known.lives ≡ life.kept.lives
+  pub lives_are : known.lives ≡ life.lives
 
 -- a life with one entry more
 abbrev pub grown : Life → Entry → Life

@@ -112,6 +112,15 @@ impl<G: ProfileStore<Permille> + Drop, S: ProfileStore<CategorySpeeds> + Drop> S
         self.speeds.drop_behind(mark);
     }
 
+    /// The track is forgotten that lies far behind a train on this stretch.
+    pub(crate) fn forget_behind(&mut self, train: &Stretch)
+        requires { unsigned_abs train.now.rear ≤ 2 ^ 42 - 2 ^ 25 }
+        ensures { (life : Life) (entry : Entry) → entry.mark ≡ None → StandsForLife G.profile S.profile self.old (grown life entry)
+            → StandsForLife G.profile S.profile self.new (grown life (record entry { mark = Some (train.now.rear -ℤ pos 100_000) })) }
+    {
+        self.forget(mark_behind(train.rear()));
+    }
+
     // What is seen of the train once the groups are used: the track that lies far behind it is forgotten.
     fn observe(&mut self, train: &TrainData)
         ensures { (life : Life) (entry : Entry) → entry.train ≡ None → entry.mark ≡ None → StandsForLife G.profile S.profile self.old (grown life entry)
@@ -119,7 +128,7 @@ impl<G: ProfileStore<Permille> + Drop, S: ProfileStore<CategorySpeeds> + Drop> S
     {
         let stretch = self.place.stretch(train.length);
         self.look(&stretch);
-        self.forget(mark_behind(stretch.rear()));
+        self.forget_behind(&stretch);
     }
 
     /// All that an input does. Where memory is refused, the state is no longer of use.
@@ -148,7 +157,7 @@ impl<G: ProfileStore<Permille> + Drop, S: ProfileStore<CategorySpeeds> + Drop> S
             → StandsFor G.profile S.profile train.now self.new (event.now ∷ events)) }
     {
         match event {
-            Event::PowerUp => *self = StateOver::power_up(alloc, self.kept()),
+            Event::PowerUp => *self = StateOver::power_up(alloc, self.kept(), train),
             Event::Input(input) => self.receive(alloc, train, input)?,
         }
         Ok(())

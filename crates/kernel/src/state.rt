@@ -2,9 +2,11 @@ ghost use Rattle.std.specs.Prelude.{◌≡◌, List, [], IfOk};
 ghost use Rattle.kernel.specs.declared.events.Event.{Event};
 ghost use Rattle.kernel.specs.declared.train.TrainData.{TrainData};
 ghost use Rattle.kernel.specs.Forgetting.{kept};
+ghost use Rattle.kernel.specs.Lives.{begun_life};
 ghost use Rattle.kernel.specs.StandsFor.{StandsForLife, StandsFor};
 
 use crate::kept::Kept;
+use crate::train::TrainData;
 use authority::Authority;
 use balise_groups::Assembler;
 use linking::Links;
@@ -58,12 +60,24 @@ impl<G: ProfileStore<Permille> + Drop, S: ProfileStore<CategorySpeeds> + Drop> S
     pub fn empty(alloc: Global) -> Self
         ensures { (train : TrainData) → StandsFor G.profile S.profile train result [] }
     {
-        StateOver::power_up(alloc, Kept::nothing())
+        StateOver::before(alloc, Kept::nothing(), 0)
     }
 
-    /// A life begins, and nothing is known but what was kept. Takes no memory.
-    pub(crate) fn power_up(alloc: Global, kept: Kept) -> Self
-        ensures { StandsForLife G.profile S.profile result (record { kept = kept; entries = [] }) }
+    /// A life begins, and is counted. Nothing is known but what was kept, and the track behind the train is forgotten. Takes
+    /// no memory.
+    pub(crate) fn power_up(alloc: Global, kept: Kept, train: &TrainData) -> Self
+        ensures { StandsForLife G.profile S.profile result (begun_life train.now kept) }
+    {
+        let lives = kept.lives.saturating_add(1);
+        let mut state = StateOver::before(alloc, kept, lives);
+        let stretch = state.place.stretch(train.length);
+        state.forget_behind(&stretch);
+        state
+    }
+
+    // What is known before the first event of a life, which is the last of so many. Takes no memory.
+    fn before(alloc: Global, kept: Kept, lives: u32) -> Self
+        ensures { StandsForLife G.profile S.profile result (record { lives = lives; kept = kept; entries = [] }) }
     {
         StateOver {
             place: Place::new(),
@@ -75,7 +89,7 @@ impl<G: ProfileStore<Permille> + Drop, S: ProfileStore<CategorySpeeds> + Drop> S
             authority: Authority::new(),
             gradients: G::empty(alloc),
             speeds: S::empty(alloc),
-            lives: kept.lives,
+            lives,
         }
     }
 
@@ -84,7 +98,7 @@ impl<G: ProfileStore<Permille> + Drop, S: ProfileStore<CategorySpeeds> + Drop> S
         ensures { (train : TrainData) (events : List Event) → StandsFor G.profile S.profile train self.now events → result ≡ kept train events }
     {
         Kept {
-            lives: self.lives.saturating_add(1),
+            lives: self.lives,
             national: self.national.in_force().copy(),
         }
     }

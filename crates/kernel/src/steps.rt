@@ -42,7 +42,7 @@ pub fn limits(
     let mut limits = Vec::new(alloc);
     let empty = State::empty(alloc);
     let kept = empty.kept();
-    let mut state = State::power_up(alloc, kept);
+    let mut state = State::power_up(alloc, kept, train);
     for input in inputs {
         state.receive(alloc, train, input)?;
         limits.push(state.limit(mode, train))?;

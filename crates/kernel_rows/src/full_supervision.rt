@@ -87,7 +87,7 @@ const NO_GRADIENT: &str = "90007F80200145601B20001FE0FF";
 const RESTRICTION: &str = "90007F802001D06023A0E0190019427F80";
 
 /// Of a train of category 15.
-static FULL: [Row; 25] = [
+static FULL: [Row; 28] = [
     // The least of all, of which an authority takes the place of the one before. The greatest front is 500, the end
     // 100,000: 181,440 * 99,500 = 18,053,280,000 lies from 134,362^2 = 18,053,147,044 on below 134,363^2 = 18,053,415,769.
     // Up to 150,000 it is 181,440 * 149,500 = 27,125,280,000, above 160,000^2 = 25,600,000,000. With no authority there is
@@ -306,6 +306,68 @@ static FULL: [Row; 25] = [
             (Hear(BEHIND), 20_000),
             (Move(129_474), 160_000),
             (Move(-140_999), 40_000),
+        ],
+    ),
+    // At power-up the mark is -500 - 20,000 - 100,000 = -120,500, and what is told of the track before it is forgotten. From
+    // a greatest front of -120,500 on all is known: the end is 99,500 cm ahead, as above.
+    (
+        "forgotten at power-up 1",
+        &[
+            (Move(-10_000), 160_000),
+            (Move(-10_000), 160_000),
+            (Move(-10_000), 160_000),
+            (Move(-10_000), 160_000),
+            (Move(-10_000), 160_000),
+            (Move(-10_000), 160_000),
+            (Move(-10_000), 160_000),
+            (Move(-10_000), 160_000),
+            (Move(-10_000), 160_000),
+            (Move(-10_000), 160_000),
+            (Move(-10_000), 160_000),
+            (Move(-10_000), 160_000),
+            (Move(-1_000), 160_000),
+            (Hear(OPEN), 134_362),
+        ],
+    ),
+    // From -120,501 on the first centimetre has no gradient: 181,440 * 99,499 = 18,053,098,560 lies from 134,361^2 =
+    // 18,052,878,321 on below 134,362^2 = 18,053,147,044.
+    (
+        "forgotten at power-up 2",
+        &[
+            (Move(-10_000), 160_000),
+            (Move(-10_000), 160_000),
+            (Move(-10_000), 160_000),
+            (Move(-10_000), 160_000),
+            (Move(-10_000), 160_000),
+            (Move(-10_000), 160_000),
+            (Move(-10_000), 160_000),
+            (Move(-10_000), 160_000),
+            (Move(-10_000), 160_000),
+            (Move(-10_000), 160_000),
+            (Move(-10_000), 160_000),
+            (Move(-10_000), 160_000),
+            (Move(-1_001), 160_000),
+            (Hear(OPEN), 134_361),
+        ],
+    ),
+    // From -121,000 on the next centimetre has no static speed.
+    (
+        "forgotten at power-up 3",
+        &[
+            (Move(-10_000), 160_000),
+            (Move(-10_000), 160_000),
+            (Move(-10_000), 160_000),
+            (Move(-10_000), 160_000),
+            (Move(-10_000), 160_000),
+            (Move(-10_000), 160_000),
+            (Move(-10_000), 160_000),
+            (Move(-10_000), 160_000),
+            (Move(-10_000), 160_000),
+            (Move(-10_000), 160_000),
+            (Move(-10_000), 160_000),
+            (Move(-10_000), 160_000),
+            (Move(-1_500), 160_000),
+            (Hear(OPEN), 0),
         ],
     ),
 ];

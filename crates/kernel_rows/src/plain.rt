@@ -32,6 +32,20 @@ fn stretch(steps: &[Step], train: &TrainData) -> Train {
     }
 }
 
+/// The track far behind a train is forgotten.
+fn forget(life: &mut Life, standing: &Train) -> Result<(), AllocError> {
+    let mark = standing.rear.saturating_sub(REMEMBERED);
+    life.facts.tellings.push(Telling::Forgotten(mark))
+}
+
+/// A life begins: the train stands at 0, and the track far behind it is forgotten.
+fn power_up(alloc: Global, train: &TrainData) -> Result<Life, AllocError> {
+    let mut life = Life::new(alloc, train.category);
+    let standing = stretch(&life.steps, train);
+    forget(&mut life, &standing)?;
+    Ok(life)
+}
+
 /// The end of an event: the timers and the announced values see the train, and the track far behind it is forgotten.
 fn look(life: &mut Life, train: &TrainData) -> Result<(), AllocError> {
     let standing = stretch(&life.steps, train);
@@ -41,9 +55,7 @@ fn look(life: &mut Life, train: &TrainData) -> Result<(), AllocError> {
         max_front: standing.max_front,
     })?;
     life.facts.values.reach(standing.max_front);
-    let mark = standing.rear.saturating_sub(REMEMBERED);
-    life.facts.tellings.push(Telling::Forgotten(mark))?;
-    Ok(())
+    forget(life, &standing)
 }
 
 /// The least of all that limits the train where it stands in full supervision.
@@ -99,7 +111,7 @@ fn limit_after(
     train: &TrainData,
     inputs: &[Input],
 ) -> Result<u32, AllocError> {
-    let mut life = Life::new(alloc, train.category);
+    let mut life = power_up(alloc, train)?;
     for number in 0..inputs.len() {
         life::tell(alloc, &mut life, inputs, number)?;
         look(&mut life, train)?;

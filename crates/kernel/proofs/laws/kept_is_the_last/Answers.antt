@@ -6,7 +6,7 @@ use Rattle.kernel.specs.Lives.{life_of}
 use Rattle.kernel.specs.Forgetting.{power_ups}
 use Rattle.kernel.proofs.laws.kept_is_the_last.Goals as goal
 
-lives_so_far : (train : TrainData) (events : List Event) → (life_of train events).kept.lives ≡ min (power_ups events) (2 ^ 32 - 1)
+lives_so_far : (train : TrainData) (events : List Event) → (life_of train events).lives ≡ min (power_ups events) (2 ^ 32 - 1)
 lives_so_far train [] = refl
 lives_so_far train (event.PowerUp ∷ events) = omega (arith, lives_so_far train events)
 lives_so_far train (event.Input input ∷ events) = lives_so_far train events

@@ -1,7 +1,7 @@
 use Rattle.std.proofs.Common.{◌∷◌, [], sym, subst, ap, ◌++◌, List, ℕ}
 use Rattle.kernel.specs.declared.events.Event.TheVariants as event
 use Rattle.kernel.specs.declared.kept.Kept.{Kept}
-use Rattle.kernel.specs.Lives.{life_of}
+use Rattle.kernel.specs.Lives.{life_of, begun_life}
 use Rattle.track_store.specs.Segments.{profile_kept}
 use Rattle.kernel.specs.StandsFor.{StandsForLife}
 use Rattle.kernel.specs.Limit.{limits_behind}
@@ -11,7 +11,7 @@ use Rattle.kernel.proofs.steps.limits.Goals as goal
 pub loop-input-init : goal.loop-input-init
 loop-input-init c = (
   event.PowerUp ∷ [],
-  subst (λ (k : Kept). StandsForLife profile_kept profile_kept c.power_up-state.result (record { kept = k; entries = [] }))
+  subst (λ (k : Kept). StandsForLife profile_kept profile_kept c.power_up-state.result (begun_life c.args.train.now k))
       (c.kept-kept.ensures c.args.train.now [] (c.empty-empty.ensures c.args.train.now)) c.power_up-state.ensures,
   ap (λ (xs : List ℕ). xs ++ limits_behind c.args.mode c.args.train.now (event.PowerUp ∷ []) c.args.inputs.now) c.new-limits.ensures.items,
 )

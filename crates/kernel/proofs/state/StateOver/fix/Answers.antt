@@ -1,14 +1,13 @@
 use Rattle.std.proofs.Common.{◌≡◌, ◌∷◌, Bool, true, false, Option, Some, None, cond, refl, sym, ap, subst, ◌∙◌}
-use Rattle.std.specs.Option.{option_map}
 use Rattle.linking.specs.declared.effect.Effect.{Effect}
 use Rattle.linking.specs.declared.judgement.Verdict.TheVariants.{Accept}
 use Rattle.odometry.specs.Place as odometry
 use Rattle.kernel.specs.History.{Entry, places, place_of, after_fix}
-use Rattle.kernel.specs.Sentences.{added, is_free, fix_of, own_place, place_by}
+use Rattle.kernel.specs.Sentences.{added, is_free, made, fix_of, own_place, place_by}
 use Rattle.kernel.specs.Steps.{accepted, fix_wanted}
 use Rattle.kernel.specs.Lives.{Life}
 use Rattle.kernel.specs.StandsFor.{StandsForLife, grown}
-use Rattle.kernel.proofs.Fixing.{wanted_at, fix_as_wanted, counted_from}
+use Rattle.kernel.proofs.Fixing.{wanted_at, made_at, fix_as_wanted, counted_from, after_made}
 use Rattle.kernel.proofs.Standing.{seen}
 use Rattle.kernel.proofs.state.StateOver.fix.Given.{Over}
 use Rattle.kernel.proofs.state.StateOver.fix.Goals as goal
@@ -31,8 +30,8 @@ module _ (g : Over) (c : goal.Joined-fix g) (life : Life) (entry : Entry) (effec
   wanted : fix_wanted free (own_place here c.args.message.now) c.args.announced.now ≡ Some c.in-Some.wanted
   wanted = sym (c.in-Some.ensures ∙ (λ i. fix_wanted (c.is_free.ensures life (added (accepted c.args.message.now c.args.announced.now effect) entry) s i) (own_is i) c.args.announced.now))
 
-  fix_is : fix_of here free c.args.message.now (Accept c.args.announced.now) ≡ Some (wanted_at here c.args.message.now c.in-Some.wanted)
-  fix_is = fix_as_wanted here free c.args.message.now c.args.announced.now ∙ ap (option_map (wanted_at here c.args.message.now)) wanted
+  fix_is : fix_of here free c.args.message.now (Accept c.args.announced.now) ≡ made (wanted_at here c.args.message.now c.in-Some.wanted)
+  fix_is = fix_as_wanted here free c.args.message.now c.args.announced.now ∙ ap (made_at here c.args.message.now) wanted
 
   same_fix : odometry.fix_of c.in-Some.wanted.place c.in-Some.wanted.accuracy c.moved_after-moved.result c.path_after-path.result c.args.message.now.missed ≡ wanted_at here c.args.message.now c.in-Some.wanted
   same_fix =
@@ -63,6 +62,8 @@ returns-clause-stands g c life entry effect s =
       place_is =
           c.fix.ensures.stands (places (entry ∷ life.entries)) (place_is g c life entry effect s)
           ∙ ap (λ (fix : odometry.Fix). odometry.known (odometry.after_fix (places (entry ∷ life.entries)) fix)) (same_fix g c life entry effect s)
+          ∙ ap odometry.known (after_made (odometry.is_made (wanted_at (here g c life entry effect s) c.args.message.now c.in-Some.wanted))
+          (wanted_at (here g c life entry effect s) c.args.message.now c.in-Some.wanted) (places (entry ∷ life.entries)))
           ∙ sym (ap (λ (fix : Option odometry.Fix). odometry.known (after_fix fix (places (entry ∷ life.entries)))) (fix_is g c life entry effect s));
       groups_are = (seen c.self.view_is s).groups_are;
       links_are = (seen c.self.view_is s).links_are;
@@ -86,5 +87,5 @@ returns-in_default-clause-stands g c life entry effect s =
     let own = ap (λ e. e.estimate) c.place_then.ensures.value ∙ ap (λ (k : odometry.Known). own_place k m) place in
     let none : None ≡ fix_wanted free (own_place here m) a =
     c.in_default.ensures ∙ (λ i. fix_wanted (c.is_free.ensures life (added outcome entry) s i) (own i) a) in
-    let same = fix_as_wanted here free m a ∙ ap (option_map (wanted_at here m)) (sym none) in
+    let same = fix_as_wanted here free m a ∙ ap (made_at here m) (sym none) in
     subst (λ (f : Option odometry.Fix). StandsForLife g.G.ProfileStore.profile g.S.ProfileStore.profile c.args.self.now (grown life (added (record outcome { fix = f }) entry))) (sym same) s

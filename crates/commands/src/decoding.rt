@@ -1,0 +1,34 @@
+use crate::report::print_telegram;
+use crate::status::{Status, tell};
+use hex::FromHexError;
+use std::alloc::Global;
+use std::io;
+use std::io::Write;
+use telegram::{Telegram, decode_into};
+
+fn show<W: Write>(bytes: &[u8], out: &mut W) -> io::Result<Status> {
+    let mut telegram = Telegram::new();
+    match decode_into(bytes, &mut telegram) {
+        Ok(()) => {
+            print_telegram(&telegram, out)?;
+            Ok(Status::Done)
+        }
+        Err(fault) => {
+            let number = fault as u8;
+            writeln!(out, "refused {number} {fault}")?;
+            Ok(Status::Refused)
+        }
+    }
+}
+
+/// Tells the telegram that hex digits carry, or why they carry none.
+pub fn decode_text<W: Write>(alloc: Global, text: &str, out: &mut W) -> u8 {
+    match hex::decode(alloc, text) {
+        Ok(bytes) => match show(bytes.as_slice(), out) {
+            Ok(status) => status as u8,
+            Err(_) => Status::Refused as u8,
+        },
+        Err(FromHexError::OutOfMemory) => tell(out, "refused memory", Status::Refused),
+        Err(_) => tell(out, "refused hex", Status::Refused),
+    }
+}

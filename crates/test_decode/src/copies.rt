@@ -38,9 +38,9 @@ struct Rooms {
 fn rooms_of(bytes: &[u8]) -> Option<Rooms> {
     let packet = read_packet(&mut BitReader::new(bytes)).ok()?;
     let mut small: BitWriter<160> = BitWriter::new();
-    let in_160_bytes = write_packet(&mut small, &packet).is_ok();
+    let in_160_bytes = write_packet(&packet, &mut small).is_ok();
     let mut large: BitWriter<161> = BitWriter::new();
-    let in_161_bytes = write_packet(&mut large, &packet).is_ok();
+    let in_161_bytes = write_packet(&packet, &mut large).is_ok();
     let mut telegram = decode(&ALONE).ok()?;
     telegram.push(packet).ok()?;
     let mut array = [0x55u8; 104];

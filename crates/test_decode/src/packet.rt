@@ -41,7 +41,7 @@ pub fn packet(alloc: Global, text: &str, out: &mut Vec<u8>) -> io::Result<()> {
         (packet.number().get(), elements(&packet), differences(&packet));
     writeln!(out, "packet {number}: {elements} elements, {differences} differences")?;
     let mut writer: BitWriter<256> = BitWriter::new();
-    if write_packet(&mut writer, &packet).is_err() {
+    if write_packet(&packet, &mut writer).is_err() {
         return writeln!(out, "no room");
     }
     let mut again = [0u8; 256];

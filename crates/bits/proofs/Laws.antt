@@ -1,10 +1,10 @@
 -- What a layout says of bits and what reading gives are one: what is read is spelled so, what is spelled so is read,
 -- whatever follows, and a fault of reading is the first fault.
-use Rattle.std.proofs.Common.{ℕ, zero, suc, ◌∷◌, ◌+◌, ◌-◌, nat_eq, subst, ◌≡◌, ◌≤◌, ◌⊎◌, inl, inr, Bool, true, false, cond, ltb, List, [], ◌++◌, length, take, drop, Result, Ok, Err, refl, sym, ap, ◌∙◌, append_assoc, arith, length-take, length-append}
+use Rattle.std.proofs.Common.{ℕ, zero, suc, ◌∷◌, ◌+◌, ◌-◌, nat_eq, subst, ◌≡◌, ◌≤◌, ◌⊎◌, inl, inr, Bool, true, false, cond, ltb, List, [], ◌++◌, length, take, drop, Some, None, Result, Ok, Err, refl, sym, ap, ◌∙◌, append_assoc, arith, length-take, length-append}
 use Rattle.std.proofs.lemmas.Bool.{ltb-false, ltb-true, le-ltb, lt-ltb, eqb-true, eqb-false, eq-eqb, ne_eqb}
 use Rattle.std.proofs.lemmas.List.{take_at, drop_at, take-append-drop, append_cancel_right, append-nil}
 use Rattle.bits.specs.Bits.{number}
-use Rattle.bits.specs.Layout.{Layout, done, unless, field, run, choice, kind, measured, more, told_as, map_fault, then_, Spells, Begins, Refuses, read, read_field, read_run, read_more, InTurn, InTurnTo, checked, after, beside}
+use Rattle.bits.specs.Layout.{Layout, done, unless, field, run, choice, kind, part, inner, measured, more, told_as, map_fault, then_, Spells, Begins, Refuses, read, read_field, read_run, read_more, InTurn, InTurnTo, checked, after, beside}
 
 abbrev made : (F : Type 0) {X : Type 0} → X → Result X F
 made F x = Ok x
@@ -148,7 +148,7 @@ found {F = F} (unless b f) bits x rest e =
     let g = guard_ok b f (Ok (tt, bits)) (x, rest) e in
     let p = same_reading F (tt, bits) (x, rest) g.1 in
     record { front = []; parts = p.1; spelled = (g.0, refl) }
-found (field f g codes get) bits x rest e =
+found (field name f g codes get) bits x rest e =
     let long = guard_ok (ltb (length bits) codes.width) f (map_fault g (beside (codes.value (number (take codes.width bits))) (drop codes.width bits))) (x, rest) e in
     let b = beside_ok (codes.value (number (take codes.width bits))) (drop codes.width bits) (x, rest) (fault_ok g _ (x, rest) long.1) in
     let le : codes.width ≤ length bits = ltb-false _ _ long.0 in
@@ -167,6 +167,16 @@ found {F = F} (kind make get m) bits x rest e =
     let p = same_reading F (make a.0, a.1) (x, rest) a.3 in
     let b = found m bits a.0 a.1 a.2 in
     record { front = b.front; parts = b.parts ∙ ap (λ (t : List Bool). b.front ++ t) p.1; spelled = (a.0, sym p.0, b.spelled) }
+found {F = F} (part true m get) bits x rest e =
+    let a = after_ok (read m bits) (λ y left. Ok (Some y, left)) (x, rest) e in
+    let p = same_reading F (Some a.0, a.1) (x, rest) a.3 in
+    let b = found m bits a.0 a.1 a.2 in
+    record { front = b.front; parts = b.parts ∙ ap (λ (t : List Bool). b.front ++ t) p.1; spelled = (a.0, sym p.0, b.spelled) }
+found {F = F} (part false m get) bits x rest e =
+    let p = same_reading F (None, bits) (x, rest) e in
+    record { front = []; parts = p.1; spelled = (sym p.0, refl) }
+found (inner m get) bits x rest e =
+    let a = found m bits x rest e in record { front = a.front; parts = a.parts; spelled = a.spelled }
 found (measured f before m) bits x rest e =
     let a = after_ok (read m bits) (λ p left. checked f before bits p left) (x, rest) e in
     let t = test_ok (nat_eq a.0.0 (before + (length bits - length a.1))) (a.0.1, a.1) (x, rest) f a.3 in
@@ -199,7 +209,7 @@ pub again : {F C A : Type 0} (m : Layout F C A) (x : A) (front rest : List Bool)
 unfolding read_field read_run
 again (done y) x front rest s = rw (s.0, s.1) refl
 again (unless b f) x front rest s = rw (s.0, s.1) refl
-again (field f g codes get) x front rest s =
+again (field name f g codes get) x front rest s =
     let long : ltb (length (front ++ rest)) codes.width ≡ false = le-ltb _ _ (omega (arith, length-append front rest)) in
     rw (long, take_at front rest codes.width s.0, drop_at front rest codes.width s.0, s.1) refl
 again (run n f get) x front rest s =
@@ -208,6 +218,9 @@ again (run n f get) x front rest s =
 again (choice true m n) x front rest s = again m x front rest s
 again (choice false m n) x front rest s = again n x front rest s
 again (kind make get m) x front rest s = rw (again m s.0 front rest s.2, s.1) refl
+again (part true m get) x front rest s = rw (again m s.0 front rest s.2, s.1) refl
+again (part false m get) x front rest s = rw (s.0, s.1) refl
+again (inner m get) x front rest s = again m x front rest s
 again (measured f before m) x front rest s =
     let one = again m (s.0, x) front rest s.1 in
     let long = front_length (front ++ rest) front rest refl in
@@ -231,7 +244,7 @@ unfolding read_field read_run
 refused (done y) bits e same = absurd cc
 refused (unless b f) bits e same =
     elim (guard_err b f e (Ok (tt, bits)) same) [ inl h ↦ h | inr h ↦ absurd (let no = h.1 in cc) ]
-refused {F = F} (field f g codes get) bits e same =
+refused {F = F} (field name f g codes get) bits e same =
     elim (guard_err (ltb (length bits) codes.width) f e (map_fault g (beside (codes.value (number (take codes.width bits))) (drop codes.width bits))) same) [
       | inl h ↦ inl (ltb-true _ _ h.0, h.1)
       | inr h ↦
@@ -244,6 +257,10 @@ refused (choice true m n) bits e same = refused m bits e same
 refused (choice false m n) bits e same = refused n bits e same
 refused (kind make get m) bits e same =
     elim (after_err (read m bits) (λ y left. Ok (make y, left)) e same) [ inl h ↦ refused m bits e h | inr h ↦ absurd (let no = h.3 in cc) ]
+refused (part true m get) bits e same =
+    elim (after_err (read m bits) (λ y left. Ok (Some y, left)) e same) [ inl h ↦ refused m bits e h | inr h ↦ absurd (let no = h.3 in cc) ]
+refused (part false m get) bits e same = absurd cc
+refused (inner m get) bits e same = refused m bits e same
 refused (measured f before m) bits e same =
     elim (after_err (read m bits) (λ p left. checked f before bits p left) e same) [
       | inl h ↦ inl (refused m bits e h)
@@ -269,7 +286,7 @@ pub refused_again : {F C A : Type 0} (m : Layout F C A) (bits : List Bool) (e : 
 unfolding read_field read_run
 refused_again (done y) bits e r = absurd r
 refused_again (unless b f) bits e r = rw (r.0, r.1) refl
-refused_again (field f g codes get) bits e r =
+refused_again (field name f g codes get) bits e r =
     elim r [
       | inl h ↦ let short : ltb (length bits) codes.width ≡ true = lt-ltb _ _ h.0 in rw (short, h.1) refl
       | inr h ↦ let long : ltb (length bits) codes.width ≡ false = le-ltb _ _ h.1 in rw (long, h.2, h.3) refl
@@ -279,6 +296,9 @@ refused_again (run n f get) bits e r =
 refused_again (choice true m n) bits e r = refused_again m bits e r
 refused_again (choice false m n) bits e r = refused_again n bits e r
 refused_again (kind make get m) bits e r = rw (refused_again m bits e r) refl
+refused_again (part true m get) bits e r = rw (refused_again m bits e r) refl
+refused_again (part false m get) bits e r = absurd r
+refused_again (inner m get) bits e r = refused_again m bits e r
 refused_again (measured f before m) bits e r =
     elim r [
       | inl h ↦ rw (refused_again m bits e h) refl

@@ -1,8 +1,9 @@
 pub mod Bytes
+pub mod Found
 pub mod Laws
 pub mod Lists
 pub mod Numbers
-pub mod Widths
+pub mod Shown
 pub mod Windows
 pub mod Writes
 pub mod WritingLaws

@@ -1,10 +1,12 @@
--- What a spelling is made of is what is appended, part after part.
-use Rattle.std.proofs.Common.{◌≡◌, ℕ, zero, suc, ◌+◌, ◌<◌, ◌≤◌, ◌^◌, Bool, List, [], ◌∷◌, ◌++◌, length, take, drop, get_or, refl, sym, ap, subst, ◌∙◌, arith, append_assoc, drop-cons, length-append}
-use Rattle.std.proofs.lemmas.List.{append-nil, take_at, drop_at, drop_all}
+-- What a spelling is made of is what is appended, part after part; a loop that hands elements on; how many bits there are.
+use Rattle.std.proofs.Common.{◌≡◌, ℕ, suc, ◌+◌, ◌<◌, ◌≤◌, ◌^◌, Bool, true, false, List, [], ◌∷◌, ◌++◌, Option, Some, None, length, drop, take, get_or, refl, sym, ap, subst, ◌∙◌, arith, append_assoc, drop-cons, length-append}
+use Rattle.std.specs.Option.{option_map_or}
+use Rattle.std.proofs.lemmas.List.{append-nil, drop_all}
 use Rattle.bits.specs.Bits.{number, number_bits}
-use Rattle.bits.specs.Layout.{Layout, Spells, InTurn}
+use Rattle.bits.specs.Layout.{Layout, done, unless, field, run, choice, kind, part, inner, measured, more, told_as, then_}
 use Rattle.bits.specs.Sums.{total}
-use Rattle.bits.specs.Writing.{appended, appended_each}
+use Rattle.bits.specs.Writing.{value, each_taken, size, appended}
+use Rattle.bits.proofs.Numbers.{length-number_bits}
 use Rattle.bits.proofs.Writes.{bits-number, number-lt}
 
 -- ---- one part after another
@@ -18,10 +20,6 @@ glue front bits a b mid all parts first others =
 pub glue_end : (front bits : List Bool) → bits ≡ [] → front ++ bits ≡ front
 glue_end front bits none = ap (λ (t : List Bool). front ++ t) none ∙ append-nil front
 
--- a part that is appended as it is
-pub glue_run : (front bits a b x all : List Bool) → bits ≡ a ++ b → a ≡ x → (front ++ x) ++ b ≡ all → front ++ bits ≡ all
-glue_run front bits a b x all parts same others = glue front bits a b (front ++ x) all parts (ap (λ (t : List Bool). front ++ t) same) others
-
 -- a part of no bits
 pub glue_none : (front bits a b all : List Bool) → bits ≡ a ++ b → a ≡ [] → front ++ b ≡ all → front ++ bits ≡ all
 glue_none front bits a b all parts none others = glue front bits a b front all parts (glue_end front a none) others
@@ -33,61 +31,21 @@ field_bits n v bits long same = sym (bits-number bits) ∙ ap (λ (k : ℕ). num
 pub number_below : (n : ℕ) (bits : List Bool) → length bits ≡ n → number bits < 2 ^ n
 number_below n bits long = subst (λ (k : ℕ). number bits < 2 ^ k) long (number-lt bits)
 
--- ---- lists
+-- ---- a loop that hands elements on
 
-pub each_bits : {F D : Type 0} (m : Layout F D D) (n : ℕ) (xs : List D) (front bits : List Bool)
-    → ((x : D) (left part : List Bool) → Spells m x part → left ++ part ≡ appended m x left)
-    → InTurn (λ x part. Spells m x part) n xs bits → front ++ bits ≡ appended_each (λ x left. appended m x left) xs front
-unfolding appended_each
-each_bits m zero [] front bits one s = glue_end front bits s
-each_bits m zero (x ∷ xs) front bits one s = absurd s
-each_bits m (suc n) [] front bits one s = absurd s
-each_bits m (suc n) (x ∷ xs) front bits one s =
-    glue front bits s.0 s.1 (appended m x front) _ s.2 (one x front s.0 s.3) (each_bits m n xs (appended m x front) s.1 one s.4)
-
-pub in_turn_length : {F D : Type 0} (m : Layout F D D) (n : ℕ) (xs : List D) (bits : List Bool) → InTurn (λ x part. Spells m x part) n xs bits → length xs ≡ n
-in_turn_length m zero [] bits s = refl
-in_turn_length m zero (x ∷ xs) bits s = absurd s
-in_turn_length m (suc n) [] bits s = absurd s
-in_turn_length m (suc n) (x ∷ xs) bits s = ap suc (in_turn_length m n xs s.1 s.4)
-
--- a list that is spelled behind another one, which may be empty
-abbrev pub Grown : {F D : Type 0} → Layout F D D → ℕ → List D → List D → List Bool → Type 0
-Grown m n before xs bits = (new : List _) × (xs ≡ before ++ new) × InTurn (λ x part. Spells m x part) n new bits
-
-pub list_bits : {F D : Type 0} (m : Layout F D D) (n : ℕ) (xs : List D) (front bits : List Bool)
-    → ((x : D) (left part : List Bool) → Spells m x part → left ++ part ≡ appended m x left)
-    → Grown m n [] xs bits → front ++ bits ≡ appended_each (λ x left. appended m x left) xs front
-list_bits m n xs front bits one s =
-    subst (λ (t : List _). front ++ bits ≡ appended_each (λ x left. appended m x left) t front) (sym s.1) (each_bits m n s.0 front bits one s.2)
-
-pub grown_length : {F D : Type 0} (m : Layout F D D) (n : ℕ) (before xs : List D) (bits : List Bool) → Grown m n before xs bits → length xs ≡ length before + n
-grown_length m n before xs bits s = ap length s.1 ∙ length-append before s.0 ∙ ap (λ (k : ℕ). length before + k) (in_turn_length m n s.0 bits s.2)
-
-pub grown_bits : {F D : Type 0} (m : Layout F D D) (n : ℕ) (before xs : List D) (front bits : List Bool)
-    → ((x : D) (left part : List Bool) → Spells m x part → left ++ part ≡ appended m x left)
-    → Grown m n before xs bits
-    → (front ++ bits ≡ appended_each (λ x left. appended m x left) (drop (length before) xs) front) × (take (length before) xs ≡ before)
-grown_bits m n before xs front bits one s =
-    let cut : drop (length before) xs ≡ s.0 = ap (drop (length before)) s.1 ∙ drop_at before s.0 (length before) refl in
-    let kept : take (length before) xs ≡ before = ap (take (length before)) s.1 ∙ take_at before s.0 (length before) refl in
-    (subst (λ (t : List _). front ++ bits ≡ appended_each (λ x left. appended m x left) t front) (sym cut) (each_bits m n s.0 front bits one s.2), kept)
-
--- ---- a loop that writes values in turn
-
-pub put_step : {D : Type 0} (w : D → List Bool → List Bool) (xs : List D) (i : ℕ) (x d : D) (old new all : List Bool)
-    → i < length xs → x ≡ get_or xs i d → new ≡ w x old → appended_each w (drop i xs) old ≡ all → appended_each w (drop (i + 1) xs) new ≡ all
-unfolding appended_each
-put_step w xs i x d old new all lt e put so_far =
+pub step : {D S : Type 0} (w : D → S → S) (xs : List D) (i : ℕ) (x d : D) (old new all : S)
+    → i < length xs → x ≡ get_or xs i d → new ≡ w x old → each_taken w (drop i xs) old ≡ all → each_taken w (drop (i + 1) xs) new ≡ all
+unfolding each_taken
+step w xs i x d old new all lt e put so_far =
     let next : i + 1 ≡ suc i = omega arith in
     let cut : drop i xs ≡ x ∷ drop (suc i) xs = drop-cons xs i d lt ∙ ap (λ (y : _). y ∷ drop (suc i) xs) (sym e) in
-    let one : appended_each w (drop i xs) old ≡ appended_each w (drop (suc i) xs) (w x old) = rw cut refl in
+    let one : each_taken w (drop i xs) old ≡ each_taken w (drop (suc i) xs) (w x old) = rw cut refl in
     rw (next, put) (sym one ∙ so_far)
 
-pub put_done : {D : Type 0} (w : D → List Bool → List Bool) (xs : List D) (i : ℕ) (old all : List Bool)
-    → length xs ≤ i → appended_each w (drop i xs) old ≡ all → old ≡ all
-unfolding appended_each
-put_done w xs i old all le so_far =
+pub end : {D S : Type 0} (w : D → S → S) (xs : List D) (i : ℕ) (old all : S)
+    → length xs ≤ i → each_taken w (drop i xs) old ≡ all → old ≡ all
+unfolding each_taken
+end w xs i old all le so_far =
     let none : drop i xs ≡ [] = drop_all i xs le in
     rw none at so_far
 
@@ -96,3 +54,39 @@ total_step w xs i x d lt e =
     let next : i + 1 ≡ suc i = omega arith in
     let cut : drop i xs ≡ x ∷ drop (suc i) xs = drop-cons xs i d lt ∙ ap (λ (y : _). y ∷ drop (suc i) xs) (sym e) in
     rw (next, cut) refl
+
+-- ---- how many bits are appended
+
+pub length-each : {D : Type 0} (w : D → List Bool → List Bool) (n : D → ℕ) (xs : List D) (front : List Bool) → ((x : D) (left : List Bool) → length (w x left) ≡ length left + n x)
+    → length (each_taken w xs front) ≡ length front + total n xs
+unfolding each_taken
+length-each w n [] front one = omega arith
+length-each w n (x ∷ xs) front one = omega (arith, length-each w n xs (w x front) one, one x front)
+
+length-option : {D : Type 0} (w : D → List Bool) (n : D → ℕ) (o : Option D) (none : List Bool) (before start : ℕ) → length none ≡ start → ((x : D) → length (w x) ≡ before + n x) → before ≡ start
+    → length (option_map_or w o none) ≡ before + option_map_or n o 0
+length-option w n None none before start e one same = omega (arith, e)
+length-option w n (Some x) none before start e one same = one x
+
+pub length-appended : {F C A : Type 0} (m : Layout F C A) (c : C) (front : List Bool) → length (appended m c front) ≡ length front + size m c
+length-appended (done x) c front = omega arith
+length-appended (unless b f) c front = omega arith
+length-appended (field name f g codes get) c front = length-append front (number_bits codes.width (codes.number (get c))) ∙ ap (λ (n : ℕ). length front + n) (length-number_bits codes.width (codes.number (get c)))
+length-appended (run n f get) c front = length-append front (get c)
+length-appended (choice true m n) c front = length-appended m c front
+length-appended (choice false m n) c front = length-appended n c front
+length-appended (kind make get m) c front = length-option (λ d. appended m d front) (λ d. size m d) (get c) front (length front) (length front) refl (λ d. length-appended m d front) refl
+length-appended (part given m get) c front = length-option (λ d. appended m d front) (λ d. size m d) (get c) front (length front) (length front) refl (λ d. length-appended m d front) refl
+length-appended (inner m get) c front = length-appended m (get c) front
+length-appended (measured f before m) c front = length-appended m c front
+length-appended (more n m before get) c front = length-each (λ x left. appended m x left) (λ x. size m x) (drop (length before) (get c)) front (λ x left. length-appended m x left)
+length-appended (told_as g m) c front = length-appended m c front
+length-appended (then_ m f) c front =
+    let one = length-appended m c front in
+    let two = length-option (λ x. appended (f x) c (appended m c front)) (λ x. size (f x) c) (value m c) (appended m c front) (length (appended m c front)) _ refl (λ x. length-appended (f x) c (appended m c front)) refl in
+    omega (arith, one, two)
+
+-- the bits of the first element and of the others
+pub first_and_others : {D : Type 0} (w : D → ℕ) (xs : List D) → total w (take 1 xs) + (5 + total w (drop (length (take 1 xs)) xs)) ≡ 5 + total w xs
+first_and_others w [] = refl
+first_and_others w (x ∷ xs) = omega arith

@@ -1,6 +1,7 @@
 -- What may stand in bits, field after field: a grammar as data, and what it says of bits.
-use Rattle.std.specs.Prelude.{◌≡◌, ◌≢◌, ◌==◌, ◌+◌, ◌-◌, ◌⊎◌, ◌<◌, ◌≤◌, ℕ, zero, suc, Bool, true, false, List, [], ◌∷◌, ◌++◌, length, take, drop, Option, Result, Ok, Err, nat_lt, if◌then◌else◌}
+use Rattle.std.specs.Prelude.{◌≡◌, ◌≢◌, ◌==◌, ◌+◌, ◌-◌, ◌⊎◌, ◌<◌, ◌≤◌, ℕ, zero, suc, Bool, true, false, List, [], ◌∷◌, ◌++◌, length, take, drop, Option, Some, None, Result, Ok, Err, nat_lt, if◌then◌else◌}
 use Rattle.bits.specs.Bits.{number}
+use Rattle.bits.specs.declared.name.VariableName.{VariableName}
 
 -- How the values of a variable stand as numbers of so many bits. A number that stands for no value tells why.
 pub record Codes (E A : Type 0) : Type 0 where
@@ -8,18 +9,20 @@ pub record Codes (E A : Type 0) : Type 0 where
   pub value : ℕ → Result A E
   pub number : A → ℕ
 
--- A layout tells how an A stands in bits: as nothing; as nothing, unless a fault is there; as a variable, with the fault
--- of too few bits and the faults of its own; as a run of bits; as one of two layouts; as one kind of an A; with a number
--- that must tell how many bits there are, those before them included; as so many more elements of a list; with its faults
--- told in other words; as one layout and then another that goes by its value. Each field also says where in the C that is
--- spelled its value is found.
+-- A layout tells how an A stands in bits: as nothing; as nothing, unless a fault is there; as a variable, with its name, the
+-- fault of too few bits and the faults of its own; as a run of bits; as one of two layouts; as one kind of an A; as a part
+-- that is there where it is given; as a part that is always there; with a number that must tell how many bits there are,
+-- those before them included; as so many more elements of a list; with its faults told in other words; as one layout and
+-- then another that goes by its value. Each field also says where in the C that is spelled its value is found.
 pub data Layout : Type 0 → Type 0 → Type 0 → Type 1 where
   done : {F C A : Type 0} → A → Layout F C A
   unless : {F C : Type 0} → Bool → F → Layout F C (Unit {0})
-  field : {F E C A : Type 0} → F → (E → F) → Codes E A → (C → A) → Layout F C A
+  field : {F E C A : Type 0} → VariableName → F → (E → F) → Codes E A → (C → A) → Layout F C A
   run : {F C : Type 0} → ℕ → F → (C → List Bool) → Layout F C (List Bool)
   choice : {F C A : Type 0} → Bool → Layout F C A → Layout F C A → Layout F C A
   kind : {F C D B A : Type 0} → (B → A) → (C → Option D) → Layout F D B → Layout F C A
+  part : {F C D : Type 0} → Bool → Layout F D D → (C → Option D) → Layout F C (Option D)
+  inner : {F C D : Type 0} → Layout F D D → (C → D) → Layout F C D
   measured : {F C A : Type 0} → F → ℕ → Layout F C (ℕ × A) → Layout F C A
   more : {F C D : Type 0} → ℕ → Layout F D D → List D → (C → List D) → Layout F C (List D)
   told_as : {F G C A : Type 0} → (G → F) → Layout G C A → Layout F C A
@@ -45,11 +48,14 @@ InTurnTo {D = D} P Q (suc n) bits = Q bits ⊎ ((x : D) × (front rest : List Bo
 abbrev pub Spells : {F C A : Type 0} → Layout F C A → A → List Bool → Type 0
 Spells (done y) x bits = (x ≡ y) × (bits ≡ [])
 Spells (unless bad f) x bits = (bad ≡ false) × (bits ≡ [])
-Spells (field f g codes get) x bits = (length bits ≡ codes.width) × (codes.value (number bits) ≡ Ok x)
+Spells (field name f g codes get) x bits = (length bits ≡ codes.width) × (codes.value (number bits) ≡ Ok x)
 Spells (run n f get) x bits = (length bits ≡ n) × (bits ≡ x)
 Spells (choice true m n) x bits = Spells m x bits
 Spells (choice false m n) x bits = Spells n x bits
 Spells (kind make get m) x bits = (y : _) × (x ≡ make y) × Spells m y bits
+Spells (part true m get) x bits = (y : _) × (x ≡ Some y) × Spells m y bits
+Spells (part false m get) x bits = (x ≡ None) × (bits ≡ [])
+Spells (inner m get) x bits = Spells m x bits
 Spells (measured f before m) x bits = (told : ℕ) × Spells m (told, x) bits × (told ≡ before + length bits)
 Spells (more n m before get) xs bits = (new : List _) × (xs ≡ before ++ new) × InTurn (λ x part. Spells m x part) n new bits
 Spells (told_as g m) x bits = Spells m x bits
@@ -65,12 +71,15 @@ pub record Begins {F C A : Type 0} (m : Layout F C A) (x : A) (bits rest : List 
 abbrev pub Refuses : {F C A : Type 0} → Layout F C A → F → List Bool → Type 0
 Refuses (done y) e bits = ⊥
 Refuses (unless bad f) e bits = (bad ≡ true) × (e ≡ f)
-Refuses (field f g codes get) e bits =
+Refuses (field name f g codes get) e bits =
     ((length bits < codes.width) × (e ≡ f)) ⊎ ((d : _) × (codes.width ≤ length bits) × (codes.value (number (take codes.width bits)) ≡ Err d) × (e ≡ g d))
 Refuses (run n f get) e bits = (length bits < n) × (e ≡ f)
 Refuses (choice true m n) e bits = Refuses m e bits
 Refuses (choice false m n) e bits = Refuses n e bits
 Refuses (kind make get m) e bits = Refuses m e bits
+Refuses (part true m get) e bits = Refuses m e bits
+Refuses (part false m get) e bits = ⊥
+Refuses (inner m get) e bits = Refuses m e bits
 Refuses (measured f before m) e bits =
     Refuses m e bits ⊎ ((told : ℕ) × (x : _) × (front rest : List Bool) × (bits ≡ front ++ rest) × Spells m (told, x) front × (told ≢ before + length front) × (e ≡ f))
 Refuses (more n m before get) e bits = InTurnTo (λ x part. Spells m x part) (λ left. Refuses m e left) n bits
@@ -113,10 +122,12 @@ read_more r (suc n) before bits = after (r bits) (λ x rest. read_more r n (befo
 abbrev pub read : {F C A : Type 0} → Layout F C A → List Bool → Result (A × List Bool) F
 read (done x) bits = Ok (x, bits)
 read (unless bad f) bits = if bad then Err f else Ok (tt, bits)
-read (field f g codes get) bits = read_field f g codes bits
+read (field name f g codes get) bits = read_field f g codes bits
 read (run n f get) bits = read_run n f bits
 read (choice b m n) bits = if b then read m bits else read n bits
 read (kind make get m) bits = after (read m bits) (λ y rest. Ok (make y, rest))
+read (part given m get) bits = if given then after (read m bits) (λ y rest. Ok (Some y, rest)) else Ok (None, bits)
+read (inner m get) bits = read m bits
 read (measured f before m) bits = after (read m bits) (λ p rest. checked f before bits p rest)
 read (more n m before get) bits = read_more (read m) n before bits
 read (told_as g m) bits = map_fault g (read m bits)

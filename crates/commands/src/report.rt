@@ -1,3 +1,6 @@
+ghost use Rattle.std.specs.Prelude.{◌^◌};
+
+use bits::{Run, VariableName};
 use packets::{FieldSink, Packet};
 use std::io;
 use std::io::Write;
@@ -9,11 +12,26 @@ struct FieldLine<'a, W> {
     out: &'a mut W,
 }
 
+/// What the output takes can't be said, only what is handed to it; it has room for each packet.
 impl<'a, W: Write> FieldSink for FieldLine<'a, W> {
+    ghost Seen = { Unit {0} };
+
+    ghost seen = { λ _. tt };
+
+    ghost took = { λ _ _. tt };
+
+    ghost held = { λ _. 0 };
+
+    ghost most = { 2 ^ 34 };
+
     type Error = io::Error;
 
-    fn field(&mut self, name: &'static str, _width: u32, number: u64) -> io::Result<()> {
-        write!(self.out, " {name}={number}")
+    fn field(&mut self, name: VariableName, _width: u32, number: u64) -> io::Result<()> {
+        write!(self.out, " {}={number}", name.text())
+    }
+
+    fn run(&mut self, _bits: &Run<'_>) -> io::Result<()> {
+        write!(self.out, " skipped")
     }
 }
 
@@ -27,10 +45,7 @@ fn print_header<W: Write>(header: &Header, out: &mut W) -> io::Result<()> {
 fn print_packet<W: Write>(packet: &Packet<'_>, out: &mut W) -> io::Result<()> {
     write!(out, "packet {}", packet.number().get())?;
     let mut line = FieldLine { out };
-    packet.fields(&mut line)?;
-    if let Packet::Other(_) = packet {
-        return writeln!(line.out, " skipped");
-    }
+    packet.fields(packet.length(), &mut line)?;
     writeln!(line.out)
 }
 

@@ -22,7 +22,7 @@ fn run<'a>(reader: &mut BitReader<'a>, bits: u32) -> Result<Run<'a>, PacketFault
 }
 
 /// Reads a packet that is skipped, behind its number, into the place of another packet; answers the length that it tells.
-#[tactic(auto, unfolding(packets::specs::Packets::skipped))]
+#[tactic(auto, unfolding(packets::specs::Packets::skipped_telling))]
 fn read_other<'a>(
     reader: &mut BitReader<'a>,
     number: PacketNumber,

@@ -1,3 +1,3 @@
-pub mod Lengths
-pub mod Writes
-pub mod Spelled
+pub mod AnyPacket
+pub mod StaticSteps
+pub mod Told

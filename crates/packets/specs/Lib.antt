@@ -1,4 +1,4 @@
 pub mod Faults
 pub mod Packets
 pub mod Parts
-pub mod Writing
+pub mod StaticSteps

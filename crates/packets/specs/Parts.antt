@@ -1,30 +1,47 @@
--- What layouts of packets are made of.
-use Rattle.std.specs.Prelude.{ℕ, ◌-◌, Bool, List, ◌++◌, length, take, drop, Option, Some, None}
-use Rattle.bits.specs.Bits.{number_bits}
-use Rattle.bits.specs.Writing.{appended_each}
+-- What layouts of packets are made of, and what becomes of a sink that takes these parts.
+use Rattle.std.specs.Prelude.{ℕ, ◌+◌, ◌-◌, Bool, List, ◌∷◌, length, take, drop, Option, is_some, Result}
+use Rattle.std.specs.Int.{from_bool}
 use Rattle.std.specs.Option.{option_map_or}
-use Rattle.bits.specs.Layout.{Codes, Layout, done, field, choice, kind}
+use Rattle.bits.specs.Layout.{Codes, Layout, field, part, ◌>>=◌, after, read, read_field}
+use Rattle.bits.specs.Sums.{total}
+use Rattle.bits.specs.Writing.{Shown, named, each_taken, taken, size}
+use Rattle.bits.specs.declared.name.VariableName.{VariableName}
+use Rattle.bits.specs.declared.name.VariableName.TheVariants as names
+use Rattle.vars.specs.Variables.{flag}
 use Rattle.vars.specs.declared.variable.NoValue.{NoValue}
 use Rattle.packets.specs.Faults.{packet_fault}
 use Rattle.packets.specs.declared.fault.PacketFault.{PacketFault}
 use Rattle.packets.specs.declared.fault.PacketFault.TheVariants.{Truncated}
 
 -- a variable of a packet, and where its value is found
-abbrev pub variable : {C A : Type 0} → Codes NoValue A → (C → A) → Layout PacketFault C A
-variable codes get = field Truncated packet_fault codes get
+abbrev pub variable : {C A : Type 0} → VariableName → Codes NoValue A → (C → A) → Layout PacketFault C A
+variable name codes get = field name Truncated packet_fault codes get
 
--- a part that is there where it is given
-abbrev pub part : {C A : Type 0} → Bool → Layout PacketFault A A → (C → Option A) → Layout PacketFault C (Option A)
-part given m get = choice given (kind Some get m) (done None)
+-- a qualifier, and the part that it tells of
+abbrev pub qualified : {C A : Type 0} → VariableName → Layout PacketFault A A → (C → Option A) → Layout PacketFault C (Option A)
+qualified name m get = variable name flag (λ c. is_some (get c)) >>= (λ given. part given m get)
 
--- a part that is always there
-abbrev pub inner : {C A : Type 0} → Layout PacketFault A A → (C → A) → Layout PacketFault C A
-inner m get = kind (λ x. x) (λ p. Some (get p)) m
+-- a packet that tells its own bits, those of its number included
+abbrev pub telling : {C A : Type 0} → ((C → ℕ) → Layout PacketFault C A) → Layout PacketFault C A
+telling m = m (λ c. 8 + size (m (λ _. 0)) c)
 
--- the bits of a part where it is there
-abbrev pub optional_size : {A : Type 0} → (A → ℕ) → Option A → ℕ
-optional_size size p = option_map_or size p 0
+-- ---- what becomes of a sink, and how many bits there are
 
--- a first element, N_ITER, and the other elements, appended
-abbrev pub from_first_appended : {D : Type 0} → (D → List Bool → List Bool) → List D → List Bool → List Bool
-from_first_appended w xs front = appended_each w (drop (length (take 1 xs)) xs) (appended_each w (take 1 xs) front ++ number_bits 5 (length xs - 1))
+-- a first element, N_ITER, and the other elements
+abbrev pub from_first_taken : {D S : Type 0} → (S → Shown → S) → Layout PacketFault D D → List D → S → S
+from_first_taken t m xs s =
+    each_taken (λ x left. taken t m x left) (drop (length (take 1 xs)) xs) (t (each_taken (λ x left. taken t m x left) (take 1 xs) s) (named names.NIter 5 (length xs - 1)))
+
+abbrev pub from_first_size : {D : Type 0} → Layout PacketFault D D → List D → ℕ
+from_first_size m xs = total (λ x. size m x) (take 1 xs) + (5 + total (λ x. size m x) (drop (length (take 1 xs)) xs))
+
+-- a qualifier, and the part that it tells of
+abbrev pub qualified_taken : {D S : Type 0} → (S → Shown → S) → Layout PacketFault D D → VariableName → Option D → S → S
+qualified_taken t m name o s = let told = t s (named name 1 (from_bool (is_some o))) in option_map_or (λ d. taken t m d told) o told
+
+abbrev pub qualified_size : {D : Type 0} → Layout PacketFault D D → Option D → ℕ
+qualified_size m o = 1 + option_map_or (λ d. size m d) o 0
+
+-- a qualifier at the front of the bits, and the part that it tells of
+abbrev pub read_qualified : {D : Type 0} → Layout PacketFault D D → List Bool → Result (Option D × List Bool) PacketFault
+read_qualified m bits = after (read_field Truncated packet_fault flag bits) (λ given rest. read (part given m (λ (x : Option _). x)) rest)

@@ -1,23 +1,25 @@
-ghost use Rattle.std.specs.Prelude.{◌≡◌, ◌+◌, ◌*◌, ◌<◌, ◌≤◌, ◌^◌, length};
+ghost use Rattle.std.specs.Prelude.{◌≡◌, ◌+◌, ◌<◌, ◌≤◌, ◌^◌, length, OnOk};
 ghost use Rattle.bits.specs.Layout.{Gives, kind, read};
-ghost use Rattle.bits.specs.Writing.{appended};
-ghost use Rattle.packets.specs.Packets.{length_of, as_packet, as_movement_authority, movement_authority};
+ghost use Rattle.bits.specs.Writing.{size, taken};
+ghost use Rattle.packets.specs.Packets.{as_packet, as_movement_authority, movement_authority, movement_authority_telling, section as section_layout};
+ghost use Rattle.bits.specs.declared.name.VariableName.TheVariants as names;
 ghost use Rattle.packets.specs.declared.packet.Packet.TheVariants as packets;
 
-use crate::element::{Element, Written, list, optional, write_list, write_optional};
+use crate::element::{Element, read_list, read_qualified};
 use crate::fault::PacketFault;
 use crate::packet::Packet;
 use crate::reading::field;
-use crate::writing::put;
+use crate::sink::{FieldSink, put};
+use crate::walk::{all, bits_of_all, qualified, qualified_bits};
 use arrayvec::ArrayVec;
-use bits::{BitReader, BitWriter};
+use bits::{BitReader, VariableName};
 use vars::{
     Distance, Iterations, PacketLength, ReleaseSpeed, Scale, SpeedStep, Timer, ValidityDirection,
     Variable,
 };
 
 /// The timer of a section.
-#[derive(Clone, Copy, Debug, PartialEq, Eq)]
+#[derive(Clone, Copy)]
 pub struct SectionTimer {
     /// T_SECTIONTIMER.
     pub time: Timer,
@@ -36,11 +38,9 @@ impl Default for SectionTimer {
 }
 
 impl Element for SectionTimer {
-    ghost use Rattle.packets.specs.Packets.{section_timer, section_timer_bits};
+    ghost use Rattle.packets.specs.Packets.{section_timer};
 
     ghost layout = { section_timer };
-
-    ghost size = { section_timer_bits };
 
     #[tactic(auto, unfolding(crate::specs::Packets::section_timer))]
     fn read(reader: &mut BitReader<'_>) -> Result<SectionTimer, PacketFault> {
@@ -49,21 +49,20 @@ impl Element for SectionTimer {
         Ok(SectionTimer { time, stop })
     }
 
+    #[tactic(auto, unfolding(crate::specs::Packets::section_timer))]
+    fn fields<S: FieldSink>(&self, sink: &mut S) -> Result<(), S::Error> {
+        put(sink, VariableName::TSectiontimer, &self.time)?;
+        put(sink, VariableName::DSectiontimerstoploc, &self.stop)
+    }
+
+    #[tactic(auto, unfolding(crate::specs::Packets::section_timer))]
     fn bits(&self) -> u64 {
         25
     }
 }
 
-impl<const N: usize> Written<N> for SectionTimer {
-    #[tactic(auto, unfolding(crate::specs::Packets::section_timer))]
-    fn write(&self, writer: &mut BitWriter<N>) {
-        put(writer, &self.time);
-        put(writer, &self.stop);
-    }
-}
-
 /// A section of an authority.
-#[derive(Clone, Copy, Debug, PartialEq, Eq)]
+#[derive(Clone, Copy)]
 pub struct Section {
     /// L_SECTION or L_ENDSECTION.
     pub length: Distance,
@@ -82,36 +81,55 @@ impl Default for Section {
 }
 
 impl Element for Section {
-    ghost use Rattle.packets.specs.Packets.{section, section_bits};
+    ghost use Rattle.packets.specs.Packets.{section};
 
-    ghost layout = { section };
-
-    ghost size = { section_bits };
+    ghost layout = { section names.LSection };
 
     #[tactic(auto, unfolding(crate::specs::Packets::section))]
     fn read(reader: &mut BitReader<'_>) -> Result<Section, PacketFault> {
         let length = field(reader)?;
-        let given: bool = field(reader)?;
-        let timer = optional(reader, given)?;
+        let timer = read_qualified(reader)?;
         Ok(Section { length, timer })
     }
 
+    fn fields<S: FieldSink>(&self, sink: &mut S) -> Result<(), S::Error> {
+        section_fields(self, VariableName::LSection, sink)
+    }
+
+    #[tactic(auto, unfolding(crate::specs::Packets::section, crate::specs::Packets::section_timer))]
     fn bits(&self) -> u64 {
-        if self.timer.is_some() { 41 } else { 16 }
+        match &self.timer {
+            Some(_) => 41,
+            None => 16,
+        }
     }
 }
 
-impl<const N: usize> Written<N> for Section {
-    #[tactic(auto, unfolding(crate::specs::Packets::section))]
-    fn write(&self, writer: &mut BitWriter<N>) {
-        put(writer, &self.length);
-        put(writer, &self.timer.is_some());
-        write_optional(&self.timer, writer);
-    }
+/// Reads the end section.
+#[tactic(auto, unfolding(crate::specs::Packets::section))]
+fn read_end_section(reader: &mut BitReader<'_>) -> Result<Section, PacketFault>
+    ensures { Gives (λ x. x) result reader.new (read (section_layout names.LEndsection) reader.old) }
+{
+    Section::read(reader)
+}
+
+/// Hands a section to a sink, under the name of its length.
+#[tactic(auto, unfolding(crate::specs::Packets::section))]
+fn section_fields<S: FieldSink>(
+    section: &Section,
+    name: VariableName,
+    sink: &mut S,
+) -> Result<(), S::Error>
+    requires room { S.held sink.old + size (section_layout name) section.now ≤ S.most }
+    ensures value { OnOk result (S.seen sink.new ≡ taken S.took (section_layout name) section.now (S.seen sink.old)) }
+    ensures held { OnOk result (S.held sink.new ≤ S.held sink.old + size (section_layout name) section.now) }
+{
+    put(sink, name, &section.length)?;
+    qualified(sink, VariableName::QSectiontimer, &section.timer)
 }
 
 /// The timer of the end section.
-#[derive(Clone, Copy, Debug, PartialEq, Eq)]
+#[derive(Clone, Copy)]
 pub struct EndTimer {
     /// T_ENDTIMER.
     pub time: Timer,
@@ -130,11 +148,9 @@ impl Default for EndTimer {
 }
 
 impl Element for EndTimer {
-    ghost use Rattle.packets.specs.Packets.{end_timer, end_timer_bits};
+    ghost use Rattle.packets.specs.Packets.{end_timer};
 
     ghost layout = { end_timer };
-
-    ghost size = { end_timer_bits };
 
     #[tactic(auto, unfolding(crate::specs::Packets::end_timer))]
     fn read(reader: &mut BitReader<'_>) -> Result<EndTimer, PacketFault> {
@@ -143,21 +159,20 @@ impl Element for EndTimer {
         Ok(EndTimer { time, start })
     }
 
+    #[tactic(auto, unfolding(crate::specs::Packets::end_timer))]
+    fn fields<S: FieldSink>(&self, sink: &mut S) -> Result<(), S::Error> {
+        put(sink, VariableName::TEndtimer, &self.time)?;
+        put(sink, VariableName::DEndtimerstartloc, &self.start)
+    }
+
+    #[tactic(auto, unfolding(crate::specs::Packets::end_timer))]
     fn bits(&self) -> u64 {
         25
     }
 }
 
-impl<const N: usize> Written<N> for EndTimer {
-    #[tactic(auto, unfolding(crate::specs::Packets::end_timer))]
-    fn write(&self, writer: &mut BitWriter<N>) {
-        put(writer, &self.time);
-        put(writer, &self.start);
-    }
-}
-
 /// The danger point behind the end.
-#[derive(Clone, Copy, Debug, PartialEq, Eq)]
+#[derive(Clone, Copy)]
 pub struct DangerPoint {
     /// D_DP: from the end.
     pub distance: Distance,
@@ -176,11 +191,9 @@ impl Default for DangerPoint {
 }
 
 impl Element for DangerPoint {
-    ghost use Rattle.packets.specs.Packets.{danger_point, danger_point_bits};
+    ghost use Rattle.packets.specs.Packets.{danger_point};
 
     ghost layout = { danger_point };
-
-    ghost size = { danger_point_bits };
 
     #[tactic(auto, unfolding(crate::specs::Packets::danger_point))]
     fn read(reader: &mut BitReader<'_>) -> Result<DangerPoint, PacketFault> {
@@ -189,21 +202,20 @@ impl Element for DangerPoint {
         Ok(DangerPoint { distance, release })
     }
 
+    #[tactic(auto, unfolding(crate::specs::Packets::danger_point))]
+    fn fields<S: FieldSink>(&self, sink: &mut S) -> Result<(), S::Error> {
+        put(sink, VariableName::DDp, &self.distance)?;
+        put(sink, VariableName::VReleasedp, &self.release)
+    }
+
+    #[tactic(auto, unfolding(crate::specs::Packets::danger_point))]
     fn bits(&self) -> u64 {
         22
     }
 }
 
-impl<const N: usize> Written<N> for DangerPoint {
-    #[tactic(auto, unfolding(crate::specs::Packets::danger_point))]
-    fn write(&self, writer: &mut BitWriter<N>) {
-        put(writer, &self.distance);
-        put(writer, &self.release);
-    }
-}
-
 /// The overlap behind the end.
-#[derive(Clone, Copy, Debug, PartialEq, Eq)]
+#[derive(Clone, Copy)]
 pub struct Overlap {
     /// D_STARTOL: from the end back to where its timer starts.
     pub start: Distance,
@@ -228,11 +240,9 @@ impl Default for Overlap {
 }
 
 impl Element for Overlap {
-    ghost use Rattle.packets.specs.Packets.{overlap, overlap_bits};
+    ghost use Rattle.packets.specs.Packets.{overlap};
 
     ghost layout = { overlap };
-
-    ghost size = { overlap_bits };
 
     #[tactic(auto, unfolding(crate::specs::Packets::overlap))]
     fn read(reader: &mut BitReader<'_>) -> Result<Overlap, PacketFault> {
@@ -248,18 +258,17 @@ impl Element for Overlap {
         })
     }
 
+    #[tactic(auto, unfolding(crate::specs::Packets::overlap))]
+    fn fields<S: FieldSink>(&self, sink: &mut S) -> Result<(), S::Error> {
+        put(sink, VariableName::DStartol, &self.start)?;
+        put(sink, VariableName::TOl, &self.time)?;
+        put(sink, VariableName::DOl, &self.distance)?;
+        put(sink, VariableName::VReleaseol, &self.release)
+    }
+
+    #[tactic(auto, unfolding(crate::specs::Packets::overlap))]
     fn bits(&self) -> u64 {
         47
-    }
-}
-
-impl<const N: usize> Written<N> for Overlap {
-    #[tactic(auto, unfolding(crate::specs::Packets::overlap))]
-    fn write(&self, writer: &mut BitWriter<N>) {
-        put(writer, &self.start);
-        put(writer, &self.time);
-        put(writer, &self.distance);
-        put(writer, &self.release);
     }
 }
 
@@ -289,7 +298,7 @@ pub struct MovementAuthority {
 }
 
 /// Reads packet 12 behind its number, into the place of another packet; answers the length that it tells.
-#[tactic(auto, unfolding(crate::specs::Packets::movement_authority))]
+#[tactic(auto, unfolding(crate::specs::Packets::movement_authority_telling))]
 pub fn read_movement_authority<'a>(
     reader: &mut BitReader<'a>,
     out: &mut Packet<'a>,
@@ -304,14 +313,11 @@ pub fn read_movement_authority<'a>(
     let end_time = field(reader)?;
     let count: Iterations = field(reader)?;
     let mut sections: ArrayVec<Section, 31> = ArrayVec::new();
-    list(reader, &mut sections, count.count())?;
-    let end_section = Section::read(reader)?;
-    let timed: bool = field(reader)?;
-    let end_timer = optional(reader, timed)?;
-    let endangered: bool = field(reader)?;
-    let danger_point = optional(reader, endangered)?;
-    let overlapped: bool = field(reader)?;
-    let overlap = optional(reader, overlapped)?;
+    read_list(reader, &mut sections, count.count())?;
+    let end_section = read_end_section(reader)?;
+    let end_timer = read_qualified(reader)?;
+    let danger_point = read_qualified(reader)?;
+    let overlap = read_qualified(reader)?;
     *out = Packet::MovementAuthority(MovementAuthority {
         direction,
         scale,
@@ -327,31 +333,38 @@ pub fn read_movement_authority<'a>(
     Ok(told)
 }
 
-/// Writes packet 12 behind its number, with the length that it tells.
-#[tactic(auto, unfolding(crate::specs::Packets::movement_authority))]
-pub fn write_movement_authority<const N: usize>(
-    packet: &MovementAuthority,
-    told: u64,
-    writer: &mut BitWriter<N>,
-)
-    requires told { told ≡ length_of (packets.MovementAuthority packet.now) }
-    requires small { told < 2 ^ 13 }
-    requires room { length writer.old + told ≤ 8 * N + 8 }
-    ensures { writer.new ≡ appended movement_authority packet.now writer.old }
-{
-    put(writer, &packet.direction);
-    writer.write(13, told);
-    put(writer, &packet.scale);
-    put(writer, &packet.speed);
-    put(writer, &packet.end_speed);
-    put(writer, &packet.end_time);
-    writer.write(5, packet.sections.len() as u64);
-    write_list(packet.sections.as_slice(), writer);
-    packet.end_section.write(writer);
-    put(writer, &packet.end_timer.is_some());
-    write_optional(&packet.end_timer, writer);
-    put(writer, &packet.danger_point.is_some());
-    write_optional(&packet.danger_point, writer);
-    put(writer, &packet.overlap.is_some());
-    write_optional(&packet.overlap, writer);
+impl MovementAuthority {
+    /// The number of bits, those of NID_PACKET included.
+    #[tactic(auto, unfolding(crate::specs::Packets::movement_authority_telling, crate::specs::Packets::section))]
+    pub(crate) fn bits(&self) -> u64
+        ensures value { result ≡ 8 + size (movement_authority_telling (λ _. 0)) self.now }
+        ensures bound { result < 2 ^ 13 }
+    {
+        54 + bits_of_all(self.sections.as_slice())
+            + self.end_section.bits()
+            + qualified_bits(&self.end_timer)
+            + qualified_bits(&self.danger_point)
+            + qualified_bits(&self.overlap)
+    }
+
+    /// Hands the fields behind NID_PACKET to a sink, with the length that L_PACKET tells.
+    #[tactic(auto, unfolding(crate::specs::Packets::movement_authority_telling))]
+    pub(crate) fn fields<S: FieldSink>(&self, told: u64, sink: &mut S) -> Result<(), S::Error>
+        requires told { told < 2 ^ 13 }
+        requires room { S.held sink.old + size (movement_authority_telling (λ _. 0)) self.now ≤ S.most }
+        ensures { OnOk result (S.seen sink.new ≡ taken S.took (movement_authority_telling (λ _. told)) self.now (S.seen sink.old)) }
+    {
+        put(sink, VariableName::QDir, &self.direction)?;
+        sink.field(VariableName::LPacket, 13, told)?;
+        put(sink, VariableName::QScale, &self.scale)?;
+        put(sink, VariableName::VMain, &self.speed)?;
+        put(sink, VariableName::VLoa, &self.end_speed)?;
+        put(sink, VariableName::TLoa, &self.end_time)?;
+        sink.field(VariableName::NIter, 5, self.sections.len() as u64)?;
+        all(&self.sections, sink)?;
+        section_fields(&self.end_section, VariableName::LEndsection, sink)?;
+        qualified(sink, VariableName::QEndtimer, &self.end_timer)?;
+        qualified(sink, VariableName::QDangerpoint, &self.danger_point)?;
+        qualified(sink, VariableName::QOverlap, &self.overlap)
+    }
 }

@@ -1,44 +1,39 @@
 ghost use Rattle.std.specs.Prelude.{◌≡◌, ◌+◌, ◌*◌, ◌<◌, ◌≤◌, ◌^◌, ℕ, length, OnOk};
-ghost use Rattle.bits.specs.Layout.{Gives, Layout, read, read_more};
+ghost use Rattle.bits.specs.Layout.{Gives, Layout, part, read, read_more};
 ghost use Rattle.bits.specs.Sums.{total};
-ghost use Rattle.bits.specs.Writing.{appended, appended_each};
-ghost use Rattle.packets.specs.Parts.{part, optional_size, from_first_appended};
-ghost use Rattle.std.specs.Option.{option_map_or};
+ghost use Rattle.bits.specs.Writing.{taken, each_taken, size};
+ghost use Rattle.packets.specs.Parts.{read_qualified as qualified_read};
 ghost use Rattle.packets.specs.declared.fault.PacketFault.{PacketFault};
 
 use crate::fault::PacketFault;
+use crate::reading::field;
+use crate::sink::FieldSink;
 use arrayvec::ArrayVec;
-use bits::{BitReader, BitWriter};
+use bits::BitReader;
 
 /// A part of a packet that has a layout of its own: an element of a list, or what a qualifier says is there.
 pub(crate) trait Element: Copy + Default {
     /// How it stands in bits.
     ghost layout: { Layout PacketFault Self Self };
 
-    /// The number of its bits.
-    ghost size: { Self → ℕ };
-
     /// Reads one.
     fn read(reader: &mut BitReader<'_>) -> Result<Self, PacketFault>
         ensures { Gives (λ x. x) result reader.new (read layout reader.old) };
 
+    /// Hands its fields to a sink.
+    fn fields<S: FieldSink>(&self, sink: &mut S) -> Result<(), S::Error>
+        requires room { S.held sink.old + size layout self.now ≤ S.most }
+        ensures value { OnOk result (S.seen sink.new ≡ taken S.took layout self.now (S.seen sink.old)) }
+        ensures held { OnOk result (S.held sink.new ≤ S.held sink.old + size layout self.now) };
+
     /// The number of its bits.
     fn bits(&self) -> u64
-        ensures value { result ≡ size self.now }
+        ensures value { result ≡ size layout self.now }
         ensures bound { result < 64 };
 }
 
-/// An element that is written into N bytes.
-pub(crate) trait Written<const N: usize>: Element {
-    /// Writes it.
-    fn write(&self, writer: &mut BitWriter<N>)
-        requires { length writer.old + Self.size self.now ≤ 8 * N }
-        ensures value { writer.new ≡ appended Self.layout self.now writer.old }
-        ensures len { length writer.new ≤ length writer.old + Self.size self.now };
-}
-
 /// Reads so many more elements of a list.
-pub(crate) fn list<T: Element, const N: usize>(
+pub(crate) fn read_list<T: Element, const N: usize>(
     reader: &mut BitReader<'_>,
     list: &mut ArrayVec<T, N>,
     count: u8,
@@ -56,7 +51,7 @@ pub(crate) fn list<T: Element, const N: usize>(
 
 /// Reads a part where it is given.
 #[inline(always)]
-pub(crate) fn optional<T: Element>(
+pub(crate) fn read_part<T: Element>(
     reader: &mut BitReader<'_>,
     given: bool,
 ) -> Result<Option<T>, PacketFault>
@@ -69,56 +64,13 @@ pub(crate) fn optional<T: Element>(
     Ok(Some(part))
 }
 
-/// The bits of elements.
-pub(crate) fn bits_of_all<T: Element>(elements: &[T]) -> u64
-    requires { length elements.now ≤ 32 }
-    ensures value { result ≡ total T.size elements.now }
-    ensures bound { result ≤ 2048 }
-{
-    let mut total = 0;
-    for element in elements {
-        total += element.bits();
-    }
-    total
-}
-
-/// Writes elements.
-pub(crate) fn write_list<T: Written<N>, const N: usize>(elements: &[T], writer: &mut BitWriter<N>)
-    requires { length writer.old + total T.size elements.now ≤ 8 * N }
-    ensures value { writer.new ≡ appended_each (λ x left. appended T.layout x left) elements.now writer.old }
-    ensures len { length writer.new ≤ length writer.old + total T.size elements.now }
-{
-    for element in elements {
-        element.write(writer);
-    }
-}
-
-/// Writes a part that is there.
+/// Reads a qualifier, and the part that it tells of.
 #[inline(always)]
-pub(crate) fn write_optional<T: Written<N>, const N: usize>(
-    part: &Option<T>,
-    writer: &mut BitWriter<N>,
-)
-    requires { length writer.old + optional_size T.size part.now ≤ 8 * N }
-    ensures value { writer.new ≡ option_map_or (λ x. appended T.layout x writer.old) part.now writer.old }
-    ensures len { length writer.new ≤ length writer.old + optional_size T.size part.now }
+pub(crate) fn read_qualified<T: Element>(
+    reader: &mut BitReader<'_>,
+) -> Result<Option<T>, PacketFault>
+    ensures { Gives (λ x. x) result reader.new (qualified_read T.layout reader.old) }
 {
-    if let Some(part) = part {
-        part.write(writer);
-    }
-}
-
-/// Writes a list of at least one element: the first, N_ITER and the others.
-pub(crate) fn write_from_first<T: Written<N>, const N: usize>(
-    elements: &[T],
-    writer: &mut BitWriter<N>,
-)
-    requires few { length elements.now ≤ 32 }
-    requires room { length writer.old + 5 + total T.size elements.now ≤ 8 * N }
-    ensures { writer.new ≡ from_first_appended (λ x left. appended T.layout x left) elements.now writer.old }
-{
-    let first = elements.len().min(1);
-    write_list(&elements[..first], writer);
-    writer.write(5, (elements.len() as u64).saturating_sub(1));
-    write_list(&elements[first..], writer);
+    let given: bool = field(reader)?;
+    read_part(reader, given)
 }

@@ -1,23 +1,24 @@
-ghost use Rattle.std.specs.Prelude.{◌≡◌, ◌+◌, ◌*◌, ◌<◌, ◌≤◌, ◌^◌, length};
+ghost use Rattle.std.specs.Prelude.{◌≡◌, ◌+◌, ◌<◌, ◌≤◌, ◌^◌, length, OnOk};
 ghost use Rattle.bits.specs.Layout.{Gives, kind, read};
-ghost use Rattle.bits.specs.Writing.{appended};
-ghost use Rattle.packets.specs.Packets.{length_of, as_packet, as_gradients, gradients as gradients_layout};
+ghost use Rattle.bits.specs.Writing.{size, taken};
+ghost use Rattle.packets.specs.Packets.{as_packet, as_gradients, gradients as gradients_layout, gradients_telling};
 ghost use Rattle.packets.specs.declared.packet.Packet.TheVariants as packets;
 
-use crate::element::{Element, Written, list, write_from_first};
+use crate::element::{Element, read_list};
 use crate::fault::PacketFault;
 use crate::packet::Packet;
 use crate::reading::field;
-use crate::writing::put;
+use crate::sink::{FieldSink, put};
+use crate::walk::{from_first, from_first_bits};
 use arrayvec::ArrayVec;
-use bits::{BitReader, BitWriter};
+use bits::{BitReader, VariableName};
 use vars::{
     Distance, GradientDirection, Iterations, PacketLength, Scale, Steepness, ValidityDirection,
     Variable,
 };
 
 /// A gradient from a place on.
-#[derive(Clone, Copy, Debug, PartialEq, Eq)]
+#[derive(Clone, Copy)]
 pub struct Gradient {
     /// D_GRADIENT: from the place before, the first from the group.
     pub distance: Distance,
@@ -39,11 +40,9 @@ impl Default for Gradient {
 }
 
 impl Element for Gradient {
-    ghost use Rattle.packets.specs.Packets.{gradient, gradient_bits};
+    ghost use Rattle.packets.specs.Packets.{gradient};
 
     ghost layout = { gradient };
-
-    ghost size = { gradient_bits };
 
     #[tactic(auto, unfolding(crate::specs::Packets::gradient))]
     fn read(reader: &mut BitReader<'_>) -> Result<Gradient, PacketFault> {
@@ -57,17 +56,16 @@ impl Element for Gradient {
         })
     }
 
+    #[tactic(auto, unfolding(crate::specs::Packets::gradient))]
+    fn fields<S: FieldSink>(&self, sink: &mut S) -> Result<(), S::Error> {
+        put(sink, VariableName::DGradient, &self.distance)?;
+        put(sink, VariableName::QGdir, &self.direction)?;
+        put(sink, VariableName::GA, &self.steepness)
+    }
+
+    #[tactic(auto, unfolding(crate::specs::Packets::gradient))]
     fn bits(&self) -> u64 {
         24
-    }
-}
-
-impl<const N: usize> Written<N> for Gradient {
-    #[tactic(auto, unfolding(crate::specs::Packets::gradient))]
-    fn write(&self, writer: &mut BitWriter<N>) {
-        put(writer, &self.distance);
-        put(writer, &self.direction);
-        put(writer, &self.steepness);
     }
 }
 
@@ -83,7 +81,7 @@ pub struct Gradients {
 }
 
 /// Reads packet 21 behind its number, into the place of another packet; answers the length that it tells.
-#[tactic(auto, unfolding(crate::specs::Packets::gradients))]
+#[tactic(auto, unfolding(crate::specs::Packets::gradients_telling))]
 pub fn read_gradients<'a>(
     reader: &mut BitReader<'a>,
     out: &mut Packet<'a>,
@@ -94,9 +92,9 @@ pub fn read_gradients<'a>(
     let told: PacketLength = field(reader)?;
     let scale = field(reader)?;
     let mut gradients: ArrayVec<Gradient, 32> = ArrayVec::new();
-    list(reader, &mut gradients, 1)?;
+    read_list(reader, &mut gradients, 1)?;
     let more: Iterations = field(reader)?;
-    list(reader, &mut gradients, more.count())?;
+    read_list(reader, &mut gradients, more.count())?;
     *out = Packet::Gradients(Gradients {
         direction,
         scale,
@@ -105,16 +103,26 @@ pub fn read_gradients<'a>(
     Ok(told)
 }
 
-/// Writes packet 21 behind its number, with the length that it tells.
-#[tactic(auto, unfolding(crate::specs::Packets::gradients))]
-pub fn write_gradients<const N: usize>(packet: &Gradients, told: u64, writer: &mut BitWriter<N>)
-    requires told { told ≡ length_of (packets.Gradients packet.now) }
-    requires small { told < 2 ^ 13 }
-    requires room { length writer.old + told ≤ 8 * N + 8 }
-    ensures { writer.new ≡ appended gradients_layout packet.now writer.old }
-{
-    put(writer, &packet.direction);
-    writer.write(13, told);
-    put(writer, &packet.scale);
-    write_from_first(packet.gradients.as_slice(), writer);
+impl Gradients {
+    /// The number of bits, those of NID_PACKET included.
+    #[tactic(auto, unfolding(crate::specs::Packets::gradients_telling))]
+    pub(crate) fn bits(&self) -> u64
+        ensures value { result ≡ 8 + size (gradients_telling (λ _. 0)) self.now }
+        ensures bound { result < 2 ^ 13 }
+    {
+        25 + from_first_bits(self.gradients.as_slice())
+    }
+
+    /// Hands the fields behind NID_PACKET to a sink, with the length that L_PACKET tells.
+    #[tactic(auto, unfolding(crate::specs::Packets::gradients_telling))]
+    pub(crate) fn fields<S: FieldSink>(&self, told: u64, sink: &mut S) -> Result<(), S::Error>
+        requires told { told < 2 ^ 13 }
+        requires room { S.held sink.old + size (gradients_telling (λ _. 0)) self.now ≤ S.most }
+        ensures { OnOk result (S.seen sink.new ≡ taken S.took (gradients_telling (λ _. told)) self.now (S.seen sink.old)) }
+    {
+        put(sink, VariableName::QDir, &self.direction)?;
+        sink.field(VariableName::LPacket, 13, told)?;
+        put(sink, VariableName::QScale, &self.scale)?;
+        from_first(self.gradients.as_slice(), sink)
+    }
 }

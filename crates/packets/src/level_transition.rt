@@ -1,16 +1,17 @@
-ghost use Rattle.std.specs.Prelude.{◌≡◌, ◌+◌, ◌*◌, ◌<◌, ◌≤◌, ◌^◌, length};
+ghost use Rattle.std.specs.Prelude.{◌≡◌, ◌+◌, ◌<◌, ◌≤◌, ◌^◌, length, OnOk};
 ghost use Rattle.bits.specs.Layout.{Gives, kind, read};
-ghost use Rattle.bits.specs.Writing.{appended};
-ghost use Rattle.packets.specs.Packets.{length_of, as_packet, as_level_transition, level_transition, has_stm as has_stm_of};
+ghost use Rattle.bits.specs.Writing.{size, taken};
+ghost use Rattle.packets.specs.Packets.{as_packet, as_level_transition, level_transition, has_stm as has_stm_of, level_transition_telling};
 ghost use Rattle.packets.specs.declared.packet.Packet.TheVariants as packets;
 
-use crate::element::{Element, Written, list, optional, write_from_first};
+use crate::element::{Element, read_list, read_part};
 use crate::fault::PacketFault;
 use crate::packet::Packet;
 use crate::reading::field;
-use crate::writing::put;
+use crate::sink::{FieldSink, put};
+use crate::walk::{from_first, from_first_bits};
 use arrayvec::ArrayVec;
-use bits::{BitReader, BitWriter};
+use bits::{BitReader, VariableName};
 use vars::{
     Distance, Iterations, Level, PacketLength, Scale, StartPlace, StmIdentity, ValidityDirection,
     Variable,
@@ -27,31 +28,28 @@ fn has_stm(level: Level) -> bool
 }
 
 impl Element for StmIdentity {
-    ghost use Rattle.packets.specs.Packets.{stm_identity, stm_identity_bits};
+    ghost use Rattle.packets.specs.Packets.{stm_identity};
 
     ghost layout = { stm_identity };
-
-    ghost size = { stm_identity_bits };
 
     #[tactic(auto, unfolding(crate::specs::Packets::stm_identity))]
     fn read(reader: &mut BitReader<'_>) -> Result<StmIdentity, PacketFault> {
         field(reader)
     }
 
+    #[tactic(auto, unfolding(crate::specs::Packets::stm_identity))]
+    fn fields<S: FieldSink>(&self, sink: &mut S) -> Result<(), S::Error> {
+        put(sink, VariableName::NidStm, self)
+    }
+
+    #[tactic(auto, unfolding(crate::specs::Packets::stm_identity))]
     fn bits(&self) -> u64 {
         8
     }
 }
 
-impl<const N: usize> Written<N> for StmIdentity {
-    #[tactic(auto, unfolding(crate::specs::Packets::stm_identity))]
-    fn write(&self, writer: &mut BitWriter<N>) {
-        put(writer, self);
-    }
-}
-
 /// A level that a transition leads to; a train takes the first that it can run in.
-#[derive(Clone, Copy, Debug, PartialEq, Eq)]
+#[derive(Clone, Copy)]
 pub struct LevelOrder {
     /// M_LEVELTR.
     pub level: Level,
@@ -73,16 +71,14 @@ impl Default for LevelOrder {
 }
 
 impl Element for LevelOrder {
-    ghost use Rattle.packets.specs.Packets.{level_order, level_order_bits};
+    ghost use Rattle.packets.specs.Packets.{level_order};
 
     ghost layout = { level_order };
-
-    ghost size = { level_order_bits };
 
     #[tactic(auto, unfolding(crate::specs::Packets::level_order))]
     fn read(reader: &mut BitReader<'_>) -> Result<LevelOrder, PacketFault> {
         let level: Level = field(reader)?;
-        let stm = optional(reader, has_stm(level))?;
+        let stm = read_part(reader, has_stm(level))?;
         let acknowledgement = field(reader)?;
         Ok(LevelOrder {
             level,
@@ -91,23 +87,21 @@ impl Element for LevelOrder {
         })
     }
 
-    fn bits(&self) -> u64 {
-        if self.stm.is_some() { 26 } else { 18 }
-    }
-}
-
-impl<const N: usize> Written<N> for LevelOrder {
     #[tactic(auto, unfolding(crate::specs::Packets::level_order))]
-    fn write(&self, writer: &mut BitWriter<N>) {
-        put(writer, &self.level);
-        if has_stm(self.level) {
-            if let Some(stm) = &self.stm {
-                stm.write(writer);
-                put(writer, &self.acknowledgement);
-            }
-            return;
+    fn fields<S: FieldSink>(&self, sink: &mut S) -> Result<(), S::Error> {
+        put(sink, VariableName::MLeveltr, &self.level)?;
+        if let Some(stm) = &self.stm {
+            stm.fields(sink)?;
         }
-        put(writer, &self.acknowledgement);
+        put(sink, VariableName::LAckleveltr, &self.acknowledgement)
+    }
+
+    #[tactic(auto, unfolding(crate::specs::Packets::level_order, crate::specs::Packets::stm_identity))]
+    fn bits(&self) -> u64 {
+        match &self.stm {
+            Some(_) => 26,
+            None => 18,
+        }
     }
 }
 
@@ -125,7 +119,7 @@ pub struct LevelTransition {
 }
 
 /// Reads packet 41 behind its number, into the place of another packet; answers the length that it tells.
-#[tactic(auto, unfolding(crate::specs::Packets::level_transition))]
+#[tactic(auto, unfolding(crate::specs::Packets::level_transition_telling))]
 pub fn read_level_transition<'a>(
     reader: &mut BitReader<'a>,
     out: &mut Packet<'a>,
@@ -137,9 +131,9 @@ pub fn read_level_transition<'a>(
     let scale = field(reader)?;
     let start = field(reader)?;
     let mut orders: ArrayVec<LevelOrder, 32> = ArrayVec::new();
-    list(reader, &mut orders, 1)?;
+    read_list(reader, &mut orders, 1)?;
     let more: Iterations = field(reader)?;
-    list(reader, &mut orders, more.count())?;
+    read_list(reader, &mut orders, more.count())?;
     *out = Packet::LevelTransition(LevelTransition {
         direction,
         scale,
@@ -149,21 +143,27 @@ pub fn read_level_transition<'a>(
     Ok(told)
 }
 
-/// Writes packet 41 behind its number, with the length that it tells.
-#[tactic(auto, unfolding(crate::specs::Packets::level_transition))]
-pub fn write_level_transition<const N: usize>(
-    packet: &LevelTransition,
-    told: u64,
-    writer: &mut BitWriter<N>,
-)
-    requires told { told ≡ length_of (packets.LevelTransition packet.now) }
-    requires small { told < 2 ^ 13 }
-    requires room { length writer.old + told ≤ 8 * N + 8 }
-    ensures { writer.new ≡ appended level_transition packet.now writer.old }
-{
-    put(writer, &packet.direction);
-    writer.write(13, told);
-    put(writer, &packet.scale);
-    put(writer, &packet.start);
-    write_from_first(packet.orders.as_slice(), writer);
+impl LevelTransition {
+    /// The number of bits, those of NID_PACKET included.
+    #[tactic(auto, unfolding(crate::specs::Packets::level_transition_telling))]
+    pub(crate) fn bits(&self) -> u64
+        ensures value { result ≡ 8 + size (level_transition_telling (λ _. 0)) self.now }
+        ensures bound { result < 2 ^ 13 }
+    {
+        40 + from_first_bits(self.orders.as_slice())
+    }
+
+    /// Hands the fields behind NID_PACKET to a sink, with the length that L_PACKET tells.
+    #[tactic(auto, unfolding(crate::specs::Packets::level_transition_telling))]
+    pub(crate) fn fields<S: FieldSink>(&self, told: u64, sink: &mut S) -> Result<(), S::Error>
+        requires told { told < 2 ^ 13 }
+        requires room { S.held sink.old + size (level_transition_telling (λ _. 0)) self.now ≤ S.most }
+        ensures { OnOk result (S.seen sink.new ≡ taken S.took (level_transition_telling (λ _. told)) self.now (S.seen sink.old)) }
+    {
+        put(sink, VariableName::QDir, &self.direction)?;
+        sink.field(VariableName::LPacket, 13, told)?;
+        put(sink, VariableName::QScale, &self.scale)?;
+        put(sink, VariableName::DLeveltr, &self.start)?;
+        from_first(self.orders.as_slice(), sink)
+    }
 }

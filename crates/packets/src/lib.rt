@@ -4,7 +4,6 @@
 mod authority;
 mod element;
 mod fault;
-mod fields;
 mod gradients;
 mod level_transition;
 mod linking;
@@ -13,29 +12,24 @@ mod national;
 mod packet;
 mod reading;
 mod restrictions;
+mod sink;
 mod static_speeds;
-mod writing;
+mod walk;
 
 pub use authority::{
     DangerPoint, EndTimer, MovementAuthority, Overlap, Section, SectionTimer,
-    read_movement_authority, write_movement_authority,
+    read_movement_authority,
 };
 pub use fault::PacketFault;
-pub use fields::FieldSink;
-pub use gradients::{Gradient, Gradients, read_gradients, write_gradients};
-pub use level_transition::{
-    LevelOrder, LevelTransition, read_level_transition, write_level_transition,
-};
-pub use linking::{Link, Linking, read_linking, write_linking};
-pub use mode_profile::{ModeArea, ModeProfile, read_mode_profile, write_mode_profile};
-pub use national::{NationalValues, read_national_values, write_national_values};
+pub use gradients::{Gradient, Gradients, read_gradients};
+pub use level_transition::{LevelOrder, LevelTransition, read_level_transition};
+pub use linking::{Link, Linking, read_linking};
+pub use mode_profile::{ModeArea, ModeProfile, read_mode_profile};
+pub use national::{NationalValues, read_national_values};
 pub use packet::{Other, Packet};
 pub use reading::field;
 pub use restrictions::{
-    RestrictionRevocation, SpeedRestriction, read_restriction, read_revocation, write_restriction,
-    write_revocation,
+    RestrictionRevocation, SpeedRestriction, read_restriction, read_revocation,
 };
-pub use static_speeds::{
-    Difference, StaticSpeeds, StaticStep, read_static_speeds, write_static_speeds,
-};
-pub use writing::put;
+pub use sink::{FieldSink, put};
+pub use static_speeds::{Difference, StaticSpeeds, StaticStep, read_static_speeds};

@@ -1,23 +1,24 @@
-ghost use Rattle.std.specs.Prelude.{◌≡◌, ◌+◌, ◌*◌, ◌<◌, ◌≤◌, ◌^◌, length};
+ghost use Rattle.std.specs.Prelude.{◌≡◌, ◌+◌, ◌<◌, ◌≤◌, ◌^◌, length, OnOk};
 ghost use Rattle.bits.specs.Layout.{Gives, kind, read};
-ghost use Rattle.bits.specs.Writing.{appended};
-ghost use Rattle.packets.specs.Packets.{length_of, as_packet, as_linking, linking as linking_layout};
+ghost use Rattle.bits.specs.Writing.{size, taken};
+ghost use Rattle.packets.specs.Packets.{as_packet, as_linking, linking as linking_layout, linking_telling};
 ghost use Rattle.packets.specs.declared.packet.Packet.TheVariants as packets;
 
-use crate::element::{Element, Written, list, optional, write_from_first, write_optional};
+use crate::element::{Element, read_list, read_qualified};
 use crate::fault::PacketFault;
 use crate::packet::Packet;
 use crate::reading::field;
-use crate::writing::put;
+use crate::sink::{FieldSink, put};
+use crate::walk::{from_first, from_first_bits, qualified};
 use arrayvec::ArrayVec;
-use bits::{BitReader, BitWriter};
+use bits::{BitReader, VariableName};
 use vars::{
     Country, Distance, GroupNumber, Iterations, LinkOrientation, LinkReaction, LocationAccuracy,
     PacketLength, Scale, ValidityDirection, Variable,
 };
 
 /// A group that packet 5 announces.
-#[derive(Clone, Copy, Debug, PartialEq, Eq)]
+#[derive(Clone, Copy)]
 pub struct Link {
     /// D_LINK: from the group announced before, the first from this group.
     pub distance: Distance,
@@ -48,17 +49,14 @@ impl Default for Link {
 }
 
 impl Element for Link {
-    ghost use Rattle.packets.specs.Packets.{link, link_bits};
+    ghost use Rattle.packets.specs.Packets.{link};
 
     ghost layout = { link };
-
-    ghost size = { link_bits };
 
     #[tactic(auto, unfolding(crate::specs::Packets::link))]
     fn read(reader: &mut BitReader<'_>) -> Result<Link, PacketFault> {
         let distance = field(reader)?;
-        let given: bool = field(reader)?;
-        let country = optional(reader, given)?;
+        let country = read_qualified(reader)?;
         let group = field(reader)?;
         let orientation = field(reader)?;
         let reaction = field(reader)?;
@@ -73,21 +71,22 @@ impl Element for Link {
         })
     }
 
-    fn bits(&self) -> u64 {
-        if self.country.is_some() { 49 } else { 39 }
-    }
-}
-
-impl<const N: usize> Written<N> for Link {
     #[tactic(auto, unfolding(crate::specs::Packets::link))]
-    fn write(&self, writer: &mut BitWriter<N>) {
-        put(writer, &self.distance);
-        put(writer, &self.country.is_some());
-        write_optional(&self.country, writer);
-        put(writer, &self.group);
-        put(writer, &self.orientation);
-        put(writer, &self.reaction);
-        put(writer, &self.accuracy);
+    fn fields<S: FieldSink>(&self, sink: &mut S) -> Result<(), S::Error> {
+        put(sink, VariableName::DLink, &self.distance)?;
+        qualified(sink, VariableName::QNewcountry, &self.country)?;
+        put(sink, VariableName::NidBg, &self.group)?;
+        put(sink, VariableName::QLinkorientation, &self.orientation)?;
+        put(sink, VariableName::QLinkreaction, &self.reaction)?;
+        put(sink, VariableName::QLocacc, &self.accuracy)
+    }
+
+    #[tactic(auto, unfolding(crate::specs::Packets::link, crate::specs::Packets::country))]
+    fn bits(&self) -> u64 {
+        match &self.country {
+            Some(_) => 49,
+            None => 39,
+        }
     }
 }
 
@@ -103,7 +102,7 @@ pub struct Linking {
 }
 
 /// Reads packet 5 behind its number, into the place of another packet; answers the length that it tells.
-#[tactic(auto, unfolding(crate::specs::Packets::linking))]
+#[tactic(auto, unfolding(crate::specs::Packets::linking_telling))]
 pub fn read_linking<'a>(
     reader: &mut BitReader<'a>,
     out: &mut Packet<'a>,
@@ -114,9 +113,9 @@ pub fn read_linking<'a>(
     let told: PacketLength = field(reader)?;
     let scale = field(reader)?;
     let mut links: ArrayVec<Link, 32> = ArrayVec::new();
-    list(reader, &mut links, 1)?;
+    read_list(reader, &mut links, 1)?;
     let more: Iterations = field(reader)?;
-    list(reader, &mut links, more.count())?;
+    read_list(reader, &mut links, more.count())?;
     *out = Packet::Linking(Linking {
         direction,
         scale,
@@ -125,16 +124,26 @@ pub fn read_linking<'a>(
     Ok(told)
 }
 
-/// Writes packet 5 behind its number, with the length that it tells.
-#[tactic(auto, unfolding(crate::specs::Packets::linking))]
-pub fn write_linking<const N: usize>(packet: &Linking, told: u64, writer: &mut BitWriter<N>)
-    requires told { told ≡ length_of (packets.Linking packet.now) }
-    requires small { told < 2 ^ 13 }
-    requires room { length writer.old + told ≤ 8 * N + 8 }
-    ensures { writer.new ≡ appended linking_layout packet.now writer.old }
-{
-    put(writer, &packet.direction);
-    writer.write(13, told);
-    put(writer, &packet.scale);
-    write_from_first(packet.links.as_slice(), writer);
+impl Linking {
+    /// The number of bits, those of NID_PACKET included.
+    #[tactic(auto, unfolding(crate::specs::Packets::linking_telling))]
+    pub(crate) fn bits(&self) -> u64
+        ensures value { result ≡ 8 + size (linking_telling (λ _. 0)) self.now }
+        ensures bound { result < 2 ^ 13 }
+    {
+        25 + from_first_bits(self.links.as_slice())
+    }
+
+    /// Hands the fields behind NID_PACKET to a sink, with the length that L_PACKET tells.
+    #[tactic(auto, unfolding(crate::specs::Packets::linking_telling))]
+    pub(crate) fn fields<S: FieldSink>(&self, told: u64, sink: &mut S) -> Result<(), S::Error>
+        requires told { told < 2 ^ 13 }
+        requires room { S.held sink.old + size (linking_telling (λ _. 0)) self.now ≤ S.most }
+        ensures { OnOk result (S.seen sink.new ≡ taken S.took (linking_telling (λ _. told)) self.now (S.seen sink.old)) }
+    {
+        put(sink, VariableName::QDir, &self.direction)?;
+        sink.field(VariableName::LPacket, 13, told)?;
+        put(sink, VariableName::QScale, &self.scale)?;
+        from_first(self.links.as_slice(), sink)
+    }
 }

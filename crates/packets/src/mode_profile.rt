@@ -1,23 +1,24 @@
-ghost use Rattle.std.specs.Prelude.{◌≡◌, ◌+◌, ◌*◌, ◌<◌, ◌≤◌, ◌^◌, length};
+ghost use Rattle.std.specs.Prelude.{◌≡◌, ◌+◌, ◌<◌, ◌≤◌, ◌^◌, length, OnOk};
 ghost use Rattle.bits.specs.Layout.{Gives, kind, read};
-ghost use Rattle.bits.specs.Writing.{appended};
-ghost use Rattle.packets.specs.Packets.{length_of, as_packet, as_mode_profile, mode_profile};
+ghost use Rattle.bits.specs.Writing.{size, taken};
+ghost use Rattle.packets.specs.Packets.{as_packet, as_mode_profile, mode_profile, mode_profile_telling};
 ghost use Rattle.packets.specs.declared.packet.Packet.TheVariants as packets;
 
-use crate::element::{Element, Written, list, write_from_first};
+use crate::element::{Element, read_list};
 use crate::fault::PacketFault;
 use crate::packet::Packet;
 use crate::reading::field;
-use crate::writing::put;
+use crate::sink::{FieldSink, put};
+use crate::walk::{from_first, from_first_bits};
 use arrayvec::ArrayVec;
-use bits::{BitReader, BitWriter};
+use bits::{BitReader, VariableName};
 use vars::{
     AreaMode, AreaSpeed, Distance, Iterations, OpenLength, PacketLength, Scale, ValidityDirection,
     Variable,
 };
 
 /// An area in which a mode is asked for.
-#[derive(Clone, Copy, Debug, PartialEq, Eq)]
+#[derive(Clone, Copy)]
 pub struct ModeArea {
     /// D_MAMODE: from the start of the area before, the first from the group.
     pub distance: Distance,
@@ -45,11 +46,9 @@ impl Default for ModeArea {
 }
 
 impl Element for ModeArea {
-    ghost use Rattle.packets.specs.Packets.{mode_area, mode_area_bits};
+    ghost use Rattle.packets.specs.Packets.{mode_area};
 
     ghost layout = { mode_area };
-
-    ghost size = { mode_area_bits };
 
     #[tactic(auto, unfolding(crate::specs::Packets::mode_area))]
     fn read(reader: &mut BitReader<'_>) -> Result<ModeArea, PacketFault> {
@@ -67,19 +66,18 @@ impl Element for ModeArea {
         })
     }
 
+    #[tactic(auto, unfolding(crate::specs::Packets::mode_area))]
+    fn fields<S: FieldSink>(&self, sink: &mut S) -> Result<(), S::Error> {
+        put(sink, VariableName::DMamode, &self.distance)?;
+        put(sink, VariableName::MMamode, &self.mode)?;
+        put(sink, VariableName::VMamode, &self.speed)?;
+        put(sink, VariableName::LMamode, &self.length)?;
+        put(sink, VariableName::LAckmamode, &self.acknowledgement)
+    }
+
+    #[tactic(auto, unfolding(crate::specs::Packets::mode_area))]
     fn bits(&self) -> u64 {
         54
-    }
-}
-
-impl<const N: usize> Written<N> for ModeArea {
-    #[tactic(auto, unfolding(crate::specs::Packets::mode_area))]
-    fn write(&self, writer: &mut BitWriter<N>) {
-        put(writer, &self.distance);
-        put(writer, &self.mode);
-        put(writer, &self.speed);
-        put(writer, &self.length);
-        put(writer, &self.acknowledgement);
     }
 }
 
@@ -95,7 +93,7 @@ pub struct ModeProfile {
 }
 
 /// Reads packet 80 behind its number, into the place of another packet; answers the length that it tells.
-#[tactic(auto, unfolding(crate::specs::Packets::mode_profile))]
+#[tactic(auto, unfolding(crate::specs::Packets::mode_profile_telling))]
 pub fn read_mode_profile<'a>(
     reader: &mut BitReader<'a>,
     out: &mut Packet<'a>,
@@ -106,9 +104,9 @@ pub fn read_mode_profile<'a>(
     let told: PacketLength = field(reader)?;
     let scale = field(reader)?;
     let mut areas: ArrayVec<ModeArea, 32> = ArrayVec::new();
-    list(reader, &mut areas, 1)?;
+    read_list(reader, &mut areas, 1)?;
     let more: Iterations = field(reader)?;
-    list(reader, &mut areas, more.count())?;
+    read_list(reader, &mut areas, more.count())?;
     *out = Packet::ModeProfile(ModeProfile {
         direction,
         scale,
@@ -117,20 +115,26 @@ pub fn read_mode_profile<'a>(
     Ok(told)
 }
 
-/// Writes packet 80 behind its number, with the length that it tells.
-#[tactic(auto, unfolding(crate::specs::Packets::mode_profile))]
-pub fn write_mode_profile<const N: usize>(
-    packet: &ModeProfile,
-    told: u64,
-    writer: &mut BitWriter<N>,
-)
-    requires told { told ≡ length_of (packets.ModeProfile packet.now) }
-    requires small { told < 2 ^ 13 }
-    requires room { length writer.old + told ≤ 8 * N + 8 }
-    ensures { writer.new ≡ appended mode_profile packet.now writer.old }
-{
-    put(writer, &packet.direction);
-    writer.write(13, told);
-    put(writer, &packet.scale);
-    write_from_first(packet.areas.as_slice(), writer);
+impl ModeProfile {
+    /// The number of bits, those of NID_PACKET included.
+    #[tactic(auto, unfolding(crate::specs::Packets::mode_profile_telling))]
+    pub(crate) fn bits(&self) -> u64
+        ensures value { result ≡ 8 + size (mode_profile_telling (λ _. 0)) self.now }
+        ensures bound { result < 2 ^ 13 }
+    {
+        25 + from_first_bits(self.areas.as_slice())
+    }
+
+    /// Hands the fields behind NID_PACKET to a sink, with the length that L_PACKET tells.
+    #[tactic(auto, unfolding(crate::specs::Packets::mode_profile_telling))]
+    pub(crate) fn fields<S: FieldSink>(&self, told: u64, sink: &mut S) -> Result<(), S::Error>
+        requires told { told < 2 ^ 13 }
+        requires room { S.held sink.old + size (mode_profile_telling (λ _. 0)) self.now ≤ S.most }
+        ensures { OnOk result (S.seen sink.new ≡ taken S.took (mode_profile_telling (λ _. told)) self.now (S.seen sink.old)) }
+    {
+        put(sink, VariableName::QDir, &self.direction)?;
+        sink.field(VariableName::LPacket, 13, told)?;
+        put(sink, VariableName::QScale, &self.scale)?;
+        from_first(self.areas.as_slice(), sink)
+    }
 }

@@ -1,42 +1,40 @@
-ghost use Rattle.std.specs.Prelude.{◌≡◌, ◌+◌, ◌*◌, ◌<◌, ◌≤◌, ◌^◌, length};
+ghost use Rattle.std.specs.Prelude.{◌≡◌, ◌+◌, ◌<◌, ◌≤◌, ◌^◌, length, OnOk};
 ghost use Rattle.bits.specs.Layout.{Gives, kind, read};
-ghost use Rattle.bits.specs.Writing.{appended};
-ghost use Rattle.packets.specs.Packets.{length_of, as_packet, as_national_values, national_values};
+ghost use Rattle.bits.specs.Writing.{size, taken};
+ghost use Rattle.packets.specs.Packets.{as_packet, as_national_values, national_values, national_values_telling};
 ghost use Rattle.packets.specs.declared.packet.Packet.TheVariants as packets;
 
-use crate::element::{Element, Written, list, write_list};
+use crate::element::{Element, read_list};
 use crate::fault::PacketFault;
 use crate::packet::Packet;
 use crate::reading::field;
-use crate::writing::put;
+use crate::sink::{FieldSink, put};
+use crate::walk::{all, bits_of_all};
 use arrayvec::ArrayVec;
-use bits::{BitReader, BitWriter};
+use bits::{BitReader, VariableName};
 use vars::{
     Country, Distance, Iterations, OpenLength, OverrideTime, PacketLength, Scale, SpeedStep,
     StartPlace, ValidityDirection, Variable,
 };
 
 impl Element for Country {
-    ghost use Rattle.packets.specs.Packets.{country, country_bits};
+    ghost use Rattle.packets.specs.Packets.{country};
 
     ghost layout = { country };
-
-    ghost size = { country_bits };
 
     #[tactic(auto, unfolding(crate::specs::Packets::country))]
     fn read(reader: &mut BitReader<'_>) -> Result<Country, PacketFault> {
         field(reader)
     }
 
+    #[tactic(auto, unfolding(crate::specs::Packets::country))]
+    fn fields<S: FieldSink>(&self, sink: &mut S) -> Result<(), S::Error> {
+        put(sink, VariableName::NidC, self)
+    }
+
+    #[tactic(auto, unfolding(crate::specs::Packets::country))]
     fn bits(&self) -> u64 {
         10
-    }
-}
-
-impl<const N: usize> Written<N> for Country {
-    #[tactic(auto, unfolding(crate::specs::Packets::country))]
-    fn write(&self, writer: &mut BitWriter<N>) {
-        put(writer, self);
     }
 }
 
@@ -76,7 +74,7 @@ pub struct NationalValues {
 }
 
 /// Reads packet 3 behind its number, into the place of another packet; answers the length that it tells.
-#[tactic(auto, unfolding(crate::specs::Packets::national_values))]
+#[tactic(auto, unfolding(crate::specs::Packets::national_values_telling))]
 pub fn read_national_values<'a>(
     reader: &mut BitReader<'a>,
     out: &mut Packet<'a>,
@@ -89,7 +87,7 @@ pub fn read_national_values<'a>(
     let start = field(reader)?;
     let count: Iterations = field(reader)?;
     let mut countries: ArrayVec<Country, 31> = ArrayVec::new();
-    list(reader, &mut countries, count.count())?;
+    read_list(reader, &mut countries, count.count())?;
     let shunting = field(reader)?;
     let staff_responsible = field(reader)?;
     let on_sight = field(reader)?;
@@ -121,33 +119,43 @@ pub fn read_national_values<'a>(
     Ok(told)
 }
 
-/// Writes packet 3 behind its number, with the length that it tells.
-#[tactic(auto, unfolding(crate::specs::Packets::national_values))]
-pub fn write_national_values<const N: usize>(
-    packet: &NationalValues,
-    told: u64,
-    writer: &mut BitWriter<N>,
-)
-    requires told { told ≡ length_of (packets.NationalValues packet.now) }
-    requires small { told < 2 ^ 13 }
-    requires room { length writer.old + told ≤ 8 * N + 8 }
-    ensures { writer.new ≡ appended national_values packet.now writer.old }
-{
-    put(writer, &packet.direction);
-    writer.write(13, told);
-    put(writer, &packet.scale);
-    put(writer, &packet.start);
-    writer.write(5, packet.countries.len() as u64);
-    write_list(packet.countries.as_slice(), writer);
-    put(writer, &packet.shunting);
-    put(writer, &packet.staff_responsible);
-    put(writer, &packet.on_sight);
-    put(writer, &packet.unfitted);
-    put(writer, &packet.release);
-    put(writer, &packet.roll);
-    put(writer, &packet.override_allowed);
-    put(writer, &packet.override_speed);
-    put(writer, &packet.override_distance);
-    put(writer, &packet.override_time);
-    put(writer, &packet.staff_responsible_distance);
+impl NationalValues {
+    /// The number of bits, those of NID_PACKET included.
+    #[tactic(auto, unfolding(crate::specs::Packets::national_values_telling))]
+    pub(crate) fn bits(&self) -> u64
+        ensures value { result ≡ 8 + size (national_values_telling (λ _. 0)) self.now }
+        ensures bound { result < 2 ^ 13 }
+    {
+        147 + bits_of_all(self.countries.as_slice())
+    }
+
+    /// Hands the fields behind NID_PACKET to a sink, with the length that L_PACKET tells.
+    #[tactic(auto, unfolding(crate::specs::Packets::national_values_telling))]
+    pub(crate) fn fields<S: FieldSink>(&self, told: u64, sink: &mut S) -> Result<(), S::Error>
+        requires told { told < 2 ^ 13 }
+        requires room { S.held sink.old + size (national_values_telling (λ _. 0)) self.now ≤ S.most }
+        ensures { OnOk result (S.seen sink.new ≡ taken S.took (national_values_telling (λ _. told)) self.now (S.seen sink.old)) }
+    {
+        put(sink, VariableName::QDir, &self.direction)?;
+        sink.field(VariableName::LPacket, 13, told)?;
+        put(sink, VariableName::QScale, &self.scale)?;
+        put(sink, VariableName::DValidnv, &self.start)?;
+        sink.field(VariableName::NIter, 5, self.countries.len() as u64)?;
+        all(&self.countries, sink)?;
+        put(sink, VariableName::VNvshunt, &self.shunting)?;
+        put(sink, VariableName::VNvstff, &self.staff_responsible)?;
+        put(sink, VariableName::VNvonsight, &self.on_sight)?;
+        put(sink, VariableName::VNvunfit, &self.unfitted)?;
+        put(sink, VariableName::VNvrel, &self.release)?;
+        put(sink, VariableName::DNvroll, &self.roll)?;
+        put(sink, VariableName::VNvallowovtrp, &self.override_allowed)?;
+        put(sink, VariableName::VNvsupovtrp, &self.override_speed)?;
+        put(sink, VariableName::DNvovtrp, &self.override_distance)?;
+        put(sink, VariableName::TNvovtrp, &self.override_time)?;
+        put(
+            sink,
+            VariableName::DNvstff,
+            &self.staff_responsible_distance,
+        )
+    }
 }

@@ -1,17 +1,18 @@
-ghost use Rattle.std.specs.Prelude.{◌≡◌, ◌+◌, ◌<◌, ◌^◌, if◌then◌else◌, List, Bool, length};
+ghost use Rattle.std.specs.Prelude.{◌≡◌, ◌+◌, ◌<◌, ◌≤◌, ◌^◌, List, Bool, length, OnOk};
 ghost use Rattle.bits.specs.Layout.{Spells};
-ghost use Rattle.packets.specs.Packets.{authority_length, static_speeds_length};
+ghost use Rattle.bits.specs.Writing.{size, taken};
+ghost use Rattle.packets.specs.Packets.{length_of, packet_taken, skipped_telling};
 
 use crate::authority::MovementAuthority;
-use crate::element::{Element, bits_of_all};
 use crate::gradients::Gradients;
 use crate::level_transition::LevelTransition;
 use crate::linking::Linking;
 use crate::mode_profile::ModeProfile;
 use crate::national::NationalValues;
 use crate::restrictions::{RestrictionRevocation, SpeedRestriction};
+use crate::sink::{FieldSink, put};
 use crate::static_speeds::StaticSpeeds;
-use bits::Run;
+use bits::{Run, VariableName};
 use vars::{PacketNumber, RestrictionNumber, UntestedDirection, ValidityDirection, Variable};
 
 /// A packet of another number, which is skipped by its length.
@@ -50,36 +51,39 @@ pub enum Packet<'a> {
     Other(Other<'a>),
 }
 
-/// The bits of a qualifier, and of the part that it tells of.
-fn qualified_bits(bits: u64, is_given: bool) -> u64
-    requires { bits < 64 }
-    ensures { result ≡ (if is_given then bits + 1 else 1) }
+/// The length that L_PACKET tells: one that it can't tell stands as the greatest that it can.
+fn told_length(length: u64) -> u64
+    ensures bound { result < 2 ^ 13 }
+    ensures same { length < 2 ^ 13 → result ≡ length }
 {
-    if is_given { bits + 1 } else { 1 }
+    length.min(8191)
 }
 
-/// The bits of an authority.
-fn authority_bits(packet: &MovementAuthority) -> u64
-    ensures value { result ≡ authority_length packet.now }
-    ensures bound { result < 4096 }
-{
-    54 + bits_of_all(packet.sections.as_slice())
-        + packet.end_section.bits()
-        + qualified_bits(25, packet.end_timer.is_some())
-        + qualified_bits(22, packet.danger_point.is_some())
-        + qualified_bits(47, packet.overlap.is_some())
-}
+impl<'a> Other<'a> {
+    /// The number of bits, those of NID_PACKET included.
+    #[tactic(auto, unfolding(crate::specs::Packets::skipped_telling))]
+    fn bits(&self) -> u64
+        ensures value { result ≡ 8 + size (skipped_telling self.now.number (λ _. 0)) self.now }
+        ensures bound { result < 2 ^ 33 }
+    {
+        23 + u64::from(self.body.len())
+    }
 
-/// The bits of a static speed profile.
-fn speeds_bits(packet: &StaticSpeeds) -> u64
-    ensures value { result ≡ static_speeds_length packet.now }
-    ensures bound { result < 4096 }
-{
-    30 + 28 * packet.steps.len() as u64 + 11 * packet.differences.len() as u64
+    /// Hands the fields behind NID_PACKET to a sink, with the length that L_PACKET tells.
+    #[tactic(auto, unfolding(crate::specs::Packets::skipped_telling))]
+    fn fields<S: FieldSink>(&self, told: u64, sink: &mut S) -> Result<(), S::Error>
+        requires told { told < 2 ^ 13 }
+        requires room { S.held sink.old + size (skipped_telling self.now.number (λ _. 0)) self.now ≤ S.most }
+        ensures { OnOk result (S.seen sink.new ≡ taken S.took (skipped_telling self.now.number (λ _. told)) self.now (S.seen sink.old)) }
+    {
+        put(sink, VariableName::QDir, &self.direction)?;
+        sink.field(VariableName::LPacket, 13, told)?;
+        sink.run(&self.body)
+    }
 }
 
 impl<'a> Packet<'a> {
-    ghost use Rattle.packets.specs.Packets.{packet, length_of, number_of};
+    ghost use Rattle.packets.specs.Packets.{packet, number_of};
 
     /// NID_PACKET.
     pub fn number(&self) -> PacketNumber
@@ -100,24 +104,61 @@ impl<'a> Packet<'a> {
         PacketNumber::of_number(number).unwrap()
     }
 
+    fn bits(&self) -> u64
+        ensures value { result ≡ length_of self.now }
+        ensures bound { result < 2 ^ 33 }
+    {
+        match self {
+            Packet::NationalValues(packet) => packet.bits(),
+            Packet::Linking(packet) => packet.bits(),
+            Packet::MovementAuthority(packet) => packet.bits(),
+            Packet::Gradients(packet) => packet.bits(),
+            Packet::StaticSpeeds(packet) => packet.bits(),
+            Packet::LevelTransition(packet) => packet.bits(),
+            Packet::SpeedRestriction(packet) => packet.bits(),
+            Packet::RestrictionRevocation(packet) => packet.bits(),
+            Packet::ModeProfile(packet) => packet.bits(),
+            Packet::Other(packet) => packet.bits(),
+        }
+    }
+
     /// The length in bits, from NID_PACKET on: L_PACKET of a packet that has a spelling.
     pub fn length(&self) -> u64
         ensures value { result ≡ length_of self.now }
         ensures bound { result < 2 ^ 33 }
         ensures spelled { (bits : List Bool) → Spells packet self.now bits → length bits ≡ result }
     {
+        self.bits()
+    }
+
+    fn fields_telling<S: FieldSink>(&self, told: u64, sink: &mut S) -> Result<(), S::Error>
+        requires told { told < 2 ^ 13 }
+        requires room { S.held sink.old + length_of self.now ≤ S.most + 8 }
+        ensures { OnOk result (S.seen sink.new ≡ packet_taken S.took told self.now (S.seen sink.old)) }
+    {
         match self {
-            Packet::NationalValues(packet) => 147 + bits_of_all(packet.countries.as_slice()),
-            Packet::Linking(packet) => 30 + bits_of_all(packet.links.as_slice()),
-            Packet::MovementAuthority(packet) => authority_bits(packet),
-            Packet::Gradients(packet) => 30 + bits_of_all(packet.gradients.as_slice()),
-            Packet::StaticSpeeds(packet) => speeds_bits(packet),
-            Packet::LevelTransition(packet) => 45 + bits_of_all(packet.orders.as_slice()),
-            Packet::SpeedRestriction(_) => 71,
-            Packet::RestrictionRevocation(_) => 31,
-            Packet::ModeProfile(packet) => 30 + bits_of_all(packet.areas.as_slice()),
-            Packet::Other(other) => 23 + u64::from(other.body.len()),
+            Packet::NationalValues(packet) => packet.fields(told, sink),
+            Packet::Linking(packet) => packet.fields(told, sink),
+            Packet::MovementAuthority(packet) => packet.fields(told, sink),
+            Packet::Gradients(packet) => packet.fields(told, sink),
+            Packet::StaticSpeeds(packet) => packet.fields(told, sink),
+            Packet::LevelTransition(packet) => packet.fields(told, sink),
+            Packet::SpeedRestriction(packet) => packet.fields(told, sink),
+            Packet::RestrictionRevocation(packet) => packet.fields(told, sink),
+            Packet::ModeProfile(packet) => packet.fields(told, sink),
+            Packet::Other(packet) => packet.fields(told, sink),
         }
+    }
+
+    /// Hands the fields behind NID_PACKET to the sink, and then the bits that are skipped; stops where it takes no more.
+    /// The length is the packet's own (`length`). Where L_PACKET can't tell it, the packet has no spelling, and nothing
+    /// is said of what the sink takes.
+    pub fn fields<S: FieldSink>(&self, length: u64, sink: &mut S) -> Result<(), S::Error>
+        requires length { length ≡ length_of self.now }
+        requires room { S.held sink.old + length ≤ S.most + 8 }
+        ensures { length < 2 ^ 13 → OnOk result (S.seen sink.new ≡ packet_taken S.took length self.now (S.seen sink.old)) }
+    {
+        self.fields_telling(told_length(length), sink)
     }
 }
 

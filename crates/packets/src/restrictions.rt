@@ -1,21 +1,21 @@
-ghost use Rattle.std.specs.Prelude.{◌≡◌, ◌+◌, ◌*◌, ◌≤◌, length};
+ghost use Rattle.std.specs.Prelude.{◌≡◌, ◌+◌, ◌<◌, ◌≤◌, ◌^◌, OnOk};
 ghost use Rattle.bits.specs.Layout.{Gives, kind, read};
-ghost use Rattle.bits.specs.Writing.{appended};
-ghost use Rattle.packets.specs.Packets.{as_packet, as_speed_restriction, as_revocation, speed_restriction, restriction_revocation};
+ghost use Rattle.bits.specs.Writing.{size, taken};
+ghost use Rattle.packets.specs.Packets.{as_packet, as_speed_restriction, as_revocation, speed_restriction, restriction_revocation, speed_restriction_telling, restriction_revocation_telling};
 ghost use Rattle.packets.specs.declared.packet.Packet.TheVariants as packets;
 
 use crate::fault::PacketFault;
 use crate::packet::Packet;
 use crate::reading::field;
-use crate::writing::put;
-use bits::{BitReader, BitWriter};
+use crate::sink::{FieldSink, put};
+use bits::{BitReader, VariableName};
 use vars::{
     Distance, PacketLength, RestrictionNumber, Scale, SpeedStep, TrainLengthDelay,
     ValidityDirection,
 };
 
 /// Packet 65: a temporary speed restriction.
-#[derive(Clone, Copy, Debug, PartialEq, Eq)]
+#[derive(Clone, Copy)]
 pub struct SpeedRestriction {
     /// Q_DIR.
     pub direction: ValidityDirection,
@@ -34,7 +34,7 @@ pub struct SpeedRestriction {
 }
 
 /// Packet 66: a temporary speed restriction is revoked.
-#[derive(Clone, Copy, Debug, PartialEq, Eq)]
+#[derive(Clone, Copy)]
 pub struct RestrictionRevocation {
     /// Q_DIR.
     pub direction: ValidityDirection,
@@ -43,7 +43,7 @@ pub struct RestrictionRevocation {
 }
 
 /// Reads packet 65 behind its number, into the place of another packet; answers the length that it tells.
-#[tactic(auto, unfolding(crate::specs::Packets::speed_restriction))]
+#[tactic(auto, unfolding(crate::specs::Packets::speed_restriction_telling))]
 pub fn read_restriction<'a>(
     reader: &mut BitReader<'a>,
     out: &mut Packet<'a>,
@@ -71,7 +71,7 @@ pub fn read_restriction<'a>(
 }
 
 /// Reads packet 66 behind its number, into the place of another packet; answers the length that it tells.
-#[tactic(auto, unfolding(crate::specs::Packets::restriction_revocation))]
+#[tactic(auto, unfolding(crate::specs::Packets::restriction_revocation_telling))]
 pub fn read_revocation<'a>(
     reader: &mut BitReader<'a>,
     out: &mut Packet<'a>,
@@ -85,29 +85,53 @@ pub fn read_revocation<'a>(
     Ok(told)
 }
 
-/// Writes packet 65 behind its number.
-#[tactic(auto, unfolding(crate::specs::Packets::speed_restriction))]
-pub fn write_restriction<const N: usize>(packet: &SpeedRestriction, writer: &mut BitWriter<N>)
-    requires { length writer.old + 63 ≤ 8 * N }
-    ensures { writer.new ≡ appended speed_restriction packet.now writer.old }
-{
-    put(writer, &packet.direction);
-    writer.write(13, 71);
-    put(writer, &packet.scale);
-    put(writer, &packet.number);
-    put(writer, &packet.start);
-    put(writer, &packet.length);
-    put(writer, &packet.delay);
-    put(writer, &packet.speed);
+impl SpeedRestriction {
+    /// The number of bits, those of NID_PACKET included.
+    #[tactic(auto, unfolding(crate::specs::Packets::speed_restriction_telling))]
+    pub(crate) fn bits(&self) -> u64
+        ensures value { result ≡ 8 + size (speed_restriction_telling (λ _. 0)) self.now }
+        ensures bound { result < 2 ^ 13 }
+    {
+        71
+    }
+
+    /// Hands the fields behind NID_PACKET to a sink, with the length that L_PACKET tells.
+    #[tactic(auto, unfolding(crate::specs::Packets::speed_restriction_telling))]
+    pub(crate) fn fields<S: FieldSink>(&self, told: u64, sink: &mut S) -> Result<(), S::Error>
+        requires told { told < 2 ^ 13 }
+        requires room { S.held sink.old + size (speed_restriction_telling (λ _. 0)) self.now ≤ S.most }
+        ensures { OnOk result (S.seen sink.new ≡ taken S.took (speed_restriction_telling (λ _. told)) self.now (S.seen sink.old)) }
+    {
+        put(sink, VariableName::QDir, &self.direction)?;
+        sink.field(VariableName::LPacket, 13, told)?;
+        put(sink, VariableName::QScale, &self.scale)?;
+        put(sink, VariableName::NidTsr, &self.number)?;
+        put(sink, VariableName::DTsr, &self.start)?;
+        put(sink, VariableName::LTsr, &self.length)?;
+        put(sink, VariableName::QFront, &self.delay)?;
+        put(sink, VariableName::VTsr, &self.speed)
+    }
 }
 
-/// Writes packet 66 behind its number.
-#[tactic(auto, unfolding(crate::specs::Packets::restriction_revocation))]
-pub fn write_revocation<const N: usize>(packet: &RestrictionRevocation, writer: &mut BitWriter<N>)
-    requires { length writer.old + 23 ≤ 8 * N }
-    ensures { writer.new ≡ appended restriction_revocation packet.now writer.old }
-{
-    put(writer, &packet.direction);
-    writer.write(13, 31);
-    put(writer, &packet.number);
+impl RestrictionRevocation {
+    /// The number of bits, those of NID_PACKET included.
+    #[tactic(auto, unfolding(crate::specs::Packets::restriction_revocation_telling))]
+    pub(crate) fn bits(&self) -> u64
+        ensures value { result ≡ 8 + size (restriction_revocation_telling (λ _. 0)) self.now }
+        ensures bound { result < 2 ^ 13 }
+    {
+        31
+    }
+
+    /// Hands the fields behind NID_PACKET to a sink, with the length that L_PACKET tells.
+    #[tactic(auto, unfolding(crate::specs::Packets::restriction_revocation_telling))]
+    pub(crate) fn fields<S: FieldSink>(&self, told: u64, sink: &mut S) -> Result<(), S::Error>
+        requires told { told < 2 ^ 13 }
+        requires room { S.held sink.old + size (restriction_revocation_telling (λ _. 0)) self.now ≤ S.most }
+        ensures { OnOk result (S.seen sink.new ≡ taken S.took (restriction_revocation_telling (λ _. told)) self.now (S.seen sink.old)) }
+    {
+        put(sink, VariableName::QDir, &self.direction)?;
+        sink.field(VariableName::LPacket, 13, told)?;
+        put(sink, VariableName::NidTsr, &self.number)
+    }
 }

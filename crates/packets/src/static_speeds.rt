@@ -1,23 +1,26 @@
-ghost use Rattle.std.specs.Prelude.{◌≡◌, ◌+◌, ◌*◌, ◌≤◌, ◌<◌, ◌^◌, length, nat_lt, if◌then◌else◌, OnOk};
+ghost use Rattle.std.specs.Prelude.{◌≡◌, ◌+◌, ◌≤◌, ◌<◌, ◌^◌, length, drop, min, slice_index_or, take, OnOk};
 ghost use Rattle.bits.specs.Layout.{Gives, folded, kind, read};
-ghost use Rattle.packets.specs.Packets.{as_packet, as_static_speeds, static_speeds_length, static_step, static_speeds};
-ghost use Rattle.packets.specs.Writing.{step_appended, steps_appended, static_speeds_appended};
+ghost use Rattle.bits.specs.Sums.{total};
+ghost use Rattle.bits.specs.Writing.{size, taken};
+ghost use Rattle.packets.specs.Packets.{as_packet, as_static_speeds, no_step, static_step, static_speeds, static_speeds_telling};
+ghost use Rattle.packets.specs.StaticSteps.{profile_size, profile_taken, step_size, step_taken, steps_size, steps_taken};
 ghost use Rattle.packets.specs.declared.packet.Packet.TheVariants as packets;
 
-use crate::element::{Element, Written, list, write_list};
+use crate::element::{Element, read_list};
 use crate::fault::PacketFault;
 use crate::packet::Packet;
 use crate::reading::field;
-use crate::writing::put;
+use crate::sink::{FieldSink, put};
+use crate::walk::list;
 use arrayvec::ArrayVec;
-use bits::{BitReader, BitWriter};
+use bits::{BitReader, VariableName};
 use vars::{
     Distance, Iterations, PacketLength, Scale, SpeedStep, StaticSpeed, TrainCategory,
     TrainLengthDelay, ValidityDirection, Variable,
 };
 
 /// A speed for trains of a category.
-#[derive(Clone, Copy, Debug, PartialEq, Eq)]
+#[derive(Clone, Copy)]
 pub struct Difference {
     /// NC_DIFF.
     pub category: TrainCategory,
@@ -36,11 +39,9 @@ impl Default for Difference {
 }
 
 impl Element for Difference {
-    ghost use Rattle.packets.specs.Packets.{difference, difference_bits};
+    ghost use Rattle.packets.specs.Packets.{difference};
 
     ghost layout = { difference };
-
-    ghost size = { difference_bits };
 
     #[tactic(auto, unfolding(crate::specs::Packets::difference))]
     fn read(reader: &mut BitReader<'_>) -> Result<Difference, PacketFault> {
@@ -49,21 +50,20 @@ impl Element for Difference {
         Ok(Difference { category, speed })
     }
 
+    #[tactic(auto, unfolding(crate::specs::Packets::difference))]
+    fn fields<S: FieldSink>(&self, sink: &mut S) -> Result<(), S::Error> {
+        put(sink, VariableName::NcDiff, &self.category)?;
+        put(sink, VariableName::VDiff, &self.speed)
+    }
+
+    #[tactic(auto, unfolding(crate::specs::Packets::difference))]
     fn bits(&self) -> u64 {
         11
     }
 }
 
-impl<const N: usize> Written<N> for Difference {
-    #[tactic(auto, unfolding(crate::specs::Packets::difference))]
-    fn write(&self, writer: &mut BitWriter<N>) {
-        put(writer, &self.category);
-        put(writer, &self.speed);
-    }
-}
-
 /// A static speed from a place on.
-#[derive(Clone, Copy, Debug, PartialEq, Eq)]
+#[derive(Clone, Copy)]
 pub struct StaticStep {
     /// D_STATIC: from the place before, the first from the group.
     pub distance: Distance,
@@ -77,6 +77,10 @@ pub struct StaticStep {
 
 /// Fills room that isn't in use.
 impl Default for StaticStep {
+    ghost use Rattle.packets.specs.Packets.{no_step};
+
+    ghost is_default = { λ s. s ≡ no_step };
+
     fn default() -> StaticStep {
         StaticStep {
             distance: Distance::of_number(0).unwrap(),
@@ -115,7 +119,7 @@ fn read_step(reader: &mut BitReader<'_>, speeds: &mut StaticSpeeds) -> Result<()
     if speeds.differences.len() + usize::from(differences.count()) > 70 {
         return Err(PacketFault::OutOfRange);
     }
-    list(reader, &mut speeds.differences, differences.count())?;
+    read_list(reader, &mut speeds.differences, differences.count())?;
     speeds.steps.push(StaticStep {
         distance,
         speed,
@@ -141,7 +145,7 @@ fn read_steps(
 }
 
 /// Reads packet 27 behind its number, into the place of another packet; answers the length that it tells.
-#[tactic(auto, unfolding(crate::specs::Packets::static_speeds))]
+#[tactic(auto, unfolding(crate::specs::Packets::static_speeds_telling))]
 pub fn read_static_speeds<'a>(
     reader: &mut BitReader<'a>,
     out: &mut Packet<'a>,
@@ -164,63 +168,122 @@ pub fn read_static_speeds<'a>(
     Ok(told)
 }
 
-/// Writes a step, with its own differences.
-fn write_step<const N: usize>(step: &StaticStep, own: &[Difference], writer: &mut BitWriter<N>)
-    requires { length writer.old + 28 + 11 * length own.now ≤ 8 * N }
-    ensures value { writer.new ≡ step_appended step.now own.now writer.old }
-    ensures len { length writer.new ≤ length writer.old + 28 + 11 * length own.now }
+/// The first step, or none to speak of.
+fn first_step(steps: &[StaticStep]) -> StaticStep
+    ensures { result ≡ slice_index_or steps.now 0 no_step }
 {
-    put(writer, &step.distance);
-    put(writer, &step.speed);
-    put(writer, &step.delay);
-    put(writer, &step.differences);
-    write_list(own, writer);
-}
-
-/// The number of a step's own differences, of those that are left.
-fn own_count(step: &StaticStep, left: usize) -> usize
-    ensures { result ≡ (if nat_lt left step.now.differences then left else step.now.differences) }
-{
-    usize::from(step.differences.count()).min(left)
-}
-
-/// Writes steps, each with its own of the differences.
-fn write_steps<const N: usize>(
-    steps: &[StaticStep],
-    differences: &[Difference],
-    writer: &mut BitWriter<N>,
-)
-    requires { length writer.old + 28 * length steps.now + 11 * length differences.now ≤ 8 * N }
-    ensures { writer.new ≡ steps_appended steps.now differences.now writer.old }
-{
-    let mut left = differences;
-    for step in steps {
-        let (own, others) = left.split_at(own_count(step, left.len()));
-        write_step(step, own, writer);
-        left = others;
+    match steps.first() {
+        Some(step) => *step,
+        None => StaticStep::default(),
     }
 }
 
-/// Writes packet 27 behind its number, with the length that it tells.
-pub fn write_static_speeds<const N: usize>(
-    packet: &StaticSpeeds,
-    told: u64,
-    writer: &mut BitWriter<N>,
-)
-    requires told { told ≡ static_speeds_length packet.now }
-    requires small { told < 2 ^ 13 }
-    requires room { length writer.old + told ≤ 8 * N + 8 }
-    ensures { writer.new ≡ static_speeds_appended packet.now writer.old }
+/// The steps behind the first.
+fn other_steps(steps: &[StaticStep]) -> &[StaticStep]
+    ensures { result.now ≡ drop 1 steps.now }
 {
-    put(writer, &packet.direction);
-    writer.write(13, told);
-    put(writer, &packet.scale);
-    let Some((first, others)) = packet.steps.as_slice().split_first() else {
-        return;
-    };
-    let differences = packet.differences.as_slice();
-    let (own, left) = differences.split_at(own_count(first, differences.len()));
-    write_step(first, own, writer);
-    writer.write(5, others.len() as u64);
-    write_steps(others, left, writer);
+    &steps[steps.len().min(1)..]
+}
+
+/// The step's own of the differences that are left, and those behind them.
+fn split_own<'a>(step: &StaticStep, left: &'a [Difference]) -> (&'a [Difference], &'a [Difference])
+    ensures own { result.0.now ≡ take step.now.differences left.now }
+    ensures others { result.1.now ≡ drop step.now.differences left.now }
+{
+    left.split_at(usize::from(step.differences.count()).min(left.len()))
+}
+
+/// Hands a step to a sink, with its own differences.
+fn step_fields<S: FieldSink>(
+    step: &StaticStep,
+    own: &[Difference],
+    sink: &mut S,
+) -> Result<(), S::Error>
+    requires room { S.held sink.old + step_size own.now ≤ S.most }
+    ensures value { OnOk result (S.seen sink.new ≡ step_taken S.took step.now own.now (S.seen sink.old)) }
+    ensures held { OnOk result (S.held sink.new ≤ S.held sink.old + step_size own.now) }
+{
+    put(sink, VariableName::DStatic, &step.distance)?;
+    put(sink, VariableName::VStatic, &step.speed)?;
+    put(sink, VariableName::QFront, &step.delay)?;
+    put(sink, VariableName::NIter, &step.differences)?;
+    list(own, sink)
+}
+
+/// Hands steps to a sink, each with its own of the differences.
+fn steps_fields<S: FieldSink>(
+    steps: &[StaticStep],
+    differences: &[Difference],
+    sink: &mut S,
+) -> Result<(), S::Error>
+    requires room { S.held sink.old + steps_size steps.now differences.now ≤ S.most }
+    ensures { OnOk result (S.seen sink.new ≡ steps_taken S.took steps.now differences.now (S.seen sink.old)) }
+{
+    let mut left = differences;
+    for step in steps {
+        let (own, others) = split_own(step, left);
+        step_fields(step, own, sink)?;
+        left = others;
+    }
+    Ok(())
+}
+
+/// Hands a profile to a sink: the first step, N_ITER and the other steps, each with its own of the differences.
+fn profile_fields<S: FieldSink>(
+    steps: &[StaticStep],
+    differences: &[Difference],
+    sink: &mut S,
+) -> Result<(), S::Error>
+    requires few { length steps.now ≤ 32 }
+    requires room { S.held sink.old + profile_size steps.now differences.now ≤ S.most }
+    ensures { OnOk result (S.seen sink.new ≡ profile_taken S.took steps.now differences.now (S.seen sink.old)) }
+{
+    let first = first_step(steps);
+    let (own, left) = split_own(&first, differences);
+    step_fields(&first, own, sink)?;
+    sink.field(
+        VariableName::NIter,
+        5,
+        (steps.len() as u64).saturating_sub(1),
+    )?;
+    steps_fields(other_steps(steps), left, sink)
+}
+
+/// How many differences are some step's own.
+fn owned_differences(steps: &[StaticStep], differences: usize) -> u64
+    requires few { length steps.now ≤ 32 }
+    requires small { differences ≤ 70 }
+    ensures { result ≡ min (total (λ (s : StaticStep). s.differences) steps.now) differences }
+{
+    let mut owned = 0u64;
+    for step in steps {
+        owned += u64::from(step.differences.count());
+    }
+    owned.min(differences as u64)
+}
+
+impl StaticSpeeds {
+    /// The number of bits, those of NID_PACKET included.
+    pub(crate) fn bits(&self) -> u64
+        ensures value { result ≡ 8 + size (static_speeds_telling (λ _. 0)) self.now }
+        ensures bound { result < 2 ^ 13 }
+    {
+        let steps = self.steps.as_slice();
+        30 + 28 * (steps.len() as u64).max(1)
+            + 11 * owned_differences(steps, self.differences.len())
+    }
+
+    /// Hands the fields behind NID_PACKET to a sink, with the length that L_PACKET tells.
+    #[tactic(auto, using(crate::proofs::StaticSteps::speeds_size))]
+    pub(crate) fn fields<S: FieldSink>(&self, told: u64, sink: &mut S) -> Result<(), S::Error>
+        requires told { told < 2 ^ 13 }
+        requires room { S.held sink.old + size (static_speeds_telling (λ _. 0)) self.now ≤ S.most }
+        ensures { OnOk result (S.seen sink.new ≡ taken S.took (static_speeds_telling (λ _. told)) self.now (S.seen sink.old)) }
+    {
+        put(sink, VariableName::QDir, &self.direction)?;
+        sink.field(VariableName::LPacket, 13, told)?;
+        put(sink, VariableName::QScale, &self.scale)?;
+        profile_fields(self.steps.as_slice(), self.differences.as_slice(), sink)?;
+        Ok(())
+    }
 }

@@ -5,33 +5,15 @@ use Rattle.std.proofs.lemmas.List.{drop_at, drop-drop, drop-append-le}
 use Rattle.std.proofs.lemmas.List.Elements.{All-nil, All-cons}
 use Rattle.std.proofs.lemmas.List.Folds.{drop_split}
 use Rattle.bits.specs.Bits.{bits_of}
-use Rattle.bits.specs.Layout.{Spells, choice, done, kind, told_as}
+use Rattle.bits.specs.Layout.{Spells}
 use Rattle.bits.proofs.Bytes.{length-bits_of, bits_of-drop}
 use Rattle.bits.proofs.Writes.{bits_of-append}
-use Rattle.packets.specs.Packets.{packet, packet_of, length_of}
+use Rattle.packets.specs.Packets.{length_of}
 use Rattle.packets.specs.declared.packet.Packet.{Packet}
-use Rattle.telegram.specs.Faults.{telegram_fault}
 use Rattle.telegram.specs.Sequences.{BeginsPackets}
 use Rattle.telegram.specs.Telegrams.{next_packet}
 use Rattle.telegram.specs.Walks.{Located, StandsInPlace, located_from}
-use Rattle.telegram.proofs.Lengths.{length-next_packet}
-
--- ---- what comes next is a packet
-
-some_same : {A : Type 0} (x y : A) → Some x ≡ Some y → x ≡ y
-some_same x y e = cc
-
-none_or_some : {A : Type 0} (x : A) → Some x ≡ None → ⊥
-none_or_some x e = absurd cc
-
-behind_number : (b : Bool) (number : ℕ) (p : Packet) (bits : List Bool)
-    → Spells (choice b (done None) (kind Some (λ o. o) (told_as telegram_fault (packet_of number)))) (Some p) bits → Spells (packet_of number) p bits
-behind_number true number p bits s = absurd (none_or_some p s.0)
-behind_number false number p bits s = subst (λ (q : Packet). Spells (packet_of number) q bits) (sym (some_same p s.0 s.1)) s.2
-
-pub next_is_packet : (p : Packet) (bits : List Bool) → Spells next_packet (Some p) bits → Spells packet p bits
-unfolding next_packet packet
-next_is_packet p bits s = (s.0, s.1, s.2, s.3, s.4, behind_number (s.0 == 255) s.0 p s.2 s.5)
+use Rattle.telegram.proofs.Lengths.{next_is_packet, length-next_packet}
 
 -- ---- parts
 

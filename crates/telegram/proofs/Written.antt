@@ -5,75 +5,14 @@ use Rattle.std.proofs.lemmas.List.{append-nil, drop_all}
 use Rattle.bits.specs.Bits.{bits_of, number, number_bits}
 use Rattle.bits.specs.Layout.{Spells, choice, done, kind, told_as}
 use Rattle.bits.specs.Writing.{appended}
-use Rattle.bits.proofs.WritingLaws.{glue, glue_end, glue_none, field_bits}
-use Rattle.vars.specs.Variables.{position_in_group, m_dup, m_mcount, nid_c, nid_bg, flag, nid_packet}
-use Rattle.vars.proofs.Numbers.{plain_back, flag_back, m_dup_back}
 use Rattle.packets.specs.Packets.{packet, packet_of}
 use Rattle.packets.specs.declared.packet.Packet.{Packet}
-use Rattle.packets.proofs.Spelled.{code_bits, then_code}
 use Rattle.telegram.specs.Encodings.{Encoded}
 use Rattle.telegram.specs.Faults.{telegram_fault}
-use Rattle.telegram.specs.Telegrams.{only, header, next_packet, Carries, SpellsPackets, SpellsTelegram}
-use Rattle.telegram.specs.declared.fault.TelegramFault.{TelegramFault}
+use Rattle.telegram.specs.Telegrams.{header, next_packet, Carries, SpellsPackets, SpellsTelegram}
 use Rattle.telegram.specs.declared.header.Header.{Header}
 use Rattle.telegram.specs.declared.message.Telegram.{Telegram}
-use Rattle.telegram.proofs.Places.{next_is_packet}
-
--- ---- the header
-
-only_number : (n v k : ℕ) (fault : TelegramFault) (b : Bool) → nat_eq k v ≡ b → (only n v fault).value k ≡ Ok tt → k ≡ v
-only_number n v k fault true e same = eqb-true k v e
-only_number n v k fault false e same = absurd (let h = rw e at same in cc)
-
--- bits that have one value alone, and what follows them
-then_fixed : (n v : ℕ) (fault : TelegramFault) (front bits a b all : List Bool) → bits ≡ a ++ b → (length a ≡ n) × ((only n v fault).value (number a) ≡ Ok tt)
-    → (front ++ number_bits n v) ++ b ≡ all → front ++ bits ≡ all
-then_fixed n v fault front bits a b all parts r others =
-    glue front bits a b (front ++ number_bits n v) all parts
-    (ap (λ (t : List Bool). front ++ t) (field_bits n v a r.0 (sym (only_number n v (number a) fault (nat_eq (number a) v) refl r.1)))) others
-
-pub header_bits : (h : Header) (front bits : List Bool) → Spells header h bits → front ++ bits ≡ appended header h front
-unfolding header
-header_bits h front bits s =
-    let version = s.5 in
-    let media = version.5 in
-    let position = media.5 in
-    let last = position.5 in
-    let order = last.5 in
-    let duplicate = order.5 in
-    let counter = duplicate.5 in
-    let country = counter.5 in
-    let number = country.5 in
-    let linked = number.5 in
-    let end = linked.5 in
-    subst (λ (x : Header). front ++ bits ≡ appended header x front) (sym end.0) (
-    then_fixed 1 1 _ _ _ _ _ _ s.3 s.4 (
-    then_fixed 7 16 _ _ _ _ _ _ version.3 version.4 (
-    then_fixed 1 0 _ _ _ _ _ _ media.3 media.4 (
-    then_code position_in_group (plain_back 3) position.0 _ _ _ _ _ position.3 position.4 (
-    then_code position_in_group (plain_back 3) last.0 _ _ _ _ _ last.3 last.4 (
-    glue_none _ _ _ _ _ order.3 order.4.1 (
-    then_code m_dup m_dup_back duplicate.0 _ _ _ _ _ duplicate.3 duplicate.4 (
-    then_code m_mcount (plain_back 8) counter.0 _ _ _ _ _ counter.3 counter.4 (
-    then_code nid_c (plain_back 10) country.0 _ _ _ _ _ country.3 country.4 (
-    then_code nid_bg (plain_back 14) number.0 _ _ _ _ _ number.3 number.4 (
-    then_code flag flag_back linked.0 _ _ _ _ _ linked.3 linked.4 (
-    glue_end _ _ end.1))))))))))))
-
--- ---- the end mark
-
-none_is_none : {A : Type 0} (x : A) → None ≡ Some x → ⊥
-none_is_none x e = absurd cc
-
-end_number : (b : Bool) (n : ℕ) (bits : List Bool) → nat_eq n 255 ≡ b → Spells (choice b (done None) (kind Some (λ (o : Option Packet). o) (told_as telegram_fault (packet_of n)))) None bits → (n ≡ 255) × (bits ≡ [])
-end_number true n bits e s = (eqb-true n 255 e, s.1)
-end_number false n bits e s = absurd (none_is_none s.0 s.1)
-
-pub end_mark : (bits : List Bool) → Spells next_packet None bits → bits ≡ number_bits 8 255
-unfolding next_packet
-end_mark bits s =
-    let end = end_number (nat_eq s.0 255) s.0 s.2 refl s.5 in
-    s.3 ∙ ap (λ (t : List Bool). s.1 ++ t) end.1 ∙ append-nil s.1 ∙ code_bits nid_packet (plain_back 8) s.0 s.1 s.4 ∙ ap (number_bits 8) end.0
+use Rattle.telegram.proofs.Lengths.{found-header, next_is_packet, end_mark}
 
 -- ---- packets in turn
 
@@ -112,7 +51,7 @@ one_written old front rest new all put parts = ap (λ (t : List Bool). t ++ rest
 -- ---- the whole telegram
 
 pub header_first : (t : Telegram) (bits start first : List Bool) → start ≡ [] → first ≡ appended header t.header start → (s : SpellsTelegram t bits) → first ≡ s.0
-header_first t bits start first none put s = put ∙ ap (appended header t.header) none ∙ sym (header_bits t.header [] s.0 s.3)
+header_first t bits start first none put s = put ∙ ap (appended header t.header) none ∙ sym (found-header.is t.header [] s.0 s.3)
 
 pub encoded : (t : Telegram) (bits written : List Bool) (old new : List ℕ) (n : ℕ) → written ≡ bits → SpellsTelegram t bits → n ≡ (length written + 7) / 8
     → bits_of (take n new) ≡ written ++ replicate (8 * n - length written) false → drop n new ≡ drop n old → Encoded t old new n

@@ -1,6 +1,8 @@
 -- The telegram of a balise (SUBSET-026, 8.4.2).
 use Rattle.std.specs.Prelude.{◌≡◌, ◌⊎◌, ◌<◌, ◌≤◌, ℕ, ◌==◌, nat_lt, Bool, true, false, List, [], ◌∷◌, ◌++◌, length, Option, Some, None, Ok, Err, if◌then◌else◌}
 use Rattle.bits.specs.Bits.{bits_of}
+use Rattle.bits.specs.declared.name.VariableName.{VariableName}
+use Rattle.bits.specs.declared.name.VariableName.TheVariants as names
 use Rattle.bits.specs.Layout.{Codes, Layout, done, unless, field, choice, kind, told_as, ◌>>=◌, Spells, Begins, Refuses}
 use Rattle.vars.specs.declared.variable.NoValue.{NoValue}
 use Rattle.vars.specs.Variables.{position_in_group, m_dup, m_mcount, nid_c, nid_bg, flag, nid_packet}
@@ -13,30 +15,30 @@ use Rattle.telegram.specs.declared.header.Header.{Header}
 use Rattle.telegram.specs.declared.message.Telegram.{Telegram}
 
 -- a variable of the header, and where its value is found
-abbrev pub variable : {A : Type 0} → Codes NoValue A → (Header → A) → Layout TelegramFault Header A
-variable codes get = field Truncated value_fault codes get
+abbrev pub variable : {A : Type 0} → VariableName → Codes NoValue A → (Header → A) → Layout TelegramFault Header A
+variable name codes get = field name Truncated value_fault codes get
 
 -- n bits that have one value alone, and the fault of each other one
 abbrev pub only : ℕ → ℕ → TelegramFault → Codes TelegramFault (Unit {0})
 only n v other = record { width = n; value = λ x. if x == v then Ok tt else Err other; number = λ _. v }
 
-abbrev pub fixed : ℕ → ℕ → TelegramFault → Layout TelegramFault Header (Unit {0})
-fixed n v other = field Truncated (λ e. e) (only n v other) (λ _. tt)
+abbrev pub fixed : VariableName → ℕ → ℕ → TelegramFault → Layout TelegramFault Header (Unit {0})
+fixed name n v other = field name Truncated (λ e. e) (only n v other) (λ _. tt)
 
 -- The header: Q_UPDOWN, M_VERSION and Q_MEDIA have one value each, and N_PIG is at most N_TOTAL.
 unfoldable pub header : Layout TelegramFault Header Header
 header = do
-  _ ← fixed 1 1 NotUplink
-  _ ← fixed 7 16 WrongVersion
-  _ ← fixed 1 0 NotBalise
-  position ← variable position_in_group (λ h. h.position)
-  last ← variable position_in_group (λ h. h.last_position)
+  _ ← fixed names.QUpdown 1 1 NotUplink
+  _ ← fixed names.MVersion 7 16 WrongVersion
+  _ ← fixed names.QMedia 1 0 NotBalise
+  position ← variable names.NPig position_in_group (λ h. h.position)
+  last ← variable names.NTotal position_in_group (λ h. h.last_position)
   _ ← unless (nat_lt last position) OutOfRange
-  duplicate ← variable m_dup (λ h. h.duplicate)
-  counter ← variable m_mcount (λ h. h.counter)
-  country ← variable nid_c (λ h. h.group.country)
-  number ← variable nid_bg (λ h. h.group.number)
-  linked ← variable flag (λ h. h.linked)
+  duplicate ← variable names.MDup m_dup (λ h. h.duplicate)
+  counter ← variable names.MMcount m_mcount (λ h. h.counter)
+  country ← variable names.NidC nid_c (λ h. h.group.country)
+  number ← variable names.NidBg nid_bg (λ h. h.group.number)
+  linked ← variable names.QLink flag (λ h. h.linked)
   done (record { position = position; last_position = last; duplicate = duplicate; counter = counter; group = record { country = country; number = number }; linked = linked })
 
 -- NID_PACKET of what comes next: 255 is the end mark
@@ -47,7 +49,7 @@ number_of_next (Some p) = number_of p
 -- What comes next: a packet, or none at the end mark, which has no more bits than its number.
 unfoldable pub next_packet : Layout TelegramFault (Option Packet) (Option Packet)
 next_packet = do
-  number ← field NoEnd value_fault nid_packet number_of_next
+  number ← field names.NidPacket NoEnd value_fault nid_packet number_of_next
   choice (number == 255) (done None) (kind Some (λ o. o) (told_as telegram_fault (packet_of number)))
 
 -- The bits spell these packets, one after another, and then the end mark.

@@ -1,5 +1,4 @@
-ghost use Rattle.std.specs.Prelude.{◌≡◌, ◌+◌, ◌*◌, ◌≤◌, ◌<◌, ◌^◌, ◌↔◌, ◌++◌, List, Bool, length, take, IsOk, IfOk, OnOk, OnErr};
-ghost use Rattle.bits.specs.Bits.{number_bits};
+ghost use Rattle.std.specs.Prelude.{◌≡◌, ◌+◌, ◌*◌, ◌≤◌, ◌↔◌, ◌++◌, List, Bool, length, take, IsOk, IfOk, OnOk, OnErr};
 ghost use Rattle.bits.specs.Writing.{appended};
 ghost use Rattle.telegram.specs.Encodings.{Encoded};
 ghost use Rattle.telegram.specs.Telegrams.{header as header_layout, Carries, SpellsPackets, SpellsTelegram};
@@ -10,7 +9,6 @@ use bits::{BitWriter, Full};
 use packet_coding::write_packet;
 use packets::Packet;
 use thiserror::Error;
-use vars::Variable;
 
 /// The telegram has more than 832 bits, which are those of 104 bytes.
 #[derive(Clone, Copy, Debug, PartialEq, Eq, Error)]
@@ -23,32 +21,14 @@ impl From<Full> for TooLong {
     }
 }
 
-/// Writes a variable.
-#[inline(always)]
-fn put<V: Variable>(writer: &mut BitWriter<104>, value: &V)
-    requires { length writer.old + (V.codes).width ≤ 832 }
-    ensures value { writer.new ≡ writer.old ++ number_bits (V.codes).width ((V.codes).number value.now) }
-    ensures len { length writer.new ≡ length writer.old + (V.codes).width }
-{
-    writer.write(V::WIDTH, value.number());
-}
-
 /// Writes the header.
-#[tactic(auto, unfolding(crate::specs::Telegrams::header))]
 fn write_header(header: &Header, writer: &mut BitWriter<104>)
     requires { length writer.old + 50 ≤ 832 }
     ensures { writer.new ≡ appended header_layout header.now writer.old }
 {
-    writer.write(1, 1);
-    writer.write(7, 16);
-    writer.write(1, 0);
-    put(writer, &header.position);
-    put(writer, &header.last_position);
-    put(writer, &header.duplicate);
-    put(writer, &header.counter);
-    put(writer, &header.group.country);
-    put(writer, &header.group.number);
-    put(writer, &header.linked);
+    match header.fields(writer) {
+        Ok(()) => {}
+    }
 }
 
 /// Writes packets that have a spelling, and the end mark.
@@ -58,7 +38,7 @@ fn write_packets(packets: &[Packet<'_>], writer: &mut BitWriter<104>) -> Result<
     ensures ok { OnOk result ((bits : List Bool) → SpellsPackets packets.now bits → writer.new ≡ writer.old ++ bits) }
 {
     for packet in packets {
-        write_packet(writer, packet)?;
+        write_packet(packet, writer)?;
     }
     writer.put(8, 255)?;
     Ok(())

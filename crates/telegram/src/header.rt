@@ -1,17 +1,18 @@
-ghost use Rattle.std.specs.Prelude.{◌≡◌, ◌≤◌, ◌<◌, ◌^◌};
+ghost use Rattle.std.specs.Prelude.{◌≡◌, ◌+◌, ◌≤◌, ◌<◌, ◌^◌, OnOk};
 ghost use Rattle.bits.specs.Layout.{Gives, read, read_field};
+ghost use Rattle.bits.specs.Writing.{taken};
 ghost use Rattle.telegram.specs.Faults.{value_fault};
 ghost use Rattle.telegram.specs.Telegrams.{header as header_layout, only};
 
 use crate::fault::TelegramFault;
-use bits::BitReader;
-use packets::FieldSink;
+use bits::{BitReader, VariableName};
+use packets::{FieldSink, put};
 use vars::{
     Country, Duplicate, GroupIdentity, GroupNumber, MessageCounter, PositionInGroup, Variable,
 };
 
 /// The header of a telegram. Its direction is up, its version 16 and its medium a balise.
-#[derive(Clone, Copy, Debug, PartialEq, Eq)]
+#[derive(Clone, Copy)]
 pub struct Header {
     /// N_PIG: the place of the balise in its group.
     pub position: PositionInGroup,
@@ -46,17 +47,21 @@ impl Default for Header {
 
 impl Header {
     /// Hands all fields to the sink, and stops where it takes no more.
-    pub fn fields<S: FieldSink>(&self, sink: &mut S) -> Result<(), S::Error> {
-        sink.field("Q_UPDOWN", 1, 1)?;
-        sink.field("M_VERSION", 7, 16)?;
-        sink.field("Q_MEDIA", 1, 0)?;
-        sink.variable("N_PIG", &self.position)?;
-        sink.variable("N_TOTAL", &self.last_position)?;
-        sink.variable("M_DUP", &self.duplicate)?;
-        sink.variable("M_MCOUNT", &self.counter)?;
-        sink.variable("NID_C", &self.group.country)?;
-        sink.variable("NID_BG", &self.group.number)?;
-        sink.variable("Q_LINK", &self.linked)
+    #[tactic(auto, unfolding(crate::specs::Telegrams::header))]
+    pub fn fields<S: FieldSink>(&self, sink: &mut S) -> Result<(), S::Error>
+        requires room { S.held sink.old + 50 ≤ S.most }
+        ensures { OnOk result (S.seen sink.new ≡ taken S.took header_layout self.now (S.seen sink.old)) }
+    {
+        sink.field(VariableName::QUpdown, 1, 1)?;
+        sink.field(VariableName::MVersion, 7, 16)?;
+        sink.field(VariableName::QMedia, 1, 0)?;
+        put(sink, VariableName::NPig, &self.position)?;
+        put(sink, VariableName::NTotal, &self.last_position)?;
+        put(sink, VariableName::MDup, &self.duplicate)?;
+        put(sink, VariableName::MMcount, &self.counter)?;
+        put(sink, VariableName::NidC, &self.group.country)?;
+        put(sink, VariableName::NidBg, &self.group.number)?;
+        put(sink, VariableName::QLink, &self.linked)
     }
 }
 

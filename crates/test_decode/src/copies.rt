@@ -48,7 +48,7 @@ fn fits(bytes: &[u8]) -> Option<(bool, bool)> {
 fn has_160_bytes(bytes: &[u8]) -> bool {
     let mut writer: BitWriter<160> = BitWriter::new();
     match read_packet(&mut BitReader::new(bytes)) {
-        Ok(packet) => write_packet(&mut writer, &packet).is_ok(),
+        Ok(packet) => write_packet(&packet, &mut writer).is_ok(),
         Err(_) => false,
     }
 }
@@ -57,7 +57,7 @@ fn has_160_bytes(bytes: &[u8]) -> bool {
 fn has_161_bytes(bytes: &[u8]) -> bool {
     let mut writer: BitWriter<161> = BitWriter::new();
     match read_packet(&mut BitReader::new(bytes)) {
-        Ok(packet) => write_packet(&mut writer, &packet).is_ok(),
+        Ok(packet) => write_packet(&packet, &mut writer).is_ok(),
         Err(_) => false,
     }
 }

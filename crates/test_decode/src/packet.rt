@@ -35,7 +35,7 @@ pub fn packet(alloc: Global, words: &[&str], out: &mut Vec<u8>) -> io::Result<()
     let (elements, differences) = elements(&packet);
     writeln!(out, "{elements} elements, {differences} differences")?;
     let mut writer: BitWriter<256> = BitWriter::new();
-    if write_packet(&mut writer, &packet).is_err() {
+    if write_packet(&packet, &mut writer).is_err() {
         return writeln!(out, "no room");
     }
     let mut array = [0u8; 256];

@@ -1,17 +1,15 @@
-use Rattle.std.proofs.Common.{ℕ, ◌<◌, ◌^◌, ◌++◌, rules, sym, ap, ◌∙◌}
+use Rattle.std.proofs.Common.{◌≡◌, ℕ, ◌<◌, ◌^◌, ◌++◌, subst, ap, sym, ◌∙◌}
 use Rattle.bits.specs.Bits.{number_bits}
-use Rattle.packets.specs.Packets.{length_of}
-use Rattle.packets.specs.Writing.{body_appended}
-use Rattle.packets.proofs.Spelled.{spelled-packet}
+use Rattle.bits.specs.Writing.{with_bits}
+use Rattle.packets.specs.Packets.{length_of, number_of, packet_taken}
+use Rattle.packets.proofs.AnyPacket.{spelled-packet}
 use Rattle.packet_coding.proofs.writing.write_packet.Goals as goal
-
-pub write_body-requires : goal.write_body-requires
-write_body-requires g c =
-    let small : length_of c.args.packet.now < 2 ^ 13 = (spelled-packet c.args.packet.now c.args.writer.now c.requires.0 c.requires.1).1 in
-    search rules
 
 pub returns-clause-ok : goal.returns-clause-ok
 returns-clause-ok g c = λ bits s.
-    c.write_body.ensures ∙ ap (body_appended c.args.packet.now) c.put.ensures.value
-    ∙ ap (λ (n : ℕ). body_appended c.args.packet.now (c.args.writer.now ++ number_bits 8 n)) c.number.ensures
-    ∙ sym (spelled-packet c.args.packet.now c.args.writer.now bits s).0
+    let w = spelled-packet c.args.packet.now bits s in
+    let small : c.length-length.result < 2 ^ 13 = subst (λ (n : ℕ). n < 2 ^ 13) (sym c.length-length.ensures.value) w.small in
+    let behind : c.put.new.sink ≡ c.args.writer.now ++ number_bits 8 (number_of c.args.packet.now) = c.in-Ok.ensures.value ∙ ap (λ (n : ℕ). c.args.writer.now ++ number_bits 8 n) c.number.ensures in
+    c.in-Ok-fields.ensures small
+    ∙ ap (λ (n : ℕ). packet_taken with_bits n c.args.packet.now c.put.new.sink) c.length-length.ensures.value
+    ∙ ap (packet_taken with_bits (length_of c.args.packet.now) c.args.packet.now) behind ∙ sym (w.written c.args.writer.now)

@@ -141,11 +141,7 @@ impl Place {
         ensures value { result ≡ stretch self.now length }
         ensures near { HasReach result.rear }
     {
-        stretch_about(
-            self.estimate(),
-            self.fix.uncertainty_at(&self.sums),
-            length,
-        )
+        stretch_about(self.estimate(), self.fix.uncertainty_at(&self.sums), length)
     }
 }
 

@@ -119,7 +119,11 @@ fn packet<R: Abort>(rt: &R, sent: &Sent) -> NationalValues {
 }
 
 fn announce<R: Abort>(rt: &R, national: &mut National, sent: &Sent, place: i32) {
-    national.announce(&packet(rt, sent), country(rt, 1), group_place(rt, i64::from(place)));
+    national.announce(
+        &packet(rt, sent),
+        country(rt, 1),
+        group_place(rt, i64::from(place)),
+    );
 }
 
 fn is_for(national: &National, listed: &[u16]) -> bool {

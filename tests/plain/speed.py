@@ -90,7 +90,9 @@ class Situation:
     def greatest(self, limit, targets):
         """The greatest speed up to a limit that fits all targets. A speed below one that fits fits too: it is found by
         halving, and then that it fits and the next one does not is looked at."""
-        fits_all = lambda speed: all(self.fits(speed, target) for target in targets)
+        def fits_all(speed):
+            return all(self.fits(speed, target) for target in targets)
+
         least, beyond = 0, limit + 1
         while beyond - least > 1:
             middle = (least + beyond) // 2

@@ -20,11 +20,14 @@ fn after(
     Ok((next, limit.get()))
 }
 
-/// What is known when power comes on for the first time.
-fn powered_up(alloc: Global, mode: Mode, train: &TrainData) -> Result<Listing, NoMemory> {
-    let nothing = Listing::empty(alloc);
-    let (state, _) = after(alloc, mode, train, &nothing, &Event::PowerUp)?;
-    Ok(state)
+/// The same after a first event.
+fn after_first(
+    alloc: Global,
+    mode: Mode,
+    train: &TrainData,
+    event: &Event,
+) -> Result<(Listing, u32), NoMemory> {
+    after(alloc, mode, train, &Listing::empty(alloc), event)
 }
 
 /// The limit after each event, step by step, in metres per hour. Before the first one power has come on.
@@ -35,7 +38,7 @@ pub fn limits_by_step(
     events: &[Event],
 ) -> Result<Vec<u32>, NoMemory> {
     let mut speeds = Vec::new(alloc);
-    let mut state = powered_up(alloc, mode, train)?;
+    let (mut state, _) = after_first(alloc, mode, train, &Event::PowerUp)?;
     for event in events {
         let (next, limit) = after(alloc, mode, train, &state, event)?;
         state = next;

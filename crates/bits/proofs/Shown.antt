@@ -1,5 +1,5 @@
 -- Whatever takes the fields of a value takes the list of its fields, one after another.
-use Rattle.std.proofs.Common.{ℕ, ◌∷◌, ◌≡◌, Bool, true, false, List, [], ◌++◌, length, drop, Option, Some, None, refl, sym, ap, ◌∙◌}
+use Rattle.std.proofs.Common.{◌∷◌, ◌≡◌, true, false, List, [], ◌++◌, length, drop, Option, Some, None, refl, sym, ap, ◌∙◌}
 use Rattle.std.specs.Option.{option_map_or}
 use Rattle.bits.specs.Layout.{Layout, done, unless, field, run, choice, kind, part, inner, measured, more, told_as, then_}
 use Rattle.bits.specs.Writing.{Shown, named, raw, value, each_taken, taken, shown}

@@ -5,12 +5,10 @@ use Rattle.bits.specs.Bits.{number, number_bits}
 use Rattle.bits.specs.Layout.{Layout, Spells, choice, kind}
 use Rattle.bits.specs.Writing.{size, with_bits, appended}
 use Rattle.bits.proofs.WritingLaws.{glue, glue_none, field_bits, number_below}
-use Rattle.vars.specs.Variables.{nid_packet}
 use Rattle.vars.proofs.Numbers.{plain_back}
 use Rattle.packets.specs.Parts.{telling}
 use Rattle.packets.specs.Packets.{national_values_telling, linking_telling, movement_authority_telling, gradients_telling, static_speeds_telling, level_transition_telling, speed_restriction_telling, restriction_revocation_telling, mode_profile_telling, skipped_telling, length_of, number_of, packet_taken, as_packet, as_national_values, as_linking, as_movement_authority, as_gradients, as_static_speeds, as_level_transition, as_speed_restriction, as_revocation, as_mode_profile, as_other, body_of, packet_of, packet}
 use Rattle.packets.specs.declared.fault.PacketFault.{PacketFault}
-use Rattle.packets.specs.declared.packet.Other.{Other}
 use Rattle.packets.specs.declared.packet.Packet.{Packet}
 use Rattle.packets.specs.declared.packet.Packet.TheVariants as packets
 use Rattle.packets.proofs.StaticSteps.{speeds_size}

@@ -1,5 +1,5 @@
 -- Each spelling of a packet is what is appended for it, and the length that it tells is that of the packet.
-use Rattle.std.proofs.Common.{◌≡◌, ◌∙◌, ap, refl, sym, subst, arith, zero, suc, length, List, Bool, ◌∷◌, ◌+◌, ◌-◌, ◌<◌, ◌≤◌, ◌^◌, take, ◌++◌, ℕ, [], length-append, append_assoc}
+use Rattle.std.proofs.Common.{◌≡◌, ◌∙◌, ap, refl, sym, arith, zero, suc, length, List, Bool, ◌∷◌, ◌+◌, ◌<◌, ◌^◌, take, ◌++◌, ℕ, [], length-append, append_assoc}
 use Rattle.std.specs.Prelude.{slice_index_or}
 use Rattle.std.proofs.lemmas.List.{take_at, append-nil}
 use Rattle.bits.specs.Layout.{Codes, Layout, Spells, folded}
@@ -9,13 +9,10 @@ use Rattle.bits.specs.declared.name.VariableName.TheVariants as names
 use Rattle.bits.proofs.Found.{Back, Found, Appends, element, spelled}
 use Rattle.bits.proofs.WritingLaws.{length-appended}
 use Rattle.vars.specs.declared.variable.NoValue.{NoValue}
-use Rattle.vars.specs.declared.packet_head.ValidityDirection.{ValidityDirection}
-use Rattle.vars.specs.declared.scale.Scale.{Scale}
 use Rattle.vars.proofs.Numbers.{Numbered, plain_back, up_to_back, flag_back, q_dir_back, q_scale_back, q_front_back, q_linkorientation_back, q_linkreaction_back, v_release_back, q_gdir_back, v_static_back, start_place_back, m_leveltr_back, m_mamode_back, v_mamode_back, open_length_back}
 use Rattle.packets.specs.Parts.{telling}
 use Rattle.packets.specs.Packets.{country, national_values_telling, link, linking_telling, section_timer, end_timer, danger_point, overlap, section, movement_authority_telling, gradient, gradients_telling, difference, no_step, step_at, differences_to, no_speeds, static_step, static_speeds_telling, stm_identity, level_order, level_transition_telling, speed_restriction_telling, restriction_revocation_telling, mode_area, mode_profile_telling, skipped_telling}
 use Rattle.packets.specs.declared.fault.PacketFault.{PacketFault}
-use Rattle.packets.specs.declared.packet.Other.{Other}
 use Rattle.packets.specs.declared.static_speeds.Difference.{Difference}
 use Rattle.packets.specs.declared.static_speeds.StaticSpeeds.{StaticSpeeds}
 use Rattle.packets.specs.declared.static_speeds.StaticStep.{StaticStep}

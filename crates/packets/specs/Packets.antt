@@ -1,12 +1,12 @@
 -- The layouts of packets (SUBSET-026, 7.4.2; the orders and widths of packets 3, 5, 12, 41 and 80 are this project's
 -- profile). A layout stands behind the number of its packet, and tells the length that was told beside the packet.
-use Rattle.std.specs.Prelude.{ℕ, ◌+◌, ◌-◌, ◌*◌, ◌==◌, nat_lt, if◌then◌else◌, Bool, true, false, List, [], ◌∷◌, ◌++◌, length, take, Option, Some, None, is_some, slice_index_or}
+use Rattle.std.specs.Prelude.{ℕ, ◌+◌, ◌-◌, ◌==◌, nat_lt, Bool, true, false, List, [], ◌∷◌, ◌++◌, length, take, Option, Some, None, slice_index_or}
 use Rattle.bits.specs.Layout.{Layout, done, unless, run, choice, kind, part, inner, measured, more, ◌>>=◌, folded}
 use Rattle.bits.specs.Sums.{total}
 use Rattle.bits.specs.Writing.{Shown, taken, size}
 use Rattle.bits.specs.declared.name.VariableName.{VariableName}
 use Rattle.bits.specs.declared.name.VariableName.TheVariants as names
-use Rattle.vars.specs.Variables.{flag, nid_packet, q_dir, untested_direction, l_packet, q_scale, distance, speed, nid_tsr, q_front, nid_c, nid_bg, n_iter, q_linkorientation, q_linkreaction, q_locacc, timer, v_release, q_gdir, g_a, v_static, nc_diff, start_place, m_leveltr, nid_stm, m_mamode, v_mamode, open_length, t_nvovtrp}
+use Rattle.vars.specs.Variables.{nid_packet, q_dir, untested_direction, l_packet, q_scale, distance, speed, nid_tsr, q_front, nid_c, nid_bg, n_iter, q_linkorientation, q_linkreaction, q_locacc, timer, v_release, q_gdir, g_a, v_static, nc_diff, start_place, m_leveltr, nid_stm, m_mamode, v_mamode, open_length, t_nvovtrp}
 use Rattle.vars.specs.declared.level.Level.{Level}
 use Rattle.vars.specs.declared.level.Level.TheVariants as levels
 use Rattle.vars.specs.declared.packet_head.ValidityDirection.{ValidityDirection}

@@ -1,5 +1,5 @@
 -- What layouts of packets are made of, and what becomes of a sink that takes these parts.
-use Rattle.std.specs.Prelude.{ℕ, ◌+◌, ◌-◌, Bool, List, ◌∷◌, length, take, drop, Option, is_some, Result}
+use Rattle.std.specs.Prelude.{ℕ, ◌+◌, ◌-◌, Bool, List, length, take, drop, Option, is_some, Result}
 use Rattle.std.specs.Int.{from_bool}
 use Rattle.std.specs.Option.{option_map_or}
 use Rattle.bits.specs.Layout.{Codes, Layout, field, part, ◌>>=◌, after, read, read_field}

@@ -104,6 +104,7 @@ impl<'a> Packet<'a> {
         PacketNumber::of_number(number).unwrap()
     }
 
+    /// The number of bits, those of NID_PACKET included.
     fn bits(&self) -> u64
         ensures value { result ≡ length_of self.now }
         ensures bound { result < 2 ^ 33 }
@@ -131,6 +132,7 @@ impl<'a> Packet<'a> {
         self.bits()
     }
 
+    /// Hands the fields behind NID_PACKET to a sink, with the length that L_PACKET tells.
     fn fields_telling<S: FieldSink>(&self, told: u64, sink: &mut S) -> Result<(), S::Error>
         requires told { told < 2 ^ 13 }
         requires room { S.held sink.old + length_of self.now ≤ S.most + 8 }

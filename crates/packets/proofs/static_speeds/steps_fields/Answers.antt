@@ -1,5 +1,4 @@
-use Rattle.std.proofs.Common.{arith, ap}
-use Rattle.packets.specs.StaticSteps.{step_size}
+use Rattle.std.proofs.Common.{arith}
 use Rattle.packets.proofs.StaticSteps.{steps_more, steps_end, size_more}
 use Rattle.packets.proofs.static_speeds.steps_fields.Goals as goal
 

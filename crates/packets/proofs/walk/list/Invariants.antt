@@ -1,4 +1,4 @@
-use Rattle.std.proofs.Common.{◌≡◌, ◌+◌, ◌≤◌, drop, length}
+use Rattle.std.proofs.Common.{◌≡◌, ◌+◌, ◌≤◌, drop}
 use Rattle.bits.specs.Sums.{total}
 use Rattle.bits.specs.Writing.{each_taken, taken, size}
 use Rattle.packets.proofs.walk.list.Given as goal

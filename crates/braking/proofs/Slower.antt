@@ -106,7 +106,7 @@ module _ (front : ℤ) (gradient : ℤ → Option ℤ) (brakes : Brakes) where
   -- brakes that act too late
   pub late_fails : (t : Target) (v : ℕ) → t.speed < v → t.place ≤ℤ (front +ℤ pos (reaction_way brakes.reaction v)) →
       fits front gradient brakes t v ≡ false
-  late_fails t v faster late = 
+  late_fails t v faster late =
       let way : ℕ = reaction_way brakes.reaction v in
       let fast : nat_le v t.speed ≡ false = grind (arith, nat_tests) in
       let short : distance_to front t ≤ way = no_farther (t.place -ℤ front) way (omega (arith, ints)) in

@@ -24,7 +24,10 @@ pub fn permitted_before<P: Profile<Permille>>(
 {
     let Some(sum) = summed_before(front, limit, target, gradient, brakes, summed) else {
         let none = Summed::none(target.place);
-        return (sought(front, limit, target, gradient, brakes, &none), *summed);
+        return (
+            sought(front, limit, target, gradient, brakes, &none),
+            *summed,
+        );
     };
     if lacking(limit, target.speed) <= sum.taken_off {
         return (limit, sum);

@@ -27,7 +27,12 @@ struct Wanted {
 
 impl Parts {
     /// An accepted group makes its fix, which may depend on whether the track is free: the place from which its distances count.
-    pub fn fix(&mut self, message: &Message, announced: &Option<Announcement>, free: bool) -> GroupPlace
+    pub fn fix(
+        &mut self,
+        message: &Message,
+        announced: &Option<Announcement>,
+        free: bool,
+    ) -> GroupPlace
         ensures answer { (life : Life) (begun : Begun) (used : Used) → self.old ≡ parts_of (grown_so_far life begun (added (accepted message.now announced.now) used))
             → (let here = place_of (so_far begun (added (accepted message.now announced.now) used) ∷ life.entries) in
             result ≡ place_by (own_place here message.now) (fix_of here free message.now announced.now)) }

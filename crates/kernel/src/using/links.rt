@@ -47,7 +47,11 @@ fn announced(chain: &mut Chain, link: &Link) -> Announcement
 }
 
 // The groups that a list of links announces.
-fn announcements(packet: &Linking, group: &GroupIdentity, place: GroupPlace) -> ArrayVec<Announcement, 32>
+fn announcements(
+    packet: &Linking,
+    group: &GroupIdentity,
+    place: GroupPlace,
+) -> ArrayVec<Announcement, 32>
     ensures { result.items ≡ announcements_of group.now place packet.now }
 {
     let mut announcements: ArrayVec<Announcement, 32> = ArrayVec::new();

@@ -46,8 +46,7 @@ returns-clause-summed g c =
     let whole = parts c.args.from c.args.self.from c.args.self.to c.requires.ordered c.requires.summed.0 in
     let first = before_whole (g.P.Profile.value c.args.gradient.now) c.args.deceleration c.args.from c.args.self.from c.args.self.to c.gone_on-before.result
     c.requires.ordered c.requires.summed.0 c.requires.near (before.from ∙ c.none.ensures.from) before.within before.reached before.summed in
-    let over = braked_over (g.P.Profile.value c.args.gradient.now) c.args.deceleration c.args.from c.args.self.from c.args.self.to c.requires.ordered c.requires.summed.0 in
-    (
+    let over = braked_over (g.P.Profile.value c.args.gradient.now) c.args.deceleration c.args.from c.args.self.from c.args.self.to c.requires.ordered c.requires.summed.0 in (
       omega (arith, ints, c.requires.ordered, c.requires.summed.0),
       omega (arith, over, first.0, c.requires.summed.1),
       omega (arith, whole, first.1, c.requires.summed.2),

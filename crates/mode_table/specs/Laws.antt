@@ -1,4 +1,4 @@
--- Laws of the mode table and of the statuses.
+-- Laws of the mode table and of the statuses (SUBSET-026, 4.6 and 4.10; the rows and lines: this project's profile).
 use Rattle.std.specs.Prelude.{◌≡◌, ◌↔◌, ℕ, ◌==◌, Bool, true, false, not, ◌&&◌, List, [], ◌∷◌, IsTrue}
 use Rattle.std.specs.List.{list_any}
 use Rattle.mode_table.specs.Modes.{is_mode}

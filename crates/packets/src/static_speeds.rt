@@ -255,6 +255,9 @@ fn owned_differences(steps: &[StaticStep], differences: usize) -> u64
     requires small { differences ≤ 70 }
     ensures { result ≡ min (total (λ (s : StaticStep). s.differences) steps.now) differences }
 {
+    if differences == 0 {
+        return 0;
+    }
     let mut owned = 0u64;
     for step in steps {
         owned += u64::from(step.differences.count());

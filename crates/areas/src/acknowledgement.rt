@@ -5,7 +5,7 @@ ghost use Rattle.areas.specs.Acknowledging.Entry.{Acknowledged, Turned, Asking, 
 use units::Ms;
 
 /// What the driver has to acknowledge of one kind.
-#[derive(Clone, Copy, Debug, PartialEq, Eq)]
+#[derive(Clone, Copy)]
 pub enum Acknowledgement {
     /// Nothing.
     Nothing,

@@ -10,7 +10,7 @@ use std::marker::Model;
 use units::Cm;
 
 /// The level that is announced, if one is.
-#[derive(Clone, Copy, Debug)]
+#[derive(Clone, Copy)]
 pub struct AnnouncedLevel {
     announced: Option<Announcement>,
 }

@@ -5,7 +5,7 @@ use units::{Cm, Mph};
 use vars::{ReleaseSpeed, SpeedStep, Variable};
 
 /// The speed at which a train may approach the end of its authority.
-#[derive(Clone, Copy, Debug, PartialEq, Eq)]
+#[derive(Clone, Copy)]
 pub enum Release {
     /// This speed; 0 where there is none.
     Speed(Mph),
@@ -34,7 +34,7 @@ impl Release {
 }
 
 /// Up to where the train may go.
-#[derive(Clone, Copy, Debug, PartialEq, Eq)]
+#[derive(Clone, Copy)]
 pub struct End {
     /// The end of authority.
     pub end: Cm,

@@ -14,7 +14,7 @@ use vars::GroupIdentity;
 const GROUP_PATH: u64 = 1_300;
 
 /// A group, and the path of the life at a telegram of it.
-#[derive(Clone, Copy, Debug, PartialEq, Eq)]
+#[derive(Clone, Copy)]
 pub struct Seen {
     pub group: GroupIdentity,
     pub path: Length,

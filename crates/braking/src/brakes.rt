@@ -88,7 +88,7 @@ impl Reaction {
 }
 
 /// What is known of a train's brakes.
-#[derive(Clone, Copy, Debug, PartialEq, Eq)]
+#[derive(Clone, Copy)]
 pub struct Brakes {
     /// The deceleration on level track.
     pub deceleration: Deceleration,

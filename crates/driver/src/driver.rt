@@ -18,7 +18,7 @@ use std::marker::Model;
 use units::{Length, Ms};
 
 /// The driver's data, and what the driver's actions brought about in one life.
-#[derive(Clone, Copy, Debug)]
+#[derive(Clone, Copy)]
 pub struct Driver {
     identity: Datum<DriverIdentity>,
     running_number: Datum<RunningNumber>,

@@ -3,7 +3,7 @@ use linking::Effect;
 use units::{Movement, Mph, Ms};
 
 /// What the odometer tells.
-#[derive(Clone, Copy, Debug, PartialEq, Eq)]
+#[derive(Clone, Copy)]
 pub struct Reading {
     /// The movement since the last reading, forward or backward.
     pub movement: Movement,
@@ -12,7 +12,7 @@ pub struct Reading {
 }
 
 /// What the driver does, of what carries no data.
-#[derive(Clone, Copy, Debug, PartialEq, Eq)]
+#[derive(Clone, Copy)]
 pub enum Action {
     Start,
     ChooseShunting,

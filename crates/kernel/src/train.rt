@@ -3,7 +3,7 @@ use units::{Length, Mph};
 use vars::TrainCategory;
 
 /// In which way the train is supervised (SUBSET-026, 4.4).
-#[derive(Clone, Copy, Debug, PartialEq, Eq)]
+#[derive(Clone, Copy)]
 pub enum Mode {
     /// FS: the train runs on a movement authority over known track.
     FullSupervision,
@@ -12,7 +12,7 @@ pub enum Mode {
 }
 
 /// What is known of the train.
-#[derive(Clone, Copy, Debug, PartialEq, Eq)]
+#[derive(Clone, Copy)]
 pub struct TrainData {
     /// Its length.
     pub length: Length,

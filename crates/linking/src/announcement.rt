@@ -10,7 +10,7 @@ use vars::{
 };
 
 /// A balise group that a list of links (packet 5) announces.
-#[derive(Clone, Copy, Debug, PartialEq, Eq)]
+#[derive(Clone, Copy)]
 pub struct Announcement {
     /// Its number in its list, from 0, as `Links::replace` gives it.
     pub number: u8,

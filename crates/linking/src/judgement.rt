@@ -7,7 +7,7 @@ use odometry::EarlierPlace;
 use vars::{GroupIdentity, LinkOrientation};
 
 /// A whole balise group, as it was read.
-#[derive(Clone, Copy, Debug, PartialEq, Eq)]
+#[derive(Clone, Copy)]
 pub struct GroupRead {
     /// Which group it is.
     pub group: GroupIdentity,
@@ -30,7 +30,7 @@ impl GroupRead {
 }
 
 /// What becomes of a group that was read.
-#[derive(Clone, Copy, Debug, PartialEq, Eq)]
+#[derive(Clone, Copy)]
 pub enum Verdict {
     /// Its message is used; as the group of this announcement, if of one.
     Accept(Option<Announcement>),
@@ -41,7 +41,7 @@ pub enum Verdict {
 }
 
 /// What becomes of a group that was read, and what the train is to do.
-#[derive(Clone, Copy, Debug, PartialEq, Eq)]
+#[derive(Clone, Copy)]
 pub struct Judgement {
     /// What becomes of the group.
     pub verdict: Verdict,

@@ -1,6 +1,6 @@
 /// What the rows of the mode table ask for, as an event leaves it before its change of mode (SUBSET-026, 4.6.3; the conditions:
 /// this project's profile).
-#[derive(Clone, Copy, Debug, PartialEq, Eq)]
+#[derive(Clone, Copy)]
 pub struct Conditions {
     /// A reading would have taken the path of the life or the estimated place past its limit.
     pub overrun: bool,

@@ -2,7 +2,7 @@ use units::{Cm, GroupPlace};
 
 /// Where the front was thought to be at a moment of the life, reckoned from the last fix, and how far that may be wrong, to
 /// either side.
-#[derive(Clone, Copy, Debug, PartialEq, Eq)]
+#[derive(Clone, Copy)]
 pub struct EarlierPlace {
     pub estimate: GroupPlace,
     pub uncertainty: Cm,

@@ -2,7 +2,7 @@ use crate::Sums;
 use units::{Cm, Length};
 
 /// A place that a balise group tells.
-#[derive(Clone, Copy, Debug, PartialEq, Eq)]
+#[derive(Clone, Copy)]
 pub struct Fix {
     /// Where the group lies.
     pub at: Cm,

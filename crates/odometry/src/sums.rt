@@ -7,7 +7,7 @@ use std::marker::Model;
 use units::{Cm, Length, Movement};
 
 /// The sums of a life at one moment: of its movements, and of their absolute values (its path).
-#[derive(Clone, Copy, Debug, PartialEq, Eq)]
+#[derive(Clone, Copy)]
 pub struct Sums {
     moved: i64,
     path: u64,

@@ -11,7 +11,7 @@ use units::{Cm, Mph, Stretch};
 use vars::TrainCategory;
 
 /// What limits the train's speed wherever it stands.
-#[derive(Clone, Copy, Debug, PartialEq, Eq)]
+#[derive(Clone, Copy)]
 pub struct Bounds {
     /// The train's greatest speed.
     pub maximum: Mph,

@@ -12,7 +12,7 @@ use units::{Cm, GroupPlace, Mph, Permille};
 use vars::{Distance, Scale, StaticSpeed, TrainCategory, TrainLengthDelay, Variable};
 
 /// A static speed, with what holds for each category of trains (SUBSET-026, 3.11.3; 7.4.2, packet 27).
-#[derive(Clone, Copy, Debug, PartialEq, Eq)]
+#[derive(Clone, Copy, PartialEq, Eq)]
 pub struct CategorySpeeds {
     /// The speed for each category (NC_DIFF) from 0 to 15.
     pub speeds: [Mph; 16],

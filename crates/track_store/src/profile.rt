@@ -7,7 +7,7 @@ use std::alloc::Global;
 use units::{Cm, NoMemory};
 
 /// A step of a profile: from its place on, the value holds up to the next step's place.
-#[derive(Clone, Copy, Debug, PartialEq, Eq)]
+#[derive(Clone, Copy)]
 pub struct Step<T> {
     /// Where it begins.
     pub place: Cm,
@@ -26,7 +26,7 @@ impl<T> Default for Step<T> {
 }
 
 /// A piece of a profile: its value at a centimetre, and up to where that lasts.
-#[derive(Clone, Copy, Debug, PartialEq, Eq)]
+#[derive(Clone, Copy)]
 pub struct Piece<T> {
     /// The value; None where there is none.
     pub value: Option<T>,

@@ -5,7 +5,7 @@ use units::{Cm, Mph, Stretch};
 use vars::{RestrictionNumber, TrainLengthDelay};
 
 /// A temporary speed restriction (packet 65) at its place on the track.
-#[derive(Clone, Copy, Debug, PartialEq, Eq)]
+#[derive(Clone, Copy)]
 pub struct Restriction {
     /// NID_TSR.
     pub number: RestrictionNumber,

@@ -5,7 +5,7 @@ use crate::Cm;
 use std::marker::Model;
 
 /// Where a balise group lies, from which the distances of its packets count, in centimetres: from -3 * 2^40 to 3 * 2^40.
-#[derive(Clone, Copy, Debug, PartialEq, Eq)]
+#[derive(Clone, Copy)]
 pub struct GroupPlace {
     cm: i64,
 }

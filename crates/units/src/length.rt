@@ -4,7 +4,7 @@ ghost use Rattle.units.specs.Limits.{IsLength};
 use std::marker::Model;
 
 /// A length of track, of a train or of a path, in centimetres: from 0 to 2^40.
-#[derive(Clone, Copy, Debug, PartialEq, Eq, PartialOrd, Ord)]
+#[derive(Clone, Copy, PartialEq, Eq, PartialOrd, Ord)]
 pub struct Length {
     cm: u64,
 }

@@ -4,7 +4,7 @@ ghost use Rattle.units.specs.Limits.{IsPermille};
 use std::marker::Model;
 
 /// A gradient in per mille, uphill positive: from -254 to 254.
-#[derive(Clone, Copy, Debug, PartialEq, Eq, PartialOrd, Ord)]
+#[derive(Clone, Copy, PartialEq, Eq)]
 pub struct Permille {
     permille: i16,
 }

@@ -6,7 +6,7 @@ use crate::Cm;
 use std::marker::Model;
 
 /// What a train may stand on: from its least rear over its least front to its greatest front.
-#[derive(Clone, Copy, Debug, PartialEq, Eq)]
+#[derive(Clone, Copy)]
 pub struct Stretch {
     rear: Cm,
     min_front: Cm,

@@ -8,7 +8,7 @@ use std::marker::Model;
 use units::Cm;
 
 /// A distance or a length in units of the packet's scale (variables D_ and L_): from 0 to 32,767.
-#[derive(Clone, Copy, Debug, PartialEq, Eq, PartialOrd, Ord)]
+#[derive(Clone, Copy)]
 pub struct Distance {
     steps: u16,
 }

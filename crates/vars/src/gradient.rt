@@ -6,7 +6,7 @@ use std::marker::Model;
 use units::Permille;
 
 /// Q_GDIR: whether the track falls or rises.
-#[derive(Clone, Copy, Debug, PartialEq, Eq)]
+#[derive(Clone, Copy)]
 pub enum GradientDirection {
     /// It falls.
     Downhill,
@@ -46,7 +46,7 @@ impl Variable for GradientDirection {
 }
 
 /// G_A: the steepness of a gradient in per mille, from 0 to 254; 255 ends the profile.
-#[derive(Clone, Copy, Debug, PartialEq, Eq)]
+#[derive(Clone, Copy)]
 pub struct Steepness {
     permille: u8,
 }

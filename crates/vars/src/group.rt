@@ -4,7 +4,7 @@ use crate::variable::{NoValue, Variable};
 use std::marker::Model;
 
 /// N_PIG: the place of a balise in its group, from 0 to 7. N_TOTAL is the place of the last balise.
-#[derive(Clone, Copy, Debug, PartialEq, Eq, PartialOrd, Ord)]
+#[derive(Clone, Copy, PartialEq, Eq, PartialOrd, Ord)]
 pub struct PositionInGroup {
     position: u8,
 }
@@ -48,7 +48,7 @@ impl Variable for PositionInGroup {
 }
 
 /// M_DUP: whether a balise repeats what a neighbour tells.
-#[derive(Clone, Copy, Debug, PartialEq, Eq)]
+#[derive(Clone, Copy)]
 pub enum Duplicate {
     /// It repeats none.
     NoDuplicate,
@@ -93,7 +93,7 @@ impl Variable for Duplicate {
 }
 
 /// M_MCOUNT: tells which telegrams of a group belong to one message.
-#[derive(Clone, Copy, Debug, PartialEq, Eq)]
+#[derive(Clone, Copy, PartialEq, Eq)]
 pub struct MessageCounter {
     count: u8,
 }
@@ -151,7 +151,7 @@ impl Variable for MessageCounter {
 }
 
 /// NID_C: a country or region, from 0 to 1,023.
-#[derive(Clone, Copy, Debug, Default, PartialEq, Eq)]
+#[derive(Clone, Copy, Default, PartialEq, Eq)]
 pub struct Country {
     number: u16,
 }
@@ -195,7 +195,7 @@ impl Variable for Country {
 }
 
 /// NID_BG: the number of a balise group within its country or region, from 0 to 16,383.
-#[derive(Clone, Copy, Debug, PartialEq, Eq)]
+#[derive(Clone, Copy, PartialEq, Eq)]
 pub struct GroupNumber {
     number: u16,
 }
@@ -239,7 +239,7 @@ impl Variable for GroupNumber {
 }
 
 /// Which balise group it is.
-#[derive(Clone, Copy, Debug, PartialEq, Eq)]
+#[derive(Clone, Copy, PartialEq, Eq)]
 pub struct GroupIdentity {
     /// NID_C.
     pub country: Country,

@@ -2,7 +2,7 @@ use crate::variable::{NoValue, Variable};
 use std::marker::Model;
 
 /// M_LEVELTR: the level that a transition leads to.
-#[derive(Clone, Copy, Debug, PartialEq, Eq)]
+#[derive(Clone, Copy)]
 pub enum Level {
     /// Level 0.
     Level0,
@@ -55,7 +55,7 @@ impl Variable for Level {
 }
 
 /// NID_STM: which specific transmission module.
-#[derive(Clone, Copy, Debug, Default, PartialEq, Eq)]
+#[derive(Clone, Copy, Default)]
 pub struct StmIdentity {
     number: u8,
 }
@@ -97,7 +97,7 @@ impl Variable for StmIdentity {
 }
 
 /// M_MAMODE: the mode that is asked for in an area.
-#[derive(Clone, Copy, Debug, PartialEq, Eq)]
+#[derive(Clone, Copy)]
 pub enum AreaMode {
     /// On Sight.
     OnSight,

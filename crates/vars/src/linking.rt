@@ -45,7 +45,7 @@ impl Variable for LinkOrientation {
 }
 
 /// Q_LINKREACTION: what follows where an announced group isn't found.
-#[derive(Clone, Copy, Debug, PartialEq, Eq)]
+#[derive(Clone, Copy)]
 pub enum LinkReaction {
     /// A trip.
     Trip,
@@ -90,7 +90,7 @@ impl Variable for LinkReaction {
 }
 
 /// Q_LOCACC: how far an announced group may lie from its announced place, from 0 to 63 metres.
-#[derive(Clone, Copy, Debug, PartialEq, Eq)]
+#[derive(Clone, Copy)]
 pub struct LocationAccuracy {
     metres: u8,
 }

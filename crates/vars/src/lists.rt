@@ -4,7 +4,7 @@ use crate::variable::{NoValue, Variable};
 use std::marker::Model;
 
 /// N_ITER: how many elements of a list follow, from 0 to 31.
-#[derive(Clone, Copy, Debug, PartialEq, Eq)]
+#[derive(Clone, Copy)]
 pub struct Iterations {
     count: u8,
 }
@@ -58,7 +58,7 @@ impl Variable for Iterations {
 }
 
 /// NC_DIFF: the category of trains that a speed is for, from 0 to 15.
-#[derive(Clone, Copy, Debug, PartialEq, Eq)]
+#[derive(Clone, Copy)]
 pub struct TrainCategory {
     category: u8,
 }

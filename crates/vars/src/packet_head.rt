@@ -4,7 +4,7 @@ use crate::variable::{NoValue, Variable};
 use std::marker::Model;
 
 /// NID_PACKET: which packet it is.
-#[derive(Clone, Copy, Debug, PartialEq, Eq)]
+#[derive(Clone, Copy)]
 pub struct PacketNumber {
     number: u8,
 }
@@ -55,7 +55,7 @@ impl Variable for PacketNumber {
 }
 
 /// Q_DIR: the running direction over the group in which a packet is valid.
-#[derive(Clone, Copy, Debug, PartialEq, Eq)]
+#[derive(Clone, Copy)]
 pub enum ValidityDirection {
     /// Only where the group is passed in its reverse direction.
     Reverse,
@@ -100,7 +100,7 @@ impl Variable for ValidityDirection {
 }
 
 /// Q_DIR of a packet that is skipped: any number, the spare one too.
-#[derive(Clone, Copy, Debug, PartialEq, Eq)]
+#[derive(Clone, Copy)]
 pub struct UntestedDirection {
     number: u8,
 }
@@ -144,7 +144,7 @@ impl Variable for UntestedDirection {
 }
 
 /// L_PACKET: the length of a packet in bits, its number included, from 0 to 8,191.
-#[derive(Clone, Copy, Debug, PartialEq, Eq, PartialOrd, Ord)]
+#[derive(Clone, Copy)]
 pub struct PacketLength {
     bits: u16,
 }

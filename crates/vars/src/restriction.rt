@@ -4,7 +4,7 @@ use crate::variable::{NoValue, Variable};
 use std::marker::Model;
 
 /// NID_TSR: the number of a temporary speed restriction.
-#[derive(Clone, Copy, Debug, PartialEq, Eq)]
+#[derive(Clone, Copy, PartialEq, Eq)]
 pub struct RestrictionNumber {
     number: u8,
 }
@@ -55,7 +55,7 @@ impl Variable for RestrictionNumber {
 }
 
 /// Q_FRONT: whether a speed stays in force until the rear of the train has left its stretch.
-#[derive(Clone, Copy, Debug, PartialEq, Eq)]
+#[derive(Clone, Copy, PartialEq, Eq)]
 pub enum TrainLengthDelay {
     /// Until the rear has left the stretch.
     Applied,

@@ -4,7 +4,7 @@ ghost use Rattle.vars.specs.Meanings.{centimetres_of};
 use crate::variable::{NoValue, Variable};
 
 /// Q_SCALE: the unit of the distances and lengths of a packet.
-#[derive(Clone, Copy, Debug, PartialEq, Eq)]
+#[derive(Clone, Copy)]
 pub enum Scale {
     TenCentimetres,
     OneMetre,

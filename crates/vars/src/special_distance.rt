@@ -2,7 +2,7 @@ use crate::distance::Distance;
 use crate::variable::{NoValue, Variable};
 
 /// D_VALIDNV and D_LEVELTR: where an announcement comes into force.
-#[derive(Clone, Copy, Debug, PartialEq, Eq)]
+#[derive(Clone, Copy)]
 pub enum StartPlace {
     /// So far behind the group.
     At(Distance),
@@ -45,7 +45,7 @@ impl Variable for StartPlace {
 }
 
 /// L_MAMODE and D_NVSTFF: a length that may have no end.
-#[derive(Clone, Copy, Debug, PartialEq, Eq)]
+#[derive(Clone, Copy)]
 pub enum OpenLength {
     /// This length.
     Length(Distance),

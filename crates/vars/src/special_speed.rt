@@ -2,7 +2,7 @@ use crate::speed::SpeedStep;
 use crate::variable::{NoValue, Variable};
 
 /// V_RELEASEDP and V_RELEASEOL: the speed at which a train may approach the end of its authority.
-#[derive(Clone, Copy, Debug, PartialEq, Eq)]
+#[derive(Clone, Copy)]
 pub enum ReleaseSpeed {
     /// This speed.
     Speed(SpeedStep),
@@ -49,7 +49,7 @@ impl Variable for ReleaseSpeed {
 }
 
 /// V_STATIC: the static speed from a place on.
-#[derive(Clone, Copy, Debug, PartialEq, Eq)]
+#[derive(Clone, Copy)]
 pub enum StaticSpeed {
     /// This speed.
     Speed(SpeedStep),
@@ -92,7 +92,7 @@ impl Variable for StaticSpeed {
 }
 
 /// V_MAMODE: the speed in a mode area.
-#[derive(Clone, Copy, Debug, PartialEq, Eq)]
+#[derive(Clone, Copy)]
 pub enum AreaSpeed {
     /// This speed.
     Speed(SpeedStep),

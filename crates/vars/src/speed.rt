@@ -5,7 +5,7 @@ use std::marker::Model;
 use units::Mph;
 
 /// A speed in steps of 5 km/h (variables V_): from 0 to 120. A number above 120 is no speed.
-#[derive(Clone, Copy, Debug, PartialEq, Eq, PartialOrd, Ord)]
+#[derive(Clone, Copy)]
 pub struct SpeedStep {
     steps: u8,
 }

@@ -5,7 +5,7 @@ use std::marker::Model;
 use units::Ms;
 
 /// T_LOA, T_SECTIONTIMER, T_ENDTIMER and T_OL: seconds, from 0 to 1,022; 1,023 has no expiry.
-#[derive(Clone, Copy, Debug, PartialEq, Eq)]
+#[derive(Clone, Copy)]
 pub struct Timer {
     seconds: u16,
 }
@@ -62,7 +62,7 @@ impl Variable for Timer {
 }
 
 /// T_NVOVTRP: seconds, from 0 to 254; 255 has no end.
-#[derive(Clone, Copy, Debug, PartialEq, Eq)]
+#[derive(Clone, Copy)]
 pub struct OverrideTime {
     seconds: u8,
 }

@@ -1,0 +1,6 @@
+pub mod Carrying
+pub mod Standing
+pub mod Telling
+pub mod Walking
+pub mod Wanting
+pub mod Marking

@@ -1,0 +1,30 @@
+use Rattle.std.proofs.Common.{Option, refl, sym, subst}
+use Rattle.std.specs.Option.{option_map}
+use Rattle.std.proofs.lemmas.Result.{on_ok_weaker}
+use Rattle.telegram.specs.declared.message.Telegram.{Telegram}
+use Rattle.balise_groups.specs.Groups.Entry.{Read}
+use Rattle.trackside.specs.Entry.{Begun, nothing_happened}
+use Rattle.trackside.specs.History.{place_of}
+use Rattle.trackside.specs.Sentences.{nothing, with_groups}
+use Rattle.trackside.specs.StandsFor.{Life, StandsForLife, grown_so_far}
+use Rattle.trackside.proofs.Carrying.{carried_in, refused_none}
+use Rattle.trackside.proofs.Standing.{seen}
+use Rattle.trackside.proofs.state.TracksideOver.listen.Goals as goal
+
+pub returns-in-Ok : goal.returns-in-Ok
+returns-in-Ok g c =
+    on_ok_weaker c.take.result
+    (λ taken life s. taken life c.args.bytes.now s (carried_in _ _ ((c.in-Ok.ensures.found _).0 refl)))
+    c.take.ensures
+
+abbrev with_telegram : Life → Option Telegram → Begun
+with_telegram life o = record nothing { heard = option_map (λ t. Read (record { telegram = t; sums = (place_of life.entries).sums })) o }
+
+pub returns-in-Err : goal.returns-in-Err
+returns-in-Err g c life s =
+    let none = refused_none _ _ ((c.in-Err.ensures.fault _).0 refl) in
+    let before = seen c.self.view_is s in
+    subst
+    (λ (o : Option Telegram). StandsForLife g.G.ProfileStore.profile g.S.ProfileStore.profile c.pass_over.new.self (grown_so_far life (with_telegram life o) (with_groups c.args.mode life.entries (with_telegram life o) nothing_happened)))
+    (sym none)
+    (record { parts_are = c.pass_over.ensures life before.parts_are; gradients_are = before.gradients_are; speeds_are = before.speeds_are })

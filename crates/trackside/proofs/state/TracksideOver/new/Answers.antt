@@ -1,0 +1,15 @@
+use Rattle.std.proofs.Common.{[], ◌∙◌}
+use Rattle.track_store.specs.Profiles.{profile_with}
+use Rattle.track_store.proofs.Telling.{none_told}
+use Rattle.trackside.specs.History.{mark_of}
+use Rattle.trackside.proofs.state.TracksideOver.new.Goals as goal
+
+pub returns : goal.returns
+returns g c =
+    record {
+      parts_are = c.new.ensures;
+      gradients_are = g.met.G.ProfileStore.profile_is _
+          ∙ none_told (profile_with g.G.Profile.value c.empty.result) (mark_of []) c.empty.ensures;
+      speeds_are = g.met.S.ProfileStore.profile_is _
+          ∙ none_told (profile_with g.S.Profile.value c.empty-2.result) (mark_of []) c.empty-2.ensures;
+    }

@@ -1,0 +1,105 @@
+//! What is known, part by part.
+ghost use Rattle.std.specs.Prelude.{◌≡◌};
+
+use crate::happened::Happened;
+use crate::state::TracksideOver;
+use areas::{AnnouncedLevel, Areas};
+use authority::Authority;
+use national::National;
+use odometry::Place;
+use track_store::Restrictions;
+use units::{Mph, Ms};
+use vars::GroupIdentity;
+
+impl<G, S> TracksideOver<G, S> {
+    /// Where the train is.
+    pub fn place(&self) -> Place
+        ensures { result ≡ self.now.parts.place }
+    {
+        self.parts.place
+    }
+
+    /// The group of the last fix in this life; None before the first.
+    pub fn group_of_fix(&self) -> Option<GroupIdentity>
+        ensures { result ≡ self.now.parts.group }
+    {
+        self.parts.group
+    }
+
+    /// The speed of the last reading, 0 before the first.
+    pub fn speed(&self) -> Mph
+        ensures { result ≡ self.now.parts.speed }
+    {
+        self.parts.speed
+    }
+
+    /// The moment of this life.
+    pub fn moment(&self) -> Ms
+        ensures { result ≡ self.now.parts.moment }
+    {
+        self.parts.moment
+    }
+
+    /// The national values.
+    pub fn national(&self) -> &National
+        ensures { result.now ≡ self.now.parts.national }
+    {
+        &self.parts.national
+    }
+
+    /// The restrictions in force.
+    pub fn restrictions(&self) -> &Restrictions
+        ensures { result.now ≡ self.now.parts.restrictions }
+    {
+        &self.parts.restrictions
+    }
+
+    /// The authority.
+    pub fn authority(&self) -> &Authority
+        ensures { result.now ≡ self.now.parts.authority }
+    {
+        &self.parts.authority
+    }
+
+    /// The mode areas.
+    pub fn areas(&self) -> &Areas
+        ensures { result.now ≡ self.now.parts.areas }
+    {
+        &self.parts.areas
+    }
+
+    /// The announced level.
+    pub fn level(&self) -> AnnouncedLevel
+        ensures { result ≡ self.now.parts.level }
+    {
+        self.parts.level
+    }
+
+    /// What the last event brought about.
+    pub fn happened(&self) -> Happened
+        ensures { result ≡ self.now.parts.happened }
+    {
+        self.parts.happened
+    }
+
+    /// Whether an authority whose speed is 0 (V_MAIN) was used in the last event.
+    pub fn is_stopped(&self) -> bool
+        ensures { result ≡ self.now.parts.stopped }
+    {
+        self.parts.stopped
+    }
+
+    /// The gradients, in per mille.
+    pub fn gradients(&self) -> &G
+        ensures { result.now ≡ self.now.gradients }
+    {
+        &self.gradients
+    }
+
+    /// The static speeds.
+    pub fn speeds(&self) -> &S
+        ensures { result.now ≡ self.now.speeds }
+    {
+        &self.speeds
+    }
+}

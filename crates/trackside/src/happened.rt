@@ -1,0 +1,34 @@
+ghost use Rattle.std.specs.Prelude.{◌≡◌};
+ghost use Rattle.trackside.specs.Entry.{asking};
+
+use linking::Effect;
+
+/// What an event brings about for the train, beside what it tells.
+#[derive(Clone, Copy)]
+pub struct Happened {
+    /// Whether its movement led too far, and wasn't added.
+    pub overrun: bool,
+    /// What linking asks of the train.
+    pub asked: Effect,
+}
+
+impl Happened {
+    /// Nothing.
+    pub const NOTHING: Happened = Happened {
+        overrun: false,
+        asked: Effect {
+            trip: false,
+            service: false,
+        },
+    };
+
+    // The same, where linking asks for something more.
+    pub(crate) fn asking(self, effect: Effect) -> Happened
+        ensures { result ≡ asking self effect }
+    {
+        Happened {
+            overrun: self.overrun,
+            asked: self.asked.both(effect),
+        }
+    }
+}

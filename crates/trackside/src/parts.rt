@@ -1,0 +1,102 @@
+ghost use Rattle.std.specs.Prelude.{◌≡◌, [], IfOk};
+ghost use Rattle.trackside.specs.StandsFor.{parts_of};
+
+use crate::happened::Happened;
+use areas::{AnnouncedLevel, Areas};
+use authority::Authority;
+use balise_groups::Assembler;
+use linking::Links;
+use national::{CountryValues, National};
+use odometry::Place;
+use std::alloc::Global;
+use std::marker::Model;
+use track_store::Restrictions;
+use units::{Mph, Ms, NoMemory};
+use vars::GroupIdentity;
+
+/// What is known but for the profiles of the track.
+#[derive(Drop)]
+pub struct Parts {
+    pub place: Place,
+    /// The group of the last fix.
+    pub group: Option<GroupIdentity>,
+    pub speed: Mph,
+    pub groups: Assembler,
+    pub links: Links,
+    pub national: National,
+    pub restrictions: Restrictions,
+    pub moment: Ms,
+    pub authority: Authority,
+    pub areas: Areas,
+    pub level: AnnouncedLevel,
+    /// What the last event brought about.
+    pub happened: Happened,
+    /// Whether an authority whose speed is 0 was used in the last event.
+    pub stopped: bool,
+}
+
+impl Model for Parts {
+    ghost use Rattle.trackside.specs.StandsFor.{Known};
+
+    ghost Value = { Known };
+
+    ghost view = { λ p. record {
+      place = p.place;
+      group = p.group;
+      speed = p.speed;
+      groups = p.groups;
+      links = p.links;
+      national = p.national;
+      restrictions = p.restrictions;
+      moment = p.moment;
+      authority = p.authority;
+      areas = p.areas;
+      level = p.level;
+      happened = p.happened;
+      stopped = p.stopped;
+    } };
+}
+
+impl Parts {
+    /// What is known as a life begins. Takes no memory.
+    pub fn new(alloc: Global, kept: CountryValues) -> Self
+        ensures { result ≡ parts_of (record { kept = kept; entries = [] }) }
+    {
+        Parts {
+            place: Place::new(),
+            group: None,
+            speed: Mph::new(0).unwrap(),
+            groups: Assembler::new(),
+            links: Links::new(),
+            national: National::kept(kept),
+            restrictions: Restrictions::new(alloc),
+            moment: Ms::new(0).unwrap(),
+            authority: Authority::new(),
+            areas: Areas::new(),
+            level: AnnouncedLevel::new(),
+            happened: Happened::NOTHING,
+            stopped: false,
+        }
+    }
+
+    /// An equal value.
+    pub fn copy(&self, alloc: Global) -> Result<Self, NoMemory>
+        ensures { IfOk result (λ copy. copy ≡ self.now) }
+    {
+        Ok(Parts {
+            place: self.place,
+            group: self.group,
+            speed: self.speed,
+            groups: self.groups.copy(),
+            links: self.links.copy(),
+            national: self.national.copy(),
+            restrictions: self.restrictions.copy(alloc)?,
+            moment: self.moment,
+            authority: self.authority.copy(),
+            areas: self.areas.copy(),
+            level: self.level,
+            happened: self.happened,
+            stopped: self.stopped,
+        })
+    }
+}

@@ -1,0 +1,135 @@
+//! What an input does: its own effect, and then that of the groups which it closes.
+ghost use Rattle.std.specs.Prelude.{◌≡◌, ℕ, false, List, ◌∷◌, OnOk, Some};
+ghost use Rattle.trackside.specs.Bytes.{telegram_in};
+ghost use Rattle.trackside.specs.Entry.{nothing_happened, no_groups};
+ghost use Rattle.trackside.specs.History.{groups_of};
+ghost use Rattle.trackside.specs.Sentences.{nothing, moved, happened_by, heard, begun, closed_by, with_groups, used_by, received};
+ghost use Rattle.trackside.specs.StandsFor.{Life, StandsForLife, parts_of, grown, grown_so_far};
+ghost use Rattle.trackside.specs.Steps.{left_by, after_moving};
+
+use crate::happened::Happened;
+use crate::parts::Parts;
+use crate::state::TracksideOver;
+use balise_groups::{Closed, Reading as GroupReading, Taken};
+use events::{Input, Reading};
+use mode_table::Mode;
+use speed_profile::CategorySpeeds;
+use std::alloc::Global;
+use telegram::Received;
+use track_store::ProfileStore;
+use units::{Ms, NoMemory, Permille};
+
+impl Parts {
+    // An event begins.
+    fn begin(&mut self)
+        ensures { self.new ≡ record self.old { happened = nothing_happened; stopped = false } }
+    {
+        self.happened = Happened::NOTHING;
+        self.stopped = false;
+    }
+
+    // An input that tells nothing here.
+    fn pass_over(&mut self)
+        ensures { (life : Life) → self.old ≡ parts_of life → self.new ≡ parts_of (grown_so_far life nothing no_groups) }
+    {
+        self.begin();
+    }
+
+    // A movement: the group that is left by it ends, and announced groups are missed that the train has passed. A movement
+    // that leads too far isn't added.
+    fn go(&mut self, reading: &Reading) -> Option<Closed>
+        ensures answer { (life : Life) → self.old ≡ parts_of life → result ≡ left_by life.entries reading.now }
+        ensures stands { (life : Life) → self.old ≡ parts_of life
+            → self.new ≡ parts_of (grown_so_far life (moved life.entries reading.now) (after_moving life.entries reading.now)) }
+    {
+        self.begin();
+        self.speed = reading.speed;
+        let overrun = self.place.moved(reading.movement).is_err();
+        let ended = self.groups.moved(self.place.sums().path());
+        let asked = self.links.missed(self.place.min_front());
+        self.happened = Happened { overrun, asked };
+        ended
+    }
+
+    // A telegram: the groups that it closes.
+    fn hear(&mut self, telegram: Received) -> Taken
+        ensures answer { (life : Life) (bytes : List ℕ) → self.old ≡ parts_of life → telegram_in bytes ≡ Some telegram
+            → result ≡ closed_by (groups_of life.entries) (heard life.entries bytes).heard }
+        ensures stands { (life : Life) (bytes : List ℕ) → self.old ≡ parts_of life → telegram_in bytes ≡ Some telegram
+            → self.new ≡ parts_of (grown_so_far life (heard life.entries bytes) no_groups) }
+    {
+        self.begin();
+        self.groups.take(GroupReading {
+            telegram,
+            sums: self.place.sums(),
+        })
+    }
+
+    // The clock tells a moment.
+    fn tick(&mut self, moment: Ms)
+        ensures { (life : Life) → self.old ≡ parts_of life
+            → self.new ≡ parts_of (grown_so_far life (record nothing { clock = Some moment }) no_groups) }
+    {
+        self.begin();
+        self.moment = moment;
+        self.authority.tick(moment);
+    }
+}
+
+impl<G: ProfileStore<Permille> + Drop, S: ProfileStore<CategorySpeeds> + Drop> TracksideOver<G, S> {
+    // A movement, and the group that closed by it.
+    fn move_by(&mut self, alloc: Global, mode: Mode, reading: &Reading) -> Result<(), NoMemory>
+        ensures { OnOk result ((life : Life) → StandsForLife G.profile S.profile self.old life
+            → StandsForLife G.profile S.profile self.new (grown_so_far life (moved life.entries reading.now)
+            (with_groups mode life.entries (moved life.entries reading.now) (happened_by life.entries reading.now)))) }
+    {
+        let ended = self.parts.go(reading);
+        self.close(alloc, mode, &ended)
+    }
+
+    // A telegram: the group that it ends closes, and behind that its own where that is whole now.
+    fn take(&mut self, alloc: Global, mode: Mode, telegram: Received) -> Result<(), NoMemory>
+        ensures { OnOk result ((life : Life) (bytes : List ℕ) → StandsForLife G.profile S.profile self.old life → telegram_in bytes ≡ Some telegram
+            → StandsForLife G.profile S.profile self.new (grown_so_far life (heard life.entries bytes)
+            (with_groups mode life.entries (heard life.entries bytes) nothing_happened))) }
+    {
+        let taken = self.parts.hear(telegram);
+        self.close(alloc, mode, &taken.ended)?;
+        self.close(alloc, mode, &taken.whole)
+    }
+
+    // The bytes of a balise. Those that carry no telegram do nothing.
+    fn listen(&mut self, alloc: Global, mode: Mode, bytes: &[u8]) -> Result<(), NoMemory>
+        ensures { OnOk result ((life : Life) → StandsForLife G.profile S.profile self.old life
+            → StandsForLife G.profile S.profile self.new (grown_so_far life (heard life.entries bytes.now)
+            (with_groups mode life.entries (heard life.entries bytes.now) nothing_happened))) }
+    {
+        match Received::new(bytes) {
+            Ok(telegram) => self.take(alloc, mode, telegram),
+            Err(_) => {
+                self.parts.pass_over();
+                Ok(())
+            }
+        }
+    }
+
+    /// What an input tells in a mode, and the groups do that it closes: first its own effect, then each group is judged, makes its
+    /// fix, and the packets are used that the mode uses. Where memory is refused, the state is no longer of use.
+    pub fn receive(&mut self, alloc: Global, mode: Mode, input: &Input) -> Result<(), NoMemory>
+        ensures { OnOk result ((life : Life) → StandsForLife G.profile S.profile self.old life
+            → StandsForLife G.profile S.profile self.new (grown life (received mode life.entries input.now))) }
+    {
+        match input {
+            Input::Telegram(bytes) => self.listen(alloc, mode, bytes.as_slice()),
+            Input::Odometer(reading) => self.move_by(alloc, mode, reading),
+            Input::Clock(moment) => {
+                self.parts.tick(*moment);
+                Ok(())
+            }
+            Input::Driver(_) => {
+                self.parts.pass_over();
+                Ok(())
+            }
+        }
+    }
+}

@@ -1,0 +1,42 @@
+//! Temporary speed restrictions (packet 65).
+ghost use Rattle.std.specs.Prelude.{◌≡◌, List, OnOk};
+ghost use Rattle.track_store.specs.Restrictions.{Entry, in_force};
+ghost use Rattle.trackside.specs.History.{restriction_of, after_restriction};
+ghost use Rattle.trackside.specs.Steps.{fact_of};
+
+use crate::using::Use;
+use packets::{Packet, SpeedRestriction};
+use std::alloc::Global;
+use track_store::{Restriction, Restrictions};
+use units::{Cm, GroupPlace, NoMemory};
+
+// A restriction where it lies on the track, its group being at a place.
+fn restriction_of(packet: &SpeedRestriction, at: GroupPlace) -> Restriction
+    ensures { result ≡ restriction_of at packet.now }
+{
+    let start = at.get() + packet.start.in_scale(packet.scale).get();
+    Restriction {
+        number: packet.number,
+        start: Cm::new(start).unwrap(),
+        length: packet.length.in_scale(packet.scale),
+        delay: packet.delay,
+        speed: packet.speed.speed(),
+    }
+}
+
+/// Takes a packet, where it is a restriction.
+pub fn take(
+    restrictions: &mut Restrictions,
+    alloc: Global,
+    packet: &Packet<'_>,
+    used: &Use,
+) -> Result<(), NoMemory>
+    ensures { OnOk result ((entries : List Entry) → restrictions.old ≡ in_force entries
+        → restrictions.new ≡ in_force (after_restriction (fact_of used.now packet.now) entries)) }
+{
+    let Packet::SpeedRestriction(packet) = packet else {
+        return Ok(());
+    };
+    restrictions.add(alloc, restriction_of(packet, used.place))?;
+    Ok(())
+}

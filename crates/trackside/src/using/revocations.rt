@@ -1,0 +1,19 @@
+//! Revocations of temporary speed restrictions (packet 66).
+ghost use Rattle.std.specs.Prelude.{◌≡◌, List};
+ghost use Rattle.track_store.specs.Restrictions.{Entry, in_force};
+ghost use Rattle.trackside.specs.History.{after_revocation};
+ghost use Rattle.trackside.specs.Steps.{fact_of};
+
+use crate::using::Use;
+use packets::Packet;
+use track_store::Restrictions;
+
+/// Takes a packet, where it is a revocation.
+pub fn take(restrictions: &mut Restrictions, packet: &Packet<'_>, used: &Use)
+    ensures { (entries : List Entry) → restrictions.old ≡ in_force entries
+        → restrictions.new ≡ in_force (after_revocation (fact_of used.now packet.now) entries) }
+{
+    if let Packet::RestrictionRevocation(packet) = packet {
+        restrictions.revoke(packet.number);
+    }
+}

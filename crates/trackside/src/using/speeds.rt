@@ -1,0 +1,32 @@
+//! Static speeds (packet 27).
+ghost use Rattle.std.specs.Prelude.{◌≡◌, OnOk};
+ghost use Rattle.speed_profile.specs.declared.told.CategorySpeeds.{CategorySpeeds};
+ghost use Rattle.track_store.specs.Facts.{Told, profile_of};
+ghost use Rattle.track_store.specs.Profiles.{profile_with};
+ghost use Rattle.trackside.specs.History.{after_speeds};
+ghost use Rattle.trackside.specs.Steps.{fact_of};
+
+use crate::using::Use;
+use packets::Packet;
+use speed_profile::{CategorySpeeds, static_speeds};
+use track_store::ProfileStore;
+use units::{Cm, NoMemory};
+
+/// Takes a packet, where it tells static speeds; no track before the forgetting mark counts.
+pub fn take<S: ProfileStore<CategorySpeeds>>(
+    store: &mut S,
+    mark: Cm,
+    packet: &Packet<'_>,
+    used: &Use,
+) -> Result<(), NoMemory>
+    ensures { OnOk result ((told : Told CategorySpeeds) → told.mark ≡ mark → profile_with S.value store.old ≡ profile_of told
+        → profile_with S.value store.new ≡ profile_of (record told { facts = after_speeds (fact_of used.now packet.now) told.facts })) }
+{
+    let Packet::StaticSpeeds(packet) = packet else {
+        return Ok(());
+    };
+    let told = static_speeds(packet, used.place);
+    store.replace_from(told.start, told.steps.as_slice())?;
+    store.drop_behind(mark);
+    Ok(())
+}

@@ -1,0 +1,120 @@
+-- What targets ask of a train, and fewer ones that ask the same.
+use Rattle.std.proofs.Common.{◌≡◌, ℕ, ℤ, List, [], ◌∷◌, ◌++◌, ◌⊎◌, inl, inr, Bool, true, false, refl, ap, sym, ◌∙◌}
+use Rattle.std.specs.Prelude.{Option, None, Some, ◌&&◌}
+use Rattle.std.specs.Iterator.{Yields, Drains}
+use Rattle.units.proofs.Gathering.{IsIn}
+use Rattle.braking.specs.declared.brakes.Brakes.{Brakes}
+use Rattle.braking.specs.declared.target.Target.{Target}
+use Rattle.braking.specs.Braking.{fits, fits_all}
+use Rattle.speed_profile.specs.Targets.{AskTheSame, AskNothing, LieBeyond, Left, Tells}
+use Rattle.speed_profile.proofs.Members.{in_left, in_right, in_either}
+use Rattle.speed_profile.proofs.Farther.{IsNoNearer, farther_fits}
+
+-- the targets of both lists are among all, and each of all is no nearer than one of theirs
+pub record AreCovered (first second all : List Target) : Type 0 where
+  pub first_in : (t : Target) → IsIn t first → IsIn t all
+  pub second_in : (t : Target) → IsIn t second → IsIn t all
+  pub nearer : (t : Target) → IsIn t all → (near : Target) × (IsIn near first ⊎ IsIn near second) × IsNoNearer near t
+
+same_test : (a b : Bool) → (a ≡ true → b ≡ true) → (b ≡ true → a ≡ true) → a ≡ b
+same_test true b there back = sym (there refl)
+same_test false true there back = back refl
+same_test false false there back = refl
+
+both_true : (a b : Bool) → (a && b) ≡ true → (a ≡ true) × (b ≡ true)
+both_true true b h = (refl, h)
+both_true false b h = absurd (let no : false ≡ true = h in cc)
+
+module _ (front : ℤ) (gradient : ℤ → Option ℤ) (brakes : Brakes) where
+  fit_each : (targets : List Target) (v : ℕ) → fits_all front gradient brakes targets v ≡ true → (t : Target) → IsIn t targets →
+      fits front gradient brakes t v ≡ true
+  fit_each [] v h t there = absurd there
+  fit_each (target ∷ targets) v h t there =
+      let parts = both_true (fits front gradient brakes target v) (fits_all front gradient brakes targets v) h in
+      elim there [
+        | inl same ↦ ap (λ (x : Target). fits front gradient brakes x v) same ∙ parts.0
+        | inr k ↦ fit_each targets v parts.1 t k
+      ]
+
+  pub fit_all : (targets : List Target) (v : ℕ) → ((t : Target) → IsIn t targets → fits front gradient brakes t v ≡ true) →
+      fits_all front gradient brakes targets v ≡ true
+  fit_all [] v h = refl
+  fit_all (target ∷ targets) v h =
+      rw (h target (inl refl)) (fit_all targets v (λ t there. h t (inr there)))
+
+  pub fit_both : (some others : List Target) (v : ℕ) →
+      fits_all front gradient brakes (some ++ others) v ≡ (fits_all front gradient brakes some v && fits_all front gradient brakes others v)
+  fit_both [] others v = refl
+  fit_both (t ∷ some) others v =
+      let cases : (b : Bool) → (b && fits_all front gradient brakes (some ++ others) v)
+      ≡ ((b && fits_all front gradient brakes some v) && fits_all front gradient brakes others v) =
+      elim [ true ↦ fit_both some others v | false ↦ refl ] in
+      cases (fits front gradient brakes t v)
+
+-- fewer targets that cover all ask the same
+pub covered_ask : (first second all : List Target) → AreCovered first second all → AskTheSame all (first ++ second)
+covered_ask first second all covered front gradient brakes v =
+    let fewer = first ++ second in
+    same_test (fits_all front gradient brakes all v) (fits_all front gradient brakes fewer v)
+    (λ h. fit_all front gradient brakes fewer v (λ t there. elim (in_either t first second there) [
+      | inl a ↦ fit_each front gradient brakes all v h t (covered.first_in t a)
+      | inr b ↦ fit_each front gradient brakes all v h t (covered.second_in t b)
+    ]))
+    (λ h. fit_all front gradient brakes all v (λ t there.
+    let near = covered.nearer t there in
+    let here : IsIn near.0 fewer = elim near.1 [ inl a ↦ in_left near.0 first second a | inr b ↦ in_right near.0 first second b ] in
+    farther_fits front gradient brakes near.0 t v near.2 (fit_each front gradient brakes fewer v h near.0 here)))
+
+-- ---- to ask the same
+
+pub same : (targets : List Target) → AskTheSame targets targets
+same targets front gradient brakes v = refl
+
+pub equal : (some others : List Target) → some ≡ others → AskTheSame some others
+equal some others is front gradient brakes v = ap (λ (ts : List Target). fits_all front gradient brakes ts v) is
+
+pub back : (some others : List Target) → AskTheSame some others → AskTheSame others some
+back some others h front gradient brakes v = sym (h front gradient brakes v)
+
+pub through : (some middle others : List Target) → AskTheSame some middle → AskTheSame middle others → AskTheSame some others
+through some middle others h k front gradient brakes v = h front gradient brakes v ∙ k front gradient brakes v
+
+pub joined : (some others some' others' : List Target) → AskTheSame some some' → AskTheSame others others' →
+    AskTheSame (some ++ others) (some' ++ others')
+joined some others some' others' h k front gradient brakes v =
+    fit_both front gradient brakes some others v
+    ∙ (λ i. h front gradient brakes v i && k front gradient brakes v i)
+    ∙ sym (fit_both front gradient brakes some' others' v)
+
+pub one_more : (t : Target) (some others : List Target) → AskTheSame some others → AskTheSame (t ∷ some) (t ∷ others)
+one_more t some others h = joined (t ∷ []) some (t ∷ []) others (same (t ∷ [])) h
+
+-- where some ask nothing, the others ask all
+pub none_first : (some others : List Target) → AskNothing some → AskTheSame (some ++ others) others
+none_first some others none = joined some others [] others none (same others)
+
+-- one is told of the first of two lists
+pub told_first : (t : Target) (before after others : List Target) → AskTheSame before (t ∷ after) →
+    AskTheSame (before ++ others) (t ∷ (after ++ others))
+told_first t before after others h = joined before others (t ∷ after) others h (same others)
+
+-- .. of the second, where the first asks nothing
+pub told_second : (t : Target) (first first' before after : List Target) → AskNothing first → AskNothing first' →
+    AskTheSame before (t ∷ after) → AskTheSame (first ++ before) (t ∷ (first' ++ after))
+told_second t first first' before after none none' h =
+    through (first ++ before) before (t ∷ (first' ++ after)) (none_first first before none)
+    (through before (t ∷ after) (t ∷ (first' ++ after)) h
+    (one_more t after (first' ++ after) (back (first' ++ after) after (none_first first' after none'))))
+
+pub none_both : (first second : List Target) → AskNothing first → AskNothing second → AskNothing (first ++ second)
+none_both first second none none' = joined first second [] [] none none'
+
+-- what is told up to the end asks what was left at first
+pub told_in_all : (left : Left) (told : List Target) → Drains Tells left told → AskTheSame told left.targets
+told_in_all left [] drains =
+    back left.targets [] (through left.targets drains.1.0.targets [] (equal left.targets drains.1.0.targets (ap (λ (l : Left). l.targets) drains.1.1)) drains.1.2.0)
+told_in_all left (t ∷ told) drains =
+    let turn = drains.1.1 in
+    let after : Left = turn.0 in
+    let others = told_in_all after told (drains.0, (drains.1.0, turn.2, drains.1.2)) in
+    through (t ∷ told) (t ∷ after.targets) left.targets (one_more t told after.targets others) (back left.targets (t ∷ after.targets) turn.1)

@@ -1,11 +1,16 @@
 -- What targets ask of a train, and fewer ones that ask the same.
-use Rattle.std.proofs.Common.{◌≡◌, ℕ, ℤ, List, [], ◌∷◌, ◌++◌, ◌⊎◌, inl, inr, Bool, true, false, refl, ap, sym, ◌∙◌}
-use Rattle.std.specs.Prelude.{Option, None, Some, ◌&&◌}
+use Rattle.std.proofs.Common.{◌≡◌, ℕ, ℤ, List, [], ◌∷◌, ◌++◌, ◌⊎◌, inl, inr, Bool, true, false, refl, ap, sym, ◌∙◌, subst, arith}
+use Rattle.std.specs.Prelude.{Option, None, Some, is_some, OnSome, ◌&&◌}
 use Rattle.std.specs.Iterator.{Yields, Drains}
 use Rattle.units.proofs.Gathering.{IsIn}
+use Rattle.track_store.specs.Profiles.{listed}
 use Rattle.braking.specs.declared.brakes.Brakes.{Brakes}
 use Rattle.braking.specs.declared.target.Target.{Target}
-use Rattle.braking.specs.Braking.{fits, fits_all}
+use Rattle.braking.specs.Braking.{fits, fits_all, greatest}
+use Rattle.braking.specs.Approaches.{Course, at_speed, lowered, lowered_by}
+use Rattle.braking.proofs.Approaching.{lowered_by_none, lowered_by_one, lowered_by_more}
+use Rattle.braking.proofs.Greatest.{greatest_is}
+use Rattle.speed_profile.specs.Ahead.{permitted_by}
 use Rattle.speed_profile.specs.Targets.{AskTheSame, AskNothing, LieBeyond, Left, Tells}
 use Rattle.speed_profile.proofs.Members.{in_left, in_right, in_either}
 use Rattle.speed_profile.proofs.Farther.{IsNoNearer, farther_fits}
@@ -93,6 +98,11 @@ one_more t some others h = joined (t ∷ []) some (t ∷ []) others (same (t ∷
 pub none_first : (some others : List Target) → AskNothing some → AskTheSame (some ++ others) others
 none_first some others none = joined some others [] others none (same others)
 
+pub nothing_more : (targets : List Target) → AskTheSame (targets ++ []) targets
+nothing_more targets front gradient brakes v =
+    let cases : (b : Bool) → (b && true) ≡ b = elim [ true ↦ refl | false ↦ refl ] in
+    fit_both front gradient brakes targets [] v ∙ cases (fits_all front gradient brakes targets v)
+
 -- one is told of the first of two lists
 pub told_first : (t : Target) (before after others : List Target) → AskTheSame before (t ∷ after) →
     AskTheSame (before ++ others) (t ∷ (after ++ others))
@@ -109,6 +119,37 @@ told_second t first first' before after none none' h =
 pub none_both : (first second : List Target) → AskNothing first → AskNothing second → AskNothing (first ++ second)
 none_both first second none none' = joined first second [] [] none none'
 
+pub nothing_by : (targets others : List Target) → targets ≡ others → AskNothing others → AskNothing targets
+nothing_by targets others is none = through targets others [] (equal targets others is) none
+
+-- where all that is left asks what one and the others behind it do, that one is told or passed over
+pub one_told : (before after : Left) (all : List Target) (target : Option Target) → AskTheSame before.targets all →
+    AskTheSame all (listed target ++ after.targets) → is_some target ≡ true → Tells before target after
+one_told before after all None h k some = absurd (let no : false ≡ true = some in cc)
+one_told before after all (Some t) h k some = through before.targets all (t ∷ after.targets) h k
+
+pub passed_over : (before all after : List Target) (target : Option Target) → AskTheSame before all →
+    AskTheSame all (listed target ++ after) → is_some target ≡ false → AskTheSame before after
+passed_over before all after None h k none = through before all after h k
+passed_over before all after (Some t) h k none = absurd (let no : true ≡ false = none in cc)
+
+-- one is told of what stands behind some that ask nothing
+pub tells_behind : (told : Option Target) (first first' : List Target) (before after : Left) (b a : ℕ) →
+    AskNothing first → AskNothing first' → (after.most ≡ 0 → a ≡ 0) → Tells before told after →
+    Tells (record { targets = first ++ before.targets; most = b }) told (record { targets = first' ++ after.targets; most = a })
+tells_behind None first first' before after b a none none' end h =
+    (none_both first before.targets none h.0, none_both first' after.targets none' h.1, end h.2)
+tells_behind (Some t) first first' before after b a none none' end h =
+    told_second t first first' before.targets after.targets none none' h
+
+pub tells_at : (told : Option Target) (before before' after after' : Left) → before ≡ before' → after ≡ after' →
+    Tells before told after → Tells before' told after'
+tells_at told before before' after after' b a h = subst (λ (l : Left). Tells l told after') b (subst (Tells before told) a h)
+
+pub on_some : {A : Type 0} (r : Option A) (P Q : Type 0) → (P → Q) → OnSome r P → OnSome r Q
+on_some None P Q f h = tt
+on_some (Some x) P Q f h = f h
+
 -- what is told up to the end asks what was left at first
 pub told_in_all : (left : Left) (told : List Target) → Drains Tells left told → AskTheSame told left.targets
 told_in_all left [] drains =
@@ -118,3 +159,48 @@ told_in_all left (t ∷ told) drains =
     let after : Left = turn.0 in
     let others = told_in_all after told (drains.0, (drains.1.0, turn.2, drains.1.2)) in
     through (t ∷ told) (t ∷ after.targets) left.targets (one_more t told after.targets others) (back left.targets (t ∷ after.targets) turn.1)
+
+-- ---- a train that is told of them
+
+module _ {G : Type 0} (value : G → ℤ → Option ℤ) where
+  pub lowered_same : (some others : List Target) (course : Course G) → AskTheSame some others →
+      lowered_by (value course.gradient) some course ≡ lowered_by (value course.gradient) others course
+  lowered_same some others course h =
+      ap (λ (test : ℕ → Bool). at_speed course (greatest test course.speed)) (λ i v. h course.front (value course.gradient) course.brakes v i)
+
+  -- one whose speed fits them all keeps it
+  pub lowered_fitting : (targets : List Target) (course : Course G) →
+      fits_all course.front (value course.gradient) course.brakes targets course.speed ≡ true →
+      lowered_by (value course.gradient) targets course ≡ course
+  lowered_fitting targets course fit =
+      ap (at_speed course) (greatest_is (fits_all course.front (value course.gradient) course.brakes targets) course.speed course.speed (omega arith)
+      (inr fit) (λ k above below. absurd (omega arith)))
+
+  pub lowered_nothing : (targets : List Target) (course : Course G) → AskNothing targets →
+      lowered_by (value course.gradient) targets course ≡ course
+  lowered_nothing targets course none =
+      lowered_fitting targets course (none course.front (value course.gradient) course.brakes course.speed)
+
+  -- some, and one more behind them
+  pub lowered_then : (targets : List Target) (t : Target) (old : Course G) →
+      lowered (value old.gradient) t (lowered_by (value old.gradient) targets old) ≡ lowered_by (value old.gradient) (targets ++ (t ∷ [])) old
+  lowered_then [] t old =
+      ap (λ (x : Course G). lowered (value old.gradient) t x) (lowered_by_none value old)
+      ∙ lowered_by_one value t old (lowered (value old.gradient) t old) refl
+  lowered_then (x ∷ targets) t old =
+      let new : Course G = lowered (value old.gradient) x old in
+      sym (ap (λ (c : Course G). lowered (value old.gradient) t c) (lowered_by_more value x targets old new refl))
+      ∙ lowered_then targets t new
+      ∙ lowered_by_more value x (targets ++ (t ∷ [])) old new refl
+
+  -- a last one
+  pub lowered_last : (ahead : List Target) (t : Target) (start middle end : Course G) →
+      middle ≡ lowered_by (value start.gradient) (ahead ++ []) start → end ≡ lowered (value middle.gradient) t middle →
+      end.speed ≡ permitted_by start.front (value start.gradient) start.brakes (ahead ++ (t ∷ [])) start.speed
+  lowered_last ahead t start middle end first second =
+      let one = t ∷ [] in
+      let all : end ≡ lowered_by (value start.gradient) (ahead ++ one) start =
+      second ∙ ap (λ (c : Course G). lowered (value c.gradient) t c) first
+      ∙ lowered_then (ahead ++ []) t start
+      ∙ lowered_same (ahead ++ [] ++ one) (ahead ++ one) start (joined (ahead ++ []) one ahead one (nothing_more ahead) (same one)) in
+      ap (λ (c : Course G). c.speed) all

@@ -1,6 +1,6 @@
 -- The static speeds, by the centimetres where their pieces begin.
 use Rattle.std.proofs.Common.{◌≡◌, ℕ, ℤ, pos, ◌+ℤ◌, ◌-ℤ◌, ◌≤ℤ◌, ◌<ℤ◌, ◌<◌, List, [], ◌∷◌, ◌++◌, inl, inr, Bool, true, false, cond, refl, ap, sym, ◌∙◌, subst, arith}
-use Rattle.std.specs.Prelude.{Option, None, Some, int_lt, MatchOption, ◌^◌}
+use Rattle.std.specs.Prelude.{Option, None, Some, int_lt, MatchOption, IfSome, ◌^◌}
 use Rattle.std.proofs.lemmas.Int.{ints, by_lt_z}
 use Rattle.units.specs.Stretches.{over, natural, count_between}
 use Rattle.units.proofs.Gathering.{IsIn, over_at, in_over}
@@ -147,3 +147,8 @@ rest_beyond bounds profile place front gradient brakes v stops =
     let stop : Target = record { place = place; speed = 0 } in
     fit_all front gradient brakes (rest (static_targets bounds profile) (Some place)) v
     (λ t there. farther_fits front gradient brakes stop t v (record { place = rest_ahead bounds profile place t there; speed = omega arith }) stops)
+
+pub start_beyond : (bounds : Bounds) (profile : ℤ → Option CategorySpeeds) (start : Option ℤ) (targets : List Target) →
+    rest (static_targets bounds profile) start ≡ targets → IfSome start (λ place. LieBeyond place targets)
+start_beyond bounds profile None targets is = tt
+start_beyond bounds profile (Some place) targets is = subst (LieBeyond place) is (rest_beyond bounds profile place)

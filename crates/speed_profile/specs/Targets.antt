@@ -26,5 +26,5 @@ pub record Left : Type 0 where
 
 -- one is told, or none is left
 abbrev pub Tells : Left → Option Target → Left → Type 0
-Tells before None after = AskNothing before.targets × AskNothing after.targets
+Tells before None after = AskNothing before.targets × AskNothing after.targets × (after.most ≡ 0)
 Tells before (Some target) after = AskTheSame before.targets (target ∷ after.targets)

@@ -122,6 +122,13 @@ none_both first second none none' = joined first second [] [] none none'
 pub nothing_by : (targets others : List Target) → targets ≡ others → AskNothing others → AskNothing targets
 nothing_by targets others is none = through targets others [] (equal targets others is) none
 
+pub asked_at : (all all' others : List Target) (told told' : Option Target) → all ≡ all' → told ≡ told' →
+    AskTheSame all' (listed told' ++ others) → AskTheSame all (listed told ++ others)
+asked_at all all' others told told' a t h =
+    through all all' (listed told ++ others) (equal all all' a)
+    (through all' (listed told' ++ others) (listed told ++ others) h
+    (equal (listed told' ++ others) (listed told ++ others) (ap (λ (x : Option Target). listed x ++ others) (sym t))))
+
 -- where all that is left asks what one and the others behind it do, that one is told or passed over
 pub one_told : (before after : Left) (all : List Target) (target : Option Target) → AskTheSame before.targets all →
     AskTheSame all (listed target ++ after.targets) → is_some target ≡ true → Tells before target after

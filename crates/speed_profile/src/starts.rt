@@ -1,5 +1,5 @@
 // The targets where values begin.
-ghost use Rattle.std.specs.Prelude.{◌≡◌, ◌+ℤ◌, ◌<ℤ◌, pos, MatchOption};
+ghost use Rattle.std.specs.Prelude.{◌≡◌, ◌+ℤ◌, ◌≤ℤ◌, ◌<ℤ◌, pos, MatchOption};
 ghost use Rattle.speed_profile.specs.Ahead.{greatest_place, unknown_target, static_target};
 ghost use Rattle.speed_profile.specs.Starts.{first_covered, first_target, first_in_area};
 
@@ -27,9 +27,10 @@ pub fn stop_at(place: Cm) -> Target
     }
 }
 
-// What the static speed of a centimetre asks for.
+// What the static speed of a centimetre asks for. No centimetre lies beyond the greatest place.
 pub fn static_target(bounds: &Bounds, place: Cm, speeds: Option<CategorySpeeds>) -> Option<Target>
-    ensures { result ≡ static_target bounds.now place speeds }
+    ensures value { result ≡ static_target bounds.now place speeds }
+    ensures within { place ≤ℤ greatest_place }
 {
     match speeds {
         Some(speeds) => Some(Target {

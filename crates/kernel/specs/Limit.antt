@@ -9,6 +9,7 @@ use Rattle.authority.specs.declared.answers.Release.TheVariants.{Speed, National
 use Rattle.speed_profile.specs.declared.limit.Bounds.{Bounds}
 use Rattle.speed_profile.specs.Limit.{limit_on}
 use Rattle.speed_profile.specs.Ahead.{permitted_ahead}
+use Rattle.speed_profile.specs.Track.{TrackSpeeds}
 use Rattle.braking.specs.declared.target.Target.{Target}
 use Rattle.track_store.specs.Restrictions.{in_force, least_speed}
 use Rattle.kernel.specs.declared.events.Event.{Event}
@@ -40,15 +41,24 @@ bounds_of train life =
       end = end_of (authorities life.entries);
     }
 
+-- what is told of the speeds along the track; no mode area is
+abbrev pub track_of : Life → TrackSpeeds
+track_of life =
+    record {
+      static = (speeds_of life.entries).value;
+      restrictions = in_force (restrictions life.entries);
+      areas = [];
+      national = record { on_sight = 0; shunting = 0 };
+    }
+
 abbrev pub supervised_limit : TrainData → Life → ℕ
-supervised_limit train life =
-    limit_on (train_of train life) (bounds_of train life) (speeds_of life.entries).value (in_force (restrictions life.entries))
+supervised_limit train life = limit_on (train_of train life) (bounds_of train life) (track_of life)
 
 -- .. and up to that the greatest speed from which the train can still brake for all that lies ahead, and for a last target
 abbrev pub permitted_to : TrainData → Life → Option Target → ℕ
 permitted_to train life last =
-    permitted_ahead (train_of train life).max_front (supervised_limit train life) last (bounds_of train life)
-    (speeds_of life.entries).value (in_force (restrictions life.entries)) (gradients_of life.entries).value train.brakes
+    permitted_ahead (train_of train life).max_front (supervised_limit train life) last (bounds_of train life) (track_of life)
+    (gradients_of life.entries).value train.brakes
 
 -- the release speed, which may be the national value
 abbrev pub release_speed : Release → ℕ → ℕ

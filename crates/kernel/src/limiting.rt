@@ -1,15 +1,17 @@
 //! The speed limit, by what is known.
 ghost use Rattle.std.specs.Prelude.{◌≡◌};
 ghost use Rattle.speed_profile.specs.Ahead.{permitted_ahead};
+ghost use Rattle.speed_profile.specs.Track.{speeds_along};
 ghost use Rattle.kernel.specs.Lives.{Life};
 ghost use Rattle.kernel.specs.Limit.{train_of, responsible_limit, bounds_of, permitted_speed, release_speed, released_by, limit};
 ghost use Rattle.kernel.specs.StandsFor.{StandsForLife};
 
 use crate::state::StateOver;
 use crate::train::{Mode, TrainData};
+use areas::{Areas, NationalSpeeds};
 use authority::{End, Release};
 use braking::Target;
-use speed_profile::{Ahead, Bounds, CategorySpeeds, limit_on};
+use speed_profile::{Ahead, Bounds, CategorySpeeds, Track, limit_on};
 use track_store::{Profile, ProfileStore};
 use units::{Cm, Mph, Permille, Stretch};
 
@@ -41,15 +43,26 @@ impl<G: ProfileStore<Permille> + Drop, S: ProfileStore<CategorySpeeds> + Drop> S
         ensures { (life : Life) → StandsForLife G.profile S.profile self.now life → stretch.now ≡ train_of train.now life → result ≡ permitted_speed train.now life }
     {
         let bounds = self.bounds(train);
+        // No mode area is told yet.
+        let areas = Areas::new();
+        let none = Mph::new(0).unwrap();
+        let track = Track {
+            speeds: &self.speeds,
+            restrictions: &self.parts.restrictions,
+            areas: &areas,
+            national: NationalSpeeds {
+                on_sight: none,
+                shunting: none,
+            },
+        };
         let ahead = Ahead {
             front: stretch.max_front(),
             bounds: &bounds,
-            speeds: &self.speeds,
-            restrictions: &self.parts.restrictions,
+            track: &track,
             gradient: &self.gradients,
             brakes: &train.brakes,
         };
-        let limit = limit_on(stretch, &bounds, &self.speeds, &self.parts.restrictions);
+        let limit = limit_on(stretch, &bounds, &track);
         let national = self.parts.national.in_force().values().release;
         released_by(&ahead, limit, &bounds.end, national)
     }
@@ -73,8 +86,8 @@ fn released_by<S: Profile<CategorySpeeds>, G: Profile<Permille>>(
     end: &Option<End>,
     national: Mph,
 ) -> Mph
-    ensures { result ≡ released_by (λ last. permitted_ahead ahead.now.front limit last ahead.now.bounds.now (S.value ahead.now.speeds.now)
-        ahead.now.restrictions.now (G.value ahead.now.gradient.now) ahead.now.brakes.now) end.now national }
+    ensures { result ≡ released_by (λ last. permitted_ahead ahead.now.front limit last ahead.now.bounds.now
+        (speeds_along S.value ahead.now.track.now) (G.value ahead.now.gradient.now) ahead.now.brakes.now) end.now national }
 {
     let Some(end) = end else {
         return ahead.permitted(limit, None);

@@ -1,4 +1,8 @@
 pub mod Members
 pub mod Farther
-pub mod Passes
+pub mod Asking
 pub mod Starting
+pub mod There
+pub mod Covering
+pub mod Reaching
+pub mod Together

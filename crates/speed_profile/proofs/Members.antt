@@ -1,6 +1,8 @@
 -- What is in lists.
-use Rattle.std.proofs.Common.{◌≡◌, ℕ, suc, List, [], ◌∷◌, ◌++◌, ◌+◌, ◌<◌, length, drop, get_or, drop-cons, ◌⊎◌, inl, inr, Bool, true, false, cond, refl, ap, sym, ◌∙◌, arith}
-use Rattle.std.specs.Prelude.{filter, map}
+use Rattle.std.proofs.Common.{◌≡◌, List, [], ◌∷◌, ◌++◌, length, ◌⊎◌, inl, inr, Bool, true, false, cond, refl, ap, sym, ◌∙◌, arith}
+use Rattle.std.specs.Prelude.{filter, map, ◌==◌}
+use Rattle.std.proofs.lemmas.Bool.Decides.{nat_tests}
+use Rattle.std.proofs.lemmas.List.{nil_from_length}
 use Rattle.units.proofs.Gathering.{IsIn}
 
 pub in_left : {A : Type 0} (x : A) (xs ys : List A) → IsIn x xs → IsIn x (xs ++ ys)
@@ -38,8 +40,6 @@ passes f p (y ∷ xs) x h e =
     ] in
     cases (p y) refl
 
--- the rest of a list from an element on
-pub drop_step : {A : Type 0} (xs : List A) (i : ℕ) (x : A) → i < length xs → x ≡ get_or xs i x → x ∷ drop (i + 1) xs ≡ drop i xs
-drop_step {A = A} xs i x h is =
-    let next : i + 1 ≡ suc i = omega arith in
-    (λ j. is j ∷ drop (next j) xs) ∙ sym (drop-cons xs i x h)
+-- a list that is found empty
+pub none_left : {A : Type 0} (xs : List A) (empty : Bool) → empty ≡ (length xs == 0) → empty ≡ true → xs ≡ []
+none_left xs empty is h = nil_from_length xs (grind (arith, nat_tests))

@@ -1,11 +1,14 @@
 -- What lies ahead of a train and asks for a speed, and the greatest speed from which the train can still brake for all of it
 -- (this project's profile). Each centimetre ahead is looked at, up to the last one that there is.
-use Rattle.std.specs.Prelude.{ℕ, ◌^◌, ℤ, pos, ◌+ℤ◌, int_lt, if◌then◌else◌, Option, None, Some, List, ◌++◌, filter, map}
+use Rattle.std.specs.Prelude.{ℕ, ◌^◌, ℤ, pos, ◌+ℤ◌, int_lt, Bool, not, ◌&&◌, if◌then◌else◌, Option, None, Some, List, ◌++◌, filter, map}
 use Rattle.units.specs.Stretches.{over}
 use Rattle.track_store.specs.Profiles.{listed}
 use Rattle.track_store.specs.declared.restriction.Restriction.{Restriction}
-use Rattle.track_store.specs.Restrictions.{InForce, covers}
+use Rattle.track_store.specs.Restrictions.{covers}
 use Rattle.authority.specs.declared.answers.End.{End}
+use Rattle.areas.specs.declared.area.Area.{Area}
+use Rattle.areas.specs.declared.area.NationalSpeeds.{NationalSpeeds}
+use Rattle.areas.specs.Areas.{is_before, speed_in}
 use Rattle.braking.specs.declared.brakes.Brakes.{Brakes}
 use Rattle.braking.specs.declared.target.Target.{Target}
 use Rattle.braking.specs.Braking.{fits_all, greatest}
@@ -13,6 +16,7 @@ use Rattle.braking.specs.Approaches.{Course}
 use Rattle.speed_profile.specs.declared.told.CategorySpeeds.{CategorySpeeds}
 use Rattle.speed_profile.specs.declared.limit.Bounds.{Bounds}
 use Rattle.speed_profile.specs.Told.{speed_of}
+use Rattle.speed_profile.specs.Track.{TrackSpeeds}
 
 -- the greatest place that there is
 abbrev pub greatest_place : ℤ
@@ -36,25 +40,35 @@ abbrev pub restriction_targets : ℤ → List Restriction → ℤ → List Targe
 restriction_targets mark restrictions place =
     map (λ restriction. record { place = place; speed = restriction.speed }) (filter (covers mark place) restrictions)
 
-abbrev pub targets_at : Bounds → (ℤ → Option CategorySpeeds) → InForce → ℤ → List Target
-targets_at bounds profile track place =
-    static_targets bounds profile place ++ restriction_targets track.mark track.restrictions place
+-- the speeds of the mode areas that cover a centimetre: one of no length covers none, one without end all from its start on
+abbrev pub is_inside : ℤ → Area → Bool
+is_inside place area = not (int_lt place area.start) && is_before place area.end
+
+abbrev pub area_targets : NationalSpeeds → List Area → ℤ → List Target
+area_targets national areas place =
+    map (λ area. record { place = place; speed = speed_in national area }) (filter (is_inside place) areas)
+
+abbrev pub targets_at : Bounds → TrackSpeeds → ℤ → List Target
+targets_at bounds track place =
+    static_targets bounds track.static place
+    ++ restriction_targets track.restrictions.mark track.restrictions.restrictions place
+    ++ area_targets track.national track.areas place
 
 -- what each centimetre ahead of a front gives
 abbrev pub over_ahead : ℤ → (ℤ → List Target) → List Target
 over_ahead front f = over f (front +ℤ pos 1) greatest_place
 
-abbrev pub targets_ahead : ℤ → Bounds → (ℤ → Option CategorySpeeds) → InForce → List Target
-targets_ahead front bounds profile track = over_ahead front (targets_at bounds profile track)
+abbrev pub targets_ahead : ℤ → Bounds → TrackSpeeds → List Target
+targets_ahead front bounds track = over_ahead front (targets_at bounds track)
 
 -- the greatest speed up to a limit that fits some targets
 abbrev pub permitted_by : ℤ → (ℤ → Option ℤ) → Brakes → List Target → ℕ → ℕ
 permitted_by front gradient brakes targets limit = greatest (fits_all front gradient brakes targets) limit
 
 -- .. that fits those ahead, and a last one where it is given
-abbrev pub permitted_ahead : ℤ → ℕ → Option Target → Bounds → (ℤ → Option CategorySpeeds) → InForce → (ℤ → Option ℤ) → Brakes → ℕ
-permitted_ahead front limit last bounds profile track gradient brakes =
-    permitted_by front gradient brakes (targets_ahead front bounds profile track ++ listed last) limit
+abbrev pub permitted_ahead : ℤ → ℕ → Option Target → Bounds → TrackSpeeds → (ℤ → Option ℤ) → Brakes → ℕ
+permitted_ahead front limit last bounds track gradient brakes =
+    permitted_by front gradient brakes (targets_ahead front bounds track ++ listed last) limit
 
 -- a train that was told of no target yet
 abbrev pub setting_out : {G : Type 0} → ℤ → ℕ → G → Brakes → Course G

@@ -1,4 +1,6 @@
 pub mod Told
+pub mod Track
 pub mod Limit
 pub mod Ahead
 pub mod Starts
+pub mod Targets

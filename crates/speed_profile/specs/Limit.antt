@@ -6,9 +6,11 @@ use Rattle.vars.specs.declared.restriction.TrainLengthDelay.TheVariants.{Applied
 use Rattle.track_store.specs.Profiles.{listed, lesser}
 use Rattle.track_store.specs.Restrictions.{InForce, least_speed}
 use Rattle.authority.specs.declared.answers.End.{End}
+use Rattle.areas.specs.Areas.{least_speed as least_in_areas}
 use Rattle.speed_profile.specs.declared.told.CategorySpeeds.{CategorySpeeds}
 use Rattle.speed_profile.specs.declared.limit.Bounds.{Bounds}
 use Rattle.speed_profile.specs.Told.{speed_of}
+use Rattle.speed_profile.specs.Track.{TrackSpeeds}
 
 -- a static speed counts at a centimetre: with the train length delay everywhere, without it from the least front on
 abbrev pub counts_at : ℤ → ℤ → TrainLengthDelay → Bool
@@ -39,7 +41,9 @@ speed_at_end front (Some end) = if not (int_lt front end.end) && nat_lt 0 end.sp
 abbrev pub bound_speed : ℤ → Bounds → ℕ
 bound_speed front bounds = lesser (lesser bounds.maximum bounds.main) (speed_at_end front bounds.end)
 
--- the least of all that limits a train
-abbrev pub limit_on : Span → Bounds → (ℤ → Option CategorySpeeds) → InForce → ℕ
-limit_on train bounds profile restrictions =
-    least_speed restrictions train (least_static profile bounds.category train (bound_speed train.max_front bounds))
+-- the least of all that limits a train; a mode area does where it covers a centimetre from the least front to the greatest one
+abbrev pub limit_on : Span → Bounds → TrackSpeeds → ℕ
+limit_on train bounds track =
+    least_in_areas track.national train
+    (least_speed track.restrictions train (least_static track.static bounds.category train (bound_speed train.max_front bounds)))
+    track.areas

@@ -5,8 +5,13 @@
 mod ahead;
 mod limit;
 mod limiting;
+mod starts;
+mod targets;
 mod told;
+mod track;
 
 pub use ahead::Ahead;
 pub use limit::{Bounds, limit_on};
+pub use targets::Targets;
 pub use told::{CategorySpeeds, Told, gradients, static_speeds};
+pub use track::Track;

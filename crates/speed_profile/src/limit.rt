@@ -2,11 +2,12 @@
 ghost use Rattle.std.specs.Prelude.{◌≡◌};
 ghost use Rattle.track_store.specs.Profiles.{lesser};
 ghost use Rattle.speed_profile.specs.Limit.{speed_at_end, bound_speed, limit_on};
+ghost use Rattle.speed_profile.specs.Track.{speeds_along};
 
-use crate::CategorySpeeds;
 use crate::limiting::Limiting;
+use crate::{CategorySpeeds, Track};
 use authority::End;
-use track_store::{Profile, Restrictions, least_over};
+use track_store::{Profile, least_over};
 use units::{Cm, Mph, Stretch};
 use vars::TrainCategory;
 
@@ -24,24 +25,24 @@ pub struct Bounds {
 }
 
 /// The greatest speed that a train which may stand on this stretch may have there (this project's profile): the least of
-/// its greatest speed, of V_MAIN, of V_LOA once its greatest front is at the end, of the static speeds and of the
-/// restrictions. Takes no memory.
+/// its greatest speed, of V_MAIN, of V_LOA once its greatest front is at the end, of the static speeds, of the restrictions and
+/// of the mode areas that its front may stand in. Takes no memory.
 pub fn limit_on<S: Profile<CategorySpeeds>>(
     train: &Stretch,
     bounds: &Bounds,
-    speeds: &S,
-    restrictions: &Restrictions,
+    track: &Track<'_, S>,
 ) -> Mph
-    ensures { result ≡ limit_on train.now bounds.now (S.value speeds.now) restrictions.now }
+    ensures { result ≡ limit_on train.now bounds.now (speeds_along S.value track.now) }
 {
     let limiting = Limiting {
-        speeds,
+        speeds: track.speeds,
         category: bounds.category,
         min_front: train.min_front(),
     };
     let bound = bound_speed(train.max_front(), bounds);
     let least = least_over(&limiting, train.rear(), train.max_front(), bound);
-    restrictions.least(train, least)
+    let restricted = track.restrictions.least(train, least);
+    track.areas.least(train, &track.national, restricted)
 }
 
 // The least of what holds wherever the train stands, its greatest front being at a place.

@@ -13,6 +13,6 @@ pub fn take(level: &mut AnnouncedLevel, packet: &Packet<'_>, used: &Use)
     ensures { (entries : List Entry) → level.old ≡ waiting entries → level.new ≡ waiting (after_level (fact_of used.now packet.now) entries) }
 {
     if let Packet::LevelTransition(packet) = packet {
-        level.announce(packet, used.place.to_cm());
+        level.announce(packet, used.place);
     }
 }

@@ -24,6 +24,6 @@ pub fn take(areas: &mut Areas, packet: &Packet<'_>, used: &Use)
     ensures { (entries : List Entry) → areas.old ≡ stored entries → areas.new ≡ stored (after_areas (fact_of used.now packet.now) entries) }
 {
     if let Packet::ModeProfile(packet) = packet {
-        areas.replace(packet, used.place.to_cm());
+        areas.replace(packet, used.place);
     }
 }

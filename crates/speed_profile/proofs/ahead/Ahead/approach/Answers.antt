@@ -1,23 +1,64 @@
-use Rattle.std.proofs.Common.{ℤ, pos, ◌+ℤ◌, List, ◌∙◌}
-use Rattle.units.specs.Stretches.{over}
+use Rattle.std.proofs.Common.{◌≡◌, true, ◌∷◌, ◌++◌, refl, ap, sym, ◌∙◌}
+use Rattle.track_store.specs.Profiles.{listed}
 use Rattle.braking.specs.declared.target.Target.{Target}
-use Rattle.braking.proofs.Approaching.{lowered_from}
-use Rattle.speed_profile.specs.Ahead.{greatest_place, static_targets, restriction_targets, targets_ahead, setting_out}
-use Rattle.speed_profile.proofs.Passes.{told_on}
-use Rattle.speed_profile.proofs.Starting.{both_covered}
+use Rattle.braking.specs.Braking.{fits, fits_all}
+use Rattle.braking.specs.Approaches.{Course, lowered_by}
+use Rattle.braking.proofs.Approaching.{lowered_by_more, lowered_from}
+use Rattle.speed_profile.specs.Ahead.{targets_ahead, setting_out}
+use Rattle.speed_profile.specs.Track.{speeds_along}
+use Rattle.speed_profile.proofs.Asking.{lowered_same, lowered_fitting, lowered_nothing}
 use Rattle.speed_profile.proofs.ahead.Ahead.approach.Goals as goal
 
-pub returns : goal.returns
-returns g c =
+pub loop-target-init : goal.loop-target-init
+loop-target-init g c = refl
+
+pub loop-target-preserved-in_default-nearest : goal.loop-target-preserved-in_default-nearest
+loop-target-preserved-in_default-nearest g c =
+    let gradient = g.G.Profile.value in
+    let old = c.loop-target.approach in
+    let left = c.next.new.self.targets in
+    lowered_by_more gradient c.in-Some.target left old c.lower.new.self c.lower.ensures
+    ∙ sym (lowered_same gradient c.loop-target.targets.targets (c.in-Some.target ∷ left) old c.in-Some.ensures.steps)
+    ∙ c.loop-target.invariant
+
+pub loop-target-preserved : goal.loop-target-preserved
+loop-target-preserved g c =
+    let gradient = g.G.Profile.value in
+    let old = c.loop-target.approach in
+    let left = c.next.new.self.targets in
+    lowered_from gradient left c.fits.new.self c.lower.new.self c.fits.ensures.same
+    ∙ lowered_by_more gradient c.in-Some.target left old c.lower.new.self c.lower.ensures
+    ∙ sym (lowered_same gradient c.loop-target.targets.targets (c.in-Some.target ∷ left) old c.in-Some.ensures.steps)
+    ∙ c.loop-target.invariant
+
+pub returns-then-fits : goal.returns-then-fits
+returns-then-fits g c =
     let self = c.args.self.now in
     let gradient = g.G.Profile.value in
-    let profile = g.S.Profile.value self.speeds.now in
-    let track = self.restrictions.now in
-    let static = static_targets self.bounds.now profile in
-    let restricted = restriction_targets track.mark track.restrictions in
-    let first : ℤ = self.front +ℤ pos 1 in
-    let ahead : List Target = targets_ahead self.front self.bounds.now profile track in
-    c.tell_restrictions.ensures
-    ∙ told_on gradient (over static first greatest_place) (over restricted first greatest_place) ahead
-    c.new-approach.result c.tell_static_speeds.new.approach (both_covered static restricted first greatest_place) c.tell_static_speeds.ensures
-    ∙ lowered_from gradient ahead c.new-approach.result (setting_out self.front c.args.limit self.gradient.now self.brakes.now) c.new-approach.ensures
+    let old = c.loop-target.approach in
+    let now = c.lower.new.self in
+    let left = c.next.new.self.targets in
+    let first = c.new-approach.result in
+    let all = targets_ahead self.front self.bounds.now (speeds_along g.S.Profile.value self.track.now) ++ listed c.args.last in
+    let stops : fits now.front (gradient now.gradient) now.brakes (record { place = c.in-Some-nearest.place; speed = 0 }) now.speed ≡ true =
+    ap (λ (t : Target). fits now.front (gradient now.gradient) now.brakes t now.speed) (sym c.stop_at.ensures)
+    ∙ sym c.fits.ensures.value ∙ c.if-fits.true in
+    let fit = c.in-Some-nearest.ensures now.front (gradient now.gradient) now.brakes now.speed stops in
+    c.fits.ensures.same
+    ∙ sym (lowered_fitting gradient left now fit)
+    ∙ lowered_by_more gradient c.in-Some.target left old now c.lower.ensures
+    ∙ sym (lowered_same gradient c.loop-target.targets.targets (c.in-Some.target ∷ left) old c.in-Some.ensures.steps)
+    ∙ c.loop-target.invariant
+    ∙ lowered_same gradient c.targets-targets.result.targets all first c.targets-targets.ensures.left
+    ∙ lowered_from gradient all first (setting_out self.front c.args.limit self.gradient.now self.brakes.now) c.new-approach.ensures
+
+pub returns-in_default : goal.returns-in_default
+returns-in_default g c =
+    let self = c.args.self.now in
+    let gradient = g.G.Profile.value in
+    let first = c.new-approach.result in
+    let all = targets_ahead self.front self.bounds.now (speeds_along g.S.Profile.value self.track.now) ++ listed c.args.last in
+    sym (lowered_nothing gradient c.loop-target.targets.targets c.loop-target.approach c.in_default.ensures.steps.0)
+    ∙ c.loop-target.invariant
+    ∙ lowered_same gradient c.targets-targets.result.targets all first c.targets-targets.ensures.left
+    ∙ lowered_from gradient all first (setting_out self.front c.args.limit self.gradient.now self.brakes.now) c.new-approach.ensures

@@ -4,9 +4,9 @@ use Rattle.std.proofs.lemmas.Int.{ints, clamps}
 use Rattle.units.specs.Limits.{IsCm}
 use Rattle.track_store.specs.Restrictions.{end_of}
 use Rattle.speed_profile.specs.Ahead.{greatest_place}
-use Rattle.speed_profile.proofs.Starting.{at_place, target_there, no_target_behind, no_target_beyond}
-use Rattle.speed_profile.proofs.ahead.first_target.Goals as goal
-use Rattle.speed_profile.proofs.ahead.first_target.Goals.{in_default-via-in-Some+else-first-get, in_default-via-in_default}
+use Rattle.speed_profile.proofs.There.{at_place, target_there, no_target_behind, no_target_beyond}
+use Rattle.speed_profile.proofs.starts.first_target.Goals as goal
+use Rattle.speed_profile.proofs.starts.first_target.Goals.{in_default-via-in-Some+else-first-get, in_default-via-in_default}
 
 pub returns-in-Some : goal.returns-in-Some
 returns-in-Some c =

@@ -1,0 +1,213 @@
+-- What targets ask of a train, and fewer ones that ask the same.
+use Rattle.std.proofs.Common.{◌≡◌, ℕ, ℤ, List, [], ◌∷◌, ◌++◌, ◌⊎◌, inl, inr, Bool, true, false, refl, ap, sym, ◌∙◌, subst, arith}
+use Rattle.std.specs.Prelude.{Option, None, Some, is_some, OnSome, ◌&&◌}
+use Rattle.std.specs.Iterator.{Yields, Drains}
+use Rattle.units.proofs.Gathering.{IsIn}
+use Rattle.track_store.specs.Profiles.{listed}
+use Rattle.braking.specs.declared.brakes.Brakes.{Brakes}
+use Rattle.braking.specs.declared.target.Target.{Target}
+use Rattle.braking.specs.Braking.{fits, fits_all, greatest}
+use Rattle.braking.specs.Approaches.{Course, at_speed, lowered, lowered_by}
+use Rattle.braking.proofs.Approaching.{lowered_by_none, lowered_by_one, lowered_by_more}
+use Rattle.braking.proofs.Greatest.{greatest_is}
+use Rattle.speed_profile.specs.Ahead.{permitted_by}
+use Rattle.speed_profile.specs.Targets.{AskTheSame, AskNothing, LieBeyond, Left, Tells}
+use Rattle.speed_profile.proofs.Members.{in_left, in_right, in_either}
+use Rattle.speed_profile.proofs.Farther.{IsNoNearer, farther_fits}
+
+-- the targets of both lists are among all, and each of all is no nearer than one of theirs
+pub record AreCovered (first second all : List Target) : Type 0 where
+  pub first_in : (t : Target) → IsIn t first → IsIn t all
+  pub second_in : (t : Target) → IsIn t second → IsIn t all
+  pub nearer : (t : Target) → IsIn t all → (near : Target) × (IsIn near first ⊎ IsIn near second) × IsNoNearer near t
+
+same_test : (a b : Bool) → (a ≡ true → b ≡ true) → (b ≡ true → a ≡ true) → a ≡ b
+same_test true b there back = sym (there refl)
+same_test false true there back = back refl
+same_test false false there back = refl
+
+both_true : (a b : Bool) → (a && b) ≡ true → (a ≡ true) × (b ≡ true)
+both_true true b h = (refl, h)
+both_true false b h = absurd (let no : false ≡ true = h in cc)
+
+module _ (front : ℤ) (gradient : ℤ → Option ℤ) (brakes : Brakes) where
+  fit_each : (targets : List Target) (v : ℕ) → fits_all front gradient brakes targets v ≡ true → (t : Target) → IsIn t targets →
+      fits front gradient brakes t v ≡ true
+  fit_each [] v h t there = absurd there
+  fit_each (target ∷ targets) v h t there =
+      let parts = both_true (fits front gradient brakes target v) (fits_all front gradient brakes targets v) h in
+      elim there [
+        | inl same ↦ ap (λ (x : Target). fits front gradient brakes x v) same ∙ parts.0
+        | inr k ↦ fit_each targets v parts.1 t k
+      ]
+
+  pub fit_all : (targets : List Target) (v : ℕ) → ((t : Target) → IsIn t targets → fits front gradient brakes t v ≡ true) →
+      fits_all front gradient brakes targets v ≡ true
+  fit_all [] v h = refl
+  fit_all (target ∷ targets) v h =
+      rw (h target (inl refl)) (fit_all targets v (λ t there. h t (inr there)))
+
+  pub fit_both : (some others : List Target) (v : ℕ) →
+      fits_all front gradient brakes (some ++ others) v ≡ (fits_all front gradient brakes some v && fits_all front gradient brakes others v)
+  fit_both [] others v = refl
+  fit_both (t ∷ some) others v =
+      let cases : (b : Bool) → (b && fits_all front gradient brakes (some ++ others) v)
+      ≡ ((b && fits_all front gradient brakes some v) && fits_all front gradient brakes others v) =
+      elim [ true ↦ fit_both some others v | false ↦ refl ] in
+      cases (fits front gradient brakes t v)
+
+-- fewer targets that cover all ask the same
+pub covered_ask : (first second all : List Target) → AreCovered first second all → AskTheSame all (first ++ second)
+covered_ask first second all covered front gradient brakes v =
+    let fewer = first ++ second in
+    same_test (fits_all front gradient brakes all v) (fits_all front gradient brakes fewer v)
+    (λ h. fit_all front gradient brakes fewer v (λ t there. elim (in_either t first second there) [
+      | inl a ↦ fit_each front gradient brakes all v h t (covered.first_in t a)
+      | inr b ↦ fit_each front gradient brakes all v h t (covered.second_in t b)
+    ]))
+    (λ h. fit_all front gradient brakes all v (λ t there.
+    let near = covered.nearer t there in
+    let here : IsIn near.0 fewer = elim near.1 [ inl a ↦ in_left near.0 first second a | inr b ↦ in_right near.0 first second b ] in
+    farther_fits front gradient brakes near.0 t v near.2 (fit_each front gradient brakes fewer v h near.0 here)))
+
+-- ---- to ask the same
+
+pub same : (targets : List Target) → AskTheSame targets targets
+same targets front gradient brakes v = refl
+
+pub equal : (some others : List Target) → some ≡ others → AskTheSame some others
+equal some others is front gradient brakes v = ap (λ (ts : List Target). fits_all front gradient brakes ts v) is
+
+pub back : (some others : List Target) → AskTheSame some others → AskTheSame others some
+back some others h front gradient brakes v = sym (h front gradient brakes v)
+
+pub through : (some middle others : List Target) → AskTheSame some middle → AskTheSame middle others → AskTheSame some others
+through some middle others h k front gradient brakes v = h front gradient brakes v ∙ k front gradient brakes v
+
+pub joined : (some others some' others' : List Target) → AskTheSame some some' → AskTheSame others others' →
+    AskTheSame (some ++ others) (some' ++ others')
+joined some others some' others' h k front gradient brakes v =
+    fit_both front gradient brakes some others v
+    ∙ (λ i. h front gradient brakes v i && k front gradient brakes v i)
+    ∙ sym (fit_both front gradient brakes some' others' v)
+
+pub one_more : (t : Target) (some others : List Target) → AskTheSame some others → AskTheSame (t ∷ some) (t ∷ others)
+one_more t some others h = joined (t ∷ []) some (t ∷ []) others (same (t ∷ [])) h
+
+-- where some ask nothing, the others ask all
+pub none_first : (some others : List Target) → AskNothing some → AskTheSame (some ++ others) others
+none_first some others none = joined some others [] others none (same others)
+
+pub nothing_more : (targets : List Target) → AskTheSame (targets ++ []) targets
+nothing_more targets front gradient brakes v =
+    let cases : (b : Bool) → (b && true) ≡ b = elim [ true ↦ refl | false ↦ refl ] in
+    fit_both front gradient brakes targets [] v ∙ cases (fits_all front gradient brakes targets v)
+
+-- one is told of the first of two lists
+pub told_first : (t : Target) (before after others : List Target) → AskTheSame before (t ∷ after) →
+    AskTheSame (before ++ others) (t ∷ (after ++ others))
+told_first t before after others h = joined before others (t ∷ after) others h (same others)
+
+-- .. of the second, where the first asks nothing
+pub told_second : (t : Target) (first first' before after : List Target) → AskNothing first → AskNothing first' →
+    AskTheSame before (t ∷ after) → AskTheSame (first ++ before) (t ∷ (first' ++ after))
+told_second t first first' before after none none' h =
+    through (first ++ before) before (t ∷ (first' ++ after)) (none_first first before none)
+    (through before (t ∷ after) (t ∷ (first' ++ after)) h
+    (one_more t after (first' ++ after) (back (first' ++ after) after (none_first first' after none'))))
+
+pub none_both : (first second : List Target) → AskNothing first → AskNothing second → AskNothing (first ++ second)
+none_both first second none none' = joined first second [] [] none none'
+
+pub nothing_by : (targets others : List Target) → targets ≡ others → AskNothing others → AskNothing targets
+nothing_by targets others is none = through targets others [] (equal targets others is) none
+
+pub asked_at : (all all' others : List Target) (told told' : Option Target) → all ≡ all' → told ≡ told' →
+    AskTheSame all' (listed told' ++ others) → AskTheSame all (listed told ++ others)
+asked_at all all' others told told' a t h =
+    through all all' (listed told ++ others) (equal all all' a)
+    (through all' (listed told' ++ others) (listed told ++ others) h
+    (equal (listed told' ++ others) (listed told ++ others) (ap (λ (x : Option Target). listed x ++ others) (sym t))))
+
+-- where all that is left asks what one and the others behind it do, that one is told or passed over
+pub one_told : (before after : Left) (all : List Target) (target : Option Target) → AskTheSame before.targets all →
+    AskTheSame all (listed target ++ after.targets) → is_some target ≡ true → Tells before target after
+one_told before after all None h k some = absurd (let no : false ≡ true = some in cc)
+one_told before after all (Some t) h k some = through before.targets all (t ∷ after.targets) h k
+
+pub passed_over : (before all after : List Target) (target : Option Target) → AskTheSame before all →
+    AskTheSame all (listed target ++ after) → is_some target ≡ false → AskTheSame before after
+passed_over before all after None h k none = through before all after h k
+passed_over before all after (Some t) h k none = absurd (let no : true ≡ false = none in cc)
+
+-- one is told of what stands behind some that ask nothing
+pub tells_behind : (told : Option Target) (first first' : List Target) (before after : Left) (b a : ℕ) →
+    AskNothing first → AskNothing first' → (after.most ≡ 0 → a ≡ 0) → Tells before told after →
+    Tells (record { targets = first ++ before.targets; most = b }) told (record { targets = first' ++ after.targets; most = a })
+tells_behind None first first' before after b a none none' end h =
+    (none_both first before.targets none h.0, none_both first' after.targets none' h.1, end h.2)
+tells_behind (Some t) first first' before after b a none none' end h =
+    told_second t first first' before.targets after.targets none none' h
+
+pub tells_at : (told : Option Target) (before before' after after' : Left) → before ≡ before' → after ≡ after' →
+    Tells before told after → Tells before' told after'
+tells_at told before before' after after' b a h = subst (λ (l : Left). Tells l told after') b (subst (Tells before told) a h)
+
+pub on_some : {A : Type 0} (r : Option A) (P Q : Type 0) → (P → Q) → OnSome r P → OnSome r Q
+on_some None P Q f h = tt
+on_some (Some x) P Q f h = f h
+
+-- what is told up to the end asks what was left at first
+pub told_in_all : (left : Left) (told : List Target) → Drains Tells left told → AskTheSame told left.targets
+told_in_all left [] drains =
+    back left.targets [] (through left.targets drains.1.0.targets [] (equal left.targets drains.1.0.targets (ap (λ (l : Left). l.targets) drains.1.1)) drains.1.2.0)
+told_in_all left (t ∷ told) drains =
+    let turn = drains.1.1 in
+    let after : Left = turn.0 in
+    let others = told_in_all after told (drains.0, (drains.1.0, turn.2, drains.1.2)) in
+    through (t ∷ told) (t ∷ after.targets) left.targets (one_more t told after.targets others) (back left.targets (t ∷ after.targets) turn.1)
+
+-- ---- a train that is told of them
+
+module _ {G : Type 0} (value : G → ℤ → Option ℤ) where
+  pub lowered_same : (some others : List Target) (course : Course G) → AskTheSame some others →
+      lowered_by (value course.gradient) some course ≡ lowered_by (value course.gradient) others course
+  lowered_same some others course h =
+      ap (λ (test : ℕ → Bool). at_speed course (greatest test course.speed)) (λ i v. h course.front (value course.gradient) course.brakes v i)
+
+  -- one whose speed fits them all keeps it
+  pub lowered_fitting : (targets : List Target) (course : Course G) →
+      fits_all course.front (value course.gradient) course.brakes targets course.speed ≡ true →
+      lowered_by (value course.gradient) targets course ≡ course
+  lowered_fitting targets course fit =
+      ap (at_speed course) (greatest_is (fits_all course.front (value course.gradient) course.brakes targets) course.speed course.speed (omega arith)
+      (inr fit) (λ k above below. absurd (omega arith)))
+
+  pub lowered_nothing : (targets : List Target) (course : Course G) → AskNothing targets →
+      lowered_by (value course.gradient) targets course ≡ course
+  lowered_nothing targets course none =
+      lowered_fitting targets course (none course.front (value course.gradient) course.brakes course.speed)
+
+  -- some, and one more behind them
+  pub lowered_then : (targets : List Target) (t : Target) (old : Course G) →
+      lowered (value old.gradient) t (lowered_by (value old.gradient) targets old) ≡ lowered_by (value old.gradient) (targets ++ (t ∷ [])) old
+  lowered_then [] t old =
+      ap (λ (x : Course G). lowered (value old.gradient) t x) (lowered_by_none value old)
+      ∙ lowered_by_one value t old (lowered (value old.gradient) t old) refl
+  lowered_then (x ∷ targets) t old =
+      let new : Course G = lowered (value old.gradient) x old in
+      sym (ap (λ (c : Course G). lowered (value old.gradient) t c) (lowered_by_more value x targets old new refl))
+      ∙ lowered_then targets t new
+      ∙ lowered_by_more value x (targets ++ (t ∷ [])) old new refl
+
+  -- a last one
+  pub lowered_last : (ahead : List Target) (t : Target) (start middle end : Course G) →
+      middle ≡ lowered_by (value start.gradient) (ahead ++ []) start → end ≡ lowered (value middle.gradient) t middle →
+      end.speed ≡ permitted_by start.front (value start.gradient) start.brakes (ahead ++ (t ∷ [])) start.speed
+  lowered_last ahead t start middle end first second =
+      let one = t ∷ [] in
+      let all : end ≡ lowered_by (value start.gradient) (ahead ++ one) start =
+      second ∙ ap (λ (c : Course G). lowered (value c.gradient) t c) first
+      ∙ lowered_then (ahead ++ []) t start
+      ∙ lowered_same (ahead ++ [] ++ one) (ahead ++ one) start (joined (ahead ++ []) one ahead one (nothing_more ahead) (same one)) in
+      ap (λ (c : Course G). c.speed) all

@@ -1,0 +1,30 @@
+-- Targets that are told one by one, in place of those of each centimetre (this project's profile).
+use Rattle.std.specs.Prelude.{◌≡◌, ℕ, ℤ, true, Option, None, Some, List, [], ◌∷◌}
+use Rattle.braking.specs.declared.brakes.Brakes.{Brakes}
+use Rattle.braking.specs.declared.target.Target.{Target}
+use Rattle.braking.specs.Braking.{fits, fits_all}
+
+-- some targets ask the same of a train as others: wherever its front is, whatever the gradients and its brakes are, a speed fits
+-- all of the one exactly where it fits all of the other
+abbrev pub AskTheSame : List Target → List Target → Type 0
+AskTheSame some others = (front : ℤ) (gradient : ℤ → Option ℤ) (brakes : Brakes) (speed : ℕ) →
+    fits_all front gradient brakes some speed ≡ fits_all front gradient brakes others speed
+
+-- nothing is left to ask
+abbrev pub AskNothing : List Target → Type 0
+AskNothing targets = AskTheSame targets []
+
+-- a train that can come to a stop at a place can brake for all of some targets
+abbrev pub LieBeyond : ℤ → List Target → Type 0
+LieBeyond place targets = (front : ℤ) (gradient : ℤ → Option ℤ) (brakes : Brakes) (speed : ℕ) →
+    fits front gradient brakes (record { place = place; speed = 0 }) speed ≡ true → fits_all front gradient brakes targets speed ≡ true
+
+-- what is still to be told: what it asks, and how many targets that takes at most
+pub record Left : Type 0 where
+  pub targets : List Target
+  pub most : ℕ
+
+-- one is told, or none is left
+abbrev pub Tells : Left → Option Target → Left → Type 0
+Tells before None after = AskNothing before.targets × AskNothing after.targets × (after.most ≡ 0)
+Tells before (Some target) after = AskTheSame before.targets (target ∷ after.targets)

@@ -1,0 +1,68 @@
+// The restrictions ahead as targets.
+ghost use Rattle.std.specs.Prelude.{◌≡◌, [], ◌↔◌, IsTrue};
+ghost use Rattle.std.specs.Iterator.{at_most};
+ghost use Rattle.speed_profile.specs.Ahead.{over_ahead, restriction_targets};
+ghost use Rattle.speed_profile.specs.Targets.{Tells, AskNothing};
+
+use crate::starts::first_target;
+use braking::Target;
+use std::marker::Model;
+use track_store::{Restriction, Restrictions};
+use units::Cm;
+
+// Each restriction at the first centimetre that it covers ahead of a front.
+#[derive(Drop)]
+pub struct RestrictionTargets<'a> {
+    front: Cm,
+    mark: Cm,
+    // Those that weren't looked at yet.
+    left: &'a [Restriction],
+}
+
+impl<'a> Model for RestrictionTargets<'a> {
+    ghost use Rattle.std.specs.Prelude.{length};
+    ghost use Rattle.speed_profile.specs.Ahead.{over_ahead, restriction_targets};
+    ghost use Rattle.speed_profile.specs.Targets.{Left};
+
+    ghost Value = { Left };
+
+    ghost view = { λ r. record { targets = over_ahead r.front (restriction_targets r.mark r.left.now); most = length r.left.now } };
+}
+
+impl<'a> RestrictionTargets<'a> {
+    pub fn new(front: Cm, restrictions: &'a Restrictions) -> RestrictionTargets<'a>
+        ensures { result.targets ≡ over_ahead front (restriction_targets restrictions.now.mark restrictions.now.restrictions) }
+    {
+        RestrictionTargets {
+            front,
+            mark: restrictions.mark(),
+            left: restrictions.as_slice(),
+        }
+    }
+
+    // Whether all were looked at.
+    pub fn is_done(&self) -> bool
+        ensures { IsTrue result → AskNothing self.now.targets }
+    {
+        self.left.is_empty()
+    }
+}
+
+impl<'a> Iterator for RestrictionTargets<'a> {
+    type Item = Target;
+
+    ghost next_gives = { Tells };
+
+    ghost remaining = { λ left. at_most left.most };
+
+    fn next(&mut self) -> Option<Target> {
+        while let Some((first, others)) = self.left.split_first() {
+            self.left = others;
+            let target = first_target(self.front, self.mark, first);
+            if target.is_some() {
+                return target;
+            }
+        }
+        None
+    }
+}

@@ -1,0 +1,74 @@
+// The static speeds ahead as targets.
+ghost use Rattle.std.specs.Prelude.{◌≡◌, IfSome};
+ghost use Rattle.std.specs.Iterator.{at_most};
+ghost use Rattle.speed_profile.specs.Ahead.{over_ahead, static_targets};
+ghost use Rattle.speed_profile.specs.Targets.{Tells, LieBeyond};
+
+use crate::starts::{next_after, static_target};
+use crate::{Bounds, CategorySpeeds};
+use braking::Target;
+use std::marker::Model;
+use track_store::Profile;
+use units::Cm;
+
+// Each piece of the static speeds ahead of a front at its first centimetre, the nearest first.
+#[derive(Drop)]
+pub struct SpeedTargets<'a, S: Profile<CategorySpeeds>> {
+    bounds: &'a Bounds,
+    speeds: &'a S,
+    // Where those begin that weren't looked at yet.
+    start: Option<Cm>,
+    // What finds the piece there sooner.
+    near: usize,
+}
+
+impl<'a, S: Profile<CategorySpeeds>> Model for SpeedTargets<'a, S> {
+    ghost use Rattle.speed_profile.specs.Ahead.{static_targets};
+    ghost use Rattle.speed_profile.specs.Starts.{rest, left};
+    ghost use Rattle.speed_profile.specs.Targets.{Left};
+
+    ghost Value = { Left };
+
+    ghost view = { λ s. record { targets = rest (static_targets s.bounds.now (S.value s.speeds.now)) s.start; most = left s.start } };
+}
+
+impl<'a, S: Profile<CategorySpeeds>> SpeedTargets<'a, S> {
+    pub fn new(front: Cm, bounds: &'a Bounds, speeds: &'a S) -> SpeedTargets<'a, S>
+        ensures { result.targets ≡ over_ahead front (static_targets bounds.now (S.value speeds.now)) }
+    {
+        SpeedTargets {
+            bounds,
+            speeds,
+            start: next_after(front),
+            near: 0,
+        }
+    }
+
+    // Where those begin that are left.
+    pub fn start(&self) -> Option<Cm>
+        ensures { IfSome result (λ place. LieBeyond place self.now.targets) }
+    {
+        self.start
+    }
+}
+
+impl<'a, S: Profile<CategorySpeeds>> Iterator for SpeedTargets<'a, S> {
+    type Item = Target;
+
+    ghost next_gives = { Tells };
+
+    ghost remaining = { λ left. at_most left.most };
+
+    fn next(&mut self) -> Option<Target> {
+        while let Some(place) = self.start {
+            let here = self.speeds.piece(place, self.near);
+            self.start = here.next;
+            self.near = here.near;
+            let target = static_target(self.bounds, place, here.value);
+            if target.is_some() {
+                return target;
+            }
+        }
+        None
+    }
+}

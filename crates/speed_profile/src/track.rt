@@ -1,0 +1,16 @@
+//! What is told of the speeds along the track.
+use areas::{Areas, NationalSpeeds};
+use track_store::Restrictions;
+
+/// What is told of the speeds along the track.
+#[derive(Clone, Copy)]
+pub struct Track<'a, S> {
+    /// The static speeds.
+    pub speeds: &'a S,
+    /// The temporary speed restrictions.
+    pub restrictions: &'a Restrictions,
+    /// The mode areas.
+    pub areas: &'a Areas,
+    /// The national speeds of now, for the areas that tell no speed of their own.
+    pub national: NationalSpeeds,
+}

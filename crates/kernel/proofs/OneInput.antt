@@ -1,9 +1,9 @@
 -- One more input of a life, in the list of limits.
 use Rattle.std.proofs.Common.{◌≡◌, ℕ, ◌+◌, ◌<◌, List, [], ◌∷◌, ◌++◌, drop, get_or, length, append_assoc, ap, sym, ◌∙◌}
 use Rattle.std.proofs.lemmas.List.{drop_more}
-use Rattle.kernel.specs.declared.events.Event.{Event}
-use Rattle.kernel.specs.declared.events.Event.TheVariants as event
-use Rattle.kernel.specs.declared.events.Input.{Input}
+use Rattle.events.specs.declared.input.Event.{Event}
+use Rattle.events.specs.declared.input.Event.TheVariants as event
+use Rattle.events.specs.declared.input.Input.{Input}
 use Rattle.kernel.specs.declared.train.Mode.{Mode}
 use Rattle.kernel.specs.declared.train.TrainData.{TrainData}
 use Rattle.kernel.specs.Limit.{limit_after, limits_behind}

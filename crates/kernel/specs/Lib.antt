@@ -1,12 +1,4 @@
-pub mod Bytes
-pub mod Announcing
-pub mod Entry
-pub mod History
-pub mod Sentences
-pub mod Steps
-pub mod Inputs
 pub mod Lives
 pub mod Limit
 pub mod StandsFor
-pub mod Told
 pub mod Forgetting

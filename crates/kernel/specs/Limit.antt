@@ -12,14 +12,22 @@ use Rattle.speed_profile.specs.Ahead.{permitted_ahead}
 use Rattle.speed_profile.specs.Track.{TrackSpeeds}
 use Rattle.braking.specs.declared.target.Target.{Target}
 use Rattle.track_store.specs.Restrictions.{in_force, least_speed}
-use Rattle.kernel.specs.declared.events.Event.{Event}
-use Rattle.kernel.specs.declared.events.Event.TheVariants as event
-use Rattle.kernel.specs.declared.events.Input.{Input}
+use Rattle.areas.specs.declared.area.NationalSpeeds.{NationalSpeeds}
+use Rattle.events.specs.declared.input.Event.{Event}
+use Rattle.events.specs.declared.input.Event.TheVariants as event
+use Rattle.events.specs.declared.input.Input.{Input}
+use Rattle.mode_table.specs.declared.statuses.Cold.TheVariants as cold
+use Rattle.national.specs.declared.values.Values.{Values}
+use Rattle.trackside.specs.History.{place_of, restrictions, authorities, areas_of, gradients_of, speeds_of}
+use Rattle.trackside.specs.StandsFor.{national_of}
 use Rattle.kernel.specs.declared.train.Mode.{Mode}
 use Rattle.kernel.specs.declared.train.Mode.TheVariants.{FullSupervision, StaffResponsible}
 use Rattle.kernel.specs.declared.train.TrainData.{TrainData}
-use Rattle.kernel.specs.History.{place_of, restrictions, authorities, gradients_of, speeds_of}
-use Rattle.kernel.specs.Lives.{Life, life_of, national_of}
+use Rattle.kernel.specs.Lives.{Life, track_of, life_of}
+
+-- the national values in force
+abbrev pub values_of : Life → Values
+values_of life = (national_of (track_of life)).in_force.values
 
 -- where the train stands
 abbrev pub train_of : TrainData → Life → Span
@@ -29,7 +37,7 @@ train_of train life = stretch (place_of life.entries) train.length
 abbrev pub responsible_limit : TrainData → Life → ℕ
 responsible_limit train life =
     least_speed (in_force (restrictions life.entries)) (train_of train life)
-    (min (national_of life).in_force.values.staff_responsible train.maximum)
+    (min (values_of life).staff_responsible train.maximum)
 
 -- in full supervision: what the train, its authority, the static speeds and the restrictions over it allow
 abbrev pub bounds_of : TrainData → Life → Bounds
@@ -41,23 +49,26 @@ bounds_of train life =
       end = end_of (authorities life.entries);
     }
 
--- what is told of the speeds along the track; no mode area is
-abbrev pub track_of : Life → TrackSpeeds
-track_of life =
+-- what is told of the speeds along the track
+abbrev pub in_areas : Values → NationalSpeeds
+in_areas values = record { on_sight = values.on_sight; shunting = values.shunting }
+
+abbrev pub along : Life → TrackSpeeds
+along life =
     record {
       static = (speeds_of life.entries).value;
       restrictions = in_force (restrictions life.entries);
-      areas = [];
-      national = record { on_sight = 0; shunting = 0 };
+      areas = areas_of life.entries;
+      national = in_areas (values_of life);
     }
 
 abbrev pub supervised_limit : TrainData → Life → ℕ
-supervised_limit train life = limit_on (train_of train life) (bounds_of train life) (track_of life)
+supervised_limit train life = limit_on (train_of train life) (bounds_of train life) (along life)
 
 -- .. and up to that the greatest speed from which the train can still brake for all that lies ahead, and for a last target
 abbrev pub permitted_to : TrainData → Life → Option Target → ℕ
 permitted_to train life last =
-    permitted_ahead (train_of train life).max_front (supervised_limit train life) last (bounds_of train life) (track_of life)
+    permitted_ahead (train_of train life).max_front (supervised_limit train life) last (bounds_of train life) (along life)
     (gradients_of life.entries).value train.brakes
 
 -- the release speed, which may be the national value
@@ -79,14 +90,14 @@ released_by permitted (Some end) national = released permitted end national
 
 abbrev pub permitted_speed : TrainData → Life → ℕ
 permitted_speed train life =
-    released_by (permitted_to train life) (end_of (authorities life.entries)) (national_of life).in_force.values.release
+    released_by (permitted_to train life) (end_of (authorities life.entries)) (values_of life).release
 
 abbrev pub limit : Mode → TrainData → Life → ℕ
 limit FullSupervision train life = permitted_speed train life
 limit StaffResponsible train life = responsible_limit train life
 
 abbrev pub limit_after : Mode → TrainData → List Event → ℕ
-limit_after mode train events = limit mode train (life_of train events)
+limit_after mode train events = limit mode train (life_of mode train events)
 
 -- the limit after each of some inputs, that come after these events
 abbrev pub limits_behind : Mode → TrainData → List Event → List Input → List ℕ
@@ -96,4 +107,4 @@ limits_behind mode train events (input ∷ inputs) =
 
 -- the limit after each input of a life that begins with the first power-up
 abbrev pub limits_of : Mode → TrainData → List Input → List ℕ
-limits_of mode train inputs = limits_behind mode train (event.PowerUp ∷ []) inputs
+limits_of mode train inputs = limits_behind mode train (event.PowerUp cold.Unknown ∷ []) inputs

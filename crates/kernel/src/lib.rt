@@ -1,25 +1,18 @@
-//! The kernel: the speed limit after each event, by the whole history of events (this project's profile).
+//! The kernel: the speed limit after each event, by the whole history of events (this project's profile). Distances are
+//! centimetres, speeds metres per hour, moments milliseconds.
 #![tactic(auto)]
 
-mod closing;
-mod events;
-mod fixing;
 mod kept;
 mod laws;
 mod limiting;
-mod looking;
-mod parts;
 mod receiving;
 mod state;
 mod steps;
-mod telegram_bytes;
 mod train;
-mod using;
 
-pub use events::{Action, Event, Input, Reading};
+pub use events::{Event, Input, Reading, TelegramBytes};
 pub use kept::Kept;
-pub use laws::{kept_is_the_last, power_up_forgets, telegrams_are_carried};
+pub use laws::{kept_is_the_last, power_up_forgets};
 pub use state::{State, StateOver};
 pub use steps::{limits, step};
-pub use telegram_bytes::TelegramBytes;
 pub use train::{Mode, TrainData};

@@ -3,14 +3,15 @@ ghost use Rattle.std.specs.Prelude.{◌≡◌};
 ghost use Rattle.speed_profile.specs.Ahead.{permitted_ahead};
 ghost use Rattle.speed_profile.specs.Track.{speeds_along};
 ghost use Rattle.kernel.specs.Lives.{Life};
-ghost use Rattle.kernel.specs.Limit.{train_of, responsible_limit, bounds_of, permitted_speed, release_speed, released_by, limit};
+ghost use Rattle.kernel.specs.Limit.{train_of, responsible_limit, in_areas, bounds_of, permitted_speed, release_speed, released_by, limit};
 ghost use Rattle.kernel.specs.StandsFor.{StandsForLife};
 
 use crate::state::StateOver;
 use crate::train::{Mode, TrainData};
-use areas::{Areas, NationalSpeeds};
+use areas::NationalSpeeds;
 use authority::{End, Release};
 use braking::Target;
+use national::Values;
 use speed_profile::{Ahead, Bounds, CategorySpeeds, Track, limit_on};
 use track_store::{Profile, ProfileStore};
 use units::{Cm, Mph, Permille, Stretch};
@@ -20,9 +21,9 @@ impl<G: ProfileStore<Permille> + Drop, S: ProfileStore<CategorySpeeds> + Drop> S
     fn responsible_limit(&self, stretch: &Stretch, train: &TrainData) -> Mph
         ensures { (life : Life) → StandsForLife G.profile S.profile self.now life → stretch.now ≡ train_of train.now life → result ≡ responsible_limit train.now life }
     {
-        let speed = self.parts.national.in_force().values().staff_responsible;
-        self.parts
-            .restrictions
+        let speed = self.track.national().values().staff_responsible;
+        self.track
+            .restrictions()
             .least(stretch, speed.min(train.maximum))
     }
 
@@ -33,8 +34,8 @@ impl<G: ProfileStore<Permille> + Drop, S: ProfileStore<CategorySpeeds> + Drop> S
         Bounds {
             maximum: train.maximum,
             category: train.category,
-            main: self.parts.authority.main_speed(),
-            end: self.parts.authority.end(),
+            main: self.track.authority().main_speed(),
+            end: self.track.authority().end(),
         }
     }
 
@@ -43,39 +44,43 @@ impl<G: ProfileStore<Permille> + Drop, S: ProfileStore<CategorySpeeds> + Drop> S
         ensures { (life : Life) → StandsForLife G.profile S.profile self.now life → stretch.now ≡ train_of train.now life → result ≡ permitted_speed train.now life }
     {
         let bounds = self.bounds(train);
-        // No mode area is told yet.
-        let areas = Areas::new();
-        let none = Mph::new(0).unwrap();
+        let values = self.track.national().values();
         let track = Track {
-            speeds: &self.speeds,
-            restrictions: &self.parts.restrictions,
-            areas: &areas,
-            national: NationalSpeeds {
-                on_sight: none,
-                shunting: none,
-            },
+            speeds: self.track.speeds(),
+            restrictions: self.track.restrictions(),
+            areas: self.track.areas(),
+            national: in_areas(values),
         };
         let ahead = Ahead {
             front: stretch.max_front(),
             bounds: &bounds,
             track: &track,
-            gradient: &self.gradients,
+            gradient: self.track.gradients(),
             brakes: &train.brakes,
         };
         let limit = limit_on(stretch, &bounds, &track);
-        let national = self.parts.national.in_force().values().release;
-        released_by(&ahead, limit, &bounds.end, national)
+        released_by(&ahead, limit, &bounds.end, values.release)
     }
 
     /// The speed limit.
     pub(crate) fn limit(&self, mode: Mode, train: &TrainData) -> Mph
         ensures { (life : Life) → StandsForLife G.profile S.profile self.now life → result ≡ limit mode train.now life }
     {
-        let stretch = self.parts.place.stretch(train.length);
+        let stretch = self.track.place().stretch(train.length);
         match mode {
             Mode::FullSupervision => self.permitted_speed(&stretch, train),
             Mode::StaffResponsible => self.responsible_limit(&stretch, train),
         }
+    }
+}
+
+// The national values for the speeds in areas.
+fn in_areas(values: &Values) -> NationalSpeeds
+    ensures { result ≡ in_areas values.now }
+{
+    NationalSpeeds {
+        on_sight: values.on_sight,
+        shunting: values.shunting,
     }
 }
 

@@ -1,11 +1,11 @@
 ghost use Rattle.std.specs.Prelude.{◌≡◌, List, ◌∷◌, IfOk};
-ghost use Rattle.kernel.specs.declared.events.Event.{Event};
+ghost use Rattle.events.specs.declared.input.Event.{Event};
 ghost use Rattle.kernel.specs.Limit.{limit_after, limits_of};
 ghost use Rattle.kernel.specs.StandsFor.{StandsFor};
 
-use crate::events::{Event, Input};
 use crate::state::{State, StateOver};
 use crate::train::{Mode, TrainData};
+use events::{Event, Input};
 use speed_profile::CategorySpeeds;
 use std::alloc::Global;
 use track_store::ProfileStore;
@@ -19,13 +19,13 @@ pub fn step<G: ProfileStore<Permille> + Drop, S: ProfileStore<CategorySpeeds> + 
     state: &StateOver<G, S>,
     event: &Event,
 ) -> Result<(StateOver<G, S>, Mph), NoMemory>
-    ensures stands { IfOk result (λ answer. (events : List Event) → StandsFor G.profile S.profile train.now state.now events
-        → StandsFor G.profile S.profile train.now answer.0 (event.now ∷ events)) }
-    ensures limit { IfOk result (λ answer. (events : List Event) → StandsFor G.profile S.profile train.now state.now events
+    ensures stands { IfOk result (λ answer. (events : List Event) → StandsFor G.profile S.profile mode train.now state.now events
+        → StandsFor G.profile S.profile mode train.now answer.0 (event.now ∷ events)) }
+    ensures limit { IfOk result (λ answer. (events : List Event) → StandsFor G.profile S.profile mode train.now state.now events
         → answer.1 ≡ limit_after mode train.now (event.now ∷ events)) }
 {
     let mut next = state.copy(alloc)?;
-    next.apply(alloc, train, event)?;
+    next.apply(alloc, mode, train, event)?;
     let limit = next.limit(mode, train);
     Ok((next, limit))
 }
@@ -44,7 +44,7 @@ pub fn limits(
     let kept = empty.kept();
     let mut state = State::power_up(alloc, kept, train);
     for input in inputs {
-        state.receive(alloc, train, input)?;
+        state.receive(alloc, mode, train, input)?;
         limits.push(state.limit(mode, train))?;
     }
     Ok(limits)

@@ -1,4 +1,8 @@
+ghost use Rattle.std.specs.Prelude.{◌≡◌};
+ghost use Rattle.kernel.specs.Lives.{table_mode};
+
 use braking::Brakes;
+use mode_table::Mode as TableMode;
 use units::{Length, Mph};
 use vars::TrainCategory;
 
@@ -9,6 +13,18 @@ pub enum Mode {
     FullSupervision,
     /// SR: the driver is responsible, under a speed limit.
     StaffResponsible,
+}
+
+impl Mode {
+    // The mode of the mode table.
+    pub(crate) fn table_mode(self) -> TableMode
+        ensures { result ≡ table_mode self }
+    {
+        match self {
+            Mode::FullSupervision => TableMode::FullSupervision,
+            Mode::StaffResponsible => TableMode::StaffResponsible,
+        }
+    }
 }
 
 /// What is known of the train.

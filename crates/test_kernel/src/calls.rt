@@ -1,5 +1,6 @@
 // The kernel's calls, with no clauses, so that those of the kernel don't come to the rows.
 use kernel::{Event, Input, Mode, StateOver, TrainData, limits, step};
+use mode_table::Cold;
 use speed_profile::CategorySpeeds;
 use std::alloc::Global;
 use track_store::FactStore;
@@ -38,7 +39,7 @@ pub fn limits_by_step(
     events: &[Event],
 ) -> Result<Vec<u32>, NoMemory> {
     let mut speeds = Vec::new(alloc);
-    let (mut state, _) = after_first(alloc, mode, train, &Event::PowerUp)?;
+    let (mut state, _) = after_first(alloc, mode, train, &Event::PowerUp(Cold::Unknown))?;
     for event in events {
         let (next, limit) = after(alloc, mode, train, &state, event)?;
         state = next;

@@ -1,6 +1,8 @@
 // What a line says.
 use braking::{Brakes, Deceleration, Reaction};
-use kernel::{Action, Event, Input, Mode, Reading, TelegramBytes, TrainData};
+use driver::Action;
+use kernel::{Event, Input, Mode, Reading, TelegramBytes, TrainData};
+use mode_table::Cold;
 use std::alloc::Global;
 use std::str::{FromStr, SplitWhitespace};
 use units::{Length, Movement, Mph, Ms};
@@ -93,7 +95,7 @@ fn told<'a>(alloc: Global, text: &'a str) -> Option<Line<'a>> {
 
 fn event(alloc: Global, word: &str, value: &str) -> Option<Event> {
     match word {
-        "power-up" if value.is_empty() => Some(Event::PowerUp),
+        "power-up" if value.is_empty() => Some(Event::PowerUp(Cold::Unknown)),
         "hear" => Some(Event::Input(Input::Telegram(bytes(alloc, value)?))),
         "move" => Some(Event::Input(Input::Odometer(reading(value)?))),
         "clock" => Some(Event::Input(Input::Clock(Ms::new(value.parse().ok()?)?))),

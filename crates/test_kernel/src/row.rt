@@ -54,7 +54,7 @@ fn one_life(alloc: Global, events: Vec<Event>) -> Result<Option<Vec<Input>>> {
     let mut inputs = Vec::new(alloc);
     for event in events {
         match event {
-            Event::PowerUp => return Ok(None),
+            Event::PowerUp(_) => return Ok(None),
             Event::Input(input) => inputs.push(input)?,
         }
     }

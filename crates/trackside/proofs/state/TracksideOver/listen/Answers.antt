@@ -25,6 +25,6 @@ returns-in-Err g c life s =
     let none = refused_none _ _ ((c.in-Err.ensures.fault _).0 refl) in
     let before = seen c.self.view_is s in
     subst
-    (λ (o : Option Telegram). StandsForLife g.G.ProfileStore.profile g.S.ProfileStore.profile c.pass_over.new.self (grown_so_far life (with_telegram life o) (with_groups c.args.mode life.entries (with_telegram life o) nothing_happened)))
+    (λ (o : Option Telegram). StandsForLife g.G.ProfileStore.profile g.S.ProfileStore.profile (record { parts = c.pass_over.new.self; gradients = c.self.inside.gradients; speeds = c.self.inside.speeds }) (grown_so_far life (with_telegram life o) (with_groups c.args.mode life.entries (with_telegram life o) nothing_happened)))
     (sym none)
     (record { parts_are = c.pass_over.ensures life before.parts_are; gradients_are = before.gradients_are; speeds_are = before.speeds_are })

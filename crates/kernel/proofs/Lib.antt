@@ -1,1 +1,2 @@
 pub mod OneInput
+pub mod Standing

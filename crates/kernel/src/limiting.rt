@@ -3,7 +3,7 @@ ghost use Rattle.std.specs.Prelude.{◌≡◌};
 ghost use Rattle.speed_profile.specs.Ahead.{permitted_ahead};
 ghost use Rattle.speed_profile.specs.Track.{speeds_along};
 ghost use Rattle.kernel.specs.Lives.{Life};
-ghost use Rattle.kernel.specs.Limit.{train_of, responsible_limit, in_areas, bounds_of, permitted_speed, release_speed, released_by, limit};
+ghost use Rattle.kernel.specs.Limit.{train_of, responsible_limit, in_areas, along, bounds_of, permitted_speed, release_speed, released_by, limit};
 ghost use Rattle.kernel.specs.StandsFor.{StandsForLife};
 
 use crate::state::StateOver;
@@ -39,18 +39,24 @@ impl<G: ProfileStore<Permille> + Drop, S: ProfileStore<CategorySpeeds> + Drop> S
         }
     }
 
+    // What is told of the speeds along the track.
+    fn along(&self) -> Track<'_, S>
+        ensures { (life : Life) → StandsForLife G.profile S.profile self.now life → speeds_along S.value result ≡ along life }
+    {
+        Track {
+            speeds: self.track.speeds(),
+            restrictions: self.track.restrictions(),
+            areas: self.track.areas(),
+            national: in_areas(self.track.national().values()),
+        }
+    }
+
     // In full supervision.
     fn permitted_speed(&self, stretch: &Stretch, train: &TrainData) -> Mph
         ensures { (life : Life) → StandsForLife G.profile S.profile self.now life → stretch.now ≡ train_of train.now life → result ≡ permitted_speed train.now life }
     {
         let bounds = self.bounds(train);
-        let values = self.track.national().values();
-        let track = Track {
-            speeds: self.track.speeds(),
-            restrictions: self.track.restrictions(),
-            areas: self.track.areas(),
-            national: in_areas(values),
-        };
+        let track = self.along();
         let ahead = Ahead {
             front: stretch.max_front(),
             bounds: &bounds,
@@ -59,7 +65,12 @@ impl<G: ProfileStore<Permille> + Drop, S: ProfileStore<CategorySpeeds> + Drop> S
             brakes: &train.brakes,
         };
         let limit = limit_on(stretch, &bounds, &track);
-        released_by(&ahead, limit, &bounds.end, values.release)
+        released_by(
+            &ahead,
+            limit,
+            &bounds.end,
+            self.track.national().values().release,
+        )
     }
 
     /// The speed limit.

@@ -153,8 +153,9 @@ impl Parts {
 /// The walk over all kinds of packets but those that come behind another kind of the same part.
 pub struct Earlier;
 
-impl<G: ProfileStore<Permille> + Drop, S: ProfileStore<CategorySpeeds> + Drop> Walk<TracksideOver<G, S>>
-    for Earlier {
+impl<G: ProfileStore<Permille> + Drop, S: ProfileStore<CategorySpeeds> + Drop> Walk<
+    TracksideOver<G, S>,
+> for Earlier {
     ghost Told = { AllTold };
 
     ghost IsTold = { λ state told. IsAllTold G.profile S.profile state told };
@@ -177,8 +178,9 @@ impl<G: ProfileStore<Permille> + Drop, S: ProfileStore<CategorySpeeds> + Drop> W
 /// The walk over the revocations, behind the restrictions, and over the mode areas, behind the authorities.
 pub struct Later;
 
-impl<G: ProfileStore<Permille> + Drop, S: ProfileStore<CategorySpeeds> + Drop> Walk<TracksideOver<G, S>>
-    for Later {
+impl<G: ProfileStore<Permille> + Drop, S: ProfileStore<CategorySpeeds> + Drop> Walk<
+    TracksideOver<G, S>,
+> for Later {
     ghost Told = { AllTold };
 
     ghost IsTold = { λ state told. IsAllTold G.profile S.profile state told };

@@ -10,9 +10,11 @@ loop-item-preserved g c told s =
     let before = c.loop-item.invariant told s in
     let used = c.args.used.now in
     let rest = c.next.new.self in
-    let packet = c.packet.result.now in
-    (_, c.in_ok-take_one.ensures before.0 before.1,
-    sym (one_packet g.W.Walk.after used packet rest before.0)
-    ∙ ap (λ (p : Packet). after_facts g.W.Walk.after (facts used (p ∷ rest)) before.0) c.packet.ensures
-    ∙ sym (ap (λ (ps : List Packet). after_facts g.W.Walk.after (facts used ps) before.0) c.in-Some.ensures.steps)
-    ∙ before.2)
+    let packet = c.packet.result.now in (
+      _,
+      c.in_ok-take_one.ensures before.0 before.1,
+      sym (one_packet g.W.Walk.after used packet rest before.0)
+          ∙ ap (λ (p : Packet). after_facts g.W.Walk.after (facts used (p ∷ rest)) before.0) c.packet.ensures
+          ∙ sym (ap (λ (ps : List Packet). after_facts g.W.Walk.after (facts used ps) before.0) c.in-Some.ensures.steps)
+          ∙ before.2,
+    )

@@ -36,9 +36,12 @@ waits Asked = true
 waits Done = false
 waits (Owed since) = true
 
--- the service brake is ordered from 5,000 ms on
+-- how long it may be owed before the service brake is ordered, in milliseconds
+abbrev pub brake_delay : ℕ
+brake_delay = 5_000
+
 abbrev pub brakes : ℕ → Acknowledgement → Bool
 brakes now Nothing = false
 brakes now Asked = false
 brakes now Done = false
-brakes now (Owed since) = nat_le (since + 5_000) now
+brakes now (Owed since) = nat_le (since + brake_delay) now

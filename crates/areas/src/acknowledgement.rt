@@ -17,6 +17,9 @@ pub enum Acknowledgement {
     Owed(Ms),
 }
 
+/// How long it may be owed before it orders the service brake, in milliseconds.
+const BRAKE_DELAY: u64 = 5_000;
+
 impl Acknowledgement {
     /// Nothing is asked for.
     pub fn new() -> Self
@@ -83,7 +86,7 @@ impl Acknowledgement {
         ensures { result ≡ brakes now self.now }
     {
         match self {
-            Acknowledgement::Owed(since) => since.get() + 5_000 <= now.get(),
+            Acknowledgement::Owed(since) => since.get() + BRAKE_DELAY <= now.get(),
             _ => false,
         }
     }

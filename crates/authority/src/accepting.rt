@@ -7,7 +7,7 @@ ghost use Rattle.authority.specs.Authority.{danger_point_of};
 ghost use Rattle.authority.specs.Known.{timer_of, end_timer_of, overlap_of, stored_of};
 
 use crate::answers::Release;
-use crate::stored::{Point, Stored, TimedOverlap};
+use crate::stored::{MOST_SECTIONS, Point, Stored, TimedOverlap};
 use crate::timers::{PlaceTimer, TimedSection};
 use arrayvec::ArrayVec;
 use packets::{DangerPoint, EndTimer, MovementAuthority, Overlap, Section};
@@ -43,8 +43,13 @@ pub fn stored_by(packet: &MovementAuthority, place: GroupPlace, moment: Ms) -> S
 }
 
 // Appends a section that has a timer.
-fn push_timed(timed: &mut ArrayVec<TimedSection, 32>, scale: Scale, entry: Cm, section: &Section)
-    requires room { array_vec_len timed.old < 32 }
+fn push_timed(
+    timed: &mut ArrayVec<TimedSection, MOST_SECTIONS>,
+    scale: Scale,
+    entry: Cm,
+    section: &Section,
+)
+    requires room { array_vec_len timed.old < MOST_SECTIONS }
     requires near { HasReach entry }
     ensures items { timed.new.items ≡ timed.old.items ++ timed_one scale entry section.now }
     ensures len { array_vec_len timed.new ≤ array_vec_len timed.old + 1 }

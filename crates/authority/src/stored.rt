@@ -7,6 +7,9 @@ use arrayvec::ArrayVec;
 use units::{Cm, Mph, Ms, Stretch};
 use vars::Timer;
 
+/// How many sections an authority has at most: the 31 that a packet 12 lists, and the end section.
+pub const MOST_SECTIONS: usize = 32;
+
 /// A place behind the end that is supervised, and its release speed.
 #[derive(Clone, Copy)]
 pub struct Point {
@@ -27,7 +30,7 @@ pub struct Stored {
     /// When it was accepted.
     pub accepted: Ms,
     /// The sections whose timers aren't stopped, along the track.
-    pub timed: ArrayVec<TimedSection, 32>,
+    pub timed: ArrayVec<TimedSection, MOST_SECTIONS>,
     /// Where the end section begins.
     pub end_entry: Cm,
     /// The end as it was told.
@@ -77,7 +80,12 @@ fn passed_overlap_of(overlap: &Option<TimedOverlap>, now: Ms, max_front: Cm) -> 
 }
 
 // Drops the sections whose timers stop.
-fn drop_stopped(timed: &mut ArrayVec<TimedSection, 32>, start: Ms, now: Ms, min_front: Cm)
+fn drop_stopped(
+    timed: &mut ArrayVec<TimedSection, MOST_SECTIONS>,
+    start: Ms,
+    now: Ms,
+    min_front: Cm,
+)
     ensures { timed.new.items ≡ filter (λ section. not (stops_at start now min_front section)) timed.old.items }
 {
     timed.retain(|section| !is_stopped(section, start, now, min_front));

@@ -1,6 +1,6 @@
 -- What targets ask of a train, and fewer ones that ask the same.
-use Rattle.std.proofs.Common.{◌≡◌, ℕ, ℤ, List, [], ◌∷◌, ◌++◌, ◌⊎◌, inl, inr, Bool, true, false, refl, ap, sym, ◌∙◌, subst, arith}
-use Rattle.std.specs.Prelude.{Option, None, Some, is_some, OnSome, ◌&&◌}
+use Rattle.std.proofs.Common.{◌≡◌, ℕ, zero, suc, ◌≤◌, ℤ, List, [], ◌∷◌, ◌++◌, ◌⊎◌, inl, inr, Bool, true, false, cond, refl, ap, sym, ◌∙◌, arith}
+use Rattle.std.specs.Prelude.{Option, None, Some, is_some, ◌&&◌}
 use Rattle.std.specs.Iterator.{Yields, Drains}
 use Rattle.units.proofs.Gathering.{IsIn}
 use Rattle.track_store.specs.Profiles.{listed}
@@ -10,8 +10,9 @@ use Rattle.braking.specs.Braking.{fits, fits_all, greatest}
 use Rattle.braking.specs.Approaches.{Course, at_speed, lowered, lowered_by}
 use Rattle.braking.proofs.Approaching.{lowered_by_none, lowered_by_one, lowered_by_more}
 use Rattle.braking.proofs.Greatest.{greatest_is}
+use Rattle.braking.proofs.Slower.{slower_fits}
 use Rattle.speed_profile.specs.Ahead.{permitted_by}
-use Rattle.speed_profile.specs.Targets.{AskTheSame, AskNothing, LieBeyond, Left, Tells}
+use Rattle.speed_profile.specs.Targets.{AskTheSame, AskNothing, AskTheSameBeyond, Left, Tells}
 use Rattle.speed_profile.proofs.Members.{in_left, in_right, in_either}
 use Rattle.speed_profile.proofs.Farther.{IsNoNearer, farther_fits}
 
@@ -94,30 +95,10 @@ joined some others some' others' h k front gradient brakes v =
 pub one_more : (t : Target) (some others : List Target) → AskTheSame some others → AskTheSame (t ∷ some) (t ∷ others)
 one_more t some others h = joined (t ∷ []) some (t ∷ []) others (same (t ∷ [])) h
 
--- where some ask nothing, the others ask all
-pub none_first : (some others : List Target) → AskNothing some → AskTheSame (some ++ others) others
-none_first some others none = joined some others [] others none (same others)
-
 pub nothing_more : (targets : List Target) → AskTheSame (targets ++ []) targets
 nothing_more targets front gradient brakes v =
     let cases : (b : Bool) → (b && true) ≡ b = elim [ true ↦ refl | false ↦ refl ] in
     fit_both front gradient brakes targets [] v ∙ cases (fits_all front gradient brakes targets v)
-
--- one is told of the first of two lists
-pub told_first : (t : Target) (before after others : List Target) → AskTheSame before (t ∷ after) →
-    AskTheSame (before ++ others) (t ∷ (after ++ others))
-told_first t before after others h = joined before others (t ∷ after) others h (same others)
-
--- .. of the second, where the first asks nothing
-pub told_second : (t : Target) (first first' before after : List Target) → AskNothing first → AskNothing first' →
-    AskTheSame before (t ∷ after) → AskTheSame (first ++ before) (t ∷ (first' ++ after))
-told_second t first first' before after none none' h =
-    through (first ++ before) before (t ∷ (first' ++ after)) (none_first first before none)
-    (through before (t ∷ after) (t ∷ (first' ++ after)) h
-    (one_more t after (first' ++ after) (back (first' ++ after) after (none_first first' after none'))))
-
-pub none_both : (first second : List Target) → AskNothing first → AskNothing second → AskNothing (first ++ second)
-none_both first second none none' = joined first second [] [] none none'
 
 pub nothing_by : (targets others : List Target) → targets ≡ others → AskNothing others → AskNothing targets
 nothing_by targets others is none = through targets others [] (equal targets others is) none
@@ -140,23 +121,6 @@ pub passed_over : (before all after : List Target) (target : Option Target) → 
 passed_over before all after None h k none = through before all after h k
 passed_over before all after (Some t) h k none = absurd (let no : true ≡ false = none in cc)
 
--- one is told of what stands behind some that ask nothing
-pub tells_behind : (told : Option Target) (first first' : List Target) (before after : Left) (b a : ℕ) →
-    AskNothing first → AskNothing first' → (after.most ≡ 0 → a ≡ 0) → Tells before told after →
-    Tells (record { targets = first ++ before.targets; most = b }) told (record { targets = first' ++ after.targets; most = a })
-tells_behind None first first' before after b a none none' end h =
-    (none_both first before.targets none h.0, none_both first' after.targets none' h.1, end h.2)
-tells_behind (Some t) first first' before after b a none none' end h =
-    told_second t first first' before.targets after.targets none none' h
-
-pub tells_at : (told : Option Target) (before before' after after' : Left) → before ≡ before' → after ≡ after' →
-    Tells before told after → Tells before' told after'
-tells_at told before before' after after' b a h = subst (λ (l : Left). Tells l told after') b (subst (Tells before told) a h)
-
-pub on_some : {A : Type 0} (r : Option A) (P Q : Type 0) → (P → Q) → OnSome r P → OnSome r Q
-on_some None P Q f h = tt
-on_some (Some x) P Q f h = f h
-
 -- what is told up to the end asks what was left at first
 pub told_in_all : (left : Left) (told : List Target) → Drains Tells left told → AskTheSame told left.targets
 told_in_all left [] drains =
@@ -168,6 +132,17 @@ told_in_all left (t ∷ told) drains =
     through (t ∷ told) (t ∷ after.targets) left.targets (one_more t told after.targets others) (back left.targets (t ∷ after.targets) turn.1)
 
 -- ---- a train that is told of them
+
+-- the same tests up to a number have the same greatest one
+greatest_same : (p q : ℕ → Bool) (n : ℕ) → ((v : ℕ) → v ≤ n → p v ≡ q v) → greatest p n ≡ greatest q n
+unfolding greatest
+greatest_same p q zero h = refl
+greatest_same p q (suc n) h =
+    let below = greatest_same p q n (λ v less. h v (omega arith)) in
+    λ i. cond (h (suc n) (omega arith) i) (suc n) (below i)
+
+some_same : {A : Type 0} (x y : A) → Some x ≡ Some y → x ≡ y
+some_same x y is = let same : x ≡ y = cc in same
 
 module _ {G : Type 0} (value : G → ℤ → Option ℤ) where
   pub lowered_same : (some others : List Target) (course : Course G) → AskTheSame some others →
@@ -187,6 +162,19 @@ module _ {G : Type 0} (value : G → ℤ → Option ℤ) where
       lowered_by (value course.gradient) targets course ≡ course
   lowered_nothing targets course none =
       lowered_fitting targets course (none course.front (value course.gradient) course.brakes course.speed)
+
+  -- one that can stop where they ask the same
+  pub lowered_beyond : (place : Option ℤ) (at : ℤ) (some others : List Target) (course : Course G) → AskTheSameBeyond place some others →
+      place ≡ Some at → fits course.front (value course.gradient) course.brakes (record { place = at; speed = 0 }) course.speed ≡ true →
+      lowered_by (value course.gradient) some course ≡ lowered_by (value course.gradient) others course
+  lowered_beyond None at some others course h is stops = lowered_same some others course h
+  lowered_beyond (Some place) at some others course h is stops =
+      let there : Target = record { place = place; speed = 0 } in
+      let stop : fits course.front (value course.gradient) course.brakes there course.speed ≡ true = rw (some_same place at is) stops in
+      ap (at_speed course) (greatest_same (fits_all course.front (value course.gradient) course.brakes some)
+      (fits_all course.front (value course.gradient) course.brakes others) course.speed
+      (λ v below. h course.front (value course.gradient) course.brakes v
+      (slower_fits course.front (value course.gradient) course.brakes there course.speed v below stop)))
 
   -- some, and one more behind them
   pub lowered_then : (targets : List Target) (t : Target) (old : Course G) →

@@ -1,6 +1,6 @@
 -- The static speeds, by the centimetres where their pieces begin.
 use Rattle.std.proofs.Common.{◌≡◌, ℕ, ℤ, pos, ◌+ℤ◌, ◌-ℤ◌, ◌≤ℤ◌, ◌<ℤ◌, ◌<◌, List, [], ◌∷◌, ◌++◌, inl, inr, Bool, true, false, cond, refl, ap, sym, ◌∙◌, subst, arith}
-use Rattle.std.specs.Prelude.{Option, None, Some, int_lt, MatchOption, IfSome, ◌^◌}
+use Rattle.std.specs.Prelude.{Option, None, Some, int_lt, MatchOption, ◌^◌}
 use Rattle.std.proofs.lemmas.Int.{ints, by_lt_z}
 use Rattle.units.specs.Stretches.{over, natural, count_between}
 use Rattle.units.proofs.Gathering.{IsIn, over_at, in_over}
@@ -15,7 +15,7 @@ use Rattle.speed_profile.specs.declared.limit.Bounds.{Bounds}
 use Rattle.speed_profile.specs.Told.{speed_of}
 use Rattle.speed_profile.specs.Ahead.{greatest_place, unknown_target, static_target, static_targets}
 use Rattle.speed_profile.specs.Starts.{rest, left}
-use Rattle.speed_profile.specs.Targets.{AskTheSame, LieBeyond}
+use Rattle.speed_profile.specs.Targets.{AskTheSame, AskTheSameBeyond}
 use Rattle.speed_profile.proofs.Farther.{IsNoNearer, farther_fits}
 use Rattle.speed_profile.proofs.Asking.{AreCovered, covered_ask, fit_all}
 
@@ -140,15 +140,11 @@ rest_ahead bounds profile place t h =
     let at = over_at (static_targets bounds profile) place greatest_place t h in
     rw (value_place bounds at.0 t (profile at.0) at.3) at.1
 
--- so a train that can stop there can brake for them
-pub rest_beyond : (bounds : Bounds) (profile : ℤ → Option CategorySpeeds) (place : ℤ) →
-    LieBeyond place (rest (static_targets bounds profile) (Some place))
-rest_beyond bounds profile place front gradient brakes v stops =
+-- so a train that can stop where they begin can brake for them
+pub rest_asks : (bounds : Bounds) (profile : ℤ → Option CategorySpeeds) (start : Option ℤ) →
+    AskTheSameBeyond start (rest (static_targets bounds profile) start) []
+rest_asks bounds profile None = λ front gradient brakes v. refl
+rest_asks bounds profile (Some place) = λ front gradient brakes v stops.
     let stop : Target = record { place = place; speed = 0 } in
     fit_all front gradient brakes (rest (static_targets bounds profile) (Some place)) v
     (λ t there. farther_fits front gradient brakes stop t v (record { place = rest_ahead bounds profile place t there; speed = omega arith }) stops)
-
-pub start_beyond : (bounds : Bounds) (profile : ℤ → Option CategorySpeeds) (start : Option ℤ) (targets : List Target) →
-    rest (static_targets bounds profile) start ≡ targets → IfSome start (λ place. LieBeyond place targets)
-start_beyond bounds profile None targets is = tt
-start_beyond bounds profile (Some place) targets is = subst (LieBeyond place) is (rest_beyond bounds profile place)

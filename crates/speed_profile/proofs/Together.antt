@@ -28,26 +28,20 @@ both_ask f g from to = covered_ask (over f from to) (over g from to) (over (λ c
       ];
 })
 
--- in whatever order
-turned_test : (r i e s : Bool) → (r && (i && (e && s))) ≡ (((s && r) && i) && e)
-turned_test false i e true = refl
-turned_test false i e false = refl
-turned_test true false e true = refl
-turned_test true false e false = refl
-turned_test true true false true = refl
-turned_test true true false false = refl
-turned_test true true true true = refl
-turned_test true true true false = refl
+in_turn_test : (s r i e : Bool) → (s && (r && (i && e))) ≡ (((s && r) && i) && e)
+in_turn_test false r i e = refl
+in_turn_test true false i e = refl
+in_turn_test true true i e = refl
 
-turned : (r i e s : List Target) → AskTheSame (r ++ (i ++ (e ++ s))) (s ++ r ++ i ++ e)
-turned r i e s front gradient brakes v =
+in_turn : (s r i e : List Target) → AskTheSame (s ++ (r ++ (i ++ e))) (s ++ r ++ i ++ e)
+in_turn s r i e front gradient brakes v =
     let fit = λ (ts : List Target). fits_all front gradient brakes ts v in
     let both = λ (some others : List Target). fit_both front gradient brakes some others v in
-    let here : fit (r ++ (i ++ (e ++ s))) ≡ (fit r && (fit i && (fit e && fit s))) =
-    both r (i ++ (e ++ s)) ∙ ap (λ (b : Bool). fit r && b) (both i (e ++ s) ∙ ap (λ (b : Bool). fit i && b) (both e s)) in
+    let here : fit (s ++ (r ++ (i ++ e))) ≡ (fit s && (fit r && (fit i && fit e))) =
+    both s (r ++ (i ++ e)) ∙ ap (λ (b : Bool). fit s && b) (both r (i ++ e) ∙ ap (λ (b : Bool). fit r && b) (both i e)) in
     let there : fit (s ++ r ++ i ++ e) ≡ (((fit s && fit r) && fit i) && fit e) =
     both (s ++ r ++ i) e ∙ ap (λ (b : Bool). b && fit e) (both (s ++ r) i ∙ ap (λ (b : Bool). b && fit i) (both s r)) in
-    here ∙ turned_test (fit r) (fit i) (fit e) (fit s) ∙ sym there
+    here ∙ in_turn_test (fit s) (fit r) (fit i) (fit e) ∙ sym there
 
 module _ (front : ℤ) (bounds : Bounds) (track : TrackSpeeds) where
   abbrev speeds : List Target
@@ -70,12 +64,12 @@ module _ (front : ℤ) (bounds : Bounds) (track : TrackSpeeds) where
       (both_ask (λ c. static c ++ restrictions c) areas first greatest_place)
       (joined both inside (speeds ++ restricted) inside (both_ask static restrictions first greatest_place) (same inside))
 
-  -- in the order in which they are told
+  -- as they are told
   pub told_ask : (last : Option Target) →
-      AskTheSame (restricted ++ (inside ++ (listed last ++ speeds))) (targets_ahead front bounds track ++ listed last)
+      AskTheSame (speeds ++ (restricted ++ (inside ++ listed last))) (targets_ahead front bounds track ++ listed last)
   told_ask last =
       let ends = listed last in
       let kinds = speeds ++ restricted ++ inside in
-      through (restricted ++ (inside ++ (ends ++ speeds))) (kinds ++ ends) (targets_ahead front bounds track ++ ends)
-      (turned restricted inside ends speeds)
+      through (speeds ++ (restricted ++ (inside ++ ends))) (kinds ++ ends) (targets_ahead front bounds track ++ ends)
+      (in_turn speeds restricted inside ends)
       (joined kinds ends (targets_ahead front bounds track) ends (back (targets_ahead front bounds track) kinds kinds_ask) (same ends))

@@ -14,15 +14,18 @@ AskTheSame some others = (front : ℤ) (gradient : ℤ → Option ℤ) (brakes :
 abbrev pub AskNothing : List Target → Type 0
 AskNothing targets = AskTheSame targets []
 
--- a train that can come to a stop at a place can brake for all of some targets
-abbrev pub LieBeyond : ℤ → List Target → Type 0
-LieBeyond place targets = (front : ℤ) (gradient : ℤ → Option ℤ) (brakes : Brakes) (speed : ℕ) →
-    fits front gradient brakes (record { place = place; speed = 0 }) speed ≡ true → fits_all front gradient brakes targets speed ≡ true
+-- targets ask of a train that can come to a stop at a place what others ask of it; without a place, of each train
+abbrev pub AskTheSameBeyond : Option ℤ → List Target → List Target → Type 0
+AskTheSameBeyond None some others = AskTheSame some others
+AskTheSameBeyond (Some place) some others = (front : ℤ) (gradient : ℤ → Option ℤ) (brakes : Brakes) (speed : ℕ) →
+    fits front gradient brakes (record { place = place; speed = 0 }) speed ≡ true →
+    fits_all front gradient brakes some speed ≡ fits_all front gradient brakes others speed
 
--- what is still to be told: what it asks, and how many targets that takes at most
+-- what is still to be told: what it asks, how many targets that takes at most, and where the static speeds among them begin
 pub record Left : Type 0 where
   pub targets : List Target
   pub most : ℕ
+  pub speeds_from : Option ℤ
 
 -- one is told, or none is left
 abbrev pub Tells : Left → Option Target → Left → Type 0

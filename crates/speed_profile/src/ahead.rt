@@ -68,7 +68,7 @@ impl<'a, S: Profile<CategorySpeeds>, G: Profile<Permille>> Ahead<'a, S, G> {
         Targets::new(self.front, self.bounds, self.track, last)
     }
 
-    // The approach to all of them. Where the train can come to a stop before those that are left, it fits them.
+    // The approach to all of them. Where the train can come to a stop before the static speeds that are left, it fits these.
     fn approach(&self, limit: Mph, last: Option<Target>) -> Approach<'a, G>
         ensures { result ≡ lowered_by (G.value self.now.gradient.now)
             (targets_ahead self.now.front self.now.bounds.now (speeds_along S.value self.now.track.now) ++ listed last)
@@ -78,11 +78,11 @@ impl<'a, S: Profile<CategorySpeeds>, G: Profile<Permille>> Ahead<'a, S, G> {
         let mut targets = self.targets(last);
         while let Some(target) = targets.next() {
             approach.lower(&target);
-            let Some(place) = targets.nearest() else {
+            let Some(place) = targets.speeds_from() else {
                 continue;
             };
             if approach.fits(&stop_at(place)) {
-                break;
+                targets.skip_speeds();
             }
         }
         approach

@@ -1,8 +1,8 @@
 // The mode areas ahead as targets.
-ghost use Rattle.std.specs.Prelude.{◌≡◌, IsTrue};
+ghost use Rattle.std.specs.Prelude.{◌≡◌};
 ghost use Rattle.std.specs.Iterator.{at_most};
 ghost use Rattle.speed_profile.specs.Ahead.{over_ahead, area_targets};
-ghost use Rattle.speed_profile.specs.Targets.{Tells, AskNothing};
+ghost use Rattle.speed_profile.specs.Targets.{Tells};
 
 use crate::starts::first_in_area;
 use areas::{Area, Areas, NationalSpeeds};
@@ -20,13 +20,13 @@ pub struct AreaTargets<'a> {
 }
 
 impl<'a> Model for AreaTargets<'a> {
-    ghost use Rattle.std.specs.Prelude.{length};
+    ghost use Rattle.std.specs.Prelude.{length, None};
     ghost use Rattle.speed_profile.specs.Ahead.{over_ahead, area_targets};
     ghost use Rattle.speed_profile.specs.Targets.{Left};
 
     ghost Value = { Left };
 
-    ghost view = { λ a. record { targets = over_ahead a.front (area_targets a.national a.left.now); most = length a.left.now } };
+    ghost view = { λ a. record { targets = over_ahead a.front (area_targets a.national a.left.now); most = length a.left.now; speeds_from = None } };
 }
 
 impl<'a> AreaTargets<'a> {
@@ -38,13 +38,6 @@ impl<'a> AreaTargets<'a> {
             national,
             left: areas.as_slice(),
         }
-    }
-
-    // Whether all were looked at.
-    pub fn is_done(&self) -> bool
-        ensures { IsTrue result → AskNothing self.now.targets }
-    {
-        self.left.is_empty()
     }
 }
 

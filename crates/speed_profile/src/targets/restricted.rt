@@ -1,8 +1,8 @@
 // The restrictions ahead as targets.
-ghost use Rattle.std.specs.Prelude.{◌≡◌, [], ◌↔◌, IsTrue};
+ghost use Rattle.std.specs.Prelude.{◌≡◌};
 ghost use Rattle.std.specs.Iterator.{at_most};
 ghost use Rattle.speed_profile.specs.Ahead.{over_ahead, restriction_targets};
-ghost use Rattle.speed_profile.specs.Targets.{Tells, AskNothing};
+ghost use Rattle.speed_profile.specs.Targets.{Tells};
 
 use crate::starts::first_target;
 use braking::Target;
@@ -20,13 +20,13 @@ pub struct RestrictionTargets<'a> {
 }
 
 impl<'a> Model for RestrictionTargets<'a> {
-    ghost use Rattle.std.specs.Prelude.{length};
+    ghost use Rattle.std.specs.Prelude.{length, None};
     ghost use Rattle.speed_profile.specs.Ahead.{over_ahead, restriction_targets};
     ghost use Rattle.speed_profile.specs.Targets.{Left};
 
     ghost Value = { Left };
 
-    ghost view = { λ r. record { targets = over_ahead r.front (restriction_targets r.mark r.left.now); most = length r.left.now } };
+    ghost view = { λ r. record { targets = over_ahead r.front (restriction_targets r.mark r.left.now); most = length r.left.now; speeds_from = None } };
 }
 
 impl<'a> RestrictionTargets<'a> {
@@ -38,13 +38,6 @@ impl<'a> RestrictionTargets<'a> {
             mark: restrictions.mark(),
             left: restrictions.as_slice(),
         }
-    }
-
-    // Whether all were looked at.
-    pub fn is_done(&self) -> bool
-        ensures { IsTrue result → AskNothing self.now.targets }
-    {
-        self.left.is_empty()
     }
 }
 

@@ -1,8 +1,8 @@
 // The static speeds ahead as targets.
-ghost use Rattle.std.specs.Prelude.{◌≡◌, IfSome};
+ghost use Rattle.std.specs.Prelude.{◌≡◌, [], None};
 ghost use Rattle.std.specs.Iterator.{at_most};
 ghost use Rattle.speed_profile.specs.Ahead.{over_ahead, static_targets};
-ghost use Rattle.speed_profile.specs.Targets.{Tells, LieBeyond};
+ghost use Rattle.speed_profile.specs.Targets.{Tells, AskTheSameBeyond};
 
 use crate::starts::{next_after, static_target};
 use crate::{Bounds, CategorySpeeds};
@@ -29,7 +29,7 @@ impl<'a, S: Profile<CategorySpeeds>> Model for SpeedTargets<'a, S> {
 
     ghost Value = { Left };
 
-    ghost view = { λ s. record { targets = rest (static_targets s.bounds.now (S.value s.speeds.now)) s.start; most = left s.start } };
+    ghost view = { λ s. record { targets = rest (static_targets s.bounds.now (S.value s.speeds.now)) s.start; most = left s.start; speeds_from = s.start } };
 }
 
 impl<'a, S: Profile<CategorySpeeds>> SpeedTargets<'a, S> {
@@ -46,9 +46,17 @@ impl<'a, S: Profile<CategorySpeeds>> SpeedTargets<'a, S> {
 
     // Where those begin that are left.
     pub fn start(&self) -> Option<Cm>
-        ensures { IfSome result (λ place. LieBeyond place self.now.targets) }
+        ensures { result ≡ self.now.speeds_from }
     {
         self.start
+    }
+
+    // Leaves out those that are left: all lie where they begin or farther ahead.
+    pub fn skip_all(&mut self)
+        ensures asks { AskTheSameBeyond self.old.speeds_from self.old.targets [] }
+        ensures none { self.new ≡ record { targets = []; most = 0; speeds_from = None } }
+    {
+        self.start = None;
     }
 }
 

@@ -6,18 +6,35 @@ use Rattle.braking.specs.Approaches.{Course, lowered_by}
 use Rattle.braking.proofs.Approaching.{lowered_by_more, lowered_from}
 use Rattle.speed_profile.specs.Ahead.{targets_ahead, setting_out}
 use Rattle.speed_profile.specs.Track.{speeds_along}
-use Rattle.speed_profile.proofs.Asking.{lowered_same, lowered_fitting, lowered_nothing}
+use Rattle.speed_profile.proofs.Asking.{lowered_same, lowered_beyond, lowered_nothing}
 use Rattle.speed_profile.proofs.ahead.Ahead.approach.Goals as goal
 
 pub loop-target-init : goal.loop-target-init
 loop-target-init g c = refl
 
-pub loop-target-preserved-in_default-nearest : goal.loop-target-preserved-in_default-nearest
-loop-target-preserved-in_default-nearest g c =
+pub loop-target-preserved-in_default-speeds_from : goal.loop-target-preserved-in_default-speeds_from
+loop-target-preserved-in_default-speeds_from g c =
     let gradient = g.G.Profile.value in
     let old = c.loop-target.approach in
     let left = c.next.new.self.targets in
     lowered_by_more gradient c.in-Some.target left old c.lower.new.self c.lower.ensures
+    ∙ sym (lowered_same gradient c.loop-target.targets.targets (c.in-Some.target ∷ left) old c.in-Some.ensures.steps)
+    ∙ c.loop-target.invariant
+
+pub loop-target-preserved-then-fits : goal.loop-target-preserved-then-fits
+loop-target-preserved-then-fits g c =
+    let gradient = g.G.Profile.value in
+    let old = c.loop-target.approach in
+    let now = c.lower.new.self in
+    let left = c.next.new.self.targets in
+    let stop : Target = record { place = c.in-Some-speeds_from.place; speed = 0 } in
+    let stops : fits now.front (gradient now.gradient) now.brakes stop now.speed ≡ true =
+    ap (λ (t : Target). fits now.front (gradient now.gradient) now.brakes t now.speed) (sym c.stop_at.ensures)
+    ∙ sym c.fits.ensures.value ∙ c.if-fits.true in
+    lowered_from gradient c.skip_speeds.new.self.targets c.fits.new.self now c.fits.ensures.same
+    ∙ sym (lowered_beyond gradient c.next.new.self.speeds_from c.in-Some-speeds_from.place left c.skip_speeds.new.self.targets now
+    c.skip_speeds.ensures.asks (sym c.speeds_from.ensures ∙ c.in-Some-speeds_from.is) stops)
+    ∙ lowered_by_more gradient c.in-Some.target left old now c.lower.ensures
     ∙ sym (lowered_same gradient c.loop-target.targets.targets (c.in-Some.target ∷ left) old c.in-Some.ensures.steps)
     ∙ c.loop-target.invariant
 
@@ -31,29 +48,8 @@ loop-target-preserved g c =
     ∙ sym (lowered_same gradient c.loop-target.targets.targets (c.in-Some.target ∷ left) old c.in-Some.ensures.steps)
     ∙ c.loop-target.invariant
 
-pub returns-then-fits : goal.returns-then-fits
-returns-then-fits g c =
-    let self = c.args.self.now in
-    let gradient = g.G.Profile.value in
-    let old = c.loop-target.approach in
-    let now = c.lower.new.self in
-    let left = c.next.new.self.targets in
-    let first = c.new-approach.result in
-    let all = targets_ahead self.front self.bounds.now (speeds_along g.S.Profile.value self.track.now) ++ listed c.args.last in
-    let stops : fits now.front (gradient now.gradient) now.brakes (record { place = c.in-Some-nearest.place; speed = 0 }) now.speed ≡ true =
-    ap (λ (t : Target). fits now.front (gradient now.gradient) now.brakes t now.speed) (sym c.stop_at.ensures)
-    ∙ sym c.fits.ensures.value ∙ c.if-fits.true in
-    let fit = c.in-Some-nearest.ensures now.front (gradient now.gradient) now.brakes now.speed stops in
-    c.fits.ensures.same
-    ∙ sym (lowered_fitting gradient left now fit)
-    ∙ lowered_by_more gradient c.in-Some.target left old now c.lower.ensures
-    ∙ sym (lowered_same gradient c.loop-target.targets.targets (c.in-Some.target ∷ left) old c.in-Some.ensures.steps)
-    ∙ c.loop-target.invariant
-    ∙ lowered_same gradient c.targets-targets.result.targets all first c.targets-targets.ensures.left
-    ∙ lowered_from gradient all first (setting_out self.front c.args.limit self.gradient.now self.brakes.now) c.new-approach.ensures
-
-pub returns-in_default : goal.returns-in_default
-returns-in_default g c =
+pub returns : goal.returns
+returns g c =
     let self = c.args.self.now in
     let gradient = g.G.Profile.value in
     let first = c.new-approach.result in

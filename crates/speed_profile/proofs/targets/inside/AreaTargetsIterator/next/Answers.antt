@@ -1,4 +1,5 @@
 use Rattle.std.proofs.Common.{◌≡◌, List, [], ◌∷◌, ◌++◌, length, ap, sym, ◌∙◌, arith}
+use Rattle.std.specs.Prelude.{None}
 use Rattle.std.proofs.lemmas.List.{nil_from_length}
 use Rattle.areas.specs.declared.area.Area.{Area}
 use Rattle.track_store.specs.Profiles.{listed}
@@ -17,7 +18,7 @@ returns-then-is_some-clause-steps c =
     let asked : AskTheSame (ahead self.left.now) (listed c.first_in_area-target.result ++ ahead others) =
     asked_at (ahead self.left.now) (ahead (c.in-Some.first.now ∷ others)) (ahead others) c.first_in_area-target.result (first_in_area self.front self.national c.in-Some.first.now)
     (ap ahead c.in-Some.ensures.cases.0) c.first_in_area-target.ensures (area_asks self.front self.national c.in-Some.first.now others) in
-    one_told c.args.self.now (record { targets = ahead others; most = length others }) (ahead self.left.now) c.first_in_area-target.result
+    one_told c.args.self.now (record { targets = ahead others; most = length others; speeds_from = None }) (ahead self.left.now) c.first_in_area-target.result
     c.loop-first.invariant.0 asked (sym c.is_some.ensures ∙ c.if-is_some.true)
 
 pub loop-first-preserved : goal.loop-first-preserved

@@ -22,7 +22,7 @@ returns-then-is_some-clause-steps g c =
     let asked : AskTheSame (rest targets self.start) (listed told ++ rest targets next) =
     asked_at (rest targets self.start) (rest targets (Some place)) (rest targets next) told (static_target self.bounds.now place (profile place))
     (ap (rest targets) c.in-Some.is) is (piece_asks self.bounds.now profile place within next c.piece-here.ensures.next) in
-    one_told c.args.self.now (record { targets = rest targets next; most = left next }) (rest targets self.start) told
+    one_told c.args.self.now (record { targets = rest targets next; most = left next; speeds_from = next }) (rest targets self.start) told
     c.loop-self.invariant.0 asked (sym c.is_some.ensures ∙ c.if-is_some.true)
 
 pub loop-self-smaller : goal.loop-self-smaller

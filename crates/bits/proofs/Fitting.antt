@@ -1,8 +1,8 @@
 -- What fits a layout has a spelling: what is appended for it.
-use Rattle.std.proofs.Common.{ℕ, zero, suc, ◌∷◌, ◌+◌, subst, ◌≡◌, Bool, true, false, List, [], ◌++◌, length, take, drop, Option, Some, None, Ok, refl, sym, ap, ◌∙◌, arith, append_assoc, length-append}
+use Rattle.std.proofs.Common.{ℕ, zero, suc, ◌∷◌, ◌+◌, ◌<◌, ◌≤◌, subst, ◌≡◌, Bool, true, false, List, [], ◌++◌, length, take, drop, get_or, Option, Some, None, Ok, refl, sym, ap, ◌∙◌, arith, append_assoc, length-append, drop-cons}
 use Rattle.std.specs.Prelude.{is_some, option_map, option_and_then, IfSome}
 use Rattle.std.specs.Option.{option_map_or}
-use Rattle.std.proofs.lemmas.List.{append-nil, take-append-drop}
+use Rattle.std.proofs.lemmas.List.{append-nil, take-append-drop, drop_all}
 use Rattle.bits.specs.Bits.{number, number_bits}
 use Rattle.std.specs.List.{AllByRecursion as Each}
 use Rattle.bits.specs.Fitting.{HasNumber, Fits, Spellable}
@@ -110,3 +110,33 @@ spelling (then_ m f) c x front h e =
 -- what a layout reads of a value that fits it
 pub spellable : {F D : Type 0} (m : Layout F D D) (x : D) → Spellable m x → (bits : List Bool) × Spells m x bits
 spellable m x h = let a = spelling m x x [] h.0 h.1 in (a.bits, a.spells)
+
+-- ---- a loop over elements
+
+-- all elements are as P says where those from i on are
+pub record FromOn {D : Type 0} (P : D → Type 0) (xs : List D) (i : ℕ) : Type 0 where
+  pub all : Each P (drop i xs) → Each P xs
+  pub left : Each P xs → Each P (drop i xs)
+
+cut_at : {D : Type 0} (xs : List D) (i : ℕ) (x d : D) → i < length xs → x ≡ get_or xs i d → drop i xs ≡ x ∷ drop (i + 1) xs
+cut_at xs i x d lt e =
+    let next : suc i ≡ i + 1 = omega arith in
+    drop-cons xs i d lt ∙ ap (λ (y : _). y ∷ drop (suc i) xs) (sym e) ∙ ap (λ (n : ℕ). x ∷ drop n xs) next
+
+pub from_start : {D : Type 0} (P : D → Type 0) (xs : List D) → FromOn P xs 0
+from_start P xs = record { all = λ h. h; left = λ h. h }
+
+pub from_next : {D : Type 0} (P : D → Type 0) (xs : List D) (i : ℕ) (x d : D) → i < length xs → x ≡ get_or xs i d → P x → FromOn P xs i → FromOn P xs (i + 1)
+from_next P xs i x d lt e here on =
+    let cut = cut_at xs i x d lt e in
+    record { all = λ h. on.all (subst (λ (t : List _). Each P t) (sym cut) (here, h)); left = λ h. (subst (λ (t : List _). Each P t) cut (on.left h)).1 }
+
+pub from_end : {D : Type 0} (P : D → Type 0) (xs : List D) (i : ℕ) → length xs ≤ i → FromOn P xs i → Each P xs
+from_end P xs i le on = on.all (subst (λ (t : List _). Each P t) (sym (drop_all i xs le)) tt)
+
+pub not_here : {D : Type 0} (P : D → Type 0) (xs : List D) (i : ℕ) (x d : D) → i < length xs → x ≡ get_or xs i d → (P x → ⊥) → FromOn P xs i → Each P xs → ⊥
+not_here P xs i x d lt e other on h = other (subst (λ (t : List _). Each P t) (cut_at xs i x d lt e) (on.left h)).0
+
+pub each_append : {D : Type 0} (P : D → Type 0) (xs ys : List D) → Each P xs → Each P ys → Each P (xs ++ ys)
+each_append P [] ys a b = b
+each_append P (x ∷ xs) ys a b = (a.0, each_append P xs ys a.1 b)

@@ -1,3 +1,4 @@
 pub mod AnyPacket
+pub mod FirstFits
 pub mod StaticSteps
 pub mod Told

@@ -162,7 +162,7 @@ found_step s even k h = (
         back (plain_back 5),
         λ count _. (
           found-difference,
-          λ own long.
+          λ own long _.
               let step : StaticStep = record { distance = d; speed = v; delay = delay; differences = count } in
               h _ _ (record {
                 ahead = record { steps = step ∷ []; own = own; direction = refl; scale = refl; all_steps = refl; all_differences = refl };
@@ -230,7 +230,7 @@ told-national_values = record {
             back (plain_back 5),
             λ _ _. (
               found-country,
-              λ _ long. (
+              λ _ long _. (
                 back (up_to_back 7 120),
                 λ _ _. (
                   back (up_to_back 7 120),
@@ -253,7 +253,7 @@ told-national_values = record {
                                   λ _ _. (
                                     back open_length_back,
                                     λ _ _ e.
-                                        (small, tt, (refl, (sym e, (refl, (refl, (long, (refl, (refl, (refl, (refl, (refl, (refl, (refl, (refl, (refl, (refl, (refl, (refl, tt)))))))))))))))))),
+                                        (small.small, tt, (refl, (sym e, (refl, (refl, (long, (refl, (refl, (refl, (refl, (refl, (refl, (refl, (refl, (refl, (refl, (refl, (refl, tt)))))))))))))))))),
                                   ),
                                 ),
                               ),
@@ -286,12 +286,12 @@ told-linking = record {
         back q_scale_back,
         λ _ _. (
           found-link,
-          λ first one. (
+          λ first one _. (
             back (plain_back 5),
             λ _ _. (
               found-link,
-              λ others more e.
-                  (small, tt, (refl, (sym e, (refl, (take_at first others 1 one, (omega (arith, length-append first others, one, more), (refl, tt))))))),
+              λ others more _ e.
+                  (small.small, tt, (refl, (sym e, (refl, (take_at first others 1 one, (omega (arith, length-append first others, one, more), (refl, tt))))))),
             ),
           ),
         ),
@@ -321,7 +321,7 @@ told-movement_authority = record {
                 back (plain_back 5),
                 λ _ _. (
                   found-section names.LSection,
-                  λ _ long. (
+                  λ _ long _. (
                     found-section names.LEndsection,
                     λ _. (
                       back flag_back,
@@ -336,7 +336,7 @@ told-movement_authority = record {
                               λ _ _. (
                                 found-overlap,
                                 λ _ overlapped e.
-                                    (small, tt, (refl, (sym e, (refl, (refl, (refl, (refl, (long, (refl, (refl, ((timed, refl), ((endangered, refl), ((overlapped, refl), tt))))))))))))),
+                                    (small.small, tt, (refl, (sym e, (refl, (refl, (refl, (refl, (long, (refl, (refl, ((timed, refl), ((endangered, refl), ((overlapped, refl), tt))))))))))))),
                               ),
                             ),
                           ),
@@ -367,12 +367,12 @@ told-gradients = record {
         back q_scale_back,
         λ _ _. (
           found-gradient,
-          λ first one. (
+          λ first one _. (
             back (plain_back 5),
             λ _ _. (
               found-gradient,
-              λ others more e.
-                  (small, tt, (refl, (sym e, (refl, (take_at first others 1 one, (omega (arith, length-append first others, one, more), (refl, tt))))))),
+              λ others more _ e.
+                  (small.small, tt, (refl, (sym e, (refl, (take_at first others 1 one, (omega (arith, length-append first others, one, more), (refl, tt))))))),
             ),
           ),
         ),
@@ -396,7 +396,7 @@ told-static_speeds = record {
           back (plain_back 5),
           λ count _.
               found_steps count first one.even _ (λ all Q more e.
-              (small, tt, (more.ahead.direction ∙ one.ahead.direction, (sym e, (more.ahead.scale ∙ one.ahead.scale, (one.holds all more.ahead, (omega (arith, one.count, more.count), (more.holds all (itself all), tt)))))))),
+              (small.small, tt, (more.ahead.direction ∙ one.ahead.direction, (sym e, (more.ahead.scale ∙ one.ahead.scale, (one.holds all more.ahead, (omega (arith, one.count, more.count), (more.holds all (itself all), tt)))))))),
         )),
       ),
     ),
@@ -418,12 +418,12 @@ told-level_transition = record {
           back start_place_back,
           λ _ _. (
             found-level_order,
-            λ first one. (
+            λ first one _. (
               back (plain_back 5),
               λ _ _. (
                 found-level_order,
-                λ others more e.
-                    (small, tt, (refl, (sym e, (refl, (refl, (take_at first others 1 one, (omega (arith, length-append first others, one, more), (refl, tt)))))))),
+                λ others more _ e.
+                    (small.small, tt, (refl, (sym e, (refl, (refl, (take_at first others 1 one, (omega (arith, length-append first others, one, more), (refl, tt)))))))),
               ),
             ),
           ),
@@ -455,7 +455,7 @@ told-speed_restriction = record {
                 λ _ _. (
                   back (up_to_back 7 120),
                   λ _ _ e.
-                      (small, tt, (refl, (sym e, (refl, (refl, (refl, (refl, (refl, (refl, tt))))))))),
+                      (small.small, tt, (refl, (sym e, (refl, (refl, (refl, (refl, (refl, (refl, tt))))))))),
                 ),
               ),
             ),
@@ -471,7 +471,7 @@ told-speed_restriction = record {
 pub told-restriction_revocation : Tells restriction_revocation_telling Anything
 unfolding restriction_revocation_telling
 told-restriction_revocation = record {
-  found = λ t. (back q_dir_back, λ _ _. (back (plain_back 13), λ _ small. (back (plain_back 8), λ _ _ e. (small, tt, (refl, (sym e, (refl, tt)))))));
+  found = λ t. (back q_dir_back, λ _ _. (back (plain_back 13), λ _ small. (back (plain_back 8), λ _ _ e. (small.small, tt, (refl, (sym e, (refl, tt)))))));
   anyhow = λ g h p bits s. s;
   sized = λ g h c. refl;
 }
@@ -487,12 +487,12 @@ told-mode_profile = record {
         back q_scale_back,
         λ _ _. (
           found-mode_area,
-          λ first one. (
+          λ first one _. (
             back (plain_back 5),
             λ _ _. (
               found-mode_area,
-              λ others more e.
-                  (small, tt, (refl, (sym e, (refl, (take_at first others 1 one, (omega (arith, length-append first others, one, more), (refl, tt))))))),
+              λ others more _ e.
+                  (small.small, tt, (refl, (sym e, (refl, (take_at first others 1 one, (omega (arith, length-append first others, one, more), (refl, tt))))))),
             ),
           ),
         ),
@@ -506,7 +506,7 @@ told-mode_profile = record {
 pub told-skipped : (number : ℕ) → Tells (skipped_telling number) (λ p. p.number ≡ number)
 unfolding skipped_telling
 told-skipped number = record {
-  found = λ t. (back (plain_back 2), λ _ _. (back (plain_back 13), λ _ small. λ _ e. (small, refl, (refl, (sym e, (tt, (refl, tt)))))));
+  found = λ t. (back (plain_back 2), λ _ _. (back (plain_back 13), λ _ small. λ _ e. (small.small, refl, (refl, (sym e, (tt, (refl, tt)))))));
   anyhow = λ g h p bits s. s;
   sized = λ g h c. refl;
 }

@@ -4,6 +4,7 @@
 mod authority;
 mod element;
 mod fault;
+mod fitting;
 mod gradients;
 mod level_transition;
 mod linking;

@@ -1,4 +1,4 @@
-ghost use Rattle.std.specs.Prelude.{◌≡◌, ◌+◌, ◌≤◌, ◌<◌, ◌^◌, length, drop, min, slice_index_or, take, OnOk};
+ghost use Rattle.std.specs.Prelude.{◌≡◌, ◌+◌, ◌≤◌, ◌<◌, ◌^◌, length, drop, min, slice_index_or, take, OnOk, ◌↔◌, IsTrue};
 ghost use Rattle.bits.specs.Layout.{Gives, folded, kind, read};
 ghost use Rattle.bits.specs.Sums.{total};
 ghost use Rattle.bits.specs.Writing.{size, taken};
@@ -16,7 +16,7 @@ use arrayvec::ArrayVec;
 use bits::{BitReader, VariableName};
 use vars::{
     Distance, Iterations, PacketLength, Scale, SpeedStep, StaticSpeed, TrainCategory,
-    TrainLengthDelay, ValidityDirection, Variable,
+    TrainLengthDelay, ValidityDirection, Variable, has_number,
 };
 
 /// A speed for trains of a category.
@@ -59,6 +59,11 @@ impl Element for Difference {
     #[tactic(auto, unfolding(crate::specs::Packets::difference))]
     fn bits(&self) -> u64 {
         11
+    }
+
+    #[tactic(auto, unfolding(crate::specs::Packets::difference))]
+    fn fits(&self) -> bool {
+        has_number(&self.category) && has_number(&self.speed)
     }
 }
 

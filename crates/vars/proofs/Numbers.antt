@@ -1,6 +1,7 @@
 -- The number of a value that a number stands for is that number, and the number of a value stands for it.
 use Rattle.std.proofs.Common.{◌≡◌, ◌≢◌, ℕ, ◌<◌, ◌≤◌, ◌^◌, ◌↔◌, Bool, true, false, cond, ltb, nat_eq, Result, Ok, Err, refl, sym, ap, ◌∙◌, arith}
 use Rattle.std.proofs.lemmas.Bool.{eqb-true, eqb-false, ltb-false, ne_eqb}
+use Rattle.bits.specs.Fitting.{HasNumber}
 use Rattle.bits.specs.Layout.{Codes}
 use Rattle.vars.specs.declared.variable.NoValue.{NoValue}
 use Rattle.vars.specs.declared.variable.NoValue.TheVariants.{Spare, OutOfRange}
@@ -32,7 +33,7 @@ use Rattle.vars.specs.declared.special_speed.ReleaseSpeed.{ReleaseSpeed}
 use Rattle.vars.specs.declared.special_speed.ReleaseSpeed.TheVariants as release_speeds
 use Rattle.vars.specs.declared.special_speed.StaticSpeed.{StaticSpeed}
 use Rattle.vars.specs.declared.special_speed.StaticSpeed.TheVariants as static_speeds
-use Rattle.vars.specs.Variables.{plain, up_to, flag, speed, duplicate_of, m_dup, duplicate_number, direction_of, direction_number, q_dir, scale_of, scale_number, q_scale, q_front, delay_number, orientation_of, orientation_number, q_linkorientation, reaction_of, reaction_number, q_linkreaction, release_of, release_number, v_release, gradient_direction_of, gradient_direction_number, q_gdir, static_of, static_number, v_static, start_place_of, start_place_number, start_place, level_of, level_number, m_leveltr, area_mode_of, area_mode_number, m_mamode, area_speed_of, area_speed_number, v_mamode, open_length_of, open_length_number, open_length}
+use Rattle.vars.specs.Variables.{plain, up_to, flag, speed, n_iter, l_packet, duplicate_of, m_dup, duplicate_number, direction_of, direction_number, q_dir, scale_of, scale_number, q_scale, q_front, delay_number, orientation_of, orientation_number, q_linkorientation, reaction_of, reaction_number, q_linkreaction, release_of, release_number, v_release, gradient_direction_of, gradient_direction_number, q_gdir, static_of, static_number, v_static, start_place_of, start_place_number, start_place, level_of, level_number, m_leveltr, area_mode_of, area_mode_number, m_mamode, area_speed_of, area_speed_number, v_mamode, open_length_of, open_length_number, open_length}
 
 pub record Numbered {A : Type 0} (codes : Codes NoValue A) : Type 0 where
   pub back : (v : ℕ) (x : A) → v < 2 ^ codes.width → codes.value v ≡ Ok x → codes.number x ≡ v
@@ -272,3 +273,13 @@ open_length_own v = (
   λ other. let no : nat_eq v 32767 ≡ false = ne_eqb v 32767 other in rw no refl,
   λ e. eqb-false v 32767 (apart lengths.NoEnd (lengths.Length v) _ (nat_eq v 32767) (λ same. cc) e).0,
 )
+
+pub flag_has : (b : Bool) → HasNumber flag b
+flag_has true = record { small = omega arith; own = refl }
+flag_has false = record { small = omega arith; own = refl }
+
+pub n_iter_has : (n : ℕ) → n < 2 ^ 5 → HasNumber n_iter n
+n_iter_has n lt = record { small = lt; own = refl }
+
+pub l_packet_has : (n : ℕ) → n < 2 ^ 13 → HasNumber l_packet n
+l_packet_has n lt = record { small = lt; own = refl }

@@ -1,4 +1,5 @@
 ghost use Rattle.std.specs.Prelude.{◌≡◌, ◌<◌, ◌^◌, ◌↔◌, IsTrue, Ok, ℕ};
+ghost use Rattle.bits.specs.Fitting.{HasNumber};
 ghost use Rattle.bits.specs.Layout.{Codes};
 ghost use Rattle.vars.specs.declared.variable.NoValue.{NoValue};
 
@@ -43,6 +44,14 @@ pub trait Variable: Sized {
     ghost width_is: { (codes).width ≡ WIDTH };
 
     ghost width_small: { (codes).width < 16 };
+}
+
+/// Whether the value has a number that is told by the variable's bits and stands for it.
+#[inline]
+pub fn has_number<V: Variable>(value: &V) -> bool
+    ensures { IsTrue result ↔ HasNumber V.codes value.now }
+{
+    value.number() < 1 << V::WIDTH && value.has_own_number()
 }
 
 impl Variable for bool {

@@ -140,3 +140,13 @@ not_here P xs i x d lt e other on h = other (subst (λ (t : List _). Each P t) (
 pub each_append : {D : Type 0} (P : D → Type 0) (xs ys : List D) → Each P xs → Each P ys → Each P (xs ++ ys)
 each_append P [] ys a b = b
 each_append P (x ∷ xs) ys a b = (a.0, each_append P xs ys a.1 b)
+
+pub each_take : {D : Type 0} (P : D → Type 0) (n : ℕ) (xs : List D) → Each P xs → Each P (take n xs)
+each_take P zero xs h = tt
+each_take P (suc n) [] h = tt
+each_take P (suc n) (x ∷ xs) h = (h.0, each_take P n xs h.1)
+
+pub each_drop : {D : Type 0} (P : D → Type 0) (n : ℕ) (xs : List D) → Each P xs → Each P (drop n xs)
+each_drop P zero xs h = h
+each_drop P (suc n) [] h = tt
+each_drop P (suc n) (x ∷ xs) h = each_drop P n xs h.1

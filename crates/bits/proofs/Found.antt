@@ -23,7 +23,7 @@ pub record Appends {F D : Type 0} (m : Layout F D D) : Type 0 where
 -- Each value that is read is found in the whole again, and what is nested is appended. k tells what the whole is.
 abbrev pub Found : {F C A : Type 0} → Layout F C A → (A → (C → Type 0) → Type 0) → Type 0
 Found (done y) k = k y (λ c. Unit {0})
-Found (unless bad f) k = k tt (λ c. Unit {0})
+Found (unless bad f) k = bad ≡ false → k tt (λ c. Unit {0})
 Found {A = A} (field name f g codes get) k = Back codes × ((x : A) → HasNumber codes x → k x (λ c. get c ≡ x))
 Found (run n f get) k = (x : List Bool) → k x (λ c. get c ≡ x)
 Found (choice true m n) k = Found m k
@@ -85,7 +85,7 @@ spelled (done y) k x bits h s = record {
 }
 spelled (unless b f) k x bits h s = record {
   Where = λ c. Unit {0};
-  holds = h;
+  holds = h s.0;
   again = λ c w. refl;
   fits = λ c w. s.0;
   put = λ c front w. glue_end front bits s.1;

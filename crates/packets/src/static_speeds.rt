@@ -3,11 +3,13 @@ ghost use Rattle.bits.specs.Layout.{Gives, folded, kind, read};
 ghost use Rattle.bits.specs.Sums.{total};
 ghost use Rattle.bits.specs.Writing.{size, taken};
 ghost use Rattle.packets.specs.Packets.{as_packet, as_static_speeds, no_step, static_step, static_speeds, static_speeds_telling};
-ghost use Rattle.packets.specs.StaticSteps.{profile_size, profile_taken, step_size, step_taken, steps_size, steps_taken};
+ghost use Rattle.packets.specs.StaticSteps.{StepFits, SpeedsFit, profile_size, profile_taken, step_size, step_taken, steps_size, steps_taken};
+ghost use Rattle.std.specs.List.{AllByRecursion as Each};
 ghost use Rattle.packets.specs.declared.packet.Packet.TheVariants as packets;
 
 use crate::element::{Element, read_list};
 use crate::fault::PacketFault;
+use crate::fitting::all_fit;
 use crate::packet::Packet;
 use crate::reading::field;
 use crate::sink::{FieldSink, put};
@@ -254,6 +256,18 @@ fn profile_fields<S: FieldSink>(
     steps_fields(other_steps(steps), left, sink)
 }
 
+/// How many differences the steps count.
+fn counted_differences(steps: &[StaticStep]) -> u64
+    requires { length steps.now ≤ 32 }
+    ensures { result ≡ total (λ (s : StaticStep). s.differences) steps.now }
+{
+    let mut counted = 0u64;
+    for step in steps {
+        counted += u64::from(step.differences.count());
+    }
+    counted
+}
+
 /// How many differences are some step's own.
 fn owned_differences(steps: &[StaticStep], differences: usize) -> u64
     requires few { length steps.now ≤ 32 }
@@ -263,14 +277,54 @@ fn owned_differences(steps: &[StaticStep], differences: usize) -> u64
     if differences == 0 {
         return 0;
     }
-    let mut owned = 0u64;
-    for step in steps {
-        owned += u64::from(step.differences.count());
+    counted_differences(steps).min(differences as u64)
+}
+
+impl StaticStep {
+    /// Whether its variables have numbers.
+    fn has_numbers(&self) -> bool
+        ensures { IsTrue result ↔ StepFits self.now }
+    {
+        has_number(&self.distance)
+            && has_number(&self.speed)
+            && has_number(&self.delay)
+            && has_number(&self.differences)
     }
-    owned.min(differences as u64)
+}
+
+/// Whether the variables of all steps have numbers.
+fn steps_fit(steps: &[StaticStep]) -> bool
+    ensures { IsTrue result ↔ Each StepFits steps.now }
+{
+    for step in steps {
+        if !step.has_numbers() {
+            return false;
+        }
+    }
+    true
 }
 
 impl StaticSpeeds {
+    /// Whether there is a first step, and the steps count the differences that there are.
+    fn counts_differences(&self) -> bool
+        ensures { IsTrue result ↔ ((0 < length self.now.steps.items) × (length self.now.steps.items ≤ 32) × (length self.now.differences.items ≤ 70) × (total (λ (s : StaticStep). s.differences) self.now.steps.items ≡ length self.now.differences.items)) }
+    {
+        let steps = self.steps.as_slice();
+        let differences = self.differences.len() as u64;
+        steps.len() > 0 && counted_differences(steps) == differences
+    }
+
+    /// Whether it is as its layout wants it, but for the length that L_PACKET tells.
+    pub(crate) fn fits(&self) -> bool
+        ensures { IsTrue result ↔ SpeedsFit self.now }
+    {
+        self.counts_differences()
+            && has_number(&self.direction)
+            && has_number(&self.scale)
+            && steps_fit(self.steps.as_slice())
+            && all_fit(self.differences.as_slice())
+    }
+
     /// The number of bits, those of NID_PACKET included.
     pub(crate) fn bits(&self) -> u64
         ensures value { result ≡ 8 + size (static_speeds_telling (λ _. 0)) self.now }

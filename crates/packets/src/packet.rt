@@ -59,12 +59,12 @@ pub enum Packet<'a> {
 /// The greatest length that L_PACKET can tell.
 const MOST_BITS: u64 = 8191;
 
-/// The length that L_PACKET tells: one that it can't tell stands as the greatest that it can.
+/// The length that L_PACKET tells: of one that it can't tell its lowest bits.
 fn told_length(length: u64) -> u64
     ensures bound { result < 2 ^ 13 }
     ensures same { length < 2 ^ 13 → result ≡ length }
 {
-    length.min(MOST_BITS)
+    length % (MOST_BITS + 1)
 }
 
 /// Whether packets of a number are skipped: it isn't that of a packet with a layout of its own, nor the end of a telegram.

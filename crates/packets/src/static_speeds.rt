@@ -175,13 +175,13 @@ pub fn read_static_speeds<'a>(
     Ok(told)
 }
 
-/// The first step, or none to speak of.
-fn first_step(steps: &[StaticStep]) -> StaticStep
-    ensures { result ≡ slice_index_or steps.now 0 no_step }
+/// The first step, or another one where there is none.
+fn first_step<'a>(steps: &'a [StaticStep], other: &'a StaticStep) -> &'a StaticStep
+    ensures { result.now ≡ slice_index_or steps.now 0 other.now }
 {
     match steps.first() {
-        Some(step) => *step,
-        None => StaticStep::default(),
+        Some(step) => step,
+        None => other,
     }
 }
 
@@ -245,9 +245,10 @@ fn profile_fields<S: FieldSink>(
     requires room { S.held sink.old + profile_size steps.now differences.now ≤ S.most }
     ensures { OnOk result (S.seen sink.new ≡ profile_taken S.took steps.now differences.now (S.seen sink.old)) }
 {
-    let first = first_step(steps);
-    let (own, left) = split_own(&first, differences);
-    step_fields(&first, own, sink)?;
+    let none = StaticStep::default();
+    let first = first_step(steps, &none);
+    let (own, left) = split_own(first, differences);
+    step_fields(first, own, sink)?;
     sink.field(
         VariableName::NIter,
         5,

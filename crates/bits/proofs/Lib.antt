@@ -1,4 +1,5 @@
 pub mod Bytes
+pub mod Fitting
 pub mod Found
 pub mod Laws
 pub mod Lists

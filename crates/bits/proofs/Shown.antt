@@ -2,12 +2,7 @@
 use Rattle.std.proofs.Common.{◌∷◌, ◌≡◌, true, false, List, [], ◌++◌, length, drop, Option, Some, None, refl, sym, ap, ◌∙◌}
 use Rattle.std.specs.Option.{option_map_or}
 use Rattle.bits.specs.Layout.{Layout, done, unless, field, run, choice, kind, part, inner, measured, more, told_as, then_}
-use Rattle.bits.specs.Writing.{Shown, named, raw, value, each_taken, taken, shown}
-
--- fields taken one after another
-abbrev pub each_field : {S : Type 0} → (S → Shown → S) → List Shown → S → S
-each_field t [] s = s
-each_field t (x ∷ xs) s = each_field t xs (t s x)
+use Rattle.bits.specs.Writing.{Shown, named, raw, value, each_taken, each_field, taken, shown}
 
 abbrev behind : List Shown → Shown → List Shown
 behind xs x = xs ++ x ∷ []

@@ -77,3 +77,8 @@ appended m c front = taken with_bits m c front
 -- The fields of a value.
 abbrev pub shown : {F C A : Type 0} → Layout F C A → C → List Shown
 shown m c = taken (λ s x. s ++ x ∷ []) m c []
+
+-- what becomes of s when it takes fields, one after another
+abbrev pub each_field : {S : Type 0} → (S → Shown → S) → List Shown → S → S
+each_field t [] s = s
+each_field t (x ∷ xs) s = each_field t xs (t s x)

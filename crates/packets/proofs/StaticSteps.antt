@@ -31,24 +31,24 @@ take_none zero = refl
 take_none (suc n) = refl
 
 -- the own ones are those behind all before
-own_of : (n k : ℕ) (ds : List Difference) → drop (length (take n ds)) (take (n + k) ds) ≡ take k (drop n ds)
+pub own_of : (n k : ℕ) (ds : List Difference) → drop (length (take n ds)) (take (n + k) ds) ≡ take k (drop n ds)
 own_of zero k ds = let e : 0 + k ≡ k = omega arith in rw e refl
 own_of (suc n) k [] = take_none (suc n + k) ∙ sym (take_none k)
 own_of (suc n) k (d ∷ ds) = let e : suc n + k ≡ suc (n + k) = omega arith in rw e (own_of n k ds)
 
-counted_more : (i : ℕ) (steps : List StaticStep) (x : StaticStep) (xs : List StaticStep) → drop i steps ≡ x ∷ xs → counted (take (i + 1) steps) ≡ counted (take i steps) + x.differences
+pub counted_more : (i : ℕ) (steps : List StaticStep) (x : StaticStep) (xs : List StaticStep) → drop i steps ≡ x ∷ xs → counted (take (i + 1) steps) ≡ counted (take i steps) + x.differences
 counted_more zero [] x xs e = absurd cc
 counted_more zero (y ∷ ys) x xs e = ap (λ (t : List StaticStep). counted (take 1 t)) e ∙ omega arith
 counted_more (suc i) [] x xs e = absurd cc
 counted_more (suc i) (y ∷ ys) x xs e = let k : suc i + 1 ≡ suc (i + 1) = omega arith in rw k (omega (arith, counted_more i ys x xs e))
 
-here : (i : ℕ) (steps : List StaticStep) (x : StaticStep) (xs : List StaticStep) → drop i steps ≡ x ∷ xs → slice_index_or steps i no_step ≡ x
+pub here : (i : ℕ) (steps : List StaticStep) (x : StaticStep) (xs : List StaticStep) → drop i steps ≡ x ∷ xs → slice_index_or steps i no_step ≡ x
 here zero [] x xs e = absurd cc
 here zero (y ∷ ys) x xs e = cc
 here (suc i) [] x xs e = absurd cc
 here (suc i) (y ∷ ys) x xs e = here i ys x xs e
 
-next : (i : ℕ) (steps : List StaticStep) (x : StaticStep) (xs : List StaticStep) → drop i steps ≡ x ∷ xs → drop (i + 1) steps ≡ xs
+pub next : (i : ℕ) (steps : List StaticStep) (x : StaticStep) (xs : List StaticStep) → drop i steps ≡ x ∷ xs → drop (i + 1) steps ≡ xs
 next zero [] x xs e = absurd cc
 next zero (y ∷ ys) x xs e = cc
 next (suc i) [] x xs e = absurd cc
@@ -57,7 +57,7 @@ next (suc i) (y ∷ ys) x xs e = let k : suc i + 1 ≡ suc (i + 1) = omega arith
 -- ---- what takes a profile takes its steps
 
 -- the profile that is read of p after a step more
-abbrev after_step : StaticSpeeds → StaticSpeeds → StaticSpeeds
+abbrev pub after_step : StaticSpeeds → StaticSpeeds → StaticSpeeds
 after_step p s = record {
   direction = s.direction;
   scale = s.scale;
@@ -112,7 +112,7 @@ steps_folded t p (x ∷ xs) s left e behind =
 
 -- ---- the whole profile
 
-abbrev no_steps_yet : StaticSpeeds → StaticSpeeds
+abbrev pub no_steps_yet : StaticSpeeds → StaticSpeeds
 no_steps_yet p = record { direction = p.direction; scale = p.scale; steps = record { items = [] }; differences = record { items = [] } }
 
 abbrev head_taken : {S : Type 0} → (S → Shown → S) → StaticSpeeds → ℕ → S → S

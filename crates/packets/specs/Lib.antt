@@ -1,4 +1,5 @@
 pub mod Faults
 pub mod Packets
 pub mod Parts
+pub mod Spelling
 pub mod StaticSteps

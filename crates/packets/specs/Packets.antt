@@ -3,7 +3,7 @@
 use Rattle.std.specs.Prelude.{ℕ, ◌+◌, ◌-◌, ◌==◌, nat_lt, Bool, true, false, List, [], ◌∷◌, ◌++◌, length, take, Option, Some, None, slice_index_or}
 use Rattle.bits.specs.Layout.{Layout, done, unless, run, choice, kind, part, inner, measured, more, ◌>>=◌, folded}
 use Rattle.bits.specs.Sums.{total}
-use Rattle.bits.specs.Writing.{Shown, taken, size}
+use Rattle.bits.specs.Writing.{Shown, taken, size, shown}
 use Rattle.bits.specs.declared.name.VariableName.{VariableName}
 use Rattle.bits.specs.declared.name.VariableName.TheVariants as names
 use Rattle.vars.specs.Variables.{nid_packet, q_dir, untested_direction, l_packet, q_scale, distance, speed, nid_tsr, q_front, nid_c, nid_bg, n_iter, q_linkorientation, q_linkreaction, q_locacc, timer, v_release, q_gdir, g_a, v_static, nc_diff, start_place, m_leveltr, nid_stm, m_mamode, v_mamode, open_length, t_nvovtrp}
@@ -431,3 +431,7 @@ length_of p = by_layout (λ C m c. 8 + size (m (λ _. 0)) c) p
 -- What becomes of s when it takes the fields of a packet behind its number, one after another, L_PACKET telling so much.
 abbrev pub packet_taken : {S : Type 0} → (S → Shown → S) → ℕ → Packet → S → S
 packet_taken t told p s = by_layout (λ C m c. taken t (m (λ _. told)) c s) p
+
+-- The fields of a packet behind its number, L_PACKET telling so much.
+abbrev pub packet_shown : ℕ → Packet → List Shown
+packet_shown told p = by_layout (λ C m c. shown (m (λ _. told)) c) p

@@ -1,13 +1,14 @@
 -- What layouts of packets are made of, and what becomes of a sink that takes these parts.
-use Rattle.std.specs.Prelude.{ℕ, ◌+◌, ◌-◌, Bool, List, length, take, drop, Option, is_some, Result}
+use Rattle.std.specs.Prelude.{ℕ, ◌+◌, ◌-◌, Bool, List, [], length, take, drop, Option, is_some, Result}
 use Rattle.std.specs.Int.{from_bool}
 use Rattle.std.specs.Option.{option_map_or}
-use Rattle.bits.specs.Layout.{Codes, Layout, field, part, ◌>>=◌, after, read, read_field}
+use Rattle.bits.specs.Fitting.{HasNumber, Fits}
+use Rattle.bits.specs.Layout.{Codes, Layout, field, part, more, ◌>>=◌, after, read, read_field}
 use Rattle.bits.specs.Sums.{total}
 use Rattle.bits.specs.Writing.{Shown, named, each_taken, taken, size}
 use Rattle.bits.specs.declared.name.VariableName.{VariableName}
 use Rattle.bits.specs.declared.name.VariableName.TheVariants as names
-use Rattle.vars.specs.Variables.{flag}
+use Rattle.vars.specs.Variables.{flag, n_iter}
 use Rattle.vars.specs.declared.variable.NoValue.{NoValue}
 use Rattle.packets.specs.Faults.{packet_fault}
 use Rattle.packets.specs.declared.fault.PacketFault.{PacketFault}
@@ -41,6 +42,19 @@ qualified_taken t m name o s = let told = t s (named name 1 (from_bool (is_some 
 
 abbrev pub qualified_size : {D : Type 0} → Layout PacketFault D D → Option D → ℕ
 qualified_size m o = 1 + option_map_or (λ d. size m d) o 0
+
+-- ---- which values there are bits for
+
+-- a list that has a first element: it, N_ITER, and the other elements
+abbrev pub FromFirstFits : {D : Type 0} → Layout PacketFault D D → List D → Type 0
+FromFirstFits {D = D} m xs =
+    Fits (more 1 m [] (λ (ys : List D). take 1 ys)) xs × HasNumber n_iter (length xs - 1) × Fits (more (length xs - 1) m (take 1 xs) (λ (ys : List D). ys)) xs
+
+-- a qualifier, and the part that it tells of
+abbrev pub QualifiedFits : {D : Type 0} → Layout PacketFault D D → Option D → Type 0
+QualifiedFits {D = D} m o = HasNumber flag (is_some o) × Fits (part (is_some o) m (λ (x : Option D). x)) o
+
+-- ---- reading
 
 -- a qualifier at the front of the bits, and the part that it tells of
 abbrev pub read_qualified : {D : Type 0} → Layout PacketFault D D → List Bool → Result (Option D × List Bool) PacketFault

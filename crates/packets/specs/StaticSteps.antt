@@ -1,11 +1,14 @@
 -- A static speed profile step by step: each step has its own of the differences, which stand behind those of the steps before.
-use Rattle.std.specs.Prelude.{ℕ, ◌+◌, ◌-◌, List, [], ◌∷◌, length, take, drop, slice_index_or}
+use Rattle.std.specs.Prelude.{◌≡◌, ℕ, ◌+◌, ◌-◌, ◌<◌, ◌≤◌, List, [], ◌∷◌, length, take, drop, slice_index_or, Some}
+use Rattle.std.specs.List.{AllByRecursion as Each}
+use Rattle.bits.specs.Fitting.{HasNumber, Fits}
 use Rattle.bits.specs.Sums.{total}
-use Rattle.bits.specs.Writing.{Shown, named, each_taken, taken, size}
+use Rattle.bits.specs.Writing.{Shown, named, each_taken, value, taken, size}
 use Rattle.bits.specs.declared.name.VariableName.TheVariants as names
-use Rattle.vars.specs.Variables.{static_number, delay_number}
+use Rattle.vars.specs.Variables.{q_dir, q_scale, distance, v_static, static_number, q_front, delay_number, n_iter}
 use Rattle.packets.specs.Packets.{difference, no_step}
 use Rattle.packets.specs.declared.static_speeds.Difference.{Difference}
+use Rattle.packets.specs.declared.static_speeds.StaticSpeeds.{StaticSpeeds}
 use Rattle.packets.specs.declared.static_speeds.StaticStep.{StaticStep}
 
 -- what becomes of s when it takes a step and its own differences
@@ -38,3 +41,13 @@ abbrev pub profile_size : List StaticStep → List Difference → ℕ
 profile_size xs ds =
     let first : StaticStep = slice_index_or xs 0 no_step in
     step_size (take first.differences ds) + (5 + steps_size (drop 1 xs) (drop first.differences ds))
+
+-- the variables of a step have numbers
+abbrev pub StepFits : StaticStep → Type 0
+StepFits s = HasNumber distance s.distance × HasNumber v_static s.speed × HasNumber q_front s.delay × HasNumber n_iter s.differences
+
+-- A profile that there are bits for has a first step, its variables have numbers, and its steps count the differences that there are.
+abbrev pub SpeedsFit : StaticSpeeds → Type 0
+SpeedsFit p =
+    HasNumber q_dir p.direction × HasNumber q_scale p.scale × (0 < length p.steps.items) × (length p.steps.items ≤ 32) × (length p.differences.items ≤ 70) × Each StepFits p.steps.items
+    × Each (λ d. Fits difference d × (value difference d ≡ Some d)) p.differences.items × (total (λ (s : StaticStep). s.differences) p.steps.items ≡ length p.differences.items)

@@ -1,4 +1,5 @@
-ghost use Rattle.std.specs.Prelude.{◌≡◌, ◌+◌, ◌<◌, ◌≤◌, ◌^◌, length, OnOk};
+ghost use Rattle.std.specs.Prelude.{◌≡◌, ◌+◌, ◌<◌, ◌≤◌, ◌^◌, length, OnOk, ◌↔◌, IsTrue};
+ghost use Rattle.bits.specs.Fitting.{Fits, Spellable};
 ghost use Rattle.bits.specs.Layout.{Gives, kind, read};
 ghost use Rattle.bits.specs.Writing.{size, taken};
 ghost use Rattle.packets.specs.Packets.{as_packet, as_movement_authority, movement_authority, movement_authority_telling, section as section_layout};
@@ -7,6 +8,7 @@ ghost use Rattle.packets.specs.declared.packet.Packet.TheVariants as packets;
 
 use crate::element::{Element, read_list, read_qualified};
 use crate::fault::PacketFault;
+use crate::fitting::{all_fit, qualified_fits};
 use crate::packet::Packet;
 use crate::reading::field;
 use crate::sink::{FieldSink, put};
@@ -15,7 +17,7 @@ use arrayvec::ArrayVec;
 use bits::{BitReader, VariableName};
 use vars::{
     Distance, Iterations, PacketLength, ReleaseSpeed, Scale, SpeedStep, Timer, ValidityDirection,
-    Variable,
+    Variable, has_number,
 };
 
 /// The timer of a section.
@@ -58,6 +60,11 @@ impl Element for SectionTimer {
     #[tactic(auto, unfolding(crate::specs::Packets::section_timer))]
     fn bits(&self) -> u64 {
         25
+    }
+
+    #[tactic(auto, unfolding(crate::specs::Packets::section_timer))]
+    fn fits(&self) -> bool {
+        has_number(&self.time) && has_number(&self.stop)
     }
 }
 
@@ -103,6 +110,11 @@ impl Element for Section {
             None => 16,
         }
     }
+
+    #[tactic(auto, unfolding(crate::specs::Packets::section))]
+    fn fits(&self) -> bool {
+        has_number(&self.length) && qualified_fits(&self.timer)
+    }
 }
 
 /// Reads the end section.
@@ -111,6 +123,14 @@ fn read_end_section(reader: &mut BitReader<'_>) -> Result<Section, PacketFault>
     ensures { Gives (λ x. x) result reader.new (read (section_layout names.LEndsection) reader.old) }
 {
     Section::read(reader)
+}
+
+/// Whether an end section is as its layout wants it.
+#[tactic(auto, unfolding(crate::specs::Packets::section))]
+fn end_section_fits(section: &Section) -> bool
+    ensures { IsTrue result ↔ Spellable (section_layout names.LEndsection) section.now }
+{
+    section.fits()
 }
 
 /// Hands a section to a sink, under the name of its length.
@@ -169,6 +189,11 @@ impl Element for EndTimer {
     fn bits(&self) -> u64 {
         25
     }
+
+    #[tactic(auto, unfolding(crate::specs::Packets::end_timer))]
+    fn fits(&self) -> bool {
+        has_number(&self.time) && has_number(&self.start)
+    }
 }
 
 /// The danger point behind the end.
@@ -211,6 +236,11 @@ impl Element for DangerPoint {
     #[tactic(auto, unfolding(crate::specs::Packets::danger_point))]
     fn bits(&self) -> u64 {
         22
+    }
+
+    #[tactic(auto, unfolding(crate::specs::Packets::danger_point))]
+    fn fits(&self) -> bool {
+        has_number(&self.distance) && has_number(&self.release)
     }
 }
 
@@ -269,6 +299,14 @@ impl Element for Overlap {
     #[tactic(auto, unfolding(crate::specs::Packets::overlap))]
     fn bits(&self) -> u64 {
         47
+    }
+
+    #[tactic(auto, unfolding(crate::specs::Packets::overlap))]
+    fn fits(&self) -> bool {
+        has_number(&self.start)
+            && has_number(&self.time)
+            && has_number(&self.distance)
+            && has_number(&self.release)
     }
 }
 
@@ -345,6 +383,23 @@ impl MovementAuthority {
             + qualified_bits(&self.end_timer)
             + qualified_bits(&self.danger_point)
             + qualified_bits(&self.overlap)
+    }
+
+    /// Whether it is as its layout wants it, but for the length that L_PACKET tells.
+    #[tactic(auto, unfolding(crate::specs::Packets::movement_authority_telling), using(vars::proofs::Numbers::l_packet_has, vars::proofs::Numbers::n_iter_has))]
+    pub(crate) fn fits(&self) -> bool
+        ensures { IsTrue result ↔ Fits (movement_authority_telling (λ _. 0)) self.now }
+    {
+        has_number(&self.direction)
+            && has_number(&self.scale)
+            && has_number(&self.speed)
+            && has_number(&self.end_speed)
+            && has_number(&self.end_time)
+            && all_fit(self.sections.as_slice())
+            && end_section_fits(&self.end_section)
+            && qualified_fits(&self.end_timer)
+            && qualified_fits(&self.danger_point)
+            && qualified_fits(&self.overlap)
     }
 
     /// Hands the fields behind NID_PACKET to a sink, with the length that L_PACKET tells.

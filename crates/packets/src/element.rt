@@ -1,4 +1,5 @@
-ghost use Rattle.std.specs.Prelude.{◌≡◌, ◌+◌, ◌*◌, ◌<◌, ◌≤◌, ◌^◌, ℕ, length, OnOk};
+ghost use Rattle.std.specs.Prelude.{◌≡◌, ◌+◌, ◌*◌, ◌<◌, ◌≤◌, ◌^◌, ◌↔◌, ℕ, length, IsTrue, OnOk};
+ghost use Rattle.bits.specs.Fitting.{Spellable};
 ghost use Rattle.bits.specs.Layout.{Gives, Layout, part, read, read_more};
 ghost use Rattle.bits.specs.Sums.{total};
 ghost use Rattle.bits.specs.Writing.{taken, each_taken, size};
@@ -30,6 +31,10 @@ pub(crate) trait Element: Copy + Default {
     fn bits(&self) -> u64
         ensures value { result ≡ size layout self.now }
         ensures bound { result < 64 };
+
+    /// Whether it is as its layout wants it, so that there are bits that spell it.
+    fn fits(&self) -> bool
+        ensures { IsTrue result ↔ Spellable layout self.now };
 }
 
 /// Reads so many more elements of a list.

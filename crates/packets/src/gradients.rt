@@ -1,4 +1,5 @@
-ghost use Rattle.std.specs.Prelude.{◌≡◌, ◌+◌, ◌<◌, ◌≤◌, ◌^◌, length, OnOk};
+ghost use Rattle.std.specs.Prelude.{◌≡◌, ◌+◌, ◌<◌, ◌≤◌, ◌^◌, length, OnOk, ◌↔◌, IsTrue};
+ghost use Rattle.bits.specs.Fitting.{Fits};
 ghost use Rattle.bits.specs.Layout.{Gives, kind, read};
 ghost use Rattle.bits.specs.Writing.{size, taken};
 ghost use Rattle.packets.specs.Packets.{as_packet, as_gradients, gradients as gradients_layout, gradients_telling};
@@ -6,6 +7,7 @@ ghost use Rattle.packets.specs.declared.packet.Packet.TheVariants as packets;
 
 use crate::element::{Element, read_list};
 use crate::fault::PacketFault;
+use crate::fitting::from_first_fits;
 use crate::packet::Packet;
 use crate::reading::field;
 use crate::sink::{FieldSink, put};
@@ -14,7 +16,7 @@ use arrayvec::ArrayVec;
 use bits::{BitReader, VariableName};
 use vars::{
     Distance, GradientDirection, Iterations, PacketLength, Scale, Steepness, ValidityDirection,
-    Variable,
+    Variable, has_number,
 };
 
 /// A gradient from a place on.
@@ -67,6 +69,11 @@ impl Element for Gradient {
     fn bits(&self) -> u64 {
         24
     }
+
+    #[tactic(auto, unfolding(crate::specs::Packets::gradient))]
+    fn fits(&self) -> bool {
+        has_number(&self.distance) && has_number(&self.direction) && has_number(&self.steepness)
+    }
 }
 
 /// Packet 21: the gradient profile.
@@ -111,6 +118,16 @@ impl Gradients {
         ensures bound { result < 2 ^ 13 }
     {
         25 + from_first_bits(self.gradients.as_slice())
+    }
+
+    /// Whether it is as its layout wants it, but for the length that L_PACKET tells.
+    #[tactic(auto, unfolding(crate::specs::Packets::gradients_telling), using(vars::proofs::Numbers::l_packet_has))]
+    pub(crate) fn fits(&self) -> bool
+        ensures { IsTrue result ↔ Fits (gradients_telling (λ _. 0)) self.now }
+    {
+        has_number(&self.direction)
+            && has_number(&self.scale)
+            && from_first_fits(self.gradients.as_slice())
     }
 
     /// Hands the fields behind NID_PACKET to a sink, with the length that L_PACKET tells.

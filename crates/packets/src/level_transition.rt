@@ -1,4 +1,5 @@
-ghost use Rattle.std.specs.Prelude.{◌≡◌, ◌+◌, ◌<◌, ◌≤◌, ◌^◌, length, OnOk};
+ghost use Rattle.std.specs.Prelude.{◌≡◌, ◌+◌, ◌<◌, ◌≤◌, ◌^◌, length, OnOk, ◌↔◌, IsTrue};
+ghost use Rattle.bits.specs.Fitting.{Fits};
 ghost use Rattle.bits.specs.Layout.{Gives, kind, read};
 ghost use Rattle.bits.specs.Writing.{size, taken};
 ghost use Rattle.packets.specs.Packets.{as_packet, as_level_transition, level_transition, has_stm as has_stm_of, level_transition_telling};
@@ -6,6 +7,7 @@ ghost use Rattle.packets.specs.declared.packet.Packet.TheVariants as packets;
 
 use crate::element::{Element, read_list, read_part};
 use crate::fault::PacketFault;
+use crate::fitting::{from_first_fits, part_fits};
 use crate::packet::Packet;
 use crate::reading::field;
 use crate::sink::{FieldSink, put};
@@ -14,7 +16,7 @@ use arrayvec::ArrayVec;
 use bits::{BitReader, VariableName};
 use vars::{
     Distance, Iterations, Level, PacketLength, Scale, StartPlace, StmIdentity, ValidityDirection,
-    Variable,
+    Variable, has_number,
 };
 
 /// Whether a level has a specific transmission module.
@@ -45,6 +47,11 @@ impl Element for StmIdentity {
     #[tactic(auto, unfolding(crate::specs::Packets::stm_identity))]
     fn bits(&self) -> u64 {
         8
+    }
+
+    #[tactic(auto, unfolding(crate::specs::Packets::stm_identity))]
+    fn fits(&self) -> bool {
+        has_number(self)
     }
 }
 
@@ -103,6 +110,13 @@ impl Element for LevelOrder {
             None => 18,
         }
     }
+
+    #[tactic(auto, unfolding(crate::specs::Packets::level_order))]
+    fn fits(&self) -> bool {
+        has_number(&self.level)
+            && part_fits(has_stm(self.level), &self.stm)
+            && has_number(&self.acknowledgement)
+    }
 }
 
 /// Packet 41: a change of level is announced.
@@ -151,6 +165,17 @@ impl LevelTransition {
         ensures bound { result < 2 ^ 13 }
     {
         40 + from_first_bits(self.orders.as_slice())
+    }
+
+    /// Whether it is as its layout wants it, but for the length that L_PACKET tells.
+    #[tactic(auto, unfolding(crate::specs::Packets::level_transition_telling), using(vars::proofs::Numbers::l_packet_has))]
+    pub(crate) fn fits(&self) -> bool
+        ensures { IsTrue result ↔ Fits (level_transition_telling (λ _. 0)) self.now }
+    {
+        has_number(&self.direction)
+            && has_number(&self.scale)
+            && has_number(&self.start)
+            && from_first_fits(self.orders.as_slice())
     }
 
     /// Hands the fields behind NID_PACKET to a sink, with the length that L_PACKET tells.

@@ -4,7 +4,9 @@
 mod authority;
 mod element;
 mod fault;
+mod fitting;
 mod gradients;
+mod laws;
 mod level_transition;
 mod linking;
 mod mode_profile;
@@ -22,6 +24,7 @@ pub use authority::{
 };
 pub use fault::PacketFault;
 pub use gradients::{Gradient, Gradients, read_gradients};
+pub use laws::sinks_take_packet_fields;
 pub use level_transition::{LevelOrder, LevelTransition, read_level_transition};
 pub use linking::{Link, Linking, read_linking};
 pub use mode_profile::{ModeArea, ModeProfile, read_mode_profile};

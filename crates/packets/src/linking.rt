@@ -1,4 +1,5 @@
-ghost use Rattle.std.specs.Prelude.{◌≡◌, ◌+◌, ◌<◌, ◌≤◌, ◌^◌, length, OnOk};
+ghost use Rattle.std.specs.Prelude.{◌≡◌, ◌+◌, ◌<◌, ◌≤◌, ◌^◌, length, OnOk, ◌↔◌, IsTrue};
+ghost use Rattle.bits.specs.Fitting.{Fits};
 ghost use Rattle.bits.specs.Layout.{Gives, kind, read};
 ghost use Rattle.bits.specs.Writing.{size, taken};
 ghost use Rattle.packets.specs.Packets.{as_packet, as_linking, linking as linking_layout, linking_telling};
@@ -6,6 +7,7 @@ ghost use Rattle.packets.specs.declared.packet.Packet.TheVariants as packets;
 
 use crate::element::{Element, read_list, read_qualified};
 use crate::fault::PacketFault;
+use crate::fitting::{from_first_fits, qualified_fits};
 use crate::packet::Packet;
 use crate::reading::field;
 use crate::sink::{FieldSink, put};
@@ -14,7 +16,7 @@ use arrayvec::ArrayVec;
 use bits::{BitReader, VariableName};
 use vars::{
     Country, Distance, GroupNumber, Iterations, LinkOrientation, LinkReaction, LocationAccuracy,
-    PacketLength, Scale, ValidityDirection, Variable,
+    PacketLength, Scale, ValidityDirection, Variable, has_number,
 };
 
 /// A group that packet 5 announces.
@@ -88,6 +90,16 @@ impl Element for Link {
             None => 39,
         }
     }
+
+    #[tactic(auto, unfolding(crate::specs::Packets::link))]
+    fn fits(&self) -> bool {
+        has_number(&self.distance)
+            && qualified_fits(&self.country)
+            && has_number(&self.group)
+            && has_number(&self.orientation)
+            && has_number(&self.reaction)
+            && has_number(&self.accuracy)
+    }
 }
 
 /// Packet 5: which groups come, and what follows where one doesn't.
@@ -132,6 +144,16 @@ impl Linking {
         ensures bound { result < 2 ^ 13 }
     {
         25 + from_first_bits(self.links.as_slice())
+    }
+
+    /// Whether it is as its layout wants it, but for the length that L_PACKET tells.
+    #[tactic(auto, unfolding(crate::specs::Packets::linking_telling), using(vars::proofs::Numbers::l_packet_has))]
+    pub(crate) fn fits(&self) -> bool
+        ensures { IsTrue result ↔ Fits (linking_telling (λ _. 0)) self.now }
+    {
+        has_number(&self.direction)
+            && has_number(&self.scale)
+            && from_first_fits(self.links.as_slice())
     }
 
     /// Hands the fields behind NID_PACKET to a sink, with the length that L_PACKET tells.

@@ -1,4 +1,5 @@
-ghost use Rattle.std.specs.Prelude.{◌≡◌, ◌+◌, ◌<◌, ◌≤◌, ◌^◌, length, OnOk};
+ghost use Rattle.std.specs.Prelude.{◌≡◌, ◌+◌, ◌<◌, ◌≤◌, ◌^◌, length, OnOk, ◌↔◌, IsTrue};
+ghost use Rattle.bits.specs.Fitting.{Fits};
 ghost use Rattle.bits.specs.Layout.{Gives, kind, read};
 ghost use Rattle.bits.specs.Writing.{size, taken};
 ghost use Rattle.packets.specs.Packets.{as_packet, as_mode_profile, mode_profile, mode_profile_telling};
@@ -6,6 +7,7 @@ ghost use Rattle.packets.specs.declared.packet.Packet.TheVariants as packets;
 
 use crate::element::{Element, read_list};
 use crate::fault::PacketFault;
+use crate::fitting::from_first_fits;
 use crate::packet::Packet;
 use crate::reading::field;
 use crate::sink::{FieldSink, put};
@@ -14,7 +16,7 @@ use arrayvec::ArrayVec;
 use bits::{BitReader, VariableName};
 use vars::{
     AreaMode, AreaSpeed, Distance, Iterations, OpenLength, PacketLength, Scale, ValidityDirection,
-    Variable,
+    Variable, has_number,
 };
 
 /// An area in which a mode is asked for.
@@ -79,6 +81,15 @@ impl Element for ModeArea {
     fn bits(&self) -> u64 {
         54
     }
+
+    #[tactic(auto, unfolding(crate::specs::Packets::mode_area))]
+    fn fits(&self) -> bool {
+        has_number(&self.distance)
+            && has_number(&self.mode)
+            && has_number(&self.speed)
+            && has_number(&self.length)
+            && has_number(&self.acknowledgement)
+    }
 }
 
 /// Packet 80: the areas in which On Sight or Shunting is asked for.
@@ -123,6 +134,16 @@ impl ModeProfile {
         ensures bound { result < 2 ^ 13 }
     {
         25 + from_first_bits(self.areas.as_slice())
+    }
+
+    /// Whether it is as its layout wants it, but for the length that L_PACKET tells.
+    #[tactic(auto, unfolding(crate::specs::Packets::mode_profile_telling), using(vars::proofs::Numbers::l_packet_has))]
+    pub(crate) fn fits(&self) -> bool
+        ensures { IsTrue result ↔ Fits (mode_profile_telling (λ _. 0)) self.now }
+    {
+        has_number(&self.direction)
+            && has_number(&self.scale)
+            && from_first_fits(self.areas.as_slice())
     }
 
     /// Hands the fields behind NID_PACKET to a sink, with the length that L_PACKET tells.

@@ -1,11 +1,14 @@
-ghost use Rattle.std.specs.Prelude.{◌≡◌, ◌+◌, ◌<◌, ◌≤◌, ◌^◌, length, OnOk};
+ghost use Rattle.std.specs.Prelude.{◌≡◌, ◌+◌, ◌<◌, ◌≤◌, ◌^◌, length, OnOk, ◌↔◌, IsTrue};
+ghost use Rattle.bits.specs.Fitting.{Fits, HasNumber};
 ghost use Rattle.bits.specs.Layout.{Gives, kind, read};
 ghost use Rattle.bits.specs.Writing.{size, taken};
 ghost use Rattle.packets.specs.Packets.{as_packet, as_national_values, national_values, national_values_telling};
+ghost use Rattle.vars.specs.Variables.{distance, speed, t_nvovtrp};
 ghost use Rattle.packets.specs.declared.packet.Packet.TheVariants as packets;
 
 use crate::element::{Element, read_list};
 use crate::fault::PacketFault;
+use crate::fitting::all_fit;
 use crate::packet::Packet;
 use crate::reading::field;
 use crate::sink::{FieldSink, put};
@@ -14,7 +17,7 @@ use arrayvec::ArrayVec;
 use bits::{BitReader, VariableName};
 use vars::{
     Country, Distance, Iterations, OpenLength, OverrideTime, PacketLength, Scale, SpeedStep,
-    StartPlace, ValidityDirection, Variable,
+    StartPlace, ValidityDirection, Variable, has_number,
 };
 
 impl Element for Country {
@@ -35,6 +38,11 @@ impl Element for Country {
     #[tactic(auto, unfolding(crate::specs::Packets::country))]
     fn bits(&self) -> u64 {
         10
+    }
+
+    #[tactic(auto, unfolding(crate::specs::Packets::country))]
+    fn fits(&self) -> bool {
+        has_number(self)
     }
 }
 
@@ -127,6 +135,42 @@ impl NationalValues {
         ensures bound { result < 2 ^ 13 }
     {
         147 + bits_of_all(self.countries.as_slice())
+    }
+
+    /// Whether each speed has a number, and D_NVROLL.
+    fn speeds_have_numbers(&self) -> bool
+        ensures { IsTrue result ↔ (HasNumber speed self.now.shunting × (HasNumber speed self.now.staff_responsible × (HasNumber speed self.now.on_sight × (HasNumber speed self.now.unfitted × (HasNumber speed self.now.release × HasNumber distance self.now.roll))))) }
+    {
+        has_number(&self.shunting)
+            && has_number(&self.staff_responsible)
+            && has_number(&self.on_sight)
+            && has_number(&self.unfitted)
+            && has_number(&self.release)
+            && has_number(&self.roll)
+    }
+
+    /// Whether what is told of an override has numbers.
+    fn override_has_numbers(&self) -> bool
+        ensures { IsTrue result ↔ (HasNumber speed self.now.override_allowed × (HasNumber speed self.now.override_speed × (HasNumber distance self.now.override_distance × HasNumber t_nvovtrp self.now.override_time))) }
+    {
+        has_number(&self.override_allowed)
+            && has_number(&self.override_speed)
+            && has_number(&self.override_distance)
+            && has_number(&self.override_time)
+    }
+
+    /// Whether it is as its layout wants it, but for the length that L_PACKET tells.
+    #[tactic(auto, unfolding(crate::specs::Packets::national_values_telling), using(vars::proofs::Numbers::l_packet_has, vars::proofs::Numbers::n_iter_has))]
+    pub(crate) fn fits(&self) -> bool
+        ensures { IsTrue result ↔ Fits (national_values_telling (λ _. 0)) self.now }
+    {
+        has_number(&self.direction)
+            && has_number(&self.scale)
+            && has_number(&self.start)
+            && all_fit(self.countries.as_slice())
+            && self.speeds_have_numbers()
+            && self.override_has_numbers()
+            && has_number(&self.staff_responsible_distance)
     }
 
     /// Hands the fields behind NID_PACKET to a sink, with the length that L_PACKET tells.

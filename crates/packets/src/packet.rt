@@ -1,7 +1,10 @@
-ghost use Rattle.std.specs.Prelude.{◌≡◌, ◌+◌, ◌<◌, ◌≤◌, ◌^◌, List, Bool, length, OnOk};
+ghost use Rattle.std.specs.Prelude.{◌≡◌, ◌↔◌, ◌+◌, ◌<◌, ◌≤◌, ◌^◌, List, Bool, length, IsTrue, OnOk};
+ghost use Rattle.bits.specs.Fitting.{HasNumber};
 ghost use Rattle.bits.specs.Layout.{Spells};
 ghost use Rattle.bits.specs.Writing.{size, taken};
 ghost use Rattle.packets.specs.Packets.{length_of, packet_taken, skipped_telling};
+ghost use Rattle.packets.specs.Spelling.{IsSkipped, PacketFits};
+ghost use Rattle.vars.specs.Variables.{nid_packet, untested_direction};
 
 use crate::authority::MovementAuthority;
 use crate::gradients::Gradients;
@@ -13,7 +16,9 @@ use crate::restrictions::{RestrictionRevocation, SpeedRestriction};
 use crate::sink::{FieldSink, put};
 use crate::static_speeds::StaticSpeeds;
 use bits::{Run, VariableName};
-use vars::{PacketNumber, RestrictionNumber, UntestedDirection, ValidityDirection, Variable};
+use vars::{
+    PacketNumber, RestrictionNumber, UntestedDirection, ValidityDirection, Variable, has_number,
+};
 
 /// A packet of another number, which is skipped by its length.
 #[derive(Drop)]
@@ -51,15 +56,35 @@ pub enum Packet<'a> {
     Other(Other<'a>),
 }
 
-/// The length that L_PACKET tells: one that it can't tell stands as the greatest that it can.
+/// The greatest length that L_PACKET can tell.
+const MOST_BITS: u64 = 8191;
+
+/// The length that L_PACKET tells: of one that it can't tell its lowest bits.
 fn told_length(length: u64) -> u64
     ensures bound { result < 2 ^ 13 }
     ensures same { length < 2 ^ 13 → result ≡ length }
 {
-    length.min(8191)
+    length % (MOST_BITS + 1)
+}
+
+/// Whether packets of a number are skipped: it isn't that of a packet with a layout of its own, nor the end of a telegram.
+fn is_skipped(number: PacketNumber) -> bool
+    ensures { IsTrue result ↔ IsSkipped number }
+{
+    match number.get() {
+        3 | 5 | 12 | 21 | 27 | 41 | 65 | 66 | 80 | 255 => false,
+        _ => true,
+    }
 }
 
 impl<'a> Other<'a> {
+    /// Whether its number is that of a packet that is skipped.
+    fn fits(&self) -> bool
+        ensures { IsTrue result ↔ (HasNumber nid_packet self.now.number × HasNumber untested_direction self.now.direction × IsSkipped self.now.number) }
+    {
+        has_number(&self.number) && has_number(&self.direction) && is_skipped(self.number)
+    }
+
     /// The number of bits, those of NID_PACKET included.
     #[tactic(auto, unfolding(crate::specs::Packets::skipped_telling))]
     fn bits(&self) -> u64
@@ -130,6 +155,35 @@ impl<'a> Packet<'a> {
         ensures spelled { (bits : List Bool) → Spells packet self.now bits → length bits ≡ result }
     {
         self.bits()
+    }
+
+    /// Whether it is as its layout wants it, but for the length that L_PACKET tells.
+    fn fits(&self) -> bool
+        ensures { IsTrue result ↔ PacketFits self.now }
+    {
+        match self {
+            Packet::NationalValues(packet) => packet.fits(),
+            Packet::Linking(packet) => packet.fits(),
+            Packet::MovementAuthority(packet) => packet.fits(),
+            Packet::Gradients(packet) => packet.fits(),
+            Packet::StaticSpeeds(packet) => packet.fits(),
+            Packet::LevelTransition(packet) => packet.fits(),
+            Packet::SpeedRestriction(packet) => packet.fits(),
+            Packet::RestrictionRevocation(packet) => packet.fits(),
+            Packet::ModeProfile(packet) => packet.fits(),
+            Packet::Other(packet) => packet.fits(),
+        }
+    }
+
+    /// Whether there are bits that spell it (SUBSET-026, 7.4.2). There are none of a list that wants a first element and has
+    /// none; of a level order with a transmission module that its level hasn't, or without one that it has; of a static
+    /// speed profile whose steps count other differences than there are; of a distance or a length whose number is kept
+    /// for another value; of an `Other` with the number of a packet that isn't skipped, or longer than L_PACKET can tell.
+    #[tactic(auto, using(crate::proofs::AnyPacket::has_spelling))]
+    pub fn has_spelling(&self) -> bool
+        ensures { IsTrue result ↔ ((bits : List Bool) × Spells packet self.now bits) }
+    {
+        self.bits() <= MOST_BITS && self.fits()
     }
 
     /// Hands the fields behind NID_PACKET to a sink, with the length that L_PACKET tells.

@@ -1,4 +1,5 @@
-ghost use Rattle.std.specs.Prelude.{◌≡◌, ◌+◌, ◌<◌, ◌≤◌, ◌^◌, OnOk};
+ghost use Rattle.std.specs.Prelude.{◌≡◌, ◌+◌, ◌<◌, ◌≤◌, ◌^◌, OnOk, ◌↔◌, IsTrue};
+ghost use Rattle.bits.specs.Fitting.{Fits};
 ghost use Rattle.bits.specs.Layout.{Gives, kind, read};
 ghost use Rattle.bits.specs.Writing.{size, taken};
 ghost use Rattle.packets.specs.Packets.{as_packet, as_speed_restriction, as_revocation, speed_restriction, restriction_revocation, speed_restriction_telling, restriction_revocation_telling};
@@ -11,7 +12,7 @@ use crate::sink::{FieldSink, put};
 use bits::{BitReader, VariableName};
 use vars::{
     Distance, PacketLength, RestrictionNumber, Scale, SpeedStep, TrainLengthDelay,
-    ValidityDirection,
+    ValidityDirection, has_number,
 };
 
 /// Packet 65: a temporary speed restriction.
@@ -95,6 +96,20 @@ impl SpeedRestriction {
         71
     }
 
+    /// Whether it is as its layout wants it, but for the length that L_PACKET tells.
+    #[tactic(auto, unfolding(crate::specs::Packets::speed_restriction_telling), using(vars::proofs::Numbers::l_packet_has))]
+    pub(crate) fn fits(&self) -> bool
+        ensures { IsTrue result ↔ Fits (speed_restriction_telling (λ _. 0)) self.now }
+    {
+        has_number(&self.direction)
+            && has_number(&self.scale)
+            && has_number(&self.number)
+            && has_number(&self.start)
+            && has_number(&self.length)
+            && has_number(&self.delay)
+            && has_number(&self.speed)
+    }
+
     /// Hands the fields behind NID_PACKET to a sink, with the length that L_PACKET tells.
     #[tactic(auto, unfolding(crate::specs::Packets::speed_restriction_telling))]
     pub(crate) fn fields<S: FieldSink>(&self, told: u64, sink: &mut S) -> Result<(), S::Error>
@@ -121,6 +136,14 @@ impl RestrictionRevocation {
         ensures bound { result < 2 ^ 13 }
     {
         31
+    }
+
+    /// Whether it is as its layout wants it, but for the length that L_PACKET tells.
+    #[tactic(auto, unfolding(crate::specs::Packets::restriction_revocation_telling), using(vars::proofs::Numbers::l_packet_has))]
+    pub(crate) fn fits(&self) -> bool
+        ensures { IsTrue result ↔ Fits (restriction_revocation_telling (λ _. 0)) self.now }
+    {
+        has_number(&self.direction) && has_number(&self.number)
     }
 
     /// Hands the fields behind NID_PACKET to a sink, with the length that L_PACKET tells.

@@ -1,13 +1,15 @@
-ghost use Rattle.std.specs.Prelude.{◌≡◌, ◌+◌, ◌≤◌, ◌<◌, ◌^◌, length, drop, min, slice_index_or, take, OnOk};
+ghost use Rattle.std.specs.Prelude.{◌≡◌, ◌+◌, ◌≤◌, ◌<◌, ◌^◌, length, drop, min, slice_index_or, take, OnOk, ◌↔◌, IsTrue};
 ghost use Rattle.bits.specs.Layout.{Gives, folded, kind, read};
 ghost use Rattle.bits.specs.Sums.{total};
 ghost use Rattle.bits.specs.Writing.{size, taken};
 ghost use Rattle.packets.specs.Packets.{as_packet, as_static_speeds, no_step, static_step, static_speeds, static_speeds_telling};
-ghost use Rattle.packets.specs.StaticSteps.{profile_size, profile_taken, step_size, step_taken, steps_size, steps_taken};
+ghost use Rattle.packets.specs.StaticSteps.{StepFits, SpeedsFit, profile_size, profile_taken, step_size, step_taken, steps_size, steps_taken};
+ghost use Rattle.std.specs.List.{AllByRecursion as Each};
 ghost use Rattle.packets.specs.declared.packet.Packet.TheVariants as packets;
 
 use crate::element::{Element, read_list};
 use crate::fault::PacketFault;
+use crate::fitting::all_fit;
 use crate::packet::Packet;
 use crate::reading::field;
 use crate::sink::{FieldSink, put};
@@ -16,7 +18,7 @@ use arrayvec::ArrayVec;
 use bits::{BitReader, VariableName};
 use vars::{
     Distance, Iterations, PacketLength, Scale, SpeedStep, StaticSpeed, TrainCategory,
-    TrainLengthDelay, ValidityDirection, Variable,
+    TrainLengthDelay, ValidityDirection, Variable, has_number,
 };
 
 /// A speed for trains of a category.
@@ -59,6 +61,11 @@ impl Element for Difference {
     #[tactic(auto, unfolding(crate::specs::Packets::difference))]
     fn bits(&self) -> u64 {
         11
+    }
+
+    #[tactic(auto, unfolding(crate::specs::Packets::difference))]
+    fn fits(&self) -> bool {
+        has_number(&self.category) && has_number(&self.speed)
     }
 }
 
@@ -168,13 +175,13 @@ pub fn read_static_speeds<'a>(
     Ok(told)
 }
 
-/// The first step, or none to speak of.
-fn first_step(steps: &[StaticStep]) -> StaticStep
-    ensures { result ≡ slice_index_or steps.now 0 no_step }
+/// The first step, or another one where there is none.
+fn first_step<'a>(steps: &'a [StaticStep], other: &'a StaticStep) -> &'a StaticStep
+    ensures { result.now ≡ slice_index_or steps.now 0 other.now }
 {
     match steps.first() {
-        Some(step) => *step,
-        None => StaticStep::default(),
+        Some(step) => step,
+        None => other,
     }
 }
 
@@ -238,15 +245,28 @@ fn profile_fields<S: FieldSink>(
     requires room { S.held sink.old + profile_size steps.now differences.now ≤ S.most }
     ensures { OnOk result (S.seen sink.new ≡ profile_taken S.took steps.now differences.now (S.seen sink.old)) }
 {
-    let first = first_step(steps);
-    let (own, left) = split_own(&first, differences);
-    step_fields(&first, own, sink)?;
+    let none = StaticStep::default();
+    let first = first_step(steps, &none);
+    let (own, left) = split_own(first, differences);
+    step_fields(first, own, sink)?;
     sink.field(
         VariableName::NIter,
         5,
         (steps.len() as u64).saturating_sub(1),
     )?;
     steps_fields(other_steps(steps), left, sink)
+}
+
+/// How many differences the steps count.
+fn counted_differences(steps: &[StaticStep]) -> u64
+    requires { length steps.now ≤ 32 }
+    ensures { result ≡ total (λ (s : StaticStep). s.differences) steps.now }
+{
+    let mut counted = 0u64;
+    for step in steps {
+        counted += u64::from(step.differences.count());
+    }
+    counted
 }
 
 /// How many differences are some step's own.
@@ -258,14 +278,54 @@ fn owned_differences(steps: &[StaticStep], differences: usize) -> u64
     if differences == 0 {
         return 0;
     }
-    let mut owned = 0u64;
-    for step in steps {
-        owned += u64::from(step.differences.count());
+    counted_differences(steps).min(differences as u64)
+}
+
+impl StaticStep {
+    /// Whether its variables have numbers.
+    fn has_numbers(&self) -> bool
+        ensures { IsTrue result ↔ StepFits self.now }
+    {
+        has_number(&self.distance)
+            && has_number(&self.speed)
+            && has_number(&self.delay)
+            && has_number(&self.differences)
     }
-    owned.min(differences as u64)
+}
+
+/// Whether the variables of all steps have numbers.
+fn steps_fit(steps: &[StaticStep]) -> bool
+    ensures { IsTrue result ↔ Each StepFits steps.now }
+{
+    for step in steps {
+        if !step.has_numbers() {
+            return false;
+        }
+    }
+    true
 }
 
 impl StaticSpeeds {
+    /// Whether there is a first step, and the steps count the differences that there are.
+    fn counts_differences(&self) -> bool
+        ensures { IsTrue result ↔ ((0 < length self.now.steps.items) × (length self.now.steps.items ≤ 32) × (length self.now.differences.items ≤ 70) × (total (λ (s : StaticStep). s.differences) self.now.steps.items ≡ length self.now.differences.items)) }
+    {
+        let steps = self.steps.as_slice();
+        let differences = self.differences.len() as u64;
+        steps.len() > 0 && counted_differences(steps) == differences
+    }
+
+    /// Whether it is as its layout wants it, but for the length that L_PACKET tells.
+    pub(crate) fn fits(&self) -> bool
+        ensures { IsTrue result ↔ SpeedsFit self.now }
+    {
+        self.counts_differences()
+            && has_number(&self.direction)
+            && has_number(&self.scale)
+            && steps_fit(self.steps.as_slice())
+            && all_fit(self.differences.as_slice())
+    }
+
     /// The number of bits, those of NID_PACKET included.
     pub(crate) fn bits(&self) -> u64
         ensures value { result ≡ 8 + size (static_speeds_telling (λ _. 0)) self.now }

@@ -1,8 +1,9 @@
 -- The bits of a telegram.
-use Rattle.std.proofs.Common.{◌≡◌, ℕ, ◌+◌, ◌*◌, ◌≤◌, ◌==◌, nat_eq, Bool, true, false, List, [], ◌∷◌, ◌++◌, Option, Some, None, Ok, length, refl, sym, ap, subst, ◌∙◌, arith, length-append}
+use Rattle.std.proofs.Common.{◌≡◌, eq-eqb, ℕ, ◌+◌, ◌*◌, ◌<◌, ◌≤◌, ◌^◌, ◌==◌, nat_eq, Bool, true, false, List, [], ◌∷◌, ◌++◌, Option, Some, None, Ok, length, refl, sym, ap, subst, ◌∙◌, arith, length-append}
 use Rattle.std.proofs.lemmas.Bool.{eqb-true}
 use Rattle.std.proofs.lemmas.List.{append-nil}
 use Rattle.bits.specs.Bits.{number, number_bits}
+use Rattle.bits.specs.Fitting.{HasNumber}
 use Rattle.bits.specs.Layout.{Codes, Spells, Begins, choice, done, kind, told_as}
 use Rattle.bits.proofs.Found.{Back, Appends, element, length-spelled}
 use Rattle.bits.proofs.Numbers.{length-number_bits}
@@ -31,6 +32,9 @@ only_number n v k fault x false e same = absurd (let h = rw e at same in cc)
 only_back : (n v : ℕ) (fault : TelegramFault) → Back (only n v fault)
 only_back n v fault = record { back = λ k x lt e. only_number n v k fault x (nat_eq k v) refl e }
 
+pub only_has : (n v : ℕ) (fault : TelegramFault) → v < 2 ^ n → HasNumber (only n v fault) tt
+only_has n v fault lt = record { small = lt; own = rw (eq-eqb v v refl) refl }
+
 pub found-header : Appends header
 unfolding header
 found-header = element _ (
@@ -43,7 +47,7 @@ found-header = element _ (
         back (plain_back 3),
         λ _ _. (
           back (plain_back 3),
-          λ _ _. (
+          λ _ _ _. (
             back m_dup_back,
             λ _ _. (
               back (plain_back 8),

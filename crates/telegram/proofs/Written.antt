@@ -77,7 +77,7 @@ behind_other : (number : ℕ) (p : Packet) (bits : List Bool) → (number == 255
     → Spells (choice (number == 255) (done None) (kind Some (λ (o : Option Packet). o) (told_as telegram_fault (packet_of number)))) (Some p) bits
 behind_other number p bits other s = rw other (p, refl, s)
 
-next_packet_spelled : (p : Packet) (bits : List Bool) → Spells packet p bits → Spells next_packet (Some p) bits
+pub next_packet_spelled : (p : Packet) (bits : List Bool) → Spells packet p bits → Spells next_packet (Some p) bits
 unfolding next_packet packet packet_of
 next_packet_spelled p bits s = (s.0, s.1, s.2, s.3, s.4, behind_other s.0 p s.2 (s.5.4.0) s.5)
 

@@ -1,4 +1,5 @@
-ghost use Rattle.std.specs.Prelude.{◌≡◌, ◌+◌, ◌≤◌, ◌<◌, ◌^◌, OnOk};
+ghost use Rattle.std.specs.Prelude.{◌≡◌, ◌↔◌, ◌+◌, ◌≤◌, ◌<◌, ◌^◌, IsTrue, OnOk};
+ghost use Rattle.bits.specs.Fitting.{Spellable};
 ghost use Rattle.bits.specs.Layout.{Gives, read, read_field};
 ghost use Rattle.bits.specs.Writing.{taken};
 ghost use Rattle.telegram.specs.Faults.{value_fault};
@@ -9,6 +10,7 @@ use bits::{BitReader, VariableName};
 use packets::{FieldSink, put};
 use vars::{
     Country, Duplicate, GroupIdentity, GroupNumber, MessageCounter, PositionInGroup, Variable,
+    has_number,
 };
 
 /// The header of a telegram. Its direction is up, its version 16 and its medium a balise.
@@ -62,6 +64,23 @@ impl Header {
         put(sink, VariableName::NidC, &self.group.country)?;
         put(sink, VariableName::NidBg, &self.group.number)?;
         put(sink, VariableName::QLink, &self.linked)
+    }
+}
+
+impl Header {
+    /// Whether it is as its layout wants it.
+    #[tactic(auto, unfolding(crate::specs::Telegrams::header), using(crate::proofs::Lengths::only_has))]
+    pub(crate) fn fits(&self) -> bool
+        ensures { IsTrue result ↔ Spellable header_layout self.now }
+    {
+        self.position <= self.last_position
+            && has_number(&self.position)
+            && has_number(&self.last_position)
+            && has_number(&self.duplicate)
+            && has_number(&self.counter)
+            && has_number(&self.group.country)
+            && has_number(&self.group.number)
+            && has_number(&self.linked)
     }
 }
 

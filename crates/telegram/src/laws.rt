@@ -1,7 +1,11 @@
 ghost use Rattle.std.specs.Prelude.{◌≡◌, ◌≤◌, ◌++◌, ℕ, List, Bool, length, All};
-ghost use Rattle.telegram.specs.Telegrams.{Carries, SpellsTelegram};
+ghost use Rattle.bits.specs.Writing.{taken, shown, each_field};
+ghost use Rattle.telegram.specs.Telegrams.{header, Carries, SpellsTelegram};
+ghost use Rattle.telegram.specs.declared.header.Header.{Header};
 ghost use Rattle.telegram.specs.Walks.{Walk, IsWalkOf, StandsInPlace};
 ghost use Rattle.telegram.specs.declared.message.Telegram.{Telegram};
+
+use packets::FieldSink;
 
 /// A telegram has at most 33 packets. Its 104 bytes have 832 bits: 50 are of the header, 8 of the end mark, and at least
 /// 23 of each packet.
@@ -17,4 +21,9 @@ pub fn telegrams_spelled_once()
 /// Each packet of a telegram stands in the bytes of its place, and none of these bytes is without a bit of it.
 pub fn packets_stand_in_place()
     ensures { (bytes : List ℕ) (w : Walk) → IsWalkOf bytes w → All StandsInPlace w.items }
+{}
+
+/// Whatever sink a header is handed to takes the list of the header's fields, one after another, and nothing else.
+pub fn sinks_take_header_fields<S: FieldSink>()
+    ensures { (h : Header) (s : S.Seen) → taken S.took header h s ≡ each_field S.took (shown header h) s }
 {}

@@ -16,7 +16,9 @@ pub use decoding::{decode, decode_into};
 pub use encoding::{TooLong, encode};
 pub use fault::TelegramFault;
 pub use header::Header;
-pub use laws::{at_most_33_packets, packets_stand_in_place, telegrams_spelled_once};
+pub use laws::{
+    at_most_33_packets, packets_stand_in_place, sinks_take_header_fields, telegrams_spelled_once,
+};
 pub use message::Telegram;
 pub use place::PacketInPlace;
 pub use received::Received;

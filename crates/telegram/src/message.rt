@@ -1,4 +1,5 @@
-ghost use Rattle.std.specs.Prelude.{◌≡◌, ◌+◌, ◌*◌, ◌<◌, ◌^◌, ◌≤◌, ◌↔◌, ◌∷◌, ◌++◌, List, [], Bool, length, IsOk, OnOk, OnErr};
+ghost use Rattle.std.specs.Prelude.{◌≡◌, ◌+◌, ◌*◌, ◌<◌, ◌^◌, ◌≤◌, ◌↔◌, ◌∷◌, ◌++◌, List, [], Bool, length, IsTrue, IsOk, OnOk, OnErr};
+ghost use Rattle.std.specs.List.{AllByRecursion as Each};
 ghost use Rattle.bits.specs.Layout.{Spells};
 ghost use Rattle.packets.specs.Packets.{packet as packet_layout};
 ghost use Rattle.telegram.specs.Telegrams.{SpellsTelegram};
@@ -46,6 +47,28 @@ impl<'a> Telegram<'a> {
         ensures spelled { (bits : List Bool) → SpellsTelegram self.now bits → length bits ≡ result }
     {
         58 + bits_of_all(self.packets.as_slice())
+    }
+}
+
+/// Whether all packets have a spelling.
+fn all_have_spelling(packets: &[Packet<'_>]) -> bool
+    ensures { IsTrue result ↔ Each (λ p. (bits : List Bool) × Spells packet_layout p bits) packets.now }
+{
+    for packet in packets {
+        if !packet.has_spelling() {
+            return false;
+        }
+    }
+    true
+}
+
+impl<'a> Telegram<'a> {
+    /// Whether there are bits that spell it: its header has N_PIG up to N_TOTAL, and each packet has a spelling.
+    #[tactic(auto, using(crate::proofs::Spelling::telegram_spelled))]
+    pub fn has_spelling(&self) -> bool
+        ensures { IsTrue result ↔ ((bits : List Bool) × SpellsTelegram self.now bits) }
+    {
+        self.header.fits() && all_have_spelling(self.packets.as_slice())
     }
 }
 

@@ -9,6 +9,7 @@ mod packet;
 mod program;
 mod rows;
 mod spelled;
+mod spelling;
 
 use rows::answer;
 use std::io;

@@ -3,6 +3,7 @@ use crate::mutations::mutated;
 use crate::numbers::numbers;
 use crate::packet::{packet, places, sizes};
 use crate::program::{program, short};
+use crate::spelling::spelling;
 use std::alloc::Global;
 use std::io;
 use std::io::Write;
@@ -18,6 +19,9 @@ use std::io::Write;
 /// - `long HEX`: whether a packet has room in 160 bytes, in 161, and in a telegram.
 /// - `bits WIDTH NUMBER ..`: numbers put one behind another into two bytes.
 /// - `sizes`: whether values are as small as they are to be.
+/// - `spelling links N`, `level LEVEL STM`, `start N`, `area N`, `speeds N COUNT ..`, `other NUMBER BITS`: whether a packet that is
+///   made by hand has a spelling, and telegrams with it: of N groups; of a level with a transmission module, 0 being none;
+///   that begins after N; of length N; of N differences and steps that count so many; that is skipped.
 /// - `mutated N HEX`: how N telegrams are answered that are made of one by turning bits behind its header, and for how
 ///   many of them all ways of reading agree.
 fn done(alloc: Global, word: &str, others: &[&str], out: &mut Vec<u8>) -> io::Result<()> {
@@ -31,6 +35,7 @@ fn done(alloc: Global, word: &str, others: &[&str], out: &mut Vec<u8>) -> io::Re
         "long" => long(alloc, others, out),
         "bits" => bits(alloc, others, out),
         "sizes" => sizes(out),
+        "spelling" => spelling(others, out),
         "mutated" => mutated(alloc, others, out),
         _ => Ok(()),
     }

@@ -54,6 +54,10 @@ impl Variable for Distance {
         u64::from(self.steps)
     }
 
+    fn has_own_number(&self) -> bool {
+        true
+    }
+
     ghost width_is = { refl };
 
     ghost width_small = { Prim.omega arith };

@@ -40,6 +40,11 @@ impl Variable for GradientDirection {
         }
     }
 
+    #[tactic(auto, using(crate::proofs::Numbers::q_gdir_own))]
+    fn has_own_number(&self) -> bool {
+        true
+    }
+
     ghost width_is = { refl };
 
     ghost width_small = { Prim.omega arith };
@@ -97,6 +102,10 @@ impl Variable for Steepness {
 
     fn number(&self) -> u64 {
         u64::from(self.permille)
+    }
+
+    fn has_own_number(&self) -> bool {
+        true
     }
 
     ghost width_is = { refl };

@@ -42,6 +42,10 @@ impl Variable for PositionInGroup {
         u64::from(self.position)
     }
 
+    fn has_own_number(&self) -> bool {
+        true
+    }
+
     ghost width_is = { refl };
 
     ghost width_small = { Prim.omega arith };
@@ -85,6 +89,11 @@ impl Variable for Duplicate {
             Duplicate::OfNext => 1,
             Duplicate::OfPrevious => 2,
         }
+    }
+
+    #[tactic(auto, using(crate::proofs::Numbers::m_dup_own))]
+    fn has_own_number(&self) -> bool {
+        true
     }
 
     ghost width_is = { refl };
@@ -145,6 +154,10 @@ impl Variable for MessageCounter {
         u64::from(self.count)
     }
 
+    fn has_own_number(&self) -> bool {
+        true
+    }
+
     ghost width_is = { refl };
 
     ghost width_small = { Prim.omega arith };
@@ -189,6 +202,10 @@ impl Variable for Country {
         u64::from(self.number)
     }
 
+    fn has_own_number(&self) -> bool {
+        true
+    }
+
     ghost width_is = { refl };
 
     ghost width_small = { Prim.omega arith };
@@ -231,6 +248,10 @@ impl Variable for GroupNumber {
 
     fn number(&self) -> u64 {
         u64::from(self.number)
+    }
+
+    fn has_own_number(&self) -> bool {
+        true
     }
 
     ghost width_is = { refl };

@@ -49,6 +49,11 @@ impl Variable for Level {
         }
     }
 
+    #[tactic(auto, using(crate::proofs::Numbers::m_leveltr_own))]
+    fn has_own_number(&self) -> bool {
+        true
+    }
+
     ghost width_is = { refl };
 
     ghost width_small = { Prim.omega arith };
@@ -91,6 +96,10 @@ impl Variable for StmIdentity {
         u64::from(self.number)
     }
 
+    fn has_own_number(&self) -> bool {
+        true
+    }
+
     ghost width_is = { refl };
 
     ghost width_small = { Prim.omega arith };
@@ -130,6 +139,11 @@ impl Variable for AreaMode {
             AreaMode::OnSight => 0,
             AreaMode::Shunting => 1,
         }
+    }
+
+    #[tactic(auto, using(crate::proofs::Numbers::m_mamode_own))]
+    fn has_own_number(&self) -> bool {
+        true
     }
 
     ghost width_is = { refl };

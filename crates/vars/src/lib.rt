@@ -30,4 +30,4 @@ pub use special_distance::{OpenLength, StartPlace};
 pub use special_speed::{AreaSpeed, ReleaseSpeed, StaticSpeed};
 pub use speed::SpeedStep;
 pub use time::{OverrideTime, Timer};
-pub use variable::{NoValue, Variable};
+pub use variable::{NoValue, Variable, has_number};

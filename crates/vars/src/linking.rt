@@ -39,6 +39,11 @@ impl Variable for LinkOrientation {
         }
     }
 
+    #[tactic(auto, using(crate::proofs::Numbers::q_linkorientation_own))]
+    fn has_own_number(&self) -> bool {
+        true
+    }
+
     ghost width_is = { refl };
 
     ghost width_small = { Prim.omega arith };
@@ -82,6 +87,11 @@ impl Variable for LinkReaction {
             LinkReaction::ServiceBrake => 1,
             LinkReaction::NoReaction => 2,
         }
+    }
+
+    #[tactic(auto, using(crate::proofs::Numbers::q_linkreaction_own))]
+    fn has_own_number(&self) -> bool {
+        true
     }
 
     ghost width_is = { refl };
@@ -135,6 +145,10 @@ impl Variable for LocationAccuracy {
 
     fn number(&self) -> u64 {
         u64::from(self.metres)
+    }
+
+    fn has_own_number(&self) -> bool {
+        true
     }
 
     ghost width_is = { refl };

@@ -52,6 +52,10 @@ impl Variable for Iterations {
         u64::from(self.count)
     }
 
+    fn has_own_number(&self) -> bool {
+        true
+    }
+
     ghost width_is = { refl };
 
     ghost width_small = { Prim.omega arith };
@@ -94,6 +98,10 @@ impl Variable for TrainCategory {
 
     fn number(&self) -> u64 {
         u64::from(self.category)
+    }
+
+    fn has_own_number(&self) -> bool {
+        true
     }
 
     ghost width_is = { refl };

@@ -49,6 +49,10 @@ impl Variable for PacketNumber {
         u64::from(self.number)
     }
 
+    fn has_own_number(&self) -> bool {
+        true
+    }
+
     ghost width_is = { refl };
 
     ghost width_small = { Prim.omega arith };
@@ -94,6 +98,11 @@ impl Variable for ValidityDirection {
         }
     }
 
+    #[tactic(auto, using(crate::proofs::Numbers::q_dir_own))]
+    fn has_own_number(&self) -> bool {
+        true
+    }
+
     ghost width_is = { refl };
 
     ghost width_small = { Prim.omega arith };
@@ -136,6 +145,10 @@ impl Variable for UntestedDirection {
 
     fn number(&self) -> u64 {
         u64::from(self.number)
+    }
+
+    fn has_own_number(&self) -> bool {
+        true
     }
 
     ghost width_is = { refl };
@@ -190,6 +203,10 @@ impl Variable for PacketLength {
 
     fn number(&self) -> u64 {
         u64::from(self.bits)
+    }
+
+    fn has_own_number(&self) -> bool {
+        true
     }
 
     ghost width_is = { refl };

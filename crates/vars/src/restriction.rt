@@ -49,6 +49,10 @@ impl Variable for RestrictionNumber {
         u64::from(self.number)
     }
 
+    fn has_own_number(&self) -> bool {
+        true
+    }
+
     ghost width_is = { refl };
 
     ghost width_small = { Prim.omega arith };
@@ -86,6 +90,11 @@ impl Variable for TrainLengthDelay {
             TrainLengthDelay::Applied => 0,
             TrainLengthDelay::NotApplied => 1,
         }
+    }
+
+    #[tactic(auto, using(crate::proofs::Numbers::q_front_own))]
+    fn has_own_number(&self) -> bool {
+        true
     }
 
     ghost width_is = { refl };

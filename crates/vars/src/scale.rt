@@ -53,6 +53,11 @@ impl Variable for Scale {
         }
     }
 
+    #[tactic(auto, using(crate::proofs::Numbers::q_scale_own))]
+    fn has_own_number(&self) -> bool {
+        true
+    }
+
     ghost width_is = { refl };
 
     ghost width_small = { Prim.omega arith };

@@ -39,6 +39,14 @@ impl Variable for StartPlace {
         }
     }
 
+    #[tactic(auto, using(crate::proofs::Numbers::start_place_own), unfolding(crate::specs::Variables::start_place_of))]
+    fn has_own_number(&self) -> bool {
+        match self {
+            StartPlace::At(value) => value.number() != 32767,
+            StartPlace::Now => true,
+        }
+    }
+
     ghost width_is = { refl };
 
     ghost width_small = { Prim.omega arith };
@@ -79,6 +87,14 @@ impl Variable for OpenLength {
         match self {
             OpenLength::Length(value) => value.number(),
             OpenLength::NoEnd => 32767,
+        }
+    }
+
+    #[tactic(auto, using(crate::proofs::Numbers::open_length_own), unfolding(crate::specs::Variables::open_length_of))]
+    fn has_own_number(&self) -> bool {
+        match self {
+            OpenLength::Length(value) => value.number() != 32767,
+            OpenLength::NoEnd => true,
         }
     }
 

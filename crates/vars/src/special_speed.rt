@@ -43,6 +43,14 @@ impl Variable for ReleaseSpeed {
         }
     }
 
+    #[tactic(auto, using(crate::proofs::Numbers::v_release_own), unfolding(crate::specs::Variables::release_of))]
+    fn has_own_number(&self) -> bool {
+        match self {
+            ReleaseSpeed::Speed(value) => value.has_own_number(),
+            ReleaseSpeed::Onboard | ReleaseSpeed::National => true,
+        }
+    }
+
     ghost width_is = { refl };
 
     ghost width_small = { Prim.omega arith };
@@ -86,6 +94,14 @@ impl Variable for StaticSpeed {
         }
     }
 
+    #[tactic(auto, using(crate::proofs::Numbers::v_static_own), unfolding(crate::specs::Variables::static_of))]
+    fn has_own_number(&self) -> bool {
+        match self {
+            StaticSpeed::Speed(value) => value.has_own_number(),
+            StaticSpeed::End => true,
+        }
+    }
+
     ghost width_is = { refl };
 
     ghost width_small = { Prim.omega arith };
@@ -126,6 +142,14 @@ impl Variable for AreaSpeed {
         match self {
             AreaSpeed::Speed(value) => value.number(),
             AreaSpeed::National => 127,
+        }
+    }
+
+    #[tactic(auto, using(crate::proofs::Numbers::v_mamode_own), unfolding(crate::specs::Variables::area_speed_of))]
+    fn has_own_number(&self) -> bool {
+        match self {
+            AreaSpeed::Speed(value) => value.has_own_number(),
+            AreaSpeed::National => true,
         }
     }
 

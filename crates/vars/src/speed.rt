@@ -55,6 +55,10 @@ impl Variable for SpeedStep {
         u64::from(self.steps)
     }
 
+    fn has_own_number(&self) -> bool {
+        self.steps <= 120
+    }
+
     ghost width_is = { refl };
 
     ghost width_small = { Prim.omega arith };

@@ -56,6 +56,10 @@ impl Variable for Timer {
         u64::from(self.seconds)
     }
 
+    fn has_own_number(&self) -> bool {
+        true
+    }
+
     ghost width_is = { refl };
 
     ghost width_small = { Prim.omega arith };
@@ -109,6 +113,10 @@ impl Variable for OverrideTime {
 
     fn number(&self) -> u64 {
         u64::from(self.seconds)
+    }
+
+    fn has_own_number(&self) -> bool {
+        true
     }
 
     ghost width_is = { refl };

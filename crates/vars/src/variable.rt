@@ -1,4 +1,5 @@
-ghost use Rattle.std.specs.Prelude.{◌≡◌, ◌<◌, ◌^◌, ℕ};
+ghost use Rattle.std.specs.Prelude.{◌≡◌, ◌<◌, ◌^◌, ◌↔◌, IsTrue, Ok, ℕ};
+ghost use Rattle.bits.specs.Fitting.{HasNumber};
 ghost use Rattle.bits.specs.Layout.{Codes};
 ghost use Rattle.vars.specs.declared.variable.NoValue.{NoValue};
 
@@ -35,9 +36,22 @@ pub trait Variable: Sized {
         ensures value { result ≡ (codes).number self.now }
         ensures bound { result < 2 ^ (codes).width };
 
+    /// Whether the number stands for the value. It doesn't where it is kept for another value: that of no distance, or
+    /// of no length.
+    fn has_own_number(&self) -> bool
+        ensures { IsTrue result ↔ ((codes).value ((codes).number self.now) ≡ Ok self.now) };
+
     ghost width_is: { (codes).width ≡ WIDTH };
 
     ghost width_small: { (codes).width < 16 };
+}
+
+/// Whether the value has a number that is told by the variable's bits and stands for it.
+#[inline]
+pub fn has_number<V: Variable>(value: &V) -> bool
+    ensures { IsTrue result ↔ HasNumber V.codes value.now }
+{
+    value.number() < 1 << V::WIDTH && value.has_own_number()
 }
 
 impl Variable for bool {
@@ -57,6 +71,10 @@ impl Variable for bool {
 
     fn number(&self) -> u64 {
         u64::from(*self)
+    }
+
+    fn has_own_number(&self) -> bool {
+        true
     }
 
     ghost width_is = { refl };

@@ -1,0 +1,6 @@
+use Rattle.bits.proofs.Shown.{taken-shown}
+use Rattle.telegram.specs.Telegrams.{header}
+use Rattle.telegram.proofs.laws.sinks_take_header_fields.Goals as goal
+
+pub returns : goal.returns
+returns g c = λ h s. taken-shown g.S.FieldSink.took header h s

@@ -9,6 +9,7 @@ use Rattle.std.proofs.lemmas.Bool.Decides.{nat_tests}
 use Rattle.std.proofs.Math.Seq.{drop-append-add}
 use Rattle.disk.specs.State.{Platter, Outside, SameOutside, SameBut, Touches, Holds}
 use Rattle.disk.specs.Record.{bytes_at, place_in, trace_written, trace_torn, trace_next, trace_start, trace_of, platter_of, state_of, IsWithin, IsPlaced}
+use Rattle.disk.specs.Memory.{Recording, IsRecording, IsNoted, memory_state}
 use Rattle.disk.specs.declared.record.Call.{Call}
 use Rattle.disk.specs.declared.record.Call.TheVariants.{Quiet, Synced, Written, Torn}
 use Rattle.disk.specs.declared.record.Span.{Span}
@@ -133,6 +134,31 @@ pub quiet_to : (first size width sectors faults faults' : ℕ) (start written : 
 quiet_to first size width sectors faults faults' start written calls call sectors' start' written' calls' within wide whole leaves next e0 e1 e2 e3 =
     touches_to first size width sectors faults faults' start written [] calls call sectors' start' written' calls' within wide whole
     (subst (λ (n : ℕ). IsWithin sectors n call) (omega arith) next) (λ s out. leaves s) e0 e1 e2 e3
+
+-- calls that hand in nothing and leave every sector
+abbrev pub MovesNothing : Call → Type 0
+MovesNothing Quiet = Unit {0}
+MovesNothing Synced = Unit {0}
+MovesNothing (Written span) = ⊥
+MovesNothing (Torn span) = ⊥
+
+leaves_still : (call : Call) → MovesNothing call → (s : ℕ) → Leaves call s
+leaves_still Quiet moves s = leaves_quiet s
+leaves_still Synced moves s = leaves_synced s
+leaves_still (Written span) moves s = absurd moves
+leaves_still (Torn span) moves s = absurd moves
+
+within_still : (sectors written : ℕ) (call : Call) → MovesNothing call → IsWithin sectors written call
+within_still sectors written Quiet moves = within_quiet sectors written
+within_still sectors written Synced moves = within_synced sectors written
+within_still sectors written (Written span) moves = absurd moves
+within_still sectors written (Torn span) moves = absurd moves
+
+-- a call that was noted, and moves nothing, leaves the medium
+pub noted_still : {call : Call} {old new : Recording} → IsNoted call [] old new → IsRecording old → MovesNothing call → Touches 0 0 (memory_state old) (memory_state new)
+noted_still {call} {old} {new} noted kept moves =
+    quiet_to 0 0 (length old.written) old.sectors old.faults new.faults old.start old.written old.calls call new.sectors new.start new.written new.calls
+    kept.recorded refl kept.whole (leaves_still call moves) (within_still old.sectors (length old.written) call moves) noted.sectors noted.start noted.written noted.calls
 
 -- a write that succeeded gives the bytes handed in
 pub written_holds : (start written bytes : List ℕ) (calls : List Call) (span : Span) (start' written' : List ℕ) (calls' : List Call)

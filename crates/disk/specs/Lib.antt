@@ -1,4 +1,5 @@
 pub mod Choice
+pub mod Kept
 pub mod Liar
 pub mod Memory
 pub mod Plan

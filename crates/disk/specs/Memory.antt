@@ -1,7 +1,7 @@
 -- What contracts see of a disk in memory.
-use Rattle.std.specs.Prelude.{◌≡◌, ℕ, ◌+◌, ◌-◌, ◌%◌, ◌^◌, ◌<◌, ◌≤◌, ◌&&◌, ◌++◌, ◌∷◌, [], nat_le, nat_lt, Bool, true, false, if◌then◌else◌, List, replicate, vec_len, All, Result, is_err}
+use Rattle.std.specs.Prelude.{◌≡◌, ℕ, ◌+◌, ◌-◌, ◌*◌, ◌%◌, ◌^◌, ◌<◌, ◌≤◌, ◌&&◌, ◌++◌, ◌∷◌, [], nat_le, nat_lt, Bool, true, false, if◌then◌else◌, List, length, replicate, All, Result, is_err}
 use Rattle.disk.specs.State.{State, now, contents_of, IsImage, IsSynced}
-use Rattle.disk.specs.Record.{bytes_at, trace_of, state_of}
+use Rattle.disk.specs.Record.{bytes_at, trace_of, state_of, IsWithin}
 use Rattle.disk.specs.Plan.{fate_of, fails, takes}
 use Rattle.disk.specs.Choice.{settled_sector, IsChoice, HoldsBytes}
 use Rattle.disk.specs.declared.DiskFault.{DiskFault}
@@ -10,45 +10,66 @@ use Rattle.disk.specs.declared.memory.Plan.{Plan}
 use Rattle.disk.specs.declared.memory.Plan.TheVariants.{Nothing}
 use Rattle.disk.specs.declared.memory.Fate.{Fate}
 use Rattle.disk.specs.declared.memory.Room.{Room}
-use Rattle.disk.specs.declared.memory.Memory.{Memory}
 use Rattle.disk.specs.declared.record.Call.{Call}
+
+-- What contracts see of a disk in memory: the bytes that it began with, the record of its calls with the bytes that they
+-- handed in, its room, what is to go wrong, counted from which call on, and how many calls failed (this project's
+-- profile).
+pub record Recording : Type 0 where
+  pub sectors : ℕ
+  pub start : List ℕ
+  pub calls : List Call
+  pub written : List ℕ
+  pub room : Room
+  pub plan : Plan
+  pub planned_at : ℕ
+  pub faults : ℕ
+
+-- What is so of every disk in memory: it began with whole sectors, its calls are of sectors that it has, and it stays
+-- within its room (this project's profile).
+pub record IsRecording (m : Recording) : Type 0 where
+  pub whole : length m.start ≡ 512 * m.sectors
+  pub recorded : All (IsWithin m.sectors (length m.written)) m.calls
+  pub calls_fit : length m.calls ≤ m.room.calls
+  pub bytes_fit : length m.written ≤ m.room.bytes
+  pub planned : m.planned_at ≤ length m.calls
 
 -- What contracts see of it as a disk. It is honest, and its moments are its calls: moment k is after k calls (this
 -- project's profile).
-abbrev pub memory_state : Memory → State
-memory_state m = state_of m.sectors m.faults m.start.items m.written.items m.calls.items
+abbrev pub memory_state : Recording → State
+memory_state m = state_of m.sectors m.faults m.start m.written m.calls
 
 -- the bytes that were last handed in for sector s to a write, also to one that failed (this project's profile)
-abbrev pub handed_of : Memory → ℕ → List ℕ
-handed_of m s = bytes_at m.start.items m.written.items s (trace_of s m.calls.items).handed
+abbrev pub handed_of : Recording → ℕ → List ℕ
+handed_of m s = bytes_at m.start m.written s (trace_of s m.calls).handed
 
 -- what is to go wrong (this project's profile)
-abbrev pub plan_of : Memory → Plan
+abbrev pub plan_of : Recording → Plan
 plan_of m = m.plan
 
 -- the calls counted since the plan was made (this project's profile)
-abbrev pub calls_since : Memory → ℕ
-calls_since m = vec_len m.calls - m.planned_at
+abbrev pub calls_since : Recording → ℕ
+calls_since m = length m.calls - m.planned_at
 
 -- all its room, used or not (this project's profile)
-abbrev pub room_of : Memory → Room
+abbrev pub room_of : Recording → Room
 room_of m = m.room
 
 -- the bytes of its room for written sectors that are used (this project's profile)
-abbrev pub bytes_used : Memory → ℕ
-bytes_used m = vec_len m.written
+abbrev pub bytes_used : Recording → ℕ
+bytes_used m = length m.written
 
 -- there is room for a call that hands in so many bytes (this project's profile)
-abbrev pub has_room_for : ℕ → Memory → Bool
-has_room_for bytes m = nat_lt (vec_len m.calls) m.room.calls && nat_le bytes (m.room.bytes - vec_len m.written)
+abbrev pub has_room_for : ℕ → Recording → Bool
+has_room_for bytes m = nat_lt (length m.calls) m.room.calls && nat_le bytes (m.room.bytes - length m.written)
 
 -- what the plan makes of the next call (this project's profile)
-abbrev pub fate_now : Memory → Fate
-fate_now m = fate_of m.plan (vec_len m.calls - m.planned_at)
+abbrev pub fate_now : Recording → Fate
+fate_now m = fate_of m.plan (length m.calls - m.planned_at)
 
 -- A disk on which no call was made and nothing is planned: no sector is open, and no call has failed (this
 -- project's profile).
-pub record IsFresh (m : Memory) : Type 0 where
+pub record IsFresh (m : Recording) : Type 0 where
   pub clock : (memory_state m).clock ≡ 0
   pub faults : (memory_state m).faults ≡ 0
   pub synced : IsSynced (memory_state m)
@@ -64,7 +85,7 @@ pub record HoldsZeros (sectors : ℕ) (contents : ℕ → List ℕ) : Type 0 whe
 -- What a call does that hands in so many bytes. It answers DiskFault exactly beyond the room and where the plan says
 -- so. Beyond the room it changes nothing else than the count of failures, and the clock stands still; else the clock
 -- goes up by one. The plan and the room stay (this project's profile).
-pub record HasRun {T : Type 0} (bytes : ℕ) (result : Result T DiskFault) (old new : Memory) : Type 0 where
+pub record HasRun {T : Type 0} (bytes : ℕ) (result : Result T DiskFault) (old new : Recording) : Type 0 where
   pub answer : is_err result ≡ (if has_room_for bytes old then fails (fate_now old) else true)
   pub clock : (memory_state new).clock ≡ (memory_state old).clock + (if has_room_for bytes old then 1 else 0)
   pub since : calls_since new ≡ calls_since old + (if has_room_for bytes old then 1 else 0)
@@ -74,28 +95,28 @@ pub record HasRun {T : Type 0} (bytes : ℕ) (result : Result T DiskFault) (old 
   pub beyond : has_room_for bytes old ≡ false → new ≡ record old { faults = (old.faults + 1) % 2 ^ 64 }
 
 -- the same was last handed in for each sector (this project's profile)
-abbrev pub SameHanded : Memory → Memory → Type 0
+abbrev pub SameHanded : Recording → Recording → Type 0
 SameHanded old new = (s : ℕ) → handed_of new s ≡ handed_of old s
 
 -- each sector holds what it held (this project's profile)
-abbrev pub SameContents : Memory → Memory → Type 0
+abbrev pub SameContents : Recording → Recording → Type 0
 SameContents old new = (s : ℕ) → contents_of (memory_state new) s ≡ contents_of (memory_state old) s
 
 -- every list of choices settles the disk to an image of it, if the bytes that are given are whole sectors (this project's
 -- profile)
-abbrev pub SettlesToImages : Memory → Type 0
+abbrev pub SettlesToImages : Recording → Type 0
 SettlesToImages m = (choices : List Choice) → All IsChoice choices → IsImage (now (memory_state m)) (settled_sector (memory_state m) (handed_of m) choices)
 
 -- each image of the disk that is made of bytes is what some list of choices settles it to (this project's profile)
-abbrev pub ReachesEachImage : Memory → Type 0
+abbrev pub ReachesEachImage : Recording → Type 0
 ReachesEachImage m = (c : ℕ → List ℕ) → IsImage (now (memory_state m)) c → HoldsBytes c
     → (choices : List Choice) × All IsChoice choices × ((s : ℕ) → settled_sector (memory_state m) (handed_of m) choices s ≡ c s)
 
 -- A call was added to the record, with the bytes that it hands in, and all else is as it was (this project's
 -- profile).
-pub record IsNoted (call : Call) (bytes : List ℕ) (old new : Memory) : Type 0 where
-  pub calls : new.calls.items ≡ old.calls.items ++ call ∷ []
-  pub written : new.written.items ≡ old.written.items ++ bytes
+pub record IsNoted (call : Call) (bytes : List ℕ) (old new : Recording) : Type 0 where
+  pub calls : new.calls ≡ old.calls ++ call ∷ []
+  pub written : new.written ≡ old.written ++ bytes
   pub start : new.start ≡ old.start
   pub sectors : new.sectors ≡ old.sectors
   pub room : new.room ≡ old.room

@@ -8,4 +8,6 @@ use crate::Memory;
 pub fn settling_gives_each_image(disk: &Memory)
     ensures images { SettlesToImages disk.now }
     ensures each { ReachesEachImage disk.now }
-{}
+{
+    disk.kept();
+}

@@ -18,7 +18,8 @@ pub use device::Disk;
 pub use durable::put;
 pub use laws::settling_gives_each_image;
 pub use liar::Liar;
-pub use memory::{Memory, Plan};
+pub use memory::{Fate, Memory, Plan, Room};
+pub use record::{Call, Span};
 
 /// The bytes of a sector.
 pub const SECTOR_BYTES: usize = 512;

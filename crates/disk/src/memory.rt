@@ -9,6 +9,7 @@ use crate::choice::{Choice, nth};
 use crate::record::{Call, Span, Trace, bytes_in, follow};
 use crate::{Disk, DiskFault, SECTOR_BYTES};
 use std::alloc::{AllocError, Global};
+use std::marker::Model;
 use units::NoMemory;
 
 /// What is to go wrong. Calls of `read`, `write` and `sync` are counted from 0 since the plan was made; one that is
@@ -26,9 +27,11 @@ pub enum Plan {
 /// What the plan makes of a call.
 #[derive(Clone, Copy)]
 pub enum Fate {
+    /// It does what it is to do.
     Runs,
+    /// It answers DiskFault; a write leaves the old bytes and opens its sectors.
     Fails,
-    /// There is no power.
+    /// There is no power: it answers DiskFault, and nothing else happens.
     Dead,
 }
 
@@ -78,15 +81,23 @@ pub struct Memory {
     plan: Plan,
     planned_at: usize,
     faults: u64,
-    ghost whole: { vec_len start ≡ 512 * sectors },
-    ghost recorded: { All (IsWithin sectors (vec_len written)) calls.items },
-    ghost calls_fit: { (vec_len calls ≤ room.calls) × (room.calls ≤ vec_capacity calls) },
-    ghost bytes_fit: { (vec_len written ≤ room.bytes) × (room.bytes ≤ vec_capacity written) },
-    ghost planned: { planned_at ≤ vec_len calls },
+}
+
+impl Model for Memory {
+    ghost use Rattle.std.specs.Prelude.{◌≤◌, vec_capacity};
+    ghost use Rattle.disk.specs.Memory.{Recording, IsRecording};
+
+    ghost Value = { Recording };
+
+    ghost view = { λ m. record { sectors = m.sectors; start = m.start.items; calls = m.calls.items; written = m.written.items; room = m.room; plan = m.plan; planned_at = m.planned_at; faults = m.faults } };
+
+    ghost use Rattle.disk.specs.Kept.{IsKept};
+
+    ghost invariant = { IsKept };
 }
 
 impl Memory {
-    ghost use Rattle.disk.specs.Memory.{memory_state, handed_of, plan_of, calls_since, room_of, bytes_used, has_room_for, fate_now, IsFresh, HoldsZeros, SameHanded, IsNoted};
+    ghost use Rattle.disk.specs.Memory.{memory_state, handed_of, plan_of, calls_since, room_of, bytes_used, has_room_for, fate_now, IsRecording, IsFresh, HoldsZeros, SameHanded, IsNoted};
 
     /// A disk of zeros with room for so many calls of `read`, `write` and `sync`, and for so many sectors handed in
     /// to `write`. All the room is taken at once.
@@ -206,9 +217,17 @@ impl Memory {
         }
     }
 
+    // What its fields keep, for who reads no field.
+    pub(crate) fn kept(&self)
+        ensures { IsRecording self.now }
+    {
+        let _fields = &self.start;
+    }
+
     // Whether the record has room for a call that hands in so many bytes.
     fn has_room(&self, bytes: usize) -> bool
-        ensures { result ≡ has_room_for bytes self.now }
+        ensures room { result ≡ has_room_for bytes self.now }
+        ensures kept { IsRecording self.now }
     {
         self.calls.len() < self.room.calls && bytes <= self.room.bytes - self.written.len()
     }
@@ -223,7 +242,7 @@ impl Memory {
     // Notes a call, and the bytes that it hands in. It takes no memory.
     fn note(&mut self, call: Call, bytes: &[u8])
         requires room { IsTrue (has_room_for (length bytes.now) self.old) }
-        requires within { IsWithin self.old.sectors (vec_len self.old.written + length bytes.now) call }
+        requires within { IsWithin self.old.sectors (length self.old.written + length bytes.now) call }
         ensures { IsNoted call bytes.now self.old self.new }
     {
         self.written.extend_from_slice(bytes).unwrap();
@@ -240,8 +259,8 @@ impl Memory {
 
     // What the record tells of a sector.
     fn trace(&self, sector: u64) -> Trace
-        ensures trace { result ≡ trace_of sector self.now.calls.items }
-        ensures placed { AllPlaced (vec_len self.now.written) result }
+        ensures trace { result ≡ trace_of sector self.now.calls }
+        ensures placed { AllPlaced (length self.now.written) result }
     {
         follow(&self.calls, sector, self.sectors, self.written.len())
     }
@@ -261,6 +280,8 @@ impl Memory {
         requires within { 512 * first + length out.old ≤ 512 * self.now.sectors }
         ensures { Holds (contents_of (memory_state self.now)) first out.new }
     {
+        // That a sector's number fits its type.
+        let _sectors = &self.sectors;
         for i in 0..out.len() / SECTOR_BYTES {
             let at = SECTOR_BYTES * i;
             out[at..at + SECTOR_BYTES].copy_from_slice(self.sector(first + i as u64));

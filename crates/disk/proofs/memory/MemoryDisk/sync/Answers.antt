@@ -1,23 +1,19 @@
-use Rattle.std.proofs.Common.{rules, ◌≡◌, ◌*◌, length}
-use Rattle.std.specs.Prelude.{vec_len}
-use Rattle.disk.specs.declared.record.Call.TheVariants.{Quiet, Synced}
-use Rattle.disk.proofs.Calls.{quiet_to, leaves_quiet, leaves_synced, within_quiet, within_synced}
+use Rattle.std.proofs.Common.{rules, arith, refl, length}
+use Rattle.std.proofs.lemmas.Grind.{common_steps}
+use Rattle.disk.specs.declared.record.Call.TheVariants.{Quiet}
+use Rattle.disk.specs.Memory.{IsRecording}
+use Rattle.disk.proofs.Calls.{noted_still, quiet_to, leaves_quiet, within_quiet}
 use Rattle.disk.proofs.memory.MemoryDisk.sync.Goals as goal
 
 pub returns-in-Runs-clause-moments : goal.returns-in-Runs-clause-moments
-returns-in-Runs-clause-moments c =
-    let m = c.args.self.now in
-    let wide : vec_len m.written ≡ length m.written.items = search rules in
-    let sized : length m.start.items ≡ 512 * m.sectors = search rules in
-    let after = c.note.new.self in
-    quiet_to 0 0 (vec_len m.written) m.sectors m.faults after.faults m.start.items m.written.items m.calls.items Synced after.sectors after.start.items after.written.items after.calls.items
-    m.recorded wide sized (λ s. leaves_synced s) (within_synced m.sectors (vec_len m.written)) (search rules) (search rules) (search rules) (search rules)
+returns-in-Runs-clause-moments c = noted_still c.note.ensures c.has_room.ensures.kept tt
+
+pub returns-in-Runs-clause-synced : goal.returns-in-Runs-clause-synced
+returns-in-Runs-clause-synced c = grind (arith, common_steps)
 
 pub returns-in-Fails-clause-moments : goal.returns-in-Fails-clause-moments
 returns-in-Fails-clause-moments c =
     let m = c.args.self.now in
-    let wide : vec_len m.written ≡ length m.written.items = search rules in
-    let sized : length m.start.items ≡ 512 * m.sectors = search rules in
-    let after = c.fault-in-Fails.new.self in
-    quiet_to 0 0 (vec_len m.written) m.sectors m.faults after.faults m.start.items m.written.items m.calls.items Quiet after.sectors after.start.items after.written.items after.calls.items
-    m.recorded wide sized (λ s. leaves_quiet s) (within_quiet m.sectors (vec_len m.written)) (search rules) (search rules) (search rules) (search rules)
+    let kept : IsRecording m = c.has_room.ensures.kept in
+    quiet_to 0 0 (length m.written) m.sectors m.faults _ m.start m.written m.calls Quiet _ _ _ _
+    kept.recorded refl kept.whole (λ s. leaves_quiet s) (within_quiet m.sectors (length m.written)) (search rules) (search rules) (search rules) (search rules)

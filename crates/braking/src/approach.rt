@@ -98,9 +98,17 @@ impl<'a, P: Profile<Permille>> Approach<'a, P> {
     pub fn lower(&mut self, target: &Target)
         ensures { self.new ≡ lowered (P.value self.old.gradient) target.now self.old }
     {
-        if self.surely_fits(target) {
-            return;
+        if !self.surely_fits(target) {
+            self.seek(target);
         }
+    }
+
+    // The same where its speed is above the target's. It stands apart, so that what costs nothing is done where it is asked.
+    #[inline(never)]
+    fn seek(&mut self, target: &Target)
+        requires { target.now.speed < self.old.speed }
+        ensures { self.new ≡ lowered (P.value self.old.gradient) target.now self.old }
+    {
         let (front, speed) = (self.front, self.speed);
         let (speed, sum) = permitted_before(
             front,

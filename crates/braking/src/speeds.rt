@@ -79,9 +79,11 @@ pub fn summed_before<P: Profile<Permille>>(
 pub fn stops_within(front: Cm, speed: Mph, brakes: &Brakes, sum: &Summed) -> bool
     ensures { IsTrue result → IsStopping front brakes.now.reaction speed sum.now }
 {
-    let start = front.get() + i64::from(reaction_way(brakes.reaction, speed));
-    let speed = u64::from(speed.get());
-    start <= sum.from.get() && speed * speed <= sum.taken_off
+    let square = u64::from(speed.get()) * u64::from(speed.get());
+    if sum.taken_off < square {
+        return false;
+    }
+    front.get() + i64::from(reaction_way(brakes.reaction, speed)) <= sum.from.get()
 }
 
 // What the brakes must take off the square of the speed, from one speed down to another.

@@ -4,8 +4,6 @@ use odometry::{Fix, Place, Sums};
 use std::process::Abort;
 use units::{Length, Movement};
 
-const FARTHEST: i64 = 1 << 40;
-
 fn length<R: Abort>(rt: &R, number: u64) -> Length {
     Length::new(number).expect(rt, "a length")
 }
@@ -86,10 +84,11 @@ fn fix_with_a_missed_balise(rt: HostRuntime) {
 fn nothing_beyond_the_farthest_place(rt: HostRuntime) {
     let mut place = Place::new();
     assert!(rt; goes(&rt, &mut place, 6));
+    // 2^40 is the farthest place.
     for (at, made) in [
-        (FARTHEST + 1, false),
-        (FARTHEST - 5, false),
-        (FARTHEST - 6, true),
+        (1_099_511_627_777, false),
+        (1_099_511_627_771, false),
+        (1_099_511_627_770, true),
     ] {
         let fix = Fix {
             at: cm(&rt, at),
@@ -99,7 +98,7 @@ fn nothing_beyond_the_farthest_place(rt: HostRuntime) {
         };
         assert_eq!(rt; is_fixed(&mut place, fix), made, "at {at}");
     }
-    for (by, room, estimate) in [(1, false, FARTHEST), (-2, true, FARTHEST - 2)] {
+    for (by, room, estimate) in [(1, false, 1_099_511_627_776), (-2, true, 1_099_511_627_774)] {
         assert_eq!(rt; goes(&rt, &mut place, by), room, "by {by}");
         assert_eq!(rt; front(&place).0, estimate, "by {by}");
     }

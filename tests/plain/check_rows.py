@@ -1,17 +1,27 @@
 #!/usr/bin/env python3
-"""Works each limit of the kernel's rows out by the plain program, and prints where it is another one than the row wants.
+"""Works each limit of the kernel's rows out by the plain program, and prints where it is another one than the row wants. A
+telegram that a row hears is named behind its bytes; its fields stand beside the name at the head of the part, and have to spell
+those bytes.
 
     tests/plain/check_rows.py [FILE ..]
 
 The rows of crates/test_kernel/stdin are taken where no file is named. The last line has the numbers of rows, of inputs, of
 limits and of differences. The exit status is 1 where there is a difference.
 """
+import re
 import sys
 from pathlib import Path
 
 import rows
+import telegrams
+from named import written
 
 STDIN = Path(__file__).resolve().parents[2] / "crates/test_kernel/stdin"
+
+GENERATED = "\n# ==== Pseudo-random lists"
+# The name of a telegram and its bytes, and below them its fields.
+NAMED = re.compile(r"^#     (\S.*): ([0-9A-F]+)\n((?:#       .*\n)+)", re.M)
+HEARD = re.compile(r"^hear ([0-9A-F]+)(?: -> \d+)?(?: +# (.+))?$", re.M)
 
 
 def differences(row):
@@ -20,10 +30,28 @@ def differences(row):
             yield f"{row.name}, line {line.number}: wanted {line.limit}, found {found} by the plain program"
 
 
+def misnamed(text):
+    """The telegrams whose fields spell other bytes, and those that a row hears under a name which isn't theirs, or under none.
+    Bytes that carry no telegram need no name; nor do those of the pseudo-random lists, which are made of fields."""
+    for part in text.partition(GENERATED)[0].split("\n# ====")[1:]:
+        told = {}
+        for name, data, fields in NAMED.findall(part):
+            told[name] = data
+            if written(fields.replace("#", " ")) != data:
+                yield f"{name}: its fields spell {written(fields.replace('#', ' '))}"
+        for data, name in HEARD.findall(part):
+            if told.get(name) != data and (name or telegrams.read(bytes.fromhex(data))):
+                yield f"hear {data}: {name or 'no name'}"
+
+
 def main(paths):
     found, inputs, limits, count = 0, 0, 0, 0
     for path in paths or [STDIN]:
-        for row in rows.read(Path(path).read_text()):
+        text = Path(path).read_text()
+        for difference in misnamed(text):
+            found += 1
+            print(difference)
+        for row in rows.read(text):
             count, inputs = count + 1, inputs + len(row.lines)
             limits += sum(line.limit is not None for line in row.lines)
             for difference in differences(row):

@@ -1,115 +1,137 @@
-"""The telegrams of which pseudo-random lists are made."""
+"""The telegrams of which pseudo-random lists are made, by their fields (named.py)."""
 
 # Restrictions and their revocations, of groups 2 to 11, of one balise but for the last two.
 RESTRICTIONS = (
     # Restriction 7 from the group on for 20 m: 10 km/h and 5 km/h.
-    "90007F802001506023A0E000000A417F80",
-    "90007F802001506023A0E000000A40FF80",
+    "NID_BG 2; 65: NID_TSR 7, D_TSR 0, L_TSR 20, Q_FRONT 1, V_TSR 2",
+    "NID_BG 2; 65: NID_TSR 7, D_TSR 0, L_TSR 20, Q_FRONT 1, V_TSR 1",
     # Restriction 8 of 20 km/h, 20 m ahead for 5 m, until the rear has left it.
-    "90007F802001D06023A100050002827F80",
+    "NID_BG 3; 65: NID_TSR 8, D_TSR 20, L_TSR 5, Q_FRONT 0, V_TSR 4",
     # Restriction 255 of 30 km/h, 10 m ahead for 1 m.
-    "90007F802002506023BFE0028000C37F80",
+    "NID_BG 4; 65: NID_TSR 255, D_TSR 10, L_TSR 1, Q_FRONT 1, V_TSR 6",
     # Restriction 255 of 35 km/h, from the group on for 12 m.
-    "90007F802005D06023BFE000000643FF80",
+    "NID_BG 11; 65: NID_TSR 255, D_TSR 0, L_TSR 12, Q_FRONT 1, V_TSR 7",
     # 7 is revoked.
-    "90007F802002D0A00F83FF80",
+    "NID_BG 5; 66: NID_TSR 7",
     # 8 is revoked, and restriction 9 of 15 km/h is told, from the group on for 2.5 m.
-    "90007F80200350A00F8420C047024000001983FF",
+    "NID_BG 6; 66: NID_TSR 8; 65: Q_SCALE 0, NID_TSR 9, D_TSR 0, L_TSR 25, Q_FRONT 1, V_TSR 3",
     # 255 is revoked, and restriction 7 is told for the nominal direction.
-    "90007F802003D0A00FFFA0A04741C000001E81FF",
+    "NID_BG 7; 66: NID_TSR 255; 65: Q_DIR 1, NID_TSR 7, D_TSR 0, L_TSR 30, Q_FRONT 1, V_TSR 1",
     # Counter 254.
-    "90007F002001506023A0E0000019417F80",
+    "M_MCOUNT 254, NID_BG 2; 65: NID_TSR 7, D_TSR 0, L_TSR 50, Q_FRONT 1, V_TSR 2",
     # No packet.
-    "90007F8020047FC0",
+    "NID_BG 8",
     # Restriction 10 of 25 km/h, 3 m ahead for 4 m; behind packet 136 restriction 11 of 5 km/h.
-    "90007F802004D06023A14000C00242C4401741808E858000006503FE",
+    "NID_BG 9; 65: NID_TSR 10, D_TSR 3, L_TSR 4, Q_FRONT 1, V_TSR 5; 136; 65: NID_TSR 11, D_TSR 0, L_TSR 50, "
+    "Q_FRONT 1, V_TSR 1",
     # Restriction 8 with no length.
-    "90007F802005506023A10000000040FF80",
+    "NID_BG 10; 65: NID_TSR 8, D_TSR 0, L_TSR 0, Q_FRONT 1, V_TSR 1",
     # No telegram.
-    "90007F80200150602420E0190019427F80",
+    "NID_BG 2; 65: L_PACKET 72, NID_TSR 7, D_TSR 100, L_TSR 50, Q_FRONT 1, V_TSR 4",
     # N_TOTAL 1: place 0 and place 1.
-    "90027F802001506023A0E0000019417F80",
-    "90127F802001506023A0E0000019417F80",
+    "N_TOTAL 1, NID_BG 2; 65: NID_TSR 7, D_TSR 0, L_TSR 50, Q_FRONT 1, V_TSR 2",
+    "N_PIG 1, N_TOTAL 1, NID_BG 2; 65: NID_TSR 7, D_TSR 0, L_TSR 50, Q_FRONT 1, V_TSR 2",
 )
 
 # Groups of one, two and three balises, and linking.
 GROUPS = (
     # Group 2 announces group 3 in its nominal direction, 10 m ahead, to 5 m, and group 4 in its reverse direction, 15
     # m behind it, to 10 m.
-    "90007F80200141603620028001E142003C00222BFC",
+    "NID_BG 2; 5: D_LINK 10, Q_NEWCOUNTRY 0, NID_BG 3, Q_LINKORIENTATION 1, Q_LINKREACTION 2, Q_LOCACC 5, N_ITER 1, "
+    "D_LINK 15, Q_NEWCOUNTRY 0, NID_BG 4, Q_LINKORIENTATION 0, Q_LINKREACTION 2, Q_LOCACC 10",
     # Group 5 announces group 6 in its nominal direction, 8 m ahead, to 2 m.
-    "90007F802002C16022A00200036081FE",
+    "NID_BG 5; 5: D_LINK 8, Q_NEWCOUNTRY 0, NID_BG 6, Q_LINKORIENTATION 1, Q_LINKREACTION 2, Q_LOCACC 2, N_ITER 0",
     # Restriction 7 of 10 km/h from group 3 on for 20 m; the same with counter 254.
-    "90007F802001D06023A0E000000A417F80",
-    "90007F002001D06023A0E000000A417F80",
+    "NID_BG 3; 65: NID_TSR 7, D_TSR 0, L_TSR 20, Q_FRONT 1, V_TSR 2",
+    "M_MCOUNT 254, NID_BG 3; 65: NID_TSR 7, D_TSR 0, L_TSR 20, Q_FRONT 1, V_TSR 2",
     # Group 4: restrictions of 5, 10 and 15 km/h for 5, 10 and 15 m with Q_DIR 0, 1 and 2.
-    "90007F802002504023A020000002C0A0A047408000000A8241808E818000001F07FE",
+    "NID_BG 4; 65: Q_DIR 0, NID_TSR 1, D_TSR 0, L_TSR 5, Q_FRONT 1, V_TSR 1; 65: Q_DIR 1, NID_TSR 2, D_TSR 0, "
+    "L_TSR 10, Q_FRONT 1, V_TSR 2; 65: NID_TSR 3, D_TSR 0, L_TSR 15, Q_FRONT 1, V_TSR 3",
     # The two balises of group 6: restriction 8 of 20 km/h, 5 m ahead for 5 m, and restriction 9 of 25 km/h from the
     # group on for 10 m, until the rear has left it. Place 0 also with M_DUP 1 and with Q_LINK 0, place 1 also with
     # M_DUP 2 and with counter 3.
-    "90027F802003506023A100014002C27F80",
-    "90127F802003506023A12000000502FF80",
-    "9002FF802003506023A100014002C27F80",
-    "90027F802003106023A100014002C27F80",
-    "90137F802003506023A12000000502FF80",
-    "901201802003506023A12000000502FF80",
+    "N_TOTAL 1, NID_BG 6; 65: NID_TSR 8, D_TSR 5, L_TSR 5, Q_FRONT 1, V_TSR 4",
+    "N_PIG 1, N_TOTAL 1, NID_BG 6; 65: NID_TSR 9, D_TSR 0, L_TSR 10, Q_FRONT 0, V_TSR 5",
+    "N_TOTAL 1, M_DUP 1, NID_BG 6; 65: NID_TSR 8, D_TSR 5, L_TSR 5, Q_FRONT 1, V_TSR 4",
+    "N_TOTAL 1, NID_BG 6, Q_LINK 0; 65: NID_TSR 8, D_TSR 5, L_TSR 5, Q_FRONT 1, V_TSR 4",
+    "N_PIG 1, N_TOTAL 1, M_DUP 2, NID_BG 6; 65: NID_TSR 9, D_TSR 0, L_TSR 10, Q_FRONT 0, V_TSR 5",
+    "N_PIG 1, N_TOTAL 1, M_MCOUNT 3, NID_BG 6; 65: NID_TSR 9, D_TSR 0, L_TSR 10, Q_FRONT 0, V_TSR 5",
     # Group 7 with Q_LINK 0: restriction 255 of 30 km/h for 4 m. With Q_LINK 1: 7 is revoked, restriction 10 of 35 km/h
     # for 6 m.
-    "90007F802003906023BFE0000002437F80",
-    "90007F802003D0A00F83A0C047428000000687FF",
+    "NID_BG 7, Q_LINK 0; 65: NID_TSR 255, D_TSR 0, L_TSR 4, Q_FRONT 1, V_TSR 6",
+    "NID_BG 7; 66: NID_TSR 7; 65: NID_TSR 10, D_TSR 0, L_TSR 6, Q_FRONT 1, V_TSR 7",
     # The three balises of group 8: group 9 is announced 12 m ahead, to 3 m; restriction 11 of 5 km/h, 2 m ahead for 2
     # m, in the nominal direction; 8 and 9 are revoked in the reverse direction.
-    "90047F802004416022A0030004E0C1FE",
-    "9014FF802004505023A16000800140FF80",
-    "90257F80200450800F8421001F09FF",
+    "N_TOTAL 2, NID_BG 8; 5: D_LINK 12, Q_NEWCOUNTRY 0, NID_BG 9, Q_LINKORIENTATION 1, Q_LINKREACTION 2, Q_LOCACC 3, "
+    "N_ITER 0",
+    "N_PIG 1, N_TOTAL 2, M_DUP 1, NID_BG 8; 65: Q_DIR 1, NID_TSR 11, D_TSR 2, L_TSR 2, Q_FRONT 1, V_TSR 1",
+    "N_PIG 2, N_TOTAL 2, M_DUP 2, NID_BG 8; 66: Q_DIR 0, NID_TSR 8; 66: Q_DIR 0, NID_TSR 9",
     # No packet: group 9, and group 10.
-    "90007F802004FFC0",
-    "90007F8020057FC0",
+    "NID_BG 9",
+    "NID_BG 10",
 )
 
 # National values, authorities, gradients and static speeds.
 TRACK = (
     # Group 2: an authority of 40 km/h over 20 m, 15 km/h at its end for 5 s, a danger point 4 m behind it with 10
     # km/h; level track; 50 km/h.
-    "90007F80200143202FA20180A000284002020AC036400040003700E9000028007F80",
+    "NID_BG 2; 12: V_MAIN 8, V_LOA 3, T_LOA 5, N_ITER 0, L_ENDSECTION 20, Q_SECTIONTIMER 0, Q_ENDTIMER 0, "
+    "Q_DANGERPOINT 1, D_DP 4, V_RELEASEDP 2, Q_OVERLAP 0; 21: D_GRADIENT 0, Q_GDIR 1, G_A 0, N_ITER 0; "
+    "27: D_STATIC 0, V_STATIC 10, Q_FRONT 0, N_ITER 0, N_ITER 0",
     # Group 3: 30 km/h, after 10 m 10 km/h, an end mark 15 m behind that.
-    "90007F802001C6E0392000030020014080001FFC0FF0",
+    "NID_BG 3; 27: D_STATIC 0, V_STATIC 6, Q_FRONT 0, N_ITER 0, N_ITER 2, D_STATIC 10, V_STATIC 2, Q_FRONT 0, "
+    "N_ITER 0, D_STATIC 15, V_STATIC 127, Q_FRONT 0, N_ITER 0",
     # Group 4: 25 km/h from 8 m ahead on, of category 3 20 km/h; 6 m behind that 45 km/h, of category 3 35 km/h; both
     # until the front has left them.
-    "90007F80200246E03BA00202C2610200184C5E04C3FF80",
+    "NID_BG 4; 27: D_STATIC 8, V_STATIC 5, Q_FRONT 1, N_ITER 1, NC_DIFF 3, V_DIFF 4, N_ITER 1, D_STATIC 6, "
+    "V_STATIC 9, Q_FRONT 1, N_ITER 2, NC_DIFF 15, V_DIFF 1, NC_DIFF 3, V_DIFF 7",
     # Group 5: an authority of 60 km/h over 10 m and 15 m; timers of 6 s and 9 s, that stop 8 m and 10 m behind the
     # entries; an overlap of 6 m with V_NVREL, for 5 s from 12 m before the end on.
-    "90007F802002C3205D230000010015018004000F8120028800C0140037FFF0",
+    "NID_BG 5; 12: V_MAIN 12, V_LOA 0, T_LOA 0, N_ITER 1, L_SECTION 10, Q_SECTIONTIMER 1, T_SECTIONTIMER 6, "
+    "D_SECTIONTIMERSTOPLOC 8, L_ENDSECTION 15, Q_SECTIONTIMER 1, T_SECTIONTIMER 9, D_SECTIONTIMERSTOPLOC 10, "
+    "Q_ENDTIMER 0, Q_DANGERPOINT 0, Q_OVERLAP 1, D_STARTOL 12, T_OL 5, D_OL 6, V_RELEASEOL 127",
     # Group 6: an authority of 80 km/h over 7 m and 5 m, 10 km/h at its end for 3 s; a timer of 4 s from 6 m before the
     # end; a danger point 3 m behind it with 5 km/h, and an overlap of 6 m with 10 km/h, for 3 s from 9 m before the
     # end.
-    "90007F80200343205BA4010061000E000A808001A000C0C004806001817F80",
+    "NID_BG 6; 12: V_MAIN 16, V_LOA 2, T_LOA 3, N_ITER 1, L_SECTION 7, Q_SECTIONTIMER 0, L_ENDSECTION 5, "
+    "Q_SECTIONTIMER 0, Q_ENDTIMER 1, T_ENDTIMER 4, D_ENDTIMERSTARTLOC 6, Q_DANGERPOINT 1, D_DP 3, V_RELEASEDP 1, "
+    "Q_OVERLAP 1, D_STARTOL 9, T_OL 3, D_OL 6, V_RELEASEOL 2",
     # Group 7: 20 per mille uphill for 14 m.
-    "90007F802003C5602720002281001CFFFF",
+    "NID_BG 7; 21: D_GRADIENT 0, Q_GDIR 1, G_A 20, N_ITER 1, D_GRADIENT 14, Q_GDIR 0, G_A 255",
     # Group 8: 30 per mille downhill from 2 m ahead and 25 uphill from 10 m behind that on, in steps of 10 cm.
-    "90007F802004456027000503C100C919FF",
+    "NID_BG 8; 21: Q_SCALE 0, D_GRADIENT 20, Q_GDIR 0, G_A 30, N_ITER 1, D_GRADIENT 100, Q_GDIR 1, G_A 25",
     # Group 9: national values at once, also for country 2: 30 km/h, and 5 km/h to release.
-    "90007F802004C0E04EBFFFC201060C18A01000400300C83CFFFFFE",
+    "NID_BG 9; 3: D_VALIDNV 32767, N_ITER 1, NID_C 2, V_NVSHUNT 6, V_NVSTFF 6, V_NVONSIGHT 6, V_NVUNFIT 20, "
+    "V_NVREL 1, D_NVROLL 2, V_NVALLOWOVTRP 0, V_NVSUPOVTRP 6, D_NVOVTRP 200, T_NVOVTRP 60, D_NVSTFF 32767",
     # Group 10: national values from 15 m ahead on: 20 km/h, and 15 km/h to release.
-    "90007F80200540E049A003C018206280C001000C0320F3FFFFF8",
+    "NID_BG 10; 3: D_VALIDNV 15, N_ITER 0, V_NVSHUNT 6, V_NVSTFF 4, V_NVONSIGHT 6, V_NVUNFIT 20, V_NVREL 3, "
+    "D_NVROLL 2, V_NVALLOWOVTRP 0, V_NVSUPOVTRP 6, D_NVOVTRP 200, T_NVOVTRP 60, D_NVSTFF 32767",
     # Groups of country 2 and of country 3, with no packets.
-    "90007F8040057FC0",
-    "90007F806005FFC0",
+    "NID_C 2, NID_BG 10",
+    "NID_C 3, NID_BG 11",
     # Group 2 announces group 3 in its nominal direction, 10 m ahead, to 5 m, and group 4 in its reverse direction, 15
     # m behind it, to 10 m.
-    "90007F80200141603620028001E142003C00222BFC",
+    "NID_BG 2; 5: D_LINK 10, Q_NEWCOUNTRY 0, NID_BG 3, Q_LINKORIENTATION 1, Q_LINKREACTION 2, Q_LOCACC 5, N_ITER 1, "
+    "D_LINK 15, Q_NEWCOUNTRY 0, NID_BG 4, Q_LINKORIENTATION 0, Q_LINKREACTION 2, Q_LOCACC 10",
     # Group 3: restriction 7 of 10 km/h, 5 m ahead for 10 m; in its nominal direction 35 km/h.
-    "90007F802001D06023A0E0014005010DA03A400007001FE0",
+    "NID_BG 3; 65: NID_TSR 7, D_TSR 5, L_TSR 10, Q_FRONT 0, V_TSR 2; 27: Q_DIR 1, D_STATIC 0, V_STATIC 7, Q_FRONT 0, "
+    "N_ITER 0, N_ITER 0",
     # Group 4: an authority of 100 km/h over 30 m in its reverse direction, and one of 5 km/h in its nominal direction.
-    "90007F802002430024A5007FE0003C01881250203FF0001E0FF0",
+    "NID_BG 4; 12: Q_DIR 0, V_MAIN 20, V_LOA 0, T_LOA 1023, N_ITER 0, L_ENDSECTION 30, Q_SECTIONTIMER 0, "
+    "Q_ENDTIMER 0, Q_DANGERPOINT 0, Q_OVERLAP 0; 12: Q_DIR 1, V_MAIN 1, V_LOA 0, T_LOA 1023, N_ITER 0, "
+    "L_ENDSECTION 30, Q_SECTIONTIMER 0, Q_ENDTIMER 0, Q_DANGERPOINT 0, Q_OVERLAP 0",
     # Group 12: 7 is revoked, restriction 8 of 5 km/h, 3 m ahead for 2 m, until the front has left it.
-    "90007F802006506023A10000C00140A1401F07FF",
+    "NID_BG 12; 65: NID_TSR 8, D_TSR 3, L_TSR 2, Q_FRONT 1, V_TSR 1; 66: NID_TSR 7",
     # Group 13: end marks for the gradient and for the static speed.
-    "90007F802006C5601B20001FE01B80748000FE003FC0",
+    "NID_BG 13; 21: D_GRADIENT 0, Q_GDIR 0, G_A 255, N_ITER 0; 27: D_STATIC 0, V_STATIC 127, Q_FRONT 0, N_ITER 0, "
+    "N_ITER 0",
     # Group 14: 10 per mille uphill, 70 km/h; behind packet 136 5 km/h.
-    "90007F80200745601B200021401B807480001C0022200B8DC03A400001001FE0",
+    "NID_BG 14; 21: D_GRADIENT 0, Q_GDIR 1, G_A 10, N_ITER 0; 27: D_STATIC 0, V_STATIC 14, Q_FRONT 0, N_ITER 0, "
+    "N_ITER 0; 136; 27: D_STATIC 0, V_STATIC 1, Q_FRONT 0, N_ITER 0, N_ITER 0",
     # The two balises of group 15: an authority of 50 km/h over 5 m in the nominal direction, 20 km/h at its end for 3
     # s; in the reverse direction 15 km/h until the front has left it, and 45 km/h from 5 m ahead on.
-    "90027F802007C31024A2820060000A1FE0",
-    "90127F802007C6C02B200001C01000A240FF",
+    "N_TOTAL 1, NID_BG 15; 12: Q_DIR 1, V_MAIN 10, V_LOA 4, T_LOA 3, N_ITER 0, L_ENDSECTION 5, Q_SECTIONTIMER 0, "
+    "Q_ENDTIMER 0, Q_DANGERPOINT 0, Q_OVERLAP 0",
+    "N_PIG 1, N_TOTAL 1, NID_BG 15; 27: Q_DIR 0, D_STATIC 0, V_STATIC 3, Q_FRONT 1, N_ITER 0, N_ITER 1, D_STATIC 5, "
+    "V_STATIC 9, Q_FRONT 0, N_ITER 0",
 )

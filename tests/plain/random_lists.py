@@ -9,6 +9,7 @@ import sys
 import pools
 import rows
 from check_rows import STDIN
+from named import written
 from rows import Line, Row
 from speed import Train
 
@@ -16,13 +17,14 @@ HEADING = """\
 # ==== Pseudo-random lists, with the limits that tests/plain gives. tests/plain/random_lists.py writes all that follows.
 """
 
-EVERYTHING = pools.RESTRICTIONS + pools.GROUPS + pools.TRACK
+RESTRICTIONS, GROUPS, TRACK = (tuple(map(written, pool)) for pool in (pools.RESTRICTIONS, pools.GROUPS, pools.TRACK))
+EVERYTHING = RESTRICTIONS + GROUPS + TRACK
 
 # name, telegrams, modes in turn, how many lists, inputs of each
 KINDS = (
-    ("restrictions", pools.RESTRICTIONS, ("SR",), 60, 16),
-    ("groups", pools.GROUPS, ("SR",), 60, 24),
-    ("track", pools.TRACK, ("FS", "FS", "SR"), 120, 24),
+    ("restrictions", RESTRICTIONS, ("SR",), 60, 16),
+    ("groups", GROUPS, ("SR",), 60, 24),
+    ("track", TRACK, ("FS", "FS", "SR"), 120, 24),
     ("everything", EVERYTHING, ("FS", "SR"), 80, 30),
 )
 

@@ -1,4 +1,4 @@
-ghost use Rattle.std.specs.Prelude.{◌≡◌, ℕ, List, [], ◌∷◌, None};
+ghost use Rattle.std.specs.Prelude.{◌≡◌, ℕ, List, [], ◌∷◌, None, false};
 ghost use Rattle.balise_groups.specs.Closing.{close_of};
 ghost use Rattle.balise_groups.specs.Groups.{Entry, Groups, Known, seen_at, is_close, is_left, goes_on, ended, ended_if_whole, joined_by, close_if_whole, with_reading, known_of, known, taken_by, ended_by};
 ghost use Rattle.balise_groups.specs.Groups.Entry.{Read, Went};
@@ -118,12 +118,23 @@ impl Assembler {
         }
     }
 
+    /// Whether the group being read is left at a path of the life. While it isn't, `moved` answers None and changes nothing;
+    /// its answer has room for a whole message, so who asks at each movement asks this first.
+    pub fn is_leaving(&self, path: Length) -> bool
+        ensures answer { result ≡ is_left path self.now.current }
+        ensures none { result ≡ false → ended_by path self.now ≡ None }
+        ensures stands { result ≡ false → (entries : List Entry) → self.now ≡ known entries
+            → self.now ≡ known (Went path ∷ entries) }
+    {
+        is_left(path, &self.current)
+    }
+
     /// Is told the path of the life after a movement, and answers the group that is left by it.
     pub fn moved(&mut self, path: Length) -> Option<Closed>
         ensures answer { result ≡ ended_by path self.old }
         ensures stands { (entries : List Entry) → self.old ≡ known entries → self.new ≡ known (Went path ∷ entries) }
     {
-        if !is_left(path, &self.current) {
+        if !self.is_leaving(path) {
             return None;
         }
         self.end()

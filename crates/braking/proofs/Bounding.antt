@@ -15,10 +15,10 @@ use Rattle.braking.proofs.Roots.{root_less, square_greater}
 use Rattle.braking.proofs.Greatest.{greatest_is}
 use Rattle.braking.proofs.Slower.{way_less, slow_fits, braking_fits, late_fails, summed_whole}
 
-order : (a b : ℕ) → (a ≤ b) ⊎ (b < a)
+pub order : (a b : ℕ) → (a ≤ b) ⊎ (b < a)
 order a b = grind arith
 
-is_true : (m n : ℕ) (b : Bool) → m ≤ n → nat_le m n ≡ b → b ≡ true
+pub is_true : (m n : ℕ) (b : Bool) → m ≤ n → nat_le m n ≡ b → b ≡ true
 is_true m n b h is = sym is ∙ (let k : nat_le m n ≡ true = grind (arith, nat_tests) in k)
 
 is_false : (m n : ℕ) (b : Bool) → n < m → nat_le m n ≡ b → b ≡ false

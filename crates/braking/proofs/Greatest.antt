@@ -26,6 +26,16 @@ greatest_same p q (suc n) h =
     let rest = greatest_same p q n (λ k a. h k (omega arith)) in
     λ i. cond (here i) (suc n) (rest i)
 
+pub greatest_within : (test : ℕ → Bool) (n : ℕ) → greatest test n ≤ n
+unfolding greatest
+greatest_within test zero = omega arith
+greatest_within test (suc n) =
+    let cases : (b : Bool) → cond b (suc n) (greatest test n) ≤ suc n = elim [
+      | true ↦ omega arith
+      | false ↦ omega (arith, greatest_within test n)
+    ] in
+    cases (test (suc n))
+
 pub greatest_all : (n : ℕ) → greatest (λ k. true) n ≡ n
 unfolding greatest
 greatest_all zero = refl

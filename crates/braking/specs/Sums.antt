@@ -31,3 +31,8 @@ pub record IsRoot (speed taken_off limit root : ℕ) : Type 0 where
   pub within : root ≤ limit
   pub below : root * root ≤ speed * speed + taken_off
   pub next : root < limit → speed * speed + taken_off < (root + 1) * (root + 1)
+
+-- what a stretch takes off from where the brakes act at a speed, or behind that, is enough for a stop
+pub record IsStopping (front : ℤ) (reaction speed : ℕ) (sum : Summed) : Type 0 where
+  pub acts : (front +ℤ pos (reaction_way reaction speed)) ≤ℤ sum.from
+  pub enough : speed * speed ≤ sum.taken_off

@@ -1,10 +1,10 @@
 //! The permitted speed, target by target.
-ghost use Rattle.std.specs.Prelude.{◌≡◌};
-ghost use Rattle.braking.specs.Braking.{fits, fits_all, greatest};
+ghost use Rattle.std.specs.Prelude.{◌≡◌, ◌<◌, false, IsTrue};
+ghost use Rattle.braking.specs.Braking.{fits, fits_all, greatest, IsSummed};
 ghost use Rattle.braking.specs.Approaches.{lowered};
 
 use crate::seeking::permitted_before;
-use crate::speeds::fits_summed;
+use crate::speeds::{fits_summed, stops_within};
 use crate::summed::Summed;
 use crate::{Brakes, Target};
 use std::marker::Model;
@@ -21,17 +21,18 @@ pub struct Approach<'a, P: Profile<Permille>> {
     brakes: &'a Brakes,
     speed: Mph,
     summed: Summed,
+    // Where the train can stop, if that is known: the speed so far fits each target from there on.
+    stop: Option<Cm>,
 }
 
 impl<'a, P: Profile<Permille>> Model for Approach<'a, P> {
-    ghost use Rattle.braking.specs.Braking.{IsSummed};
-    ghost use Rattle.braking.specs.Approaches.{Course};
+    ghost use Rattle.braking.specs.Approaches.{Course, IsKnown};
 
     ghost Value = { Course P };
 
     ghost view = { λ a. record { front = a.front; gradient = a.gradient.now; brakes = a.brakes.now; speed = a.speed } };
 
-    ghost invariant = { λ a. IsSummed (P.value a.gradient.now) a.brakes.now.deceleration a.summed };
+    ghost invariant = { λ a. IsKnown a.front (P.value a.gradient.now) a.brakes.now a.speed a.summed a.stop };
 }
 
 impl<'a, P: Profile<Permille>> Approach<'a, P> {
@@ -46,6 +47,7 @@ impl<'a, P: Profile<Permille>> Approach<'a, P> {
             brakes,
             speed: limit,
             summed,
+            stop: None,
         }
     }
 
@@ -59,6 +61,7 @@ impl<'a, P: Profile<Permille>> Approach<'a, P> {
             brakes: self.brakes,
             speed: self.speed,
             summed: self.summed,
+            stop: self.stop,
         }
     }
 
@@ -74,7 +77,7 @@ impl<'a, P: Profile<Permille>> Approach<'a, P> {
         ensures value { result ≡ fits self.old.front (P.value self.old.gradient) self.old.brakes target.now self.old.speed }
         ensures same { self.new ≡ self.old }
     {
-        if self.speed <= target.speed {
+        if self.surely_fits(target) {
             return true;
         }
         let (front, speed) = (self.front, self.speed);
@@ -86,18 +89,26 @@ impl<'a, P: Profile<Permille>> Approach<'a, P> {
             self.brakes,
             &self.summed,
         );
-        self.summed = self.summed.farther(sum);
+        self.keep(sum);
         fits
     }
 
     /// Tells it of a target: the greatest speed up to the one so far that fits the target. A target whose speed is no less
-    /// than the one so far costs nothing.
+    /// than the one so far costs nothing, nor does one behind a place where the train is known to come to a stop.
     pub fn lower(&mut self, target: &Target)
         ensures { self.new ≡ lowered (P.value self.old.gradient) target.now self.old }
     {
-        if self.speed <= target.speed {
-            return;
+        if !self.surely_fits(target) {
+            self.seek(target);
         }
+    }
+
+    // The same where its speed is above the target's. It stands apart, so that what costs nothing is done where it is asked.
+    #[inline(never)]
+    fn seek(&mut self, target: &Target)
+        requires { target.now.speed < self.old.speed }
+        ensures { self.new ≡ lowered (P.value self.old.gradient) target.now self.old }
+    {
         let (front, speed) = (self.front, self.speed);
         let (speed, sum) = permitted_before(
             front,
@@ -108,7 +119,33 @@ impl<'a, P: Profile<Permille>> Approach<'a, P> {
             &self.summed,
         );
         self.speed = speed;
+        self.keep(sum);
+    }
+
+    // Whether the speed so far fits a target, as is known without a sum: it is no greater than the target's, or the train can
+    // stop before it.
+    fn surely_fits(&self, target: &Target) -> bool
+        ensures fits { IsTrue result → IsTrue (fits self.now.front (P.value self.now.gradient) self.now.brakes target.now self.now.speed) }
+        ensures braking { result ≡ false → target.now.speed < self.now.speed }
+    {
+        if self.speed <= target.speed {
+            return true;
+        }
+        match self.stop {
+            Some(stop) => stop <= target.place,
+            None => false,
+        }
+    }
+
+    // Keeps what was summed, and where the train can stop by that.
+    fn keep(&mut self, sum: Summed)
+        requires { IsSummed (P.value self.old.gradient) self.old.brakes.deceleration sum }
+        ensures { self.new ≡ self.old }
+    {
         self.summed = self.summed.farther(sum);
+        if stops_within(self.front, self.speed, self.brakes, &sum) {
+            self.stop = Some(sum.to);
+        }
     }
 }
 

@@ -1,7 +1,7 @@
 ghost use Rattle.std.specs.Prelude.{◌≡◌, ℕ, ◌*◌, ◌-◌, ◌^◌, ◌<◌, ◌≤◌, ℤ, pos, ◌+ℤ◌, ◌-ℤ◌, ◌≤ℤ◌, ◌<ℤ◌, ◌↔◌, IsTrue, IsSome, IfSome, MatchOption};
 ghost use Rattle.units.specs.Stretches.{natural};
 ghost use Rattle.braking.specs.Braking.{fits, reaction_way, IsSummed};
-ghost use Rattle.braking.specs.Sums.{IsSummedBefore};
+ghost use Rattle.braking.specs.Sums.{IsSummedBefore, IsStopping};
 
 use crate::summed::Summed;
 use crate::{Brakes, Reaction, Target};
@@ -73,6 +73,17 @@ pub fn summed_before<P: Profile<Permille>>(
     };
     let enough = lacking(speed, target.speed);
     Some(begun.gone_on(gradient, brakes.deceleration, place, enough))
+}
+
+// Whether a train comes to a stop within what is summed.
+pub fn stops_within(front: Cm, speed: Mph, brakes: &Brakes, sum: &Summed) -> bool
+    ensures { IsTrue result → IsStopping front brakes.now.reaction speed sum.now }
+{
+    let square = u64::from(speed.get()) * u64::from(speed.get());
+    if sum.taken_off < square {
+        return false;
+    }
+    front.get() + i64::from(reaction_way(brakes.reaction, speed)) <= sum.from.get()
 }
 
 // What the brakes must take off the square of the speed, from one speed down to another.

@@ -85,6 +85,9 @@ impl Summed {
         ensures to { result.to ≡ self.to }
         ensures summed { IsSummed (P.value gradient.now) deceleration result }
     {
+        if from == self.from {
+            return self;
+        }
         let before = Summed::none(from).gone_on(gradient, deceleration, self.from, u64::MAX);
         Summed {
             from,

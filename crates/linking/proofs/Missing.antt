@@ -2,6 +2,7 @@
 use Rattle.std.proofs.Common.{◌≡◌, ℕ, suc, ◌+◌, List, [], ◌∷◌, length, Bool, true, false, cond, refl, ap, sym, ◌∙◌, arith}
 use Rattle.std.specs.Prelude.{filter, ◌||◌, nat_le, if◌then◌else◌}
 use Rattle.std.specs.Int.{from_bool}
+use Rattle.std.specs.List.{list_any}
 use Rattle.std.proofs.lemmas.Bool.Decides.{nat_tests}
 use Rattle.linking.specs.declared.announcement.Announcement.{Announcement}
 use Rattle.linking.specs.declared.effect.Effect.{Effect}
@@ -75,7 +76,7 @@ first_and_others m a announcements =
       service = service_first (effect_of a.reaction).service others.service m (length announcements) i;
     }
 
-none_missed : (m : Bool) → no_effect ≡ misses m []
+pub none_missed : (m : Bool) → no_effect ≡ misses m []
 none_missed true = refl
 none_missed false = refl
 
@@ -96,3 +97,16 @@ counted_both is_missed m effect (a ∷ announcements) =
 pub counted_is : (is_missed : Announcement → Bool) (m : Bool) (announcements : List Announcement) →
     counted is_missed m no_effect announcements ≡ misses m (filter is_missed announcements)
 counted_is is_missed m announcements = counted_both is_missed m no_effect announcements
+
+-- where none is missed
+pub none_of : (is_missed : Announcement → Bool) (announcements : List Announcement) → list_any is_missed announcements ≡ false →
+    filter is_missed announcements ≡ []
+none_of is_missed [] none = refl
+none_of is_missed (a ∷ announcements) none =
+    let cases : (b : Bool) → (b || list_any is_missed announcements) ≡ false →
+    cond b (a ∷ filter is_missed announcements) (filter is_missed announcements) ≡ [] =
+    elim [
+      | true ↦ λ some. absurd (cc some)
+      | false ↦ λ rest. none_of is_missed announcements rest
+    ] in
+    cases (is_missed a) none

@@ -88,6 +88,9 @@ impl Links {
         ensures stands { (entries : List Entry) → self.old ≡ known entries
             → self.new ≡ known (after_misses (filter (is_passed_by min_front) self.old.left) entries) }
     {
+        if !is_any_behind(self.left.as_slice(), min_front) {
+            return Effect::NONE;
+        }
         let effect = effect_behind(self.left.as_slice(), min_front, self.has_missed);
         self.has_missed = self.has_missed_behind(min_front);
         drop_behind(&mut self.left, min_front);

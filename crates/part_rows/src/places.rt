@@ -1,10 +1,8 @@
 // Worked rows of the place.
 use crate::numbers::cm;
-use odometry::{Fix, Overrun, Place, Sums};
+use odometry::{Fix, Place, Sums};
 use std::process::Abort;
-use units::{Cm, Length, Movement};
-
-const FARTHEST: i64 = 1 << 40;
+use units::{Length, Movement};
 
 fn length<R: Abort>(rt: &R, number: u64) -> Length {
     Length::new(number).expect(rt, "a length")
@@ -14,8 +12,31 @@ fn movement<R: Abort>(rt: &R, number: i64) -> Movement {
     Movement::new(number).expect(rt, "a movement")
 }
 
+// With no clauses, so that those of the place don't come to the rows.
+fn goes<R: Abort>(rt: &R, place: &mut Place, by: i64) -> bool {
+    place.moved(movement(rt, by)).is_ok()
+}
+
+fn is_fixed(place: &mut Place, fix: Fix) -> bool {
+    place.fix(fix).is_ok()
+}
+
 fn fronts(place: &Place) -> (i64, i64) {
     (place.min_front().get(), place.max_front().get())
+}
+
+fn front(place: &Place) -> (i64, i64) {
+    (place.estimate().get(), place.uncertainty().get())
+}
+
+fn front_at(place: &Place, moment: &Sums) -> (i64, i64) {
+    let then = place.place_at(moment);
+    (then.estimate.get(), then.uncertainty.get())
+}
+
+fn sums(place: &Place) -> (i64, u64) {
+    let sums = place.sums();
+    (sums.moved().get(), sums.path().get())
 }
 
 #[test]
@@ -30,7 +51,7 @@ fn fronts_on_the_way(rt: HostRuntime) {
         (-10_000, 4_500, 8_132),
         (-6_316, -2_132, 2_132),
     ] {
-        assert!(rt; place.moved(movement(&rt, by)).is_ok());
+        assert!(rt; goes(&rt, &mut place, by));
         assert_eq!(rt; fronts(&place), (min_front, max_front), "after {by}");
     }
 }
@@ -38,43 +59,36 @@ fn fronts_on_the_way(rt: HostRuntime) {
 #[test]
 fn fix_with_a_missed_balise(rt: HostRuntime) {
     let mut place = Place::new();
-    assert!(rt; place.moved(movement(&rt, 400)).is_ok());
+    assert!(rt; goes(&rt, &mut place, 400));
     let reading = place.sums();
-    assert!(rt; place.moved(movement(&rt, 300)).is_ok());
+    assert!(rt; goes(&rt, &mut place, 300));
     let fix = Fix {
         at: cm(&rt, 50_000),
         accuracy: length(&rt, 1_000),
         sums: reading,
         missed: true,
     };
-    assert!(rt; place.fix(fix).is_ok());
-    assert_eq!(rt;
-        (place.estimate().get(), place.uncertainty().get()),
-        (50_300, 2_715)
-    );
+    assert!(rt; is_fixed(&mut place, fix));
+    assert_eq!(rt; front(&place), (50_300, 2_715));
     assert_eq!(rt; place.min_rear(length(&rt, 20_000)).get(), 27_585);
-    assert!(rt; place.moved(movement(&rt, 20)).is_ok());
+    assert!(rt; goes(&rt, &mut place, 20));
     assert_eq!(rt; fronts(&place), (47_604, 53_036));
-    let sums = place.sums();
-    assert_eq!(rt; (sums.moved().get(), sums.path().get()), (720, 720));
+    assert_eq!(rt; sums(&place), (720, 720));
     // At the reading itself, and 400 cm before it, at the start of the life.
-    for (moment, estimate, uncertainty) in [(reading, 50_000, 2_700), (Sums::ZERO, 49_600, 2_720)] {
-        let then = place.place_at(&moment);
-        assert_eq!(rt;
-            (then.estimate.get(), then.uncertainty.get()),
-            (estimate, uncertainty)
-        );
+    for (moment, wanted) in [(reading, (50_000, 2_700)), (Sums::ZERO, (49_600, 2_720))] {
+        assert_eq!(rt; front_at(&place, &moment), wanted);
     }
 }
 
 #[test]
 fn nothing_beyond_the_farthest_place(rt: HostRuntime) {
     let mut place = Place::new();
-    assert!(rt; place.moved(movement(&rt, 6)).is_ok());
+    assert!(rt; goes(&rt, &mut place, 6));
+    // 2^40 is the farthest place.
     for (at, made) in [
-        (FARTHEST + 1, false),
-        (FARTHEST - 5, false),
-        (FARTHEST - 6, true),
+        (1_099_511_627_777, false),
+        (1_099_511_627_771, false),
+        (1_099_511_627_770, true),
     ] {
         let fix = Fix {
             at: cm(&rt, at),
@@ -82,13 +96,11 @@ fn nothing_beyond_the_farthest_place(rt: HostRuntime) {
             sums: Sums::ZERO,
             missed: false,
         };
-        assert_eq!(rt; place.fix(fix).is_ok(), made, "at {at}");
+        assert_eq!(rt; is_fixed(&mut place, fix), made, "at {at}");
     }
-    assert_eq!(rt; place.estimate().get(), FARTHEST);
-    assert_eq!(rt; place.moved(movement(&rt, 1)), Err(Overrun));
-    assert_eq!(rt; place.estimate().get(), FARTHEST);
-    assert!(rt; place.moved(movement(&rt, -2)).is_ok());
-    assert_eq!(rt; place.estimate().get(), FARTHEST - 2);
-    let sums = place.sums();
-    assert_eq!(rt; (sums.moved().get(), sums.path().get()), (4, 8));
+    for (by, room, estimate) in [(1, false, 1_099_511_627_776), (-2, true, 1_099_511_627_774)] {
+        assert_eq!(rt; goes(&rt, &mut place, by), room, "by {by}");
+        assert_eq!(rt; front(&place).0, estimate, "by {by}");
+    }
+    assert_eq!(rt; sums(&place), (4, 8));
 }

@@ -7,7 +7,7 @@ use std::mem::swap;
 use std::process::Abort;
 use std::test::Fail;
 use track_store::{FactStore, ProfileStore, SegmentStore, Step, is_known_throughout, least_over};
-use units::{Mph, NoMemory};
+use units::{Cm, Mph, NoMemory};
 
 /// A step to a speed in km/h, or an end mark.
 type Told = (i64, Option<u32>);
@@ -34,6 +34,19 @@ enum Event {
 
 use Event::{Clear, DropBehind, Gives, Keep, Lasts, Least, Replace, Throughout, Turn};
 
+// With no clauses, so that those of the stores don't come to the rows.
+fn take<S: ProfileStore<Mph>>(
+    store: &mut S,
+    start: Cm,
+    steps: &[Step<Mph>],
+) -> Result<(), NoMemory> {
+    store.replace_from(start, steps)
+}
+
+fn copy<S: ProfileStore<Mph>>(store: &S, alloc: Global) -> Result<S, NoMemory> {
+    store.copy(alloc)
+}
+
 fn replace<R: Abort, S: ProfileStore<Mph>>(
     rt: &R,
     store: &mut S,
@@ -49,7 +62,7 @@ fn replace<R: Abort, S: ProfileStore<Mph>>(
         let place = cm(rt, *place);
         assert!(rt; steps.try_push(Step { place, value }).is_ok(), "a step");
     }
-    store.replace_from(cm(rt, start), steps.as_slice())
+    take(store, cm(rt, start), steps.as_slice())
 }
 
 /// What happens to one store.
@@ -100,7 +113,7 @@ fn rows<R: Abort, S: ProfileStore<Mph> + Drop>(rt: &R, alloc: Global) -> Result<
         let mut aside = S::empty(alloc);
         for (number, event) in events.iter().enumerate() {
             match event {
-                Keep => aside = store.copy(alloc)?,
+                Keep => aside = copy(&store, alloc)?,
                 Turn => swap(&mut store, &mut aside),
                 _ => happens(rt, &mut store, event, row, number)?,
             }

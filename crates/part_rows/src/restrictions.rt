@@ -30,6 +30,15 @@ fn limit<R: Abort>(rt: &R, track: &Restrictions, rear: i64, min_front: i64, max_
     track.least(&train, kmh(rt, 160)).get() / 1_000
 }
 
+/// Stops where the speed with the front from 9,000 up to a place is another one.
+fn limits<R: Abort>(rt: &R, track: &Restrictions, max_front: i64, wanted: u32) {
+    assert_eq!(rt;
+        limit(rt, track, 0, 9_000, max_front),
+        wanted,
+        "up to {max_front}"
+    );
+}
+
 // With no clauses, so that those of the restrictions don't come to the rows.
 fn add<R: AllocGlobal>(
     rt: &R,
@@ -56,18 +65,18 @@ fn copy<R: AllocGlobal>(rt: &R, track: &Restrictions) -> Result<Restrictions, Fa
 fn replaced_and_revoked(rt: HostRuntime) -> Result<(), Fail> {
     let mut track = Restrictions::new(rt.alloc());
     add(&rt, &mut track, restriction(&rt, 7, 80))?;
-    assert_eq!(rt; limit(&rt, &track, 0, 9_000, 10_000), 80);
+    limits(&rt, &track, 10_000, 80);
     add(&rt, &mut track, restriction(&rt, 7, 100))?;
-    assert_eq!(rt; limit(&rt, &track, 0, 9_000, 10_000), 100);
+    limits(&rt, &track, 10_000, 100);
     add(&rt, &mut track, restriction(&rt, 8, 40))?;
     revoke(&rt, &mut track, 7);
-    assert_eq!(rt; limit(&rt, &track, 0, 9_000, 10_000), 40);
+    limits(&rt, &track, 10_000, 40);
     revoke(&rt, &mut track, 8);
-    assert_eq!(rt; limit(&rt, &track, 0, 9_000, 10_000), 160);
+    limits(&rt, &track, 10_000, 160);
     add(&rt, &mut track, restriction(&rt, 255, 5))?;
     add(&rt, &mut track, restriction(&rt, 255, 30))?;
     revoke(&rt, &mut track, 255);
-    assert_eq!(rt; limit(&rt, &track, 0, 9_000, 10_000), 5);
+    limits(&rt, &track, 10_000, 5);
     Ok(())
 }
 
@@ -112,13 +121,13 @@ fn forgotten_for_good(rt: HostRuntime) -> Result<(), Fail> {
     let mut track = Restrictions::new(rt.alloc());
     add(&rt, &mut track, restriction(&rt, 7, 20))?;
     drop_behind(&rt, &mut track, 14_999);
-    assert_eq!(rt; limit(&rt, &track, 9_000, 9_000, 14_998), 160);
-    assert_eq!(rt; limit(&rt, &track, 9_000, 9_000, 14_999), 20);
+    limits(&rt, &track, 14_998, 160);
+    limits(&rt, &track, 14_999, 20);
     let mut later = copy(&rt, &track)?;
     drop_behind(&rt, &mut later, 15_000);
     drop_behind(&rt, &mut later, 0);
     add(&rt, &mut later, restriction(&rt, 8, 30))?;
-    assert_eq!(rt; limit(&rt, &later, 9_000, 9_000, 20_000), 160);
-    assert_eq!(rt; limit(&rt, &track, 9_000, 9_000, 20_000), 20);
+    limits(&rt, &later, 20_000, 160);
+    limits(&rt, &track, 20_000, 20);
     Ok(())
 }

@@ -12,16 +12,11 @@ use vars::Scale;
 fn accepted_and_deleted(rt: HostRuntime) {
     let mut authority = Authority::new();
     assert!(rt; !authority.is_stored() && authority.end().is_none());
-    let place = group_place(&rt, -3 << 40);
+    // -3 * 2^40
+    let place = group_place(&rt, -3_298_534_883_328);
     authority.accept(&packet(&rt, &GRANTED), place, ms(&rt, 0));
     assert!(rt; authority.is_stored());
-    tells(
-        &rt,
-        &authority,
-        &Bare((-3 << 40) + 100_000),
-        "far behind",
-        0,
-    );
+    tells(&rt, &authority, &Bare(-3_298_534_783_328), "far behind", 0);
     let speed = authority.main_speed().expect(&rt, "a speed").get();
     same(&rt, &speed, &160_000, "the greatest speed", 0);
     authority.clear();

@@ -1,4 +1,4 @@
-use Rattle.std.proofs.Common.{◌≡◌, ◌≤◌, ◌<◌, ◌+◌, ◌⊎◌, inl, inr, true, false, sym, ◌∙◌, arith}
+use Rattle.std.proofs.Common.{◌≤◌, ◌+◌, inr, sym, arith}
 use Rattle.std.proofs.lemmas.Int.{ints, clamps}
 use Rattle.braking.specs.Braking.{fits}
 use Rattle.braking.proofs.Slower.{faster_fails, slower_than, way_less}

@@ -1,4 +1,4 @@
-use Rattle.std.proofs.Common.{ℕ, ◌+◌, ◌*◌, ◌<◌, arith}
+use Rattle.std.proofs.Common.{ℕ, ◌+◌, ◌*◌, arith}
 use Rattle.braking.proofs.Roots.{step_down}
 use Rattle.braking.proofs.seeking.root.Goals as goal
 

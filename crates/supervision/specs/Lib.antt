@@ -1,6 +1,0 @@
-pub mod Entry
-pub mod History
-pub mod Life
-pub mod Conditions
-pub mod Sentences
-pub mod StandsFor

@@ -1,6 +1,6 @@
 -- What the rows of the mode table ask for, read off a life as an event leaves it before its change of mode (SUBSET-026, 4.6.3;
 -- the conditions: this project's profile). Distances and places are centimetres.
-use Rattle.std.specs.Prelude.{ℕ, ◌+◌, nat_lt, ◌==◌, ℤ, pos, ◌-ℤ◌, Bool, true, false, not, ◌&&◌, ◌||◌, int_lt, is_some, if◌then◌else◌, Option, Some, None, List, [], ◌∷◌}
+use Rattle.std.specs.Prelude.{◌+◌, nat_lt, ◌==◌, ℤ, pos, ◌-ℤ◌, Bool, true, false, not, ◌&&◌, ◌||◌, int_lt, is_none, if◌then◌else◌, Option, Some, List, [], ◌∷◌}
 use Rattle.std.specs.Option.{option_map_or}
 use Rattle.units.specs.Stretches.{Span, over}
 use Rattle.areas.specs.Areas.{any_met}
@@ -10,8 +10,7 @@ use Rattle.driver.specs.declared.action.Action.{Action}
 use Rattle.driver.specs.declared.action.Action.TheVariants.{Start, ChooseShunting, LeaveShunting, Override, CloseDesk, Acknowledge}
 use Rattle.driver.specs.declared.action.Acknowledged.TheVariants as kind
 use Rattle.driver.specs.declared.datum.Datum.{Datum}
-use Rattle.driver.specs.declared.datum.Datum.TheVariants.{Unknown, Valid, Invalid}
-use Rattle.driver.specs.Known as driver
+use Rattle.driver.specs.declared.datum.Datum.TheVariants.{Valid}
 use Rattle.driver.specs.Overriding.{is_active}
 use Rattle.mode_table.specs.declared.conditions.Conditions.{Conditions}
 use Rattle.mode_table.specs.declared.level.TrainLevel.{TrainLevel}
@@ -38,7 +37,7 @@ is_level_1 level = false
 
 -- a centimetre of which nothing is known
 abbrev pub unknown_at : {A : Type 0} → (ℤ → Option A) → ℤ → List ℤ
-unknown_at value place = if is_some (value place) then [] else place ∷ []
+unknown_at value place = if is_none (value place) then place ∷ [] else []
 
 abbrev pub is_known_throughout : {A : Type 0} → (ℤ → Option A) → ℤ → ℤ → Bool
 is_known_throughout value from end = not (is_any (over (unknown_at value) from (end -ℤ pos 1)))

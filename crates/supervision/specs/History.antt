@@ -1,6 +1,6 @@
 -- What each part sees of the entries of a life, the newest first (this project's profile). Distances are centimetres, moments
 -- milliseconds.
-use Rattle.std.specs.Prelude.{ℕ, Bool, true, false, if◌then◌else◌, Option, Some, None, is_some, unwrap_or, List, [], ◌∷◌}
+use Rattle.std.specs.Prelude.{ℕ, Bool, true, false, not, if◌then◌else◌, Option, Some, None, unwrap_or, List, [], ◌∷◌}
 use Rattle.std.specs.Option.{option_map}
 use Rattle.areas.specs.declared.acknowledgement.Acknowledgement.{Acknowledgement}
 use Rattle.areas.specs.Acknowledging as acknowledging
@@ -17,7 +17,11 @@ use Rattle.mode_table.specs.declared.statuses.Item.TheVariants as item
 use Rattle.mode_table.specs.Modes.{is_mode}
 use Rattle.trackside.specs.Entry as track
 use Rattle.trackside.specs.History.{place_of, after_column}
-use Rattle.supervision.specs.Entry.{Entry, Deed, Asked, AllAsked}
+use Rattle.supervision.specs.declared.deed.Deed.{Deed}
+use Rattle.supervision.specs.declared.calls.Call.{Call}
+use Rattle.supervision.specs.declared.calls.Calls.{Calls}
+use Rattle.supervision.specs.declared.calls.Left.{Left}
+use Rattle.supervision.specs.Entry.{Entry}
 
 -- ---- what the track told
 
@@ -99,23 +103,23 @@ abbrev pub after_settling : Bool → List acknowledging.Entry → List acknowled
 after_settling settled entries = if settled then Settled ∷ entries else entries
 
 -- the transition, the asking, the column of the mode that was entered, and at last whether anything of the kind is left
-abbrev pub after_asked : Asked → Option Mode → List acknowledging.Entry → List acknowledging.Entry
-after_asked asked mode entries =
-    after_settling asked.settled
+abbrev pub after_call : Call → Option Mode → Bool → List acknowledging.Entry → List acknowledging.Entry
+after_call call mode left entries =
+    after_settling (not left)
     (after_column item.Acknowledgements acknowledgement_deleted mode
-    (after_asking asked.asks (after_transition asked.turned entries)))
+    (after_asking call.asks (after_transition call.turned entries)))
 
-abbrev pub all_asked : Kind → (AllAsked → Asked) → List Entry → List acknowledging.Entry
-all_asked one asked [] = []
-all_asked one asked (entry ∷ entries) =
-    after_asked (asked entry.asked) entry.track.entered
-    (after_acknowledging (acknowledges one (action_of entry.deed)) (all_asked one asked entries))
+abbrev pub calls_of : Kind → (Calls → Call) → (Left → Bool) → List Entry → List acknowledging.Entry
+calls_of one call left [] = []
+calls_of one call left (entry ∷ entries) =
+    after_call (call entry.calls) entry.track.entered (left entry.left)
+    (after_acknowledging (acknowledges one (action_of entry.deed)) (calls_of one call left entries))
 
 abbrev pub on_sight_of : List Entry → Acknowledgement
-on_sight_of entries = acknowledging.after_all (all_asked kind.OnSight (λ all. all.on_sight) entries)
+on_sight_of entries = acknowledging.after_all (calls_of kind.OnSight (λ calls. calls.on_sight) (λ left. left.on_sight) entries)
 
 abbrev pub shunting_of : List Entry → Acknowledgement
-shunting_of entries = acknowledging.after_all (all_asked kind.Shunting (λ all. all.shunting) entries)
+shunting_of entries = acknowledging.after_all (calls_of kind.Shunting (λ calls. calls.shunting) (λ left. left.shunting) entries)
 
 abbrev pub level_0_of : List Entry → Acknowledgement
-level_0_of entries = acknowledging.after_all (all_asked kind.Level0 (λ all. all.level_0) entries)
+level_0_of entries = acknowledging.after_all (calls_of kind.Level0 (λ calls. calls.level_0) (λ left. left.level_0) entries)

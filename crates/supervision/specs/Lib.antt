@@ -1,0 +1,6 @@
+pub mod Entry
+pub mod History
+pub mod Life
+pub mod Conditions
+pub mod Sentences
+pub mod StandsFor

@@ -1,0 +1,26 @@
+use units::Ms;
+
+/// What an event calls for from the driver, of one kind of acknowledgement.
+#[derive(Clone, Copy)]
+pub struct Call {
+    /// The moment of the transition of the kind, where the event is one.
+    pub turned: Option<Ms>,
+    /// Whether an area or an announcement of the kind asks for it, while its mode doesn't hold.
+    pub asks: bool,
+}
+
+/// Of all kinds.
+#[derive(Clone, Copy)]
+pub struct Calls {
+    pub on_sight: Call,
+    pub shunting: Call,
+    pub level_0: Call,
+}
+
+/// Of which kinds an area or an announcement is left at the end of an event.
+#[derive(Clone, Copy)]
+pub struct Left {
+    pub on_sight: bool,
+    pub shunting: bool,
+    pub level_0: bool,
+}

@@ -1,0 +1,10 @@
+use driver::{Action, Occasion};
+
+/// An action of the driver that was accepted.
+#[derive(Clone, Copy)]
+pub struct Deed {
+    /// What was done.
+    pub action: Action,
+    /// On which occasion.
+    pub occasion: Occasion,
+}

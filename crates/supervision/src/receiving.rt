@@ -1,0 +1,58 @@
+//! What an input does, sentence by sentence in the order of one event.
+ghost use Rattle.std.specs.Prelude.{OnOk, Option, Some};
+ghost use Rattle.mode_table.specs.declared.level.TrainLevel.{TrainLevel as Level};
+ghost use Rattle.mode_table.specs.declared.mode.Mode.{Mode};
+ghost use Rattle.units.specs.Stretches.{Span};
+ghost use Rattle.trackside.specs.Entry.{Begun, Used, turned};
+ghost use Rattle.supervision.specs.declared.calls.Calls.{Calls};
+ghost use Rattle.supervision.specs.declared.calls.Left.{Left};
+ghost use Rattle.supervision.specs.declared.deed.Deed.{Deed};
+ghost use Rattle.supervision.specs.Entry.{begun, answered};
+ghost use Rattle.supervision.specs.Life.{Life, grown};
+ghost use Rattle.supervision.specs.Sentences.{told, deed_of, ended_from, entry_of};
+ghost use Rattle.supervision.specs.StandsFor.{StandsForLife};
+
+use crate::state::SupervisionOver;
+use events::Input;
+use speed_profile::CategorySpeeds;
+use std::alloc::Global;
+use track_store::ProfileStore;
+use units::{NoMemory, Permille};
+
+impl<G: ProfileStore<Permille> + Drop, S: ProfileStore<CategorySpeeds> + Drop> SupervisionOver<
+    G,
+    S,
+> {
+    // What the input itself tells, and the groups do that it closes.
+    fn begin(&mut self, alloc: Global, input: &Input) -> Result<(), NoMemory>
+        ensures { OnOk result ((life : Life) → StandsForLife G.profile S.profile self.old life
+            → StandsForLife G.profile S.profile self.new (grown life (begun (told life input.now) (deed_of life input.now)))) }
+    {
+        let deed = self.deed(input);
+        let mode = self.mode();
+        self.track.receive(alloc, mode, input)?;
+        self.parts.note(&deed);
+        Ok(())
+    }
+
+    // The track far behind the train is forgotten.
+    fn forget(&mut self)
+        ensures { (life : Life) (tells : Begun) (used : Used) (train : Span) (mode : Option Mode) (deed : Option Deed) (level : Option Level) (calls : Calls) (left : Left)
+            → StandsForLife G.profile S.profile self.old (grown life (answered (turned tells used (Some train) mode) deed level calls left))
+            → StandsForLife G.profile S.profile self.new (grown life (ended_from life tells used train mode deed level calls left)) }
+    {
+        self.track.forget(self.parts.length());
+    }
+
+    /// All that an input does. Where memory is refused, the state is no longer of use.
+    pub fn receive(&mut self, alloc: Global, input: &Input) -> Result<(), NoMemory>
+        ensures { OnOk result ((life : Life) → StandsForLife G.profile S.profile self.old life
+            → StandsForLife G.profile S.profile self.new (grown life (entry_of life input.now))) }
+    {
+        self.begin(alloc, input)?;
+        let seen = self.see();
+        self.turn(&seen);
+        self.forget();
+        Ok(())
+    }
+}

@@ -7,7 +7,7 @@ use packets::{
 };
 use std::io;
 use std::io::Write;
-use telegram::Telegram;
+use telegram::{Header, Telegram};
 use vars::{
     AreaMode, AreaSpeed, Distance, Iterations, Level, OpenLength, PacketNumber, PositionInGroup,
     Scale, StartPlace, StmIdentity, UntestedDirection, ValidityDirection, Variable,
@@ -131,10 +131,14 @@ fn made(word: &str, numbers: &[&str]) -> Option<Packet<'static>> {
 fn in_telegram(packet: Packet<'static>, position: u32, last_position: u32) -> Option<bool> {
     let position: PositionInGroup = value(position)?;
     let last_position: PositionInGroup = value(last_position)?;
-    let mut telegram = Telegram::new();
-    telegram.header.position = position;
-    telegram.header.last_position = last_position;
-    let _ = telegram.packets.try_push(packet);
+    let header = Header {
+        position,
+        last_position,
+        ..Header::default()
+    };
+    let mut packets: ArrayVec<Packet<'static>, 33> = ArrayVec::new();
+    let _ = packets.try_push(packet);
+    let telegram = Telegram { header, packets };
     Some(telegram.has_spelling())
 }
 

@@ -3,13 +3,12 @@ use crate::calls::{read, sync, write};
 use disk::{Choice, Disk, Memory, Plan};
 use std::test::Fail;
 
-// The third call from the plan on; those before it run.
 #[test]
 fn a_write_cut_at_its_call(rt: HostRuntime) -> Result<(), Fail> {
     let mut disk = Memory::new(rt.alloc(), 3, 9, 9)?;
-    disk.plan(Plan::Cut(2));
     assert!(rt; write(&mut disk, 1, 1));
     assert!(rt; sync(&mut disk));
+    disk.plan(Plan::Cut(0));
     assert!(rt; !write(&mut disk, 1, 2));
     assert!(rt; disk.is_open(1));
     assert_eq!(rt; (disk.clock(), disk.faults()), (3, 1));

@@ -103,7 +103,7 @@ spelling (then_ m f) c x front h e =
     record {
       bits = a.bits ++ b.bits;
       put = glue front (a.bits ++ b.bits) a.bits b.bits (appended m c front) _ refl a.put b.put
-      ∙ sym (ap (λ (o : Option _). option_map_or (λ z. appended (f z) c (appended m c front)) o (appended m c front)) y.1);
+          ∙ sym (ap (λ (o : Option _). option_map_or (λ z. appended (f z) c (appended m c front)) o (appended m c front)) y.1);
       spells = (y.0, a.bits, b.bits, refl, a.spells, b.spells);
     }
 

@@ -9,6 +9,7 @@ use Rattle.trackside.specs.declared.using.Use.{Use}
 use Rattle.trackside.specs.Entry.{Entry, Fact, Used}
 use Rattle.trackside.specs.History.{groups_of}
 use Rattle.trackside.specs.Sentences.{facts_of, moved, happened_by, closed_by}
+use Rattle.trackside.specs.StandsFor.{Life, Known, parts_of, grown_so_far}
 
 -- the group that a movement leaves
 abbrev pub left_by : List Entry → Reading → Option Closed
@@ -17,6 +18,11 @@ left_by entries reading = (closed_by (groups_of entries) (moved entries reading)
 -- what a movement brings about, before the groups are used that it closes
 abbrev pub after_moving : List Entry → Reading → Used
 after_moving entries reading = record { groups = []; happened = happened_by entries reading }
+
+-- what the parts know after a movement, but that the group being read isn't told of it yet
+abbrev pub still_reading : Life → Reading → Known
+still_reading life reading =
+    record (parts_of (grown_so_far life (moved life.entries reading) (after_moving life.entries reading))) { groups = groups_of life.entries }
 
 -- a packet that is used so
 abbrev pub fact_of : Use → Packet → Fact

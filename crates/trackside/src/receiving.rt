@@ -1,11 +1,12 @@
 //! What an input does: its own effect, and then that of the groups which it closes.
-ghost use Rattle.std.specs.Prelude.{◌≡◌, ℕ, false, List, ◌∷◌, OnOk, Some};
+ghost use Rattle.std.specs.Prelude.{◌≡◌, ℕ, false, List, ◌∷◌, OnOk, Some, None};
+ghost use Rattle.events.specs.declared.input.Reading.{Reading as Told};
 ghost use Rattle.trackside.specs.Bytes.{telegram_in};
 ghost use Rattle.trackside.specs.Entry.{nothing_happened, no_groups};
 ghost use Rattle.trackside.specs.History.{groups_of};
 ghost use Rattle.trackside.specs.Sentences.{nothing, moved, happened_by, heard, begun, closed_by, with_groups, used_by, received};
 ghost use Rattle.trackside.specs.StandsFor.{Life, StandsForLife, parts_of, grown, grown_so_far};
-ghost use Rattle.trackside.specs.Steps.{left_by, after_moving};
+ghost use Rattle.trackside.specs.Steps.{left_by, after_moving, still_reading};
 
 use crate::happened::Happened;
 use crate::parts::Parts;
@@ -35,20 +36,29 @@ impl Parts {
         self.begin();
     }
 
-    // A movement: the group that is left by it ends, and announced groups are missed that the train has passed. A movement
-    // that leads too far isn't added.
-    fn go(&mut self, reading: &Reading) -> Option<Closed>
-        ensures answer { (life : Life) → self.old ≡ parts_of life → result ≡ left_by life.entries reading.now }
-        ensures stands { (life : Life) → self.old ≡ parts_of life
+    // A movement: announced groups are missed that the train has passed. A movement that leads too far isn't added. Answers whether the
+    // group being read is left by it, and so has to end.
+    fn go(&mut self, reading: &Reading) -> bool
+        ensures moved { (life : Life) → self.old ≡ parts_of life → self.new ≡ still_reading life reading.now }
+        ensures none { (life : Life) → self.old ≡ parts_of life → result ≡ false → left_by life.entries reading.now ≡ None }
+        ensures stands { (life : Life) → self.old ≡ parts_of life → result ≡ false
             → self.new ≡ parts_of (grown_so_far life (moved life.entries reading.now) (after_moving life.entries reading.now)) }
     {
         self.begin();
         self.speed = reading.speed;
         let overrun = self.place.moved(reading.movement).is_err();
-        let ended = self.groups.moved(self.place.sums().path());
         let asked = self.links.missed(self.place.min_front());
         self.happened = Happened { overrun, asked };
-        ended
+        self.groups.is_leaving(self.place.sums().path())
+    }
+
+    // The group being read is left, and ends.
+    fn leave(&mut self) -> Option<Closed>
+        ensures answer { (life : Life) (reading : Told) → self.old ≡ still_reading life reading → result ≡ left_by life.entries reading }
+        ensures stands { (life : Life) (reading : Told) → self.old ≡ still_reading life reading
+            → self.new ≡ parts_of (grown_so_far life (moved life.entries reading) (after_moving life.entries reading)) }
+    {
+        self.groups.moved(self.place.sums().path())
     }
 
     // A telegram: the groups that it closes.
@@ -83,7 +93,10 @@ impl<G: ProfileStore<Permille> + Drop, S: ProfileStore<CategorySpeeds> + Drop> T
             → StandsForLife G.profile S.profile self.new (grown_so_far life (moved life.entries reading.now)
             (with_groups mode life.entries (moved life.entries reading.now) (happened_by life.entries reading.now)))) }
     {
-        let ended = self.parts.go(reading);
+        if !self.parts.go(reading) {
+            return Ok(());
+        }
+        let ended = self.parts.leave();
         self.close(alloc, mode, &ended)
     }
 

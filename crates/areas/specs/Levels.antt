@@ -1,6 +1,6 @@
 -- The level that is announced (SUBSET-026, 5.10; which level is taken and when it is asked for: this project's profile). Lists
 -- of entries have the newest first.
-use Rattle.std.specs.Prelude.{ℤ, ◌+ℤ◌, ◌-ℤ◌, Bool, true, false, not, ◌&&◌, int_lt, if◌then◌else◌, List, [], ◌∷◌, Option, Some, None}
+use Rattle.std.specs.Prelude.{ℕ, ℤ, pos, ◌+ℤ◌, ◌-ℤ◌, Bool, true, false, not, ◌&&◌, int_lt, if◌then◌else◌, List, [], ◌∷◌, Option, Some, None}
 use Rattle.std.specs.Option.{option_or}
 use Rattle.vars.specs.declared.scale.Scale.{Scale}
 use Rattle.vars.specs.declared.level.Level.{Level}
@@ -46,7 +46,7 @@ first_usable scale start (order ∷ orders) =
 
 -- where it comes into force; None: wherever the train is
 abbrev pub start_from : Scale → ℤ → StartPlace → Option ℤ
-start_from scale place (At number) = Some (place +ℤ in_cm scale number)
+start_from scale place (At number) = Some (place +ℤ pos (in_cm scale number))
 start_from scale place Now = None
 
 abbrev pub announced_by : Fact → Option Announcement
@@ -88,9 +88,9 @@ abbrev pub is_level_0_announced : Option Announcement → Bool
 is_level_0_announced None = false
 is_level_0_announced (Some announced) = is_level_0 announced.level
 
-abbrev pub is_near : ℤ → ℤ → Option ℤ → Bool
+abbrev pub is_near : ℤ → ℕ → Option ℤ → Bool
 is_near max_front before None = true
-is_near max_front before (Some start) = not (int_lt max_front (start -ℤ before))
+is_near max_front before (Some start) = not (int_lt max_front (start -ℤ pos before))
 
 abbrev pub asks_for : ℤ → Announcement → Bool
 asks_for max_front announced = is_level_0 announced.level && is_near max_front announced.acknowledgement announced.start

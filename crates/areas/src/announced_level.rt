@@ -1,5 +1,4 @@
-ghost use Rattle.std.specs.Prelude.{◌≡◌, ◌*◌, ◌^◌, ◌≤◌, List, [], ◌∷◌};
-ghost use Rattle.std.specs.Int.RustNames.{unsigned_abs};
+ghost use Rattle.std.specs.Prelude.{◌≡◌, List, [], ◌∷◌};
 ghost use Rattle.areas.specs.Levels.{Entry, fact_of, waiting, coming, is_level_0_announced, any_asks_for};
 ghost use Rattle.areas.specs.Levels.Entry.{Announced, Reached, Forgotten};
 
@@ -7,7 +6,7 @@ use crate::Announcement;
 use mode_table::TrainLevel;
 use packets::LevelTransition;
 use std::marker::Model;
-use units::Cm;
+use units::{Cm, GroupPlace};
 
 /// The level that is announced, if one is.
 #[derive(Clone, Copy)]
@@ -35,8 +34,7 @@ impl AnnouncedLevel {
     }
 
     /// Takes packet 41 in place of the older announcement, unless the train can run in none of its levels.
-    pub fn announce(&mut self, packet: &LevelTransition, place: Cm)
-        requires { unsigned_abs place ≤ 3 * 2 ^ 40 }
+    pub fn announce(&mut self, packet: &LevelTransition, place: GroupPlace)
         ensures { (entries : List Entry) → self.old ≡ waiting entries
             → self.new ≡ waiting (Announced (fact_of packet.now place) ∷ entries) }
     {

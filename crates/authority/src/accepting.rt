@@ -1,9 +1,8 @@
-ghost use Rattle.std.specs.Prelude.{◌≡◌, ◌+◌, ◌<◌, ◌≤◌, ◌++◌, ◌+ℤ◌, ◌-ℤ◌, [], option_map};
-ghost use Rattle.std.specs.Int.RustNames.{unsigned_abs};
-ghost use Rattle.units.specs.Limits.{reach, HasReach};
+ghost use Rattle.std.specs.Prelude.{◌≡◌, ◌+◌, ◌<◌, ◌≤◌, ◌++◌, [], option_map};
+ghost use Rattle.units.specs.Limits.{HasReach};
 ghost use Rattle.arrayvec.specs.ArrayVec.{array_vec_len};
 ghost use Rattle.authority.specs.Entries.{fact_of};
-ghost use Rattle.authority.specs.Track.{in_cm, timed_one};
+ghost use Rattle.authority.specs.Track.{timed_one};
 ghost use Rattle.authority.specs.Authority.{danger_point_of};
 ghost use Rattle.authority.specs.Known.{timer_of, end_timer_of, overlap_of, stored_of};
 
@@ -25,10 +24,10 @@ pub fn stored_by(packet: &MovementAuthority, place: GroupPlace, moment: Ms) -> S
     let sections = packet.sections.as_slice();
     for section in sections {
         push_timed(&mut timed, scale, at, section);
-        at = ahead(at, section.length, scale);
+        at = at.ahead(section.length.in_scale(scale));
     }
     push_timed(&mut timed, scale, at, &packet.end_section);
-    let end = ahead(at, packet.end_section.length, scale);
+    let end = at.ahead(packet.end_section.length.in_scale(scale));
     Stored {
         accepted: moment,
         timed,
@@ -43,23 +42,6 @@ pub fn stored_by(packet: &MovementAuthority, place: GroupPlace, moment: Ms) -> S
     }
 }
 
-// The place so far ahead.
-fn ahead(place: Cm, by: Distance, scale: Scale) -> Cm
-    requires { HasReach place }
-    ensures value { result ≡ place +ℤ in_cm scale by }
-    ensures near { unsigned_abs result ≤ unsigned_abs place + reach }
-{
-    Cm::new(place.get() + by.in_scale(scale).get()).unwrap()
-}
-
-// The place so far behind.
-fn behind(place: Cm, by: Distance, scale: Scale) -> Cm
-    requires { HasReach place }
-    ensures { result ≡ place -ℤ in_cm scale by }
-{
-    Cm::new(place.get() - by.in_scale(scale).get()).unwrap()
-}
-
 // Appends a section that has a timer.
 fn push_timed(timed: &mut ArrayVec<TimedSection, 32>, scale: Scale, entry: Cm, section: &Section)
     requires room { array_vec_len timed.old < 32 }
@@ -71,7 +53,7 @@ fn push_timed(timed: &mut ArrayVec<TimedSection, 32>, scale: Scale, entry: Cm, s
         None => {}
         Some(timer) => timed.push(TimedSection {
             entry,
-            stop_at: ahead(entry, timer.stop, scale),
+            stop_at: entry.ahead(timer.stop.in_scale(scale)),
             time: timer.time,
         }),
     }
@@ -83,7 +65,7 @@ fn timer_by(end: Cm, scale: Scale, start: Distance, time: Timer) -> PlaceTimer
     ensures { result ≡ timer_of end scale start time [] }
 {
     PlaceTimer {
-        from: behind(end, start, scale),
+        from: end.behind(start.in_scale(scale)),
         time,
         started: None,
     }
@@ -106,7 +88,7 @@ fn point_by(end: Cm, scale: Scale, point: &Option<DangerPoint>) -> Option<Point>
     match point {
         None => None,
         Some(point) => Some(Point {
-            location: ahead(end, point.distance, scale),
+            location: end.ahead(point.distance.in_scale(scale)),
             release: Release::of(point.release),
         }),
     }
@@ -120,7 +102,7 @@ fn overlap_by(end: Cm, scale: Scale, overlap: &Option<Overlap>) -> Option<TimedO
         None => None,
         Some(overlap) => Some(TimedOverlap {
             point: Point {
-                location: ahead(end, overlap.distance, scale),
+                location: end.ahead(overlap.distance.in_scale(scale)),
                 release: Release::of(overlap.release),
             },
             timer: timer_by(end, scale, overlap.start, overlap.time),

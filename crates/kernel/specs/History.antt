@@ -152,7 +152,7 @@ restriction_of place p =
     record {
       number = p.number;
       start = place +ℤ pos (p.start * centimetres_of p.scale);
-      length = pos (p.length * centimetres_of p.scale);
+      length = p.length * centimetres_of p.scale;
       delay = p.delay;
       speed = 5_000 * p.speed;
     }

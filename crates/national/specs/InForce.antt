@@ -1,6 +1,6 @@
 -- The national values in force, read off what was told in one life (SUBSET-026, 3.18.2; when they come into force: this
 -- project's profile). Lists of entries have the newest first.
-use Rattle.std.specs.Prelude.{ℕ, ℤ, ◌+ℤ◌, Bool, true, false, not, ◌||◌, int_lt, is_some, if◌then◌else◌, Option, Some, None, option_map, unwrap_or, List, [], ◌∷◌}
+use Rattle.std.specs.Prelude.{ℕ, ℤ, pos, ◌+ℤ◌, Bool, true, false, not, ◌||◌, int_lt, is_some, if◌then◌else◌, Option, Some, None, option_map, unwrap_or, List, [], ◌∷◌}
 use Rattle.std.specs.List.{list_any}
 use Rattle.vars.specs.declared.scale.Scale.{Scale}
 use Rattle.vars.specs.declared.special_distance.StartPlace.{StartPlace}
@@ -28,7 +28,7 @@ pub data Entry : Type 0 where
 
 -- where a packet 3 comes into force; None: wherever the train is
 abbrev pub start_from : Scale → ℤ → StartPlace → Option ℤ
-start_from scale place (At number) = Some (place +ℤ distance_in scale number)
+start_from scale place (At number) = Some (place +ℤ pos (distance_in scale number))
 start_from scale place Now = None
 
 abbrev pub start_of : Fact → Option ℤ

@@ -1,6 +1,6 @@
 -- National values and the countries that they are for (SUBSET-026, 3.18.2 and 7.4.2; the defaults and the order of the
 -- countries: this project's profile).
-use Rattle.std.specs.Prelude.{ℕ, ◌*◌, ◌==◌, ℤ, pos, Bool, true, false, ◌&&◌, not, if◌then◌else◌, Option, Some, None, List, [], ◌∷◌, ◌++◌}
+use Rattle.std.specs.Prelude.{ℕ, ◌*◌, ◌==◌, Bool, true, false, ◌&&◌, not, if◌then◌else◌, Option, Some, None, List, [], ◌∷◌, ◌++◌}
 use Rattle.std.specs.List.{list_any}
 use Rattle.vars.specs.Meanings.{centimetres_of}
 use Rattle.vars.specs.declared.scale.Scale.{Scale}
@@ -16,21 +16,24 @@ abbrev pub speed_of : ℕ → ℕ
 speed_of steps = 5_000 * steps
 
 -- a distance is told in units of the packet's scale
-abbrev pub distance_in : Scale → ℕ → ℤ
-distance_in scale number = pos (number * centimetres_of scale)
+abbrev pub distance_in : Scale → ℕ → ℕ
+distance_in scale number = number * centimetres_of scale
 
--- one that may have no end
-abbrev pub open_distance_in : Scale → OpenLength → Option ℤ
-open_distance_in scale (Length number) = Some (distance_in scale number)
+-- D_NVSTFF: the number of the distance that has no end
+abbrev pub endless_distance : ℕ
+endless_distance = 32_767
+
+abbrev pub open_distance_in : Scale → OpenLength → Option ℕ
+open_distance_in scale (Length number) = if number == endless_distance then None else Some (distance_in scale number)
 open_distance_in scale NoEnd = None
 
 -- T_NVOVTRP: the number of the time that has no end
-abbrev pub no_end : ℕ
-no_end = 255
+abbrev pub endless_time : ℕ
+endless_time = 255
 
 -- a time is told in seconds
 abbrev pub time_of : ℕ → Option ℕ
-time_of seconds = if seconds == no_end then None else Some (1_000 * seconds)
+time_of seconds = if seconds == endless_time then None else Some (1_000 * seconds)
 
 abbrev pub values_of : NationalValues → Values
 values_of packet = record {
@@ -56,10 +59,10 @@ defaults = record {
   on_sight = 30_000;
   unfitted = 100_000;
   release = 40_000;
-  roll = pos 200;
+  roll = 200;
   override_allowed = 0;
   override_speed = 30_000;
-  override_distance = pos 20_000;
+  override_distance = 20_000;
   override_time = Some 60_000;
   staff_responsible_distance = None;
 }

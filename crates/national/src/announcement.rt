@@ -52,9 +52,7 @@ fn start_from(scale: Scale, place: GroupPlace, start: StartPlace) -> Option<Cm>
     ensures { result ≡ start_from scale place start }
 {
     match start {
-        StartPlace::At(distance) => {
-            Some(Cm::new(place.get() + distance.in_scale(scale).get()).unwrap())
-        }
+        StartPlace::At(distance) => Some(place.ahead(distance.in_scale(scale))),
         StartPlace::Now => None,
     }
 }

@@ -4,8 +4,12 @@
 mod announcement;
 mod country_values;
 mod national;
+mod override_duration;
+mod staff_responsible_distance;
 mod values;
 
 pub use country_values::{CountryValues, MOST_COUNTRIES};
 pub use national::National;
+pub use override_duration::OverrideDuration;
+pub use staff_responsible_distance::StaffResponsibleDistance;
 pub use values::Values;

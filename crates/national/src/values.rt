@@ -1,8 +1,9 @@
 ghost use Rattle.std.specs.Prelude.{◌≡◌};
 ghost use Rattle.national.specs.Values.{defaults, values_of, time_of, open_distance_in};
 
+use crate::{OverrideDuration, StaffResponsibleDistance};
 use packets::NationalValues;
-use units::{Cm, Mph, Ms};
+use units::{Mph, Reach};
 use vars::{OpenLength, OverrideTime, Scale, SpeedStep, Variable};
 
 /// National values (packet 3).
@@ -19,17 +20,17 @@ pub struct Values {
     /// The release speed (V_NVREL).
     pub release: Mph,
     /// How far the train may roll (D_NVROLL).
-    pub roll: Cm,
+    pub roll: Reach,
     /// The speed at or below which the trip may be overridden (V_NVALLOWOVTRP).
     pub override_allowed: Mph,
     /// The speed while the trip is overridden (V_NVSUPOVTRP).
     pub override_speed: Mph,
     /// How far the trip stays overridden (D_NVOVTRP).
-    pub override_distance: Cm,
+    pub override_distance: Reach,
     /// How long the trip stays overridden (T_NVOVTRP); None has no end.
-    pub override_time: Option<Ms>,
+    pub override_time: Option<OverrideDuration>,
     /// How far the train may run in Staff Responsible (D_NVSTFF); None has no end.
-    pub staff_responsible_distance: Option<Cm>,
+    pub staff_responsible_distance: Option<StaffResponsibleDistance>,
 }
 
 impl Values {
@@ -43,11 +44,11 @@ impl Values {
             on_sight: Mph::new(30_000).unwrap(),
             unfitted: Mph::new(100_000).unwrap(),
             release: Mph::new(40_000).unwrap(),
-            roll: Cm::new(200).unwrap(),
+            roll: Reach::new(200).unwrap(),
             override_allowed: Mph::new(0).unwrap(),
             override_speed: Mph::new(30_000).unwrap(),
-            override_distance: Cm::new(20_000).unwrap(),
-            override_time: Ms::new(60_000),
+            override_distance: Reach::new(20_000).unwrap(),
+            override_time: OverrideDuration::new(60_000),
             staff_responsible_distance: None,
         }
     }
@@ -73,17 +74,30 @@ impl Values {
     }
 }
 
-fn time_limit(time: OverrideTime) -> Option<Ms>
+// T_NVOVTRP: the number of the time that has no end.
+const ENDLESS_TIME: u64 = 255;
+
+fn time_limit(time: OverrideTime) -> Option<OverrideDuration>
     ensures { result ≡ time_of time }
 {
-    time.limit()
+    let seconds = time.number();
+    if seconds == ENDLESS_TIME {
+        return None;
+    }
+    OverrideDuration::new(1_000 * seconds as u32)
 }
 
-fn open_distance(length: OpenLength, scale: Scale) -> Option<Cm>
+// D_NVSTFF: the number of the distance that has no end.
+const ENDLESS_DISTANCE: u64 = 32_767;
+
+fn open_distance(length: OpenLength, scale: Scale) -> Option<StaffResponsibleDistance>
     ensures { result ≡ open_distance_in scale length }
 {
-    match length {
-        OpenLength::Length(distance) => Some(distance.in_scale(scale)),
-        OpenLength::NoEnd => None,
+    let OpenLength::Length(distance) = length else {
+        return None;
+    };
+    if distance.number() == ENDLESS_DISTANCE {
+        return None;
     }
+    StaffResponsibleDistance::new(distance.in_scale(scale).get())
 }

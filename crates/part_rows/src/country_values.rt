@@ -1,12 +1,11 @@
 // Worked rows of national values.
-use crate::numbers::{cm, distance, group_place, kmh, speed_step};
+use crate::numbers::{cm, distance, group_place, kmh, reach, speed_step};
 use crate::wanted::same;
 use arrayvec::ArrayVec;
-use national::{CountryValues, National, Values};
+use national::{CountryValues, National, OverrideDuration, StaffResponsibleDistance, Values};
 use packets::NationalValues;
 use std::mem::swap;
 use std::process::Abort;
-use units::Ms;
 use vars::{Country, OpenLength, OverrideTime, Scale, StartPlace, ValidityDirection, Variable};
 
 /// Packet 3 of a group of country 1, by the numbers of its variables.
@@ -52,7 +51,7 @@ enum Event {
     /// The countries that the values are for.
     For(&'static [u16]),
     /// The distance that the train may roll, in centimetres.
-    Roll(i64),
+    Roll(u32),
 }
 
 use Event::{Announce, Enter, For, Forget, Keep, PowerUp, Reach, Roll, Speed, Turn};
@@ -482,19 +481,19 @@ fn in_force(rt: HostRuntime) {
 }
 
 /// What packet 3 tells in a scale, with these lengths in centimetres.
-fn told<R: Abort>(rt: &R, roll: i64, override_distance: i64, staff_responsible: i64) -> Values {
+fn told<R: Abort>(rt: &R, roll: u32, override_distance: u32, staff_responsible: u32) -> Values {
     Values {
         shunting: kmh(rt, 5),
         staff_responsible: kmh(rt, 10),
         on_sight: kmh(rt, 15),
         unfitted: kmh(rt, 600),
         release: kmh(rt, 25),
-        roll: cm(rt, roll),
+        roll: reach(rt, roll),
         override_allowed: kmh(rt, 35),
         override_speed: kmh(rt, 40),
-        override_distance: cm(rt, override_distance),
-        override_time: Ms::new(254_000),
-        staff_responsible_distance: Some(cm(rt, staff_responsible)),
+        override_distance: reach(rt, override_distance),
+        override_time: OverrideDuration::new(254_000),
+        staff_responsible_distance: StaffResponsibleDistance::new(staff_responsible),
     }
 }
 
@@ -534,11 +533,11 @@ fn defaults(rt: HostRuntime) {
         on_sight: kmh(&rt, 30),
         unfitted: kmh(&rt, 100),
         release: kmh(&rt, 40),
-        roll: cm(&rt, 200),
+        roll: reach(&rt, 200),
         override_allowed: kmh(&rt, 0),
         override_speed: kmh(&rt, 30),
-        override_distance: cm(&rt, 20_000),
-        override_time: Ms::new(60_000),
+        override_distance: reach(&rt, 20_000),
+        override_time: OverrideDuration::new(60_000),
         staff_responsible_distance: None,
     };
     let mut national = National::new();

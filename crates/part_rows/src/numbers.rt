@@ -2,7 +2,7 @@
 ghost use Rattle.std.specs.Prelude.{◌≡◌};
 
 use std::process::Abort;
-use units::{Cm, GroupPlace, Mph};
+use units::{Cm, GroupPlace, Mph, Reach};
 use vars::{Distance, SpeedStep, Variable};
 
 pub fn cm<R: Abort>(rt: &R, number: i64) -> Cm
@@ -13,6 +13,10 @@ pub fn cm<R: Abort>(rt: &R, number: i64) -> Cm
 
 pub fn group_place<R: Abort>(rt: &R, number: i64) -> GroupPlace {
     GroupPlace::new(number).expect(rt, "a place of a group")
+}
+
+pub fn reach<R: Abort>(rt: &R, number: u32) -> Reach {
+    Reach::new(number).expect(rt, "a reach")
 }
 
 pub fn mph<R: Abort>(rt: &R, number: u32) -> Mph {

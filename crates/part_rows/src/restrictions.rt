@@ -1,9 +1,9 @@
 // Worked rows of restrictions.
-use crate::numbers::{cm, kmh};
+use crate::numbers::{cm, kmh, reach};
 use std::process::Abort;
 use std::test::Fail;
 use track_store::{Restriction, Restrictions};
-use units::{Cm, Stretch};
+use units::Stretch;
 use vars::{RestrictionNumber, TrainLengthDelay, Variable};
 
 fn number<R: Abort>(rt: &R, nid_tsr: u8) -> RestrictionNumber {
@@ -17,7 +17,7 @@ fn restriction<R: Abort>(rt: &R, nid_tsr: u8, speed: u32) -> Restriction {
     Restriction {
         number: number(rt, nid_tsr),
         start: cm(rt, 10_000),
-        length: cm(rt, 5_000),
+        length: reach(rt, 5_000),
         delay: TrainLengthDelay::NotApplied,
         speed: kmh(rt, speed),
     }
@@ -101,7 +101,7 @@ fn no_length(rt: HostRuntime) -> Result<(), Fail> {
     let mut track = Restrictions::new(rt.alloc());
     add(&rt, &mut track, restriction(&rt, 7, 20))?;
     let mut empty = restriction(&rt, 7, 10);
-    empty.length = Cm::ZERO;
+    empty.length = reach(&rt, 0);
     add(&rt, &mut track, empty)?;
     assert_eq!(rt; limit(&rt, &track, 0, 10_000, 10_000), 160);
     Ok(())

@@ -163,10 +163,12 @@ fn first_target(front: Cm, mark: Cm, restriction: &Restriction) -> Option<Target
 {
     let first = first_covered(front, mark, restriction);
     match Cm::new(first) {
-        Some(place) if first < restriction.start.get() + restriction.length.get() => Some(Target {
-            place,
-            speed: restriction.speed,
-        }),
+        Some(place) if first < restriction.start.get() + i64::from(restriction.length.get()) => {
+            Some(Target {
+                place,
+                speed: restriction.speed,
+            })
+        }
         _ => None,
     }
 }

@@ -1,15 +1,12 @@
 //! What packets 21 and 27 tell.
-ghost use Rattle.std.specs.Prelude.{◌≡◌, ◌+◌, ◌*◌, ◌≤◌, ◌+ℤ◌, pos, min, length, take, drop};
-ghost use Rattle.std.specs.Int.RustNames.{unsigned_abs};
-ghost use Rattle.units.specs.Limits.{reach, HasReach};
-ghost use Rattle.vars.specs.Meanings.{centimetres_of};
+ghost use Rattle.std.specs.Prelude.{◌≡◌, min, length, take, drop};
 ghost use Rattle.speed_profile.specs.Told.{speed_of, speed_for, speeds_for, first_place, gradient_value, gradient_fact, speed_value, speed_fact};
 
 use arrayvec::ArrayVec;
 use packets::{Difference, Gradient, Gradients, StaticSpeeds, StaticStep};
 use track_store::{Same, Step};
 use units::{Cm, GroupPlace, Mph, Permille};
-use vars::{Distance, Scale, StaticSpeed, TrainCategory, TrainLengthDelay, Variable};
+use vars::{StaticSpeed, TrainCategory, TrainLengthDelay, Variable};
 
 /// A static speed, with what holds for each category of trains (SUBSET-026, 3.11.3; 7.4.2, packet 27).
 #[derive(Clone, Copy, PartialEq, Eq)]
@@ -54,7 +51,7 @@ pub fn gradients(packet: &Gradients, place: GroupPlace) -> Told<Permille>
     let origin = place.to_cm();
     let mut at = origin;
     for gradient in packet.gradients.as_slice() {
-        at = ahead(at, gradient.distance, packet.scale);
+        at = at.ahead(gradient.distance.in_scale(packet.scale));
         steps.push(Step {
             place: at,
             value: gradient_value(gradient),
@@ -75,7 +72,7 @@ pub fn static_speeds(packet: &StaticSpeeds, place: GroupPlace) -> Told<CategoryS
     let mut at = origin;
     let mut left = packet.differences.as_slice();
     for step in packet.steps.as_slice() {
-        at = ahead(at, step.distance, packet.scale);
+        at = at.ahead(step.distance.in_scale(packet.scale));
         steps.push(Step {
             place: at,
             value: speed_value(step, own_part(step, left)),
@@ -84,15 +81,6 @@ pub fn static_speeds(packet: &StaticSpeeds, place: GroupPlace) -> Told<CategoryS
     }
     let start = first_place(origin, steps.as_slice());
     Told { start, steps }
-}
-
-// The place so far ahead.
-fn ahead(place: Cm, by: Distance, scale: Scale) -> Cm
-    requires { HasReach place }
-    ensures value { result ≡ place +ℤ pos (by * centimetres_of scale) }
-    ensures near { unsigned_abs result ≤ unsigned_abs place + reach }
-{
-    Cm::new(place.get() + by.in_scale(scale).get()).unwrap()
 }
 
 // The place of the first step; without one, another place.

@@ -2,12 +2,16 @@
 ghost use Rattle.std.specs.Prelude.{◌≡◌};
 
 use std::process::Abort;
-use units::{Cm, Mph};
+use units::{Cm, Mph, Reach};
 
 pub fn cm<R: Abort>(rt: &R, number: i64) -> Cm
     ensures { result ≡ number }
 {
     Cm::new(number).expect(rt, "a place")
+}
+
+pub fn reach<R: Abort>(rt: &R, number: u32) -> Reach {
+    Reach::new(number).expect(rt, "a reach")
 }
 
 pub fn mph<R: Abort>(rt: &R, number: u32) -> Mph {

@@ -1,5 +1,5 @@
 // A track of static speeds, with at most one restriction, on the level.
-use crate::numbers::{cm, mph};
+use crate::numbers::{cm, mph, reach};
 use arrayvec::ArrayVec;
 use authority::{End, Release};
 use speed_profile::{Bounds, CategorySpeeds};
@@ -13,7 +13,7 @@ use vars::{RestrictionNumber, TrainCategory, TrainLengthDelay, Variable};
 pub type Told = (i64, Option<u32>);
 
 /// The first centimetre, the length and the speed of a restriction.
-pub type Restricted = (i64, i64, u32);
+pub type Restricted = (i64, u32, u32);
 
 /// A static speed of one speed for all categories, and of 5 km/h for category 3.
 fn speeds_of<R: Abort>(rt: &R, speed: u32, delay: TrainLengthDelay) -> CategorySpeeds {
@@ -62,7 +62,7 @@ pub fn restrictions<R: Abort>(
         let restriction = Restriction {
             number: RestrictionNumber::of_number(7).ok().expect(rt, "a number"),
             start: cm(rt, start),
-            length: cm(rt, length),
+            length: reach(rt, length),
             delay: TrainLengthDelay::NotApplied,
             speed: mph(rt, speed),
         };

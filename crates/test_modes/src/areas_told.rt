@@ -2,7 +2,9 @@
 // 80 in metres, `replace PLACE` takes it, `order LEVEL ACKNOWLEDGEMENT` writes one element more of a packet 41, `announce PLACE DISTANCE`
 // takes it, and the rest asks and looks.
 use crate::answer::Answer;
-use crate::numbers::{area_speed, cm, distance, mph, open_length, start_place, stretch};
+use crate::numbers::{
+    area_speed, cm, distance, group_place, mph, open_length, start_place, stretch,
+};
 use crate::words::{announced_level, area_mode};
 use areas::{AnnouncedLevel, Areas, NationalSpeeds};
 use arrayvec::ArrayVec;
@@ -76,14 +78,14 @@ impl AreasTold {
     }
 
     fn replace(&mut self, place: &str) -> Option<Answer> {
-        self.areas.replace(&self.profile, cm(place)?);
+        self.areas.replace(&self.profile, group_place(place)?);
         self.profile.areas = ArrayVec::new();
         Some(Answer::done())
     }
 
     fn announce(&mut self, place: &str, start: &str) -> Option<Answer> {
         self.transition.start = start_place(start)?;
-        self.level.announce(&self.transition, cm(place)?);
+        self.level.announce(&self.transition, group_place(place)?);
         self.transition.orders = ArrayVec::new();
         Some(Answer::done())
     }

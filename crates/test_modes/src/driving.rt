@@ -1,7 +1,7 @@
 // Rows of the driver: `at MODE SPEED ALLOWED WAITING` makes the situation, `when MOMENT PATH TIME DISTANCE` the occasion, `accepts ACTION`
 // asks, `do ACTION` does what is accepted, `come_in LEVEL` and `enter MODE` tell, and the rest asks for what is known.
 use crate::answer::Answer;
-use crate::numbers::{cm, length, mph, ms};
+use crate::numbers::{length, mph, ms, reach};
 use crate::words::{cold, mode, train_level};
 use braking::{Brakes, Deceleration, Reaction};
 use driver::{
@@ -9,7 +9,7 @@ use driver::{
     Situation, TrainData,
 };
 use mode_table::Mode;
-use units::{Cm, Length, Mph, Ms};
+use units::{Length, Mph, Ms, Reach};
 use vars::{TrainCategory, Variable};
 
 #[derive(Drop)]
@@ -35,7 +35,7 @@ impl Driving {
                 moment: Ms::new(0).unwrap(),
                 path: Length::new(0).unwrap(),
                 override_time: None,
-                override_distance: Cm::new(0).unwrap(),
+                override_distance: Reach::new(0).unwrap(),
             },
         }
     }
@@ -133,7 +133,7 @@ fn occasion(moment: &str, path: &str, time: &str, distance: &str) -> Option<Occa
         moment: ms(moment)?,
         path: length(path)?,
         override_time,
-        override_distance: cm(distance)?,
+        override_distance: reach(distance)?,
     })
 }
 

@@ -1,8 +1,7 @@
 // Quantities and variables made of words.
-ghost use Rattle.std.specs.Prelude.{◌*◌, ◌^◌, ◌≤◌, IfSome};
-ghost use Rattle.std.specs.Int.RustNames.{unsigned_abs};
+ghost use Rattle.std.specs.Prelude.{◌≤◌, IfSome};
 
-use units::{Cm, Length, Mph, Ms, Stretch};
+use units::{Cm, GroupPlace, Length, Mph, Ms, Reach, Stretch};
 use vars::{AreaSpeed, Distance, OpenLength, StartPlace, Variable};
 
 pub fn number(word: &str) -> Option<u64> {
@@ -21,11 +20,16 @@ pub fn length(word: &str) -> Option<Length> {
     Length::new(number(word)?)
 }
 
-pub fn cm(word: &str) -> Option<Cm>
-    ensures { IfSome result (λ place. unsigned_abs place ≤ 3 * 2 ^ 40) }
-{
-    let number = word.parse::<u32>().ok()?;
-    Cm::new(i64::from(number))
+pub fn cm(word: &str) -> Option<Cm> {
+    Cm::new(word.parse::<i64>().ok()?)
+}
+
+pub fn group_place(word: &str) -> Option<GroupPlace> {
+    GroupPlace::new(word.parse::<i64>().ok()?)
+}
+
+pub fn reach(word: &str) -> Option<Reach> {
+    Reach::new(word.parse::<u32>().ok()?)
 }
 
 // The front lies from one place to another, and the rear where the front may least be.

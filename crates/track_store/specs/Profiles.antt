@@ -1,5 +1,6 @@
 -- A value at each centimetre of the track, which changes now and then (SUBSET-026, 3.11; 7.4.2, packets 21 and 27).
-use Rattle.std.specs.Prelude.{◌≡◌, ℕ, min, ◌^◌, ℤ, pos, neg_ℤ, ◌≤ℤ◌, ◌<ℤ◌, Bool, true, false, Option, None, Some, IsSome, List, [], ◌∷◌}
+use Rattle.std.specs.Prelude.{◌≡◌, ℕ, min, ℤ, pos, neg_ℤ, ◌≤ℤ◌, ◌<ℤ◌, Bool, true, false, Option, None, Some, IsSome, List, [], ◌∷◌}
+use Rattle.units.specs.Limits.{outermost}
 use Rattle.units.specs.Stretches.{over}
 
 -- what a profile gives at each centimetre
@@ -40,4 +41,4 @@ IsKnownThroughout value from end = (place : ℤ) → from ≤ℤ place → place
 
 -- .. at any centimetre that there is
 abbrev pub is_known : {A : Type 0} → (ℤ → Option A) → Bool
-is_known value = is_known_over value (neg_ℤ (pos (2 ^ 42))) (pos (2 ^ 42))
+is_known value = is_known_over value (neg_ℤ (pos outermost)) (pos outermost)

@@ -1,8 +1,9 @@
 -- Temporary speed restrictions, read off what was told in one life (SUBSET-026, 3.11.5; the forgetting mark and what the
 -- lengths of trains have to do with it: this project's profile). Lists of entries have the newest first.
-use Rattle.std.specs.Prelude.{ℕ, ◌^◌, ℤ, pos, neg_ℤ, ◌+ℤ◌, Bool, false, not, ◌==◌, ◌&&◌, if◌then◌else◌, int_lt, List, [], ◌∷◌, ◌++◌, filter, map}
+use Rattle.std.specs.Prelude.{ℕ, ℤ, pos, neg_ℤ, ◌+ℤ◌, Bool, false, not, ◌==◌, ◌&&◌, if◌then◌else◌, int_lt, List, [], ◌∷◌, ◌++◌, filter, map}
 use Rattle.std.specs.Int.{int_max}
 use Rattle.std.specs.List.{list_any}
+use Rattle.units.specs.Limits.{outermost}
 use Rattle.units.specs.Stretches.{Span, over, least}
 use Rattle.vars.specs.declared.restriction.TrainLengthDelay.{TrainLengthDelay}
 use Rattle.vars.specs.declared.restriction.TrainLengthDelay.TheVariants.{Applied, NotApplied}
@@ -34,14 +35,14 @@ standing entries = standing_but_for [] entries
 
 -- the greatest forgetting mark; without one, the least place that there is
 abbrev pub mark_of : List Entry → ℤ
-mark_of [] = neg_ℤ (pos (2 ^ 42))
+mark_of [] = neg_ℤ (pos outermost)
 mark_of (Restricted restriction ∷ entries) = mark_of entries
 mark_of (Revoked number ∷ entries) = mark_of entries
 mark_of (Forgotten mark ∷ entries) = int_max mark (mark_of entries)
 
 -- the first centimetre behind a restriction
 abbrev pub end_of : Restriction → ℤ
-end_of restriction = restriction.start +ℤ restriction.length
+end_of restriction = restriction.start +ℤ pos restriction.length
 
 -- the forgetting mark, and the restrictions that stand and aren't wholly forgotten
 pub record InForce : Type 0 where

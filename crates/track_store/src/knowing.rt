@@ -50,5 +50,5 @@ pub fn is_known_throughout<T: Copy, P: Profile<T>>(profile: &P, from: Cm, end: C
 pub fn is_known<T: Copy, P: Profile<T>>(profile: &P) -> bool
     ensures { result ≡ is_known (P.value profile.now) }
 {
-    is_known_over(profile, Cm::MIN, Cm::new(1 << 42).unwrap())
+    is_known_over(profile, Cm::MIN, Cm::MAX)
 }

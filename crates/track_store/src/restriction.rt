@@ -1,7 +1,7 @@
 ghost use Rattle.std.specs.Prelude.{◌≡◌, ◌≤◌, ◌^◌};
 ghost use Rattle.std.specs.Int.RustNames.{unsigned_abs};
 
-use units::{Cm, Mph, Stretch};
+use units::{Cm, Mph, Reach, Stretch};
 use vars::{RestrictionNumber, TrainLengthDelay};
 
 /// A temporary speed restriction (packet 65) at its place on the track.
@@ -11,8 +11,8 @@ pub struct Restriction {
     pub number: RestrictionNumber,
     /// Its first centimetre.
     pub start: Cm,
-    /// How many centimetres it covers; none where this is 0 or less.
-    pub length: Cm,
+    /// How far it reaches from there; it covers nothing where this is 0.
+    pub length: Reach,
     /// Q_FRONT.
     pub delay: TrainLengthDelay,
     /// V_TSR.
@@ -28,7 +28,7 @@ impl Restriction {
         ensures value { result ≡ end_of self.now }
         ensures near { unsigned_abs result ≤ 2 ^ 43 }
     {
-        self.start.get() + self.length.get()
+        self.start.get() + i64::from(self.length.get())
     }
 
     // Whether some of it lies at or ahead of a forgetting mark.

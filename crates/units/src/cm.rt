@@ -1,6 +1,8 @@
-ghost use Rattle.std.specs.Prelude.{◌≡◌, ◌↔◌, ◌+ℤ◌, ◌-ℤ◌, IsSome, IfSome};
-ghost use Rattle.units.specs.Limits.{IsCm};
+ghost use Rattle.std.specs.Prelude.{◌≡◌, ◌↔◌, ◌+◌, ◌≤◌, pos, ◌+ℤ◌, ◌-ℤ◌, IsSome, IfSome};
+ghost use Rattle.std.specs.Int.RustNames.{unsigned_abs};
+ghost use Rattle.units.specs.Limits.{IsCm, HasReach, reach};
 
+use crate::Reach;
 use std::marker::Model;
 
 /// A distance or a place, in centimetres: from -2^42 to 2^42. Places behind the start of a life are negative.
@@ -22,21 +24,25 @@ impl Model for Cm {
     ghost inverse = { λ z. record { cm = z } };
 }
 
-const GREATEST: i64 = 1 << 42;
+/// The greatest place, in centimetres.
+const OUTERMOST: i64 = 1 << 42;
 
 impl Cm {
     /// The place where a life starts; no distance.
     pub const ZERO: Cm = Cm { cm: 0 };
 
     /// The least place.
-    pub const MIN: Cm = Cm { cm: -GREATEST };
+    pub const MIN: Cm = Cm { cm: -OUTERMOST };
+
+    /// The greatest place.
+    pub const MAX: Cm = Cm { cm: OUTERMOST };
 
     /// So many centimetres; None exactly outside the limits.
     pub fn new(cm: i64) -> Option<Cm>
         ensures found { IsSome result ↔ IsCm cm }
         ensures value { IfSome result (λ c. c ≡ cm) }
     {
-        if -GREATEST <= cm && cm <= GREATEST {
+        if -OUTERMOST <= cm && cm <= OUTERMOST {
             Some(Cm { cm })
         } else {
             None
@@ -65,5 +71,22 @@ impl Cm {
         ensures value { IfSome result (λ c. c ≡ self -ℤ other) }
     {
         Cm::new(self.cm - other.cm)
+    }
+
+    /// The place so far ahead.
+    pub fn ahead(self, by: Reach) -> Cm
+        requires { HasReach self }
+        ensures value { result ≡ self +ℤ pos by }
+        ensures near { unsigned_abs result ≤ unsigned_abs self + reach }
+    {
+        Cm::new(self.cm + i64::from(by.get())).unwrap()
+    }
+
+    /// The place so far behind.
+    pub fn behind(self, by: Reach) -> Cm
+        requires { HasReach self }
+        ensures { result ≡ self -ℤ pos by }
+    {
+        Cm::new(self.cm - i64::from(by.get())).unwrap()
     }
 }

@@ -1,7 +1,7 @@
-ghost use Rattle.std.specs.Prelude.{◌≡◌, ◌↔◌, IsSome, IfSome};
+ghost use Rattle.std.specs.Prelude.{◌≡◌, ◌↔◌, pos, ◌+ℤ◌, IsSome, IfSome};
 ghost use Rattle.units.specs.Limits.{IsGroupPlace};
 
-use crate::Cm;
+use crate::{Cm, Reach};
 use std::marker::Model;
 
 /// Where a balise group lies, from which the distances of its packets count, in centimetres: from -3 * 2^40 to 3 * 2^40.
@@ -53,5 +53,12 @@ impl GroupPlace {
         ensures limits { IsGroupPlace result }
     {
         Cm::new(self.cm).unwrap()
+    }
+
+    /// The place so far ahead of it.
+    pub fn ahead(self, by: Reach) -> Cm
+        ensures { result ≡ self +ℤ pos by }
+    {
+        self.to_cm().ahead(by)
     }
 }

@@ -22,6 +22,9 @@ impl Model for Length {
     ghost inverse = { λ n. record { cm = n } };
 }
 
+/// The longest path of a life, in centimetres.
+const LONGEST: u64 = 1 << 40;
+
 impl Length {
     /// The length of nothing.
     pub const ZERO: Length = Length { cm: 0 };
@@ -31,7 +34,7 @@ impl Length {
         ensures found { IsSome result ↔ IsLength cm }
         ensures value { IfSome result (λ l. l ≡ cm) }
     {
-        if cm <= 1 << 40 {
+        if cm <= LONGEST {
             Some(Length { cm })
         } else {
             None

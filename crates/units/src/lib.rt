@@ -10,6 +10,7 @@ mod mph;
 mod ms;
 mod no_memory;
 mod permille;
+mod reach;
 mod stretch;
 
 pub use cm::Cm;
@@ -20,4 +21,5 @@ pub use mph::Mph;
 pub use ms::Ms;
 pub use no_memory::NoMemory;
 pub use permille::Permille;
+pub use reach::Reach;
 pub use stretch::Stretch;

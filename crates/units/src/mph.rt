@@ -22,13 +22,16 @@ impl Model for Mph {
     ghost inverse = { λ n. record { mph = n } };
 }
 
+/// The greatest speed, in metres per hour: 120 steps of 5 km/h.
+const FASTEST: u32 = 600_000;
+
 impl Mph {
     /// So many metres per hour; None exactly outside the limits.
     pub fn new(mph: u32) -> Option<Mph>
         ensures found { IsSome result ↔ IsMph mph }
         ensures value { IfSome result (λ v. v ≡ mph) }
     {
-        if mph <= 600_000 {
+        if mph <= FASTEST {
             Some(Mph { mph })
         } else {
             None

@@ -22,13 +22,20 @@ impl Model for Ms {
     ghost inverse = { λ n. record { ms = n } };
 }
 
+/// The milliseconds of the longest life, some 34 years.
+const LONGEST_LIFE: u64 = 1 << 40;
+
 impl Ms {
     /// So many milliseconds; None exactly outside the limits.
     pub fn new(ms: u64) -> Option<Ms>
         ensures found { IsSome result ↔ IsMs ms }
         ensures value { IfSome result (λ t. t ≡ ms) }
     {
-        if ms < 1 << 40 { Some(Ms { ms }) } else { None }
+        if ms < LONGEST_LIFE {
+            Some(Ms { ms })
+        } else {
+            None
+        }
     }
 
     /// The number of milliseconds.

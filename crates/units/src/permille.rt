@@ -22,13 +22,16 @@ impl Model for Permille {
     ghost inverse = { λ z. record { permille = z } };
 }
 
+/// The steepest gradient, in per mille.
+const STEEPEST: i16 = 254;
+
 impl Permille {
     /// So many per mille; None exactly outside the limits.
     pub fn new(permille: i16) -> Option<Permille>
         ensures found { IsSome result ↔ IsPermille permille }
         ensures value { IfSome result (λ g. g ≡ permille) }
     {
-        if -254 <= permille && permille <= 254 {
+        if -STEEPEST <= permille && permille <= STEEPEST {
             Some(Permille { permille })
         } else {
             None

@@ -1,11 +1,10 @@
-ghost use Rattle.std.specs.Prelude.{◌≡◌, ◌*◌, ◌<◌, ◌^◌, pos};
-ghost use Rattle.std.specs.Int.RustNames.{unsigned_abs};
+ghost use Rattle.std.specs.Prelude.{◌≡◌, ◌*◌};
 ghost use Rattle.vars.specs.Meanings.{centimetres_of};
 
 use crate::scale::Scale;
 use crate::variable::{NoValue, Variable};
 use std::marker::Model;
-use units::Cm;
+use units::Reach;
 
 /// A distance or a length in units of the packet's scale (variables D_ and L_): from 0 to 32,767.
 #[derive(Clone, Copy)]
@@ -27,12 +26,10 @@ impl Model for Distance {
 
 impl Distance {
     /// The distance in centimetres.
-    pub fn in_scale(self, scale: Scale) -> Cm
-        ensures value { result ≡ pos (self * centimetres_of scale) }
-        ensures near { unsigned_abs result < 2 ^ 25 }
+    pub fn in_scale(self, scale: Scale) -> Reach
+        ensures { result ≡ self * centimetres_of scale }
     {
-        let cm = u32::from(self.steps) * scale.centimetres();
-        Cm::new(i64::from(cm)).unwrap()
+        Reach::new(u32::from(self.steps) * scale.centimetres()).unwrap()
     }
 }
 

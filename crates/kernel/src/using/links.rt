@@ -30,8 +30,7 @@ fn announced(chain: &mut Chain, link: &Link) -> Announcement
     ensures next { chain.new ≡ record { scale = chain.old.scale; place = result.place; country = result.group.country } }
     ensures near { unsigned_abs chain.new.place ≤ unsigned_abs chain.old.place + reach }
 {
-    let place = chain.place.get() + link.distance.in_scale(chain.scale).get();
-    chain.place = Cm::new(place).unwrap();
+    chain.place = chain.place.ahead(link.distance.in_scale(chain.scale));
     chain.country = link.country.unwrap_or(chain.country);
     Announcement {
         number: 0,

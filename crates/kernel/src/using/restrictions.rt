@@ -9,16 +9,15 @@ use crate::using::{Use, is_passed};
 use packets::{Packet, SpeedRestriction};
 use std::alloc::Global;
 use track_store::{Restriction, Restrictions};
-use units::{Cm, GroupPlace, NoMemory};
+use units::{GroupPlace, NoMemory};
 
 // A restriction where it lies on the track, its group being at a place.
 fn restriction_of(packet: &SpeedRestriction, at: GroupPlace) -> Restriction
     ensures { result ≡ restriction_of at packet.now }
 {
-    let start = at.get() + packet.start.in_scale(packet.scale).get();
     Restriction {
         number: packet.number,
-        start: Cm::new(start).unwrap(),
+        start: at.ahead(packet.start.in_scale(packet.scale)),
         length: packet.length.in_scale(packet.scale),
         delay: packet.delay,
         speed: packet.speed.speed(),

@@ -1,4 +1,4 @@
-use Rattle.std.proofs.Common.{sym, ap, ◌∙◌, append-nil, ◌++◌, List}
+use Rattle.std.proofs.Common.{sym, ap, ◌∙◌, append-nil, ◌++◌, List, pos, ◌+ℤ◌}
 use Rattle.std.proofs.lemmas.List.{at_drop_all}
 use Rattle.packets.specs.declared.authority.Section.{Section}
 use Rattle.authority.specs.Entries.{fact_of}
@@ -18,4 +18,4 @@ returns c =
     c.speed.result c.speed-2.result c.end_timer_by.result c.point_by.result c.overlap_by.result
     (sym (append-nil c.loop-section.timed.items) ∙ sym timers ∙ c.loop-section.invariant.timers ∙ ap (timed_from packet.scale c.args.place) same)
     (sym ends ∙ c.loop-section.invariant.end ∙ ap (end_from packet.scale c.args.place) same)
-    c.push_timed-2.ensures.items c.ahead-end.ensures.value c.speed.ensures c.speed-2.ensures c.end_timer_by.ensures c.point_by.ensures c.overlap_by.ensures
+    c.push_timed-2.ensures.items (c.ahead-end.ensures.value ∙ ap (λ n. here +ℤ pos n) c.in_scale-2.ensures) c.speed.ensures c.speed-2.ensures c.end_timer_by.ensures c.point_by.ensures c.overlap_by.ensures

@@ -1,0 +1,8 @@
+-- What is kept over a loss of power (this project's profile).
+use Rattle.std.specs.Prelude.{ℤ}
+use Rattle.vars.specs.declared.group.GroupIdentity.{GroupIdentity}
+
+-- where the train is, told by a balise group: how far behind it the estimated front lies, in centimetres
+pub record PositionFrom : Type 0 where
+  pub group : GroupIdentity
+  pub distance : ℤ

@@ -1,0 +1,28 @@
+use crate::Position;
+use driver::{Datum, DriverIdentity, RunningNumber, TrainData};
+use mode_table::TrainLevel;
+use national::CountryValues;
+
+/// What outlives a power-up. Identity, running number and train data are never valid behind one, so only their values are kept;
+/// level and position are kept with the status that they have.
+#[derive(Drop)]
+pub struct Kept {
+    /// The driver's identity that was entered last; None where none was.
+    pub identity: Option<DriverIdentity>,
+    /// The running number that was entered last; None where none was.
+    pub running_number: Option<RunningNumber>,
+    /// The train data that were entered last; None where none were.
+    pub train_data: Option<TrainData>,
+    /// The level.
+    pub level: Datum<TrainLevel>,
+    /// Where the train is, told by the last balise group that made a fix.
+    pub position: Datum<Position>,
+    /// The national values in force, with the countries that they are for.
+    pub national: CountryValues,
+    /// Whether a trip isn't acknowledged yet.
+    pub trip_outstanding: bool,
+    /// How many events there were, up to the greatest number of 64 bits.
+    pub events: u64,
+    /// How many power-ups there were, up to the greatest number of 32 bits.
+    pub lives: u32,
+}

@@ -1,0 +1,17 @@
+//! What the kernel is told, what it answers, and what it keeps over a loss of power (this project's profile). Distances are
+//! centimetres, speeds metres per hour, moments milliseconds.
+#![tactic(auto)]
+
+mod estimate;
+mod input;
+mod kept;
+mod output;
+mod position;
+mod telegram_bytes;
+
+pub use estimate::Estimate;
+pub use input::{Event, Input, Reading};
+pub use kept::Kept;
+pub use output::{Brake, Indications, Output};
+pub use position::Position;
+pub use telegram_bytes::TelegramBytes;

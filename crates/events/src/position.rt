@@ -1,0 +1,58 @@
+ghost use Rattle.std.specs.Prelude.{◌≡◌, ◌↔◌, IsSome, IfSome};
+ghost use Rattle.events.specs.Limits.{IsOffset};
+
+use std::marker::Model;
+use units::Cm;
+use vars::GroupIdentity;
+
+/// Where the train is, told by a balise group: how far behind it the estimated front lies, from -2^41 to 2^41 cm.
+#[derive(Clone, Copy)]
+pub struct Position {
+    group: GroupIdentity,
+    distance: Cm,
+}
+
+impl Model for Position {
+    ghost use Rattle.events.specs.Kept.{PositionFrom};
+    ghost use Rattle.events.specs.Limits.{IsOffset};
+
+    ghost Value = { PositionFrom };
+
+    ghost view = { λ p. record { group = p.group; distance = p.distance } };
+
+    ghost invariant = { λ p. IsOffset p.distance };
+
+    ghost inverse = { λ p. record { group = p.group; distance = p.distance } };
+}
+
+/// The farthest distance, in centimetres.
+const FARTHEST: i64 = 1 << 41;
+
+impl Position {
+    /// So many centimetres behind a group; None exactly outside the limits.
+    pub fn new(group: GroupIdentity, distance: Cm) -> Option<Position>
+        ensures found { IsSome result ↔ IsOffset distance }
+        ensures value { IfSome result (λ p. p ≡ record { group = group; distance = distance }) }
+    {
+        if -FARTHEST <= distance.get() && distance.get() <= FARTHEST {
+            Some(Position { group, distance })
+        } else {
+            None
+        }
+    }
+
+    /// The group.
+    pub fn group(&self) -> GroupIdentity
+        ensures { result ≡ self.now.group }
+    {
+        self.group
+    }
+
+    /// How far behind the group the estimated front lies; negative where it lies before it.
+    pub fn distance(&self) -> Cm
+        ensures value { result ≡ self.now.distance }
+        ensures limits { IsOffset result }
+    {
+        self.distance
+    }
+}

@@ -1,0 +1,48 @@
+ghost use Rattle.std.specs.Prelude.{◌≡◌, ◌↔◌, IsSome, IfSome};
+ghost use Rattle.events.specs.Limits.{AreOfATelegram};
+
+use arrayvec::ArrayVec;
+use std::marker::Model;
+
+/// How many bytes a balise sends at most.
+pub const MOST_BYTES: usize = 104;
+
+/// The bytes that a balise sent, from 1 to 104; they need not carry a telegram.
+#[derive(Drop)]
+pub struct TelegramBytes {
+    bytes: ArrayVec<u8, MOST_BYTES>,
+}
+
+impl Model for TelegramBytes {
+    ghost use Rattle.std.specs.Prelude.{List, ℕ};
+    ghost use Rattle.events.specs.Limits.{AreOfATelegram};
+
+    ghost Value = { List ℕ };
+
+    ghost view = { λ t. t.bytes.items };
+
+    ghost invariant = { λ t. AreOfATelegram t.bytes.items };
+}
+
+impl TelegramBytes {
+    /// These bytes; None exactly where they are too few or too many.
+    pub fn new(bytes: &[u8]) -> Option<TelegramBytes>
+        ensures found { IsSome result ↔ AreOfATelegram bytes.now }
+        ensures value { IfSome result (λ t. t ≡ bytes.now) }
+    {
+        if bytes.is_empty() || bytes.len() > MOST_BYTES {
+            return None;
+        }
+        Some(TelegramBytes {
+            bytes: ArrayVec::try_from(bytes).unwrap(),
+        })
+    }
+
+    /// The bytes.
+    pub fn as_slice(&self) -> &[u8]
+        ensures value { result.now ≡ self.now }
+        ensures limits { AreOfATelegram result.now }
+    {
+        self.bytes.as_slice()
+    }
+}

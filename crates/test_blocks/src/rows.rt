@@ -76,9 +76,14 @@ fn number(alloc: Global, slot: &str, slots: &str, patches: &[&str]) -> Option<Op
     let mut head = [0; 512];
     let mut bytes = [0; 1_024];
     patched(alloc, &mut bytes, patches)?;
+    part(&bytes, &mut gate, &mut head);
+    Some(valid_number(&gate, &head, slot, slots))
+}
+
+// Parts the first two sectors of a slot.
+fn part(bytes: &[u8; 1_024], gate: &mut [u8; 512], head: &mut [u8; 512]) {
     gate.copy_from_slice(&bytes[..512]);
     head.copy_from_slice(&bytes[512..]);
-    Some(valid_number(&gate, &head, slot, slots))
 }
 
 // Of how many bytes from one offset up to another each, set to 1 alone, makes a block no spelling.
@@ -136,7 +141,7 @@ fn write_again(mut block: Block, out: &mut [u8; 3_072])
     if told.number != block.kept.events - 1 || block.format.most_records() == 0 {
         return;
     }
-    let (estimate, uncertainty, limit) = match told.situation {
+    let (estimate, uncertainty, limit) = match &told.situation {
         Some(situation) => (situation.estimate, situation.uncertainty, situation.limit),
         None => (Estimate::new(0).unwrap(), 0, Mph::new(0).unwrap()),
     };

@@ -1,5 +1,5 @@
 //! All that is a target ahead of a train.
-ghost use Rattle.std.specs.Prelude.{◌≡◌, ◌≤◌, ◌++◌};
+ghost use Rattle.std.specs.Prelude.{◌≡◌, ◌≤◌, ◌++◌, None};
 ghost use Rattle.std.specs.Iterator.{at_most};
 ghost use Rattle.track_store.specs.Profiles.{listed};
 ghost use Rattle.speed_profile.specs.Ahead.{over_ahead, static_targets, restriction_targets, area_targets};
@@ -74,6 +74,7 @@ impl<'a, S: Profile<CategorySpeeds>> Targets<'a, S> {
     /// Leaves out the static speeds that are left. A train that can come to a stop where they begin can brake for all of
     /// them.
     pub fn skip_speeds(&mut self)
+        ensures none { self.new.speeds_from ≡ None }
         ensures asks { AskTheSameBeyond self.old.speeds_from self.old.targets self.new.targets }
         ensures fewer { self.new.most ≤ self.old.most }
     {

@@ -122,12 +122,16 @@ impl Told {
     fn take_slopes(&mut self, place: GroupPlace) -> Result<Vec<i64>, NoMemory> {
         let told = gradients(&self.slopes, place);
         self.slopes = no_slopes();
-        self.gradients.replace_from(told.start, told.steps.as_slice())?;
+        self.gradients
+            .replace_from(told.start, told.steps.as_slice())?;
         let mut numbers = Vec::new(self.alloc);
         numbers.push(told.start.get())?;
         for step in told.steps.as_slice() {
             numbers.push(step.place.get())?;
-            numbers.push(step.value.map_or(NONE, |gradient| i64::from(gradient.get())))?;
+            numbers.push(
+                step.value
+                    .map_or(NONE, |gradient| i64::from(gradient.get())),
+            )?;
         }
         Ok(numbers)
     }
@@ -165,9 +169,17 @@ impl Told {
         self.said(&[ahead.permitted(limit, last), approach.speed()])
     }
 
-    fn either(&self, front: Cm, limit: Mph, one: Target, other: Target) -> Result<Vec<i64>, NoMemory> {
+    fn either(
+        &self,
+        front: Cm,
+        limit: Mph,
+        one: Target,
+        other: Target,
+    ) -> Result<Vec<i64>, NoMemory> {
         let track = self.track();
-        let (to_one, to_other) = self.ahead(front, &track).permitted_for_either(limit, one, other);
+        let (to_one, to_other) = self
+            .ahead(front, &track)
+            .permitted_for_either(limit, one, other);
         self.said(&[to_one, to_other])
     }
 

@@ -14,13 +14,15 @@
 //!     restriction 5000 100 30000 1     the first centimetre, the length, the speed, Q_FRONT
 //!     limit 14000 16000 16500          of a train from these places on: its least rear, its least front, its greatest front
 //!     targets 0 10000 40000            those ahead of a front, with a last target or none: the place and speed of each
-//!     permitted 0 160000 10000 40000   from a front, up to a limit, with a last target or none; and what fits those told one by one
+//!     permitted 0 160000 10000 40000   from a front, up to a limit, with a last target or none
+//!     fitting 0 160000 10000 40000     .. that fits the targets that are told one by one
 //!     either 0 160000 10000 40000 20000 0
 #![tactic(auto)]
 
 mod numbers;
 mod rows;
 mod track;
+mod written;
 
 use rows::read_row;
 use track::Told;
@@ -33,6 +35,8 @@ fn main(rt: HostRuntime) -> anyhow::Result<()> {
         let words: Vec<&str> = line.split_whitespace().collect(alloc)?;
         if words.is_empty() {
             told = Told::nothing(alloc);
+        } else if told.write(&words).is_some() {
+            print!(rt; "{line}:")?;
         } else if let Some(row) = read_row(&words) {
             print!(rt; "{line}:")?;
             for number in &told.answer(row)? {

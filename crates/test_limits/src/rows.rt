@@ -1,32 +1,25 @@
 // What a row says.
-use crate::numbers::{
-    area_mode, area_speed, category, cm, delay, direction, distance, group_place, iterations, mph,
-    open_length, restriction_number, speed_step, static_speed, steepness,
-};
+use crate::numbers::{category, cm, delay, group_place, mph, restriction_number};
 use areas::NationalSpeeds;
 use authority::{End, Release};
 use braking::{Brakes, Deceleration, Reaction, Target};
-use packets::{Difference, Gradient, ModeArea, StaticStep};
 use track_store::Restriction;
 use units::{Cm, GroupPlace, Mph, Stretch};
-use vars::{Distance, TrainCategory, Variable};
+use vars::TrainCategory;
 
 #[derive(Clone, Copy)]
 pub enum Row {
     Train(Brakes, Mph, TrainCategory),
     Authority(Mph, End),
     National(NationalSpeeds),
-    Static(StaticStep),
-    Difference(Difference),
     Statics(GroupPlace),
-    Slope(Gradient),
     Slopes(GroupPlace),
-    Area(ModeArea),
     Areas(GroupPlace),
     Restriction(Restriction),
     Limit(Stretch),
     Targets(Cm, Option<Target>),
     Permitted(Cm, Mph, Option<Target>),
+    Fitting(Cm, Mph, Option<Target>),
     Either(Cm, Mph, Target, Target),
 }
 
@@ -34,8 +27,7 @@ pub enum Row {
 pub fn read_row(words: &[&str]) -> Option<Row> {
     match *words.first()? {
         "train" | "authority" | "national" => read_train(words),
-        "static" | "difference" | "statics" | "slope" | "slopes" => read_profile(words),
-        "area" | "areas" | "restriction" => read_stretch(words),
+        "statics" | "slopes" | "areas" | "restriction" => read_told(words),
         _ => read_question(words),
     }
 }
@@ -69,50 +61,10 @@ fn read_train(words: &[&str]) -> Option<Row> {
     }
 }
 
-fn read_profile(words: &[&str]) -> Option<Row> {
+fn read_told(words: &[&str]) -> Option<Row> {
     match *words {
-        ["static", ahead, speed, front, own] => {
-            let step = StaticStep {
-                distance: distance(ahead)?,
-                speed: static_speed(speed)?,
-                delay: delay(front)?,
-                differences: iterations(own)?,
-            };
-            Some(Row::Static(step))
-        }
-        ["difference", of, speed] => {
-            let difference = Difference {
-                category: category(of)?,
-                speed: speed_step(speed)?,
-            };
-            Some(Row::Difference(difference))
-        }
-        ["slope", ahead, way, steep] => {
-            let gradient = Gradient {
-                distance: distance(ahead)?,
-                direction: direction(way)?,
-                steepness: steepness(steep)?,
-            };
-            Some(Row::Slope(gradient))
-        }
         ["statics", place] => Some(Row::Statics(group_place(place)?)),
         ["slopes", place] => Some(Row::Slopes(group_place(place)?)),
-        _ => None,
-    }
-}
-
-fn read_stretch(words: &[&str]) -> Option<Row> {
-    match *words {
-        ["area", ahead, mode, speed, length] => {
-            let area = ModeArea {
-                distance: distance(ahead)?,
-                mode: area_mode(mode)?,
-                speed: area_speed(speed)?,
-                length: open_length(length)?,
-                acknowledgement: Distance::of_number(0).ok()?,
-            };
-            Some(Row::Area(area))
-        }
         ["areas", place] => Some(Row::Areas(group_place(place)?)),
         ["restriction", start, length, speed, front] => {
             let restriction = Restriction {
@@ -142,6 +94,11 @@ fn read_question(words: &[&str]) -> Option<Row> {
         ["permitted", front, limit, place, speed] => {
             let last = target(place, speed)?;
             Some(Row::Permitted(cm(front)?, mph(limit)?, Some(last)))
+        }
+        ["fitting", front, limit] => Some(Row::Fitting(cm(front)?, mph(limit)?, None)),
+        ["fitting", front, limit, place, speed] => {
+            let last = target(place, speed)?;
+            Some(Row::Fitting(cm(front)?, mph(limit)?, Some(last)))
         }
         ["either", front, limit, one, at_one, other, at_other] => {
             let (one, other) = (target(one, at_one)?, target(other, at_other)?);

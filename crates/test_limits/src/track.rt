@@ -1,14 +1,13 @@
 // What was told of a track, and what `speed_profile` answers of it.
 use crate::rows::Row;
+use crate::written::{Written, no_areas, no_slopes, no_statics};
 use areas::{Areas, NationalSpeeds};
-use arrayvec::ArrayVec;
 use braking::{Approach, Brakes, Deceleration, Reaction, Target};
-use packets::{Gradients, ModeProfile, StaticSpeeds};
 use speed_profile::{Ahead, Bounds, CategorySpeeds, Track, gradients, limit_on, static_speeds};
 use std::alloc::Global;
 use track_store::{ProfileStore, Restrictions, SegmentStore};
 use units::{Cm, GroupPlace, Mph, NoMemory, Permille, Stretch};
-use vars::{Scale, TrainCategory, ValidityDirection, Variable};
+use vars::{TrainCategory, Variable};
 
 /// Stands for no value.
 const NONE: i64 = -1;
@@ -23,10 +22,7 @@ pub struct Told {
     national: NationalSpeeds,
     bounds: Bounds,
     brakes: Brakes,
-    // The packets that are being written.
-    statics: StaticSpeeds,
-    slopes: Gradients,
-    profile: ModeProfile,
+    written: Written,
 }
 
 impl Told {
@@ -53,10 +49,13 @@ impl Told {
                 deceleration: Deceleration::new(70).unwrap(),
                 reaction: Reaction::new(0).unwrap(),
             },
-            statics: no_statics(),
-            slopes: no_slopes(),
-            profile: no_areas(),
+            written: Written::nothing(),
         }
+    }
+
+    /// Writes the element of a packet that a row says; None where it says none.
+    pub fn write(&mut self, words: &[&str]) -> Option<()> {
+        self.written.write(words)
     }
 
     /// What comes of a row.
@@ -67,19 +66,20 @@ impl Told {
             Row::Limit(train) => self.limit(&train),
             Row::Targets(front, last) => self.targets(front, last),
             Row::Permitted(front, limit, last) => self.permitted(front, limit, last),
+            Row::Fitting(front, limit, last) => self.fitting(front, limit, last),
             Row::Either(front, limit, one, other) => self.either(front, limit, one, other),
             Row::Restriction(restriction) => {
                 self.restrictions.add(self.alloc, restriction)?;
                 Ok(Vec::new(self.alloc))
             }
             _ => {
-                self.write(row);
+                self.tell(row);
                 Ok(Vec::new(self.alloc))
             }
         }
     }
 
-    fn write(&mut self, row: Row) {
+    fn tell(&mut self, row: Row) {
         match row {
             Row::Train(brakes, maximum, category) => {
                 self.brakes = brakes;
@@ -91,21 +91,17 @@ impl Told {
                 self.bounds.end = Some(end);
             }
             Row::National(national) => self.national = national,
-            Row::Static(step) => drop(self.statics.steps.try_push(step)),
-            Row::Difference(difference) => drop(self.statics.differences.try_push(difference)),
-            Row::Slope(gradient) => drop(self.slopes.gradients.try_push(gradient)),
-            Row::Area(area) => drop(self.profile.areas.try_push(area)),
             Row::Areas(place) => {
-                self.areas.replace(&self.profile, place.to_cm());
-                self.profile = no_areas();
+                self.areas.replace(&self.written.areas, place.to_cm());
+                self.written.areas = no_areas();
             }
             _ => {}
         }
     }
 
     fn take_statics(&mut self, place: GroupPlace) -> Result<Vec<i64>, NoMemory> {
-        let told = static_speeds(&self.statics, place);
-        self.statics = no_statics();
+        let told = static_speeds(&self.written.statics, place);
+        self.written.statics = no_statics();
         self.speeds.replace_from(told.start, told.steps.as_slice())?;
         let mut numbers = Vec::new(self.alloc);
         numbers.push(told.start.get())?;
@@ -120,8 +116,8 @@ impl Told {
     }
 
     fn take_slopes(&mut self, place: GroupPlace) -> Result<Vec<i64>, NoMemory> {
-        let told = gradients(&self.slopes, place);
-        self.slopes = no_slopes();
+        let told = gradients(&self.written.slopes, place);
+        self.written.slopes = no_slopes();
         self.gradients
             .replace_from(told.start, told.steps.as_slice())?;
         let mut numbers = Vec::new(self.alloc);
@@ -161,12 +157,17 @@ impl Told {
 
     fn permitted(&self, front: Cm, limit: Mph, last: Option<Target>) -> Result<Vec<i64>, NoMemory> {
         let track = self.track();
-        let ahead = self.ahead(front, &track);
+        self.said(&[self.ahead(front, &track).permitted(limit, last)])
+    }
+
+    // The greatest speed up to a limit that fits the targets that are told one by one.
+    fn fitting(&self, front: Cm, limit: Mph, last: Option<Target>) -> Result<Vec<i64>, NoMemory> {
+        let track = self.track();
         let mut approach = Approach::new(front, limit, &self.gradients, &self.brakes);
-        for target in ahead.targets(last) {
+        for target in self.ahead(front, &track).targets(last) {
             approach.lower(&target);
         }
-        self.said(&[ahead.permitted(limit, last), approach.speed()])
+        self.said(&[approach.speed()])
     }
 
     fn either(
@@ -203,30 +204,5 @@ impl Told {
             numbers.push(i64::from(speed.get()))?;
         }
         Ok(numbers)
-    }
-}
-
-fn no_statics() -> StaticSpeeds {
-    StaticSpeeds {
-        direction: ValidityDirection::Both,
-        scale: Scale::TenCentimetres,
-        steps: ArrayVec::new(),
-        differences: ArrayVec::new(),
-    }
-}
-
-fn no_slopes() -> Gradients {
-    Gradients {
-        direction: ValidityDirection::Both,
-        scale: Scale::TenCentimetres,
-        gradients: ArrayVec::new(),
-    }
-}
-
-fn no_areas() -> ModeProfile {
-    ModeProfile {
-        direction: ValidityDirection::Both,
-        scale: Scale::TenCentimetres,
-        areas: ArrayVec::new(),
     }
 }

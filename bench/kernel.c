@@ -22,6 +22,9 @@ struct stop {
 /* The exports of crates/kernel_bench. Each answers a sum, or all ones where it could not run. */
 uint64_t bench_limits(const uint8_t *telegrams, size_t len, int64_t movement, uint32_t readings);
 uint64_t bench_permitted(const int16_t *gradients, size_t len, const struct stop *stop, uint32_t runs);
+uint64_t bench_next_mode(uint32_t runs);
+uint64_t bench_status_on(uint32_t runs);
+uint64_t bench_accepts(uint32_t runs);
 
 /* A telegram as it is written: its bytes, and how many bits stand in them. */
 struct writer {
@@ -158,6 +161,17 @@ int main(int argc, char **argv) {
             return 0;
         }
     }
-    fprintf(stderr, "usage: kernel limits MOVEMENT READINGS | kernel permitted GRADIENT RUNS\n");
+    if (argc == 3) {
+        uint32_t runs = (uint32_t)strtoul(argv[2], NULL, 10);
+        uint64_t (*call)(uint32_t) = strcmp(argv[1], "next_mode") == 0   ? bench_next_mode
+                                     : strcmp(argv[1], "status_on") == 0 ? bench_status_on
+                                     : strcmp(argv[1], "accepts") == 0   ? bench_accepts
+                                                                         : NULL;
+        if (call) {
+            printf("%llu\n", (unsigned long long)call(runs));
+            return 0;
+        }
+    }
+    fprintf(stderr, "usage: kernel limits MOVEMENT READINGS | kernel permitted GRADIENT RUNS | kernel CALL RUNS\n");
     return 2;
 }

@@ -41,7 +41,16 @@ row() {
     printf '%-50s %10d\n' "$title" $(((many - few + $4 / 2) / $4))
 }
 
+# each TITLE FUNCTION CALL COUNT: one call after another, of so many inputs in turn
+each() {
+    all=$(counted "$2" "$3" "$4")
+    printf '%-50s %10d\n' "$1" $(((all + $4 / 2) / $4))
+}
+
 row 'limits, 1 cm a reading' '*limits_after*' limits 1 "$readings"
 row 'limits, 10 cm a reading' '*limits_after*' limits 10 "$readings"
 row 'permitted, the limit fits' '*permitted_from*' permitted 0 "$calls"
 row 'permitted, sought' '*permitted_from*' permitted -67 "$calls"
+each 'next_mode' '*mode_after*' next_mode 147456
+each 'status_on' '*fate_of*' status_on 153
+each 'accepts' '*is_accepted*' accepts 16128

@@ -1,7 +1,7 @@
 #!/bin/bash
 # The plain program beside the kernel's rows: the limits that the rows want are its own too, the numbers of rows and inputs
-# that the kernel's program is to print are counted from their text, the random lists are those that are made here, and so are the rows of
-# blocks.
+# that the kernel's program is to print are counted from their text, and the random lists, the tracks and the rows of blocks are
+# those that are made here.
 cd "$(dirname "$0")/plain" || exit 1
 export PYTHONDONTWRITEBYTECODE=1
 status=0
@@ -10,4 +10,5 @@ echo "$found"
 [ "$found" = "$(cat ../../crates/test_kernel/stdout)" ] || { echo "crates/test_kernel/stdout says something else"; status=1; }
 python3 random_lists.py --check || status=1
 python3 blocks.py || status=1
+python3 limit_rows.py --check || status=1
 exit $status

@@ -46,4 +46,3 @@ no_target_beyond first end speed place none found low =
       | false ↦ λ b e. refl
     ] in
     cases (int_lt first end) (int_lt greatest_place first) refl
-

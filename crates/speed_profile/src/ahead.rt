@@ -3,7 +3,7 @@ ghost use Rattle.std.specs.Prelude.{◌≡◌, ◌++◌, None, Some, List};
 ghost use Rattle.std.specs.Iterator.{Drains};
 ghost use Rattle.track_store.specs.Profiles.{listed};
 ghost use Rattle.braking.specs.declared.target.Target.{Target as TargetAsked};
-ghost use Rattle.braking.specs.Approaches.{lowered, lowered_by};
+ghost use Rattle.braking.specs.Approaches.{lowered_by};
 ghost use Rattle.speed_profile.specs.Ahead.{targets_ahead, permitted_ahead, setting_out};
 ghost use Rattle.speed_profile.specs.Targets.{AskTheSame, Tells};
 ghost use Rattle.speed_profile.specs.Track.{speeds_along};

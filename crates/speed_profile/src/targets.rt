@@ -1,5 +1,5 @@
 //! All that is a target ahead of a train.
-ghost use Rattle.std.specs.Prelude.{◌≡◌, ◌≤◌, ◌++◌};
+ghost use Rattle.std.specs.Prelude.{◌≡◌, ◌≤◌, ◌++◌, None};
 ghost use Rattle.std.specs.Iterator.{at_most};
 ghost use Rattle.track_store.specs.Profiles.{listed};
 ghost use Rattle.speed_profile.specs.Ahead.{over_ahead, static_targets, restriction_targets, area_targets};
@@ -38,9 +38,10 @@ impl<'a, S: Profile<CategorySpeeds>> Model for Targets<'a, S> {
     ghost Value = { Left };
 
     ghost view = { λ t. record {
-        targets = t.speeds.targets ++ (t.restricted.targets ++ (t.inside.targets ++ listed t.last));
-        most = t.speeds.most + t.restricted.most + t.inside.most + length (listed t.last);
-        speeds_from = t.speeds.speeds_from } };
+      targets = t.speeds.targets ++ (t.restricted.targets ++ (t.inside.targets ++ listed t.last));
+      most = t.speeds.most + t.restricted.most + t.inside.most + length (listed t.last);
+      speeds_from = t.speeds.speeds_from;
+    } };
 }
 
 impl<'a, S: Profile<CategorySpeeds>> Targets<'a, S> {
@@ -53,8 +54,8 @@ impl<'a, S: Profile<CategorySpeeds>> Targets<'a, S> {
     ) -> Targets<'a, S>
         ensures { let along = speeds_along S.value track.now in
             result.targets ≡ over_ahead front (static_targets bounds.now along.static)
-                ++ (over_ahead front (restriction_targets along.restrictions.mark along.restrictions.restrictions)
-                ++ (over_ahead front (area_targets along.national along.areas) ++ listed last)) }
+            ++ (over_ahead front (restriction_targets along.restrictions.mark along.restrictions.restrictions)
+            ++ (over_ahead front (area_targets along.national along.areas) ++ listed last)) }
     {
         Targets {
             speeds: SpeedTargets::new(front, bounds, track.speeds),
@@ -74,6 +75,7 @@ impl<'a, S: Profile<CategorySpeeds>> Targets<'a, S> {
     /// Leaves out the static speeds that are left. A train that can come to a stop where they begin can brake for all of
     /// them.
     pub fn skip_speeds(&mut self)
+        ensures none { self.new.speeds_from ≡ None }
         ensures asks { AskTheSameBeyond self.old.speeds_from self.old.targets self.new.targets }
         ensures fewer { self.new.most ≤ self.old.most }
     {

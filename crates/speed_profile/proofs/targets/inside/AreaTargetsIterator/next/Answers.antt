@@ -30,7 +30,7 @@ loop-first-preserved c =
     asked_at (ahead self.left.now) (ahead (c.in-Some.first.now ∷ others)) (ahead others) c.first_in_area-target.result (first_in_area self.front self.national c.in-Some.first.now)
     (ap ahead c.in-Some.ensures.cases.0) c.first_in_area-target.ensures (area_asks self.front self.national c.in-Some.first.now others) in (
       passed_over c.args.self.now.targets (ahead self.left.now) (ahead others) c.first_in_area-target.result
-      c.loop-first.invariant.0 asked (sym c.is_some.ensures ∙ c.if-is_some.false),
+          c.loop-first.invariant.0 asked (sym c.is_some.ensures ∙ c.if-is_some.false),
       omega (arith, c.loop-first.invariant.1, c.in-Some.ensures.cases.1),
     )
 

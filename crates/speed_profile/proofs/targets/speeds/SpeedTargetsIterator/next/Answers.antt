@@ -50,6 +50,6 @@ loop-self-preserved g c =
     (ap (rest targets) c.in-Some.is) is (piece_asks self.bounds.now profile place within next c.piece-here.ensures.next) in
     let fewer : left next < left self.start = rw c.in-Some.is (less_left place next within (lasts_ahead profile place next c.piece-here.ensures.next)) in (
       passed_over c.args.self.now.targets (rest targets self.start) (rest targets next) told
-      c.loop-self.invariant.0 asked (sym c.is_some.ensures ∙ c.if-is_some.false),
+          c.loop-self.invariant.0 asked (sym c.is_some.ensures ∙ c.if-is_some.false),
       omega (arith, c.loop-self.invariant.1, fewer),
     )

@@ -1,2 +1,0 @@
-pub mod OneInput
-pub mod Standing

@@ -1,0 +1,12 @@
+//! The onboard unit: events are accepted, put on a disk, and only then are their outputs released; wherever power is lost, the next
+//! power-up finds them again.
+#![tactic(auto)]
+
+mod errors;
+mod life;
+mod onboard;
+mod released;
+
+pub use errors::{AcceptError, FlushError, LiveError, OpenError};
+pub use onboard::Onboard;
+pub use released::Released;

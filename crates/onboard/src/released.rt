@@ -1,0 +1,54 @@
+// What is released.
+ghost use Rattle.std.specs.Prelude.{◌≡◌};
+
+use events::{Brake, Indications, Output};
+use mode_table::Mode;
+use units::Mph;
+
+/// An output that may reach the train, with the number of its event. Beside the default, which commands the emergency brake, only
+/// `Onboard::flush` makes one.
+#[derive(Clone, Copy)]
+pub struct Released {
+    pub(crate) number: u64,
+    pub(crate) output: Output,
+}
+
+impl Released {
+    /// The number of its event, from 0 on.
+    pub fn event(&self) -> u64
+        ensures { result ≡ self.now.number }
+    {
+        self.number
+    }
+
+    /// What the kernel answered to the event.
+    pub fn output(&self) -> Output
+        ensures { result ≡ self.now.output }
+    {
+        self.output
+    }
+}
+
+impl Default for Released {
+    /// Before the first event: the emergency brake, and nothing revalidated.
+    fn default() -> Released {
+        Released {
+            number: 0,
+            output: Output {
+                mode: Mode::StandBy,
+                level: None,
+                brake: Brake::Emergency,
+                limit: Mph::new(0).unwrap(),
+                indications: Indications {
+                    on_sight: false,
+                    shunting: false,
+                    level_0: false,
+                    trip: false,
+                    overridden: false,
+                    not_revalidated: true,
+                    overspeed: false,
+                },
+            },
+        }
+    }
+}

@@ -3,4 +3,3 @@ pub mod Lives
 pub mod Brake
 pub mod Output
 pub mod StandsFor
-

@@ -8,9 +8,10 @@ use Rattle.track_store.specs.Profiles.{Profile}
 use Rattle.mode_limits.specs.Limit.{limit}
 use Rattle.supervision.specs.Life.{Life}
 use Rattle.supervision.specs.StandsFor as supervision
+use Rattle.kernel.specs.declared.counts.Counts.{Counts}
 use Rattle.kernel.specs.declared.window.Window.{Window}
 use Rattle.kernel.specs.Brake.{far_too_fast, asked_for_service, rolled_backward, too_fast}
-use Rattle.kernel.specs.Lives.{events_of, lives_of, life_of}
+use Rattle.kernel.specs.Lives.{counts_of, life_of}
 use Rattle.kernel.specs.Position.{position_at_power_up}
 
 -- what the brakes remember; the movement backward stays at the greatest number of 64 bits
@@ -27,26 +28,25 @@ pub record Known : Type 0 where
   pub window : Window
   pub limit : ℕ
   pub position : Datum PositionFrom
-  pub events : ℕ
-  pub lives : ℕ
 
 abbrev pub parts_of : Life → Known
 parts_of life = record {
   window = window_of life;
   limit = limit life;
   position = position_at_power_up life;
-  events = events_of life;
-  lives = lives_of life;
 }
 
 pub record Knowledge (G S : Type 0) : Type 0 where
   pub parts : Known
+  pub counts : Counts
   pub supervision : supervision.Knowledge G S
 
--- it stands for a life; what the two stores give is read off them so
+-- It stands for a life; what the two stores give is read off them so
 pub record StandsForLife {G S : Type 0} (gradients_in : G → Profile ℤ) (speeds_in : S → Profile CategorySpeeds) (known : Knowledge G S) (life : Life) : Type 0 where
   pub parts_are : known.parts ≡ parts_of life
   pub supervision_is : supervision.StandsForLife gradients_in speeds_in known.supervision life
 
-abbrev pub StandsFor : {G S : Type 0} → (G → Profile ℤ) → (S → Profile CategorySpeeds) → Knowledge G S → List Event → Type 0
-StandsFor gradients_in speeds_in known events = StandsForLife gradients_in speeds_in known (life_of events)
+-- .. and for a list of events
+pub record StandsFor {G S : Type 0} (gradients_in : G → Profile ℤ) (speeds_in : S → Profile CategorySpeeds) (known : Knowledge G S) (events : List Event) : Type 0 where
+  pub life_is : StandsForLife gradients_in speeds_in known (life_of events)
+  pub counts_are : known.counts ≡ counts_of events

@@ -29,7 +29,7 @@ impl<G: ProfileStore<Permille> + Drop, S: ProfileStore<CategorySpeeds> + Drop> S
 
     // What a power-up keeps of a life.
     fn kept_of_life(&self) -> Kept
-        ensures { (life : Life) → StandsForLife G.profile S.profile self.now life → result ≡ kept_of life }
+        ensures { (life : Life) → StandsForLife G.profile S.profile self.now life → result ≡ kept_of self.now.counts life }
     {
         let driver = self.supervision.driver().kept();
         Kept {
@@ -40,8 +40,8 @@ impl<G: ProfileStore<Permille> + Drop, S: ProfileStore<CategorySpeeds> + Drop> S
             position: self.position(),
             national: self.supervision.track().national().in_force().copy(),
             trip_outstanding: driver.trip_outstanding,
-            events: self.parts.events,
-            lives: self.parts.lives,
+            events: self.counts.events,
+            lives: self.counts.lives,
         }
     }
 

@@ -3,6 +3,7 @@
 #![tactic(auto)]
 
 mod braking;
+mod counts;
 mod keeping;
 mod output;
 mod parts;

@@ -1,3 +1,5 @@
+ghost use Rattle.std.specs.Prelude.{◌≡◌};
+
 use crate::window::Window;
 use driver::Datum;
 use events::Position;
@@ -12,10 +14,6 @@ pub struct Parts {
     pub limit: Mph,
     /// What the power-up left of the position that was kept.
     pub position: Datum<Position>,
-    /// How many events there were, up to the greatest number of 64 bits.
-    pub events: u64,
-    /// How many lives there were with this one, up to the greatest number of 32 bits.
-    pub lives: u32,
 }
 
 impl Model for Parts {
@@ -27,15 +25,18 @@ impl Model for Parts {
       window = p.window;
       limit = p.limit;
       position = p.position;
-      events = p.events;
-      lives = p.lives;
     } };
 
     ghost inverse = { λ k. record {
       window = k.window;
       limit = k.limit;
       position = k.position;
-      events = k.events;
-      lives = k.lives;
     } };
+}
+
+/// The speed of a train that stands.
+pub fn no_speed() -> Mph
+    ensures { result ≡ 0 }
+{
+    Mph::new(0).unwrap()
 }

@@ -1,7 +1,9 @@
 //! What an event does.
 ghost use Rattle.std.specs.Prelude.{◌≡◌, List, ◌∷◌, OnOk};
 ghost use Rattle.events.specs.declared.input.Event.{Event};
+ghost use Rattle.events.specs.declared.input.Event.TheVariants as event;
 ghost use Rattle.kernel.specs.Brake.{sight_at};
+ghost use Rattle.kernel.specs.Lives.{counted};
 ghost use Rattle.kernel.specs.StandsFor.{StandsForLife, StandsFor, parts_of};
 ghost use Rattle.supervision.specs.Entry.{Entry};
 ghost use Rattle.supervision.specs.Life.{Life, grown};
@@ -26,7 +28,6 @@ impl Parts {
     {
         self.window = self.window.after(sight);
         self.limit = sight.limit;
-        self.events = self.events.saturating_add(1);
     }
 }
 
@@ -52,12 +53,14 @@ fn sight_of<G: ProfileStore<Permille> + Drop, S: ProfileStore<CategorySpeeds> + 
 impl<G: ProfileStore<Permille> + Drop, S: ProfileStore<CategorySpeeds> + Drop> StateOver<G, S> {
     // All that an input does. Where memory is refused, the state is no longer of use.
     fn receive(&mut self, alloc: Global, input: &Input) -> Result<(), NoMemory>
-        ensures { OnOk result ((life : Life) → StandsForLife G.profile S.profile self.old life
+        ensures life { OnOk result ((life : Life) → StandsForLife G.profile S.profile self.old life
             → StandsForLife G.profile S.profile self.new (grown life (entry_of life input.now))) }
+        ensures counts { OnOk result (self.new.counts ≡ counted self.old.counts (event.Input input.now)) }
     {
         self.supervision.receive(alloc, input)?;
         let sight = sight_of(&self.supervision, input);
         self.parts.note(&sight);
+        self.counts = self.counts.received();
         Ok(())
     }
 

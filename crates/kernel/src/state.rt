@@ -1,9 +1,11 @@
 ghost use Rattle.std.specs.Prelude.{◌≡◌, [], IfOk};
-ghost use Rattle.kernel.specs.Lives.{no_life};
+ghost use Rattle.events.specs.declared.input.Event.TheVariants.{PowerUp};
+ghost use Rattle.kernel.specs.Lives.{counted};
 ghost use Rattle.kernel.specs.StandsFor.{StandsForLife, StandsFor};
 ghost use Rattle.supervision.specs.Sentences.{begun_life};
 
-use crate::parts::Parts;
+use crate::counts::Counts;
+use crate::parts::{Parts, no_speed};
 use crate::window::Window;
 use driver::Datum;
 use events::Kept;
@@ -13,12 +15,13 @@ use std::alloc::Global;
 use std::marker::Model;
 use supervision::SupervisionOver;
 use track_store::{ProfileStore, SegmentStore};
-use units::{Mph, NoMemory, Permille};
+use units::{NoMemory, Permille};
 
 /// What the kernel knows, with stores for the gradients and the static speeds.
 #[derive(Drop)]
 pub struct StateOver<G, S> {
     pub(crate) parts: Parts,
+    pub(crate) counts: Counts,
     pub(crate) supervision: SupervisionOver<G, S>,
 }
 
@@ -30,7 +33,7 @@ impl<G, S> Model for StateOver<G, S> {
 
     ghost Value = { Knowledge G S };
 
-    ghost view = { λ s. record { parts = s.parts; supervision = s.supervision } };
+    ghost view = { λ s. record { parts = s.parts; counts = s.counts; supervision = s.supervision } };
 }
 
 impl<G: ProfileStore<Permille> + Drop, S: ProfileStore<CategorySpeeds> + Drop> StateOver<G, S> {
@@ -41,27 +44,30 @@ impl<G: ProfileStore<Permille> + Drop, S: ProfileStore<CategorySpeeds> + Drop> S
         StateOver {
             parts: Parts {
                 window: Window::new(),
-                limit: Mph::new(0).unwrap(),
+                limit: no_speed(),
                 position: Datum::Unknown,
-                events: 0,
-                lives: 0,
             },
+            counts: Counts::NONE,
             supervision: SupervisionOver::new(alloc, Kept::nothing(), Cold::Unknown),
         }
     }
 
     // A life begins with what was kept, and is counted. Takes no memory.
     pub(crate) fn begin(alloc: Global, kept: Kept, cold: Cold) -> Self
-        ensures { StandsForLife G.profile S.profile result (begun_life kept cold) }
+        ensures life { StandsForLife G.profile S.profile result (begun_life kept cold) }
+        ensures counts { result.counts ≡ counted (record { events = kept.events; lives = kept.lives }) (PowerUp cold) }
     {
         StateOver {
             parts: Parts {
                 window: Window::new(),
-                limit: Mph::new(0).unwrap(),
+                limit: no_speed(),
                 position: kept.position.met_by(power_up_status(Item::Position, cold)),
-                events: kept.events.saturating_add(1),
-                lives: kept.lives.saturating_add(1),
             },
+            counts: Counts {
+                events: kept.events,
+                lives: kept.lives,
+            }
+            .powered_up(),
             supervision: SupervisionOver::power_up(alloc, kept, cold),
         }
     }
@@ -72,6 +78,7 @@ impl<G: ProfileStore<Permille> + Drop, S: ProfileStore<CategorySpeeds> + Drop> S
     {
         Ok(StateOver {
             parts: self.parts,
+            counts: self.counts,
             supervision: self.supervision.copy(alloc)?,
         })
     }

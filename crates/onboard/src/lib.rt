@@ -3,10 +3,16 @@
 #![tactic(auto)]
 
 mod errors;
+mod inputs;
 mod life;
+mod living;
 mod onboard;
 mod released;
+mod start;
+mod steps;
 
 pub use errors::{AcceptError, FlushError, LiveError, OpenError};
+pub use living::{live, lives_compose};
 pub use onboard::Onboard;
 pub use released::Released;
+pub use steps::{Step, run};

@@ -1,0 +1,5 @@
+use Rattle.onboard.proofs.Living.{lives_on}
+use Rattle.onboard.proofs.living.lives_compose.Goals as goal
+
+pub returns : goal.returns
+returns c = lives_on

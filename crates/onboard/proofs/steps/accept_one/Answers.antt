@@ -1,0 +1,31 @@
+use Rattle.std.proofs.Common.{rules, ◌≡◌, ◌∷◌, List, sym, subst, ap}
+use Rattle.disk.specs.State.{State}
+use Rattle.events.specs.declared.input.Event.{Event}
+use Rattle.events.specs.declared.input.Event.TheVariants as an_event
+use Rattle.events.specs.declared.input.Input.{Input}
+use Rattle.journal.specs.Journals.{IsOpen}
+use Rattle.journal.specs.declared.journal.Journal.{Journal}
+use Rattle.onboard.specs.Events.{account_of, IsAhead}
+use Rattle.onboard.specs.Runs.{IsStepped}
+use Rattle.onboard.specs.declared.steps.Step.TheVariants.{Accept}
+use Rattle.onboard.proofs.Stepping.{quiet_step}
+use Rattle.onboard.proofs.steps.accept_one.Goals as goal
+
+pub returns-in-Ok-clause-stepped : goal.returns-in-Ok-clause-stepped
+returns-in-Ok-clause-stepped g c = λ durable accepted honest opened ahead.
+    let old : State = g.D.Disk.state c.args.unit.now.disk in
+    let same : g.D.Disk.state c.accept.new.self.disk ≡ old = ap g.D.Disk.state c.accept.ensures.device.0 in
+    let S : State → Type 0 = λ d. IsStepped (Accept c.args.input.now) durable accepted old d in
+    let O : State → Type 0 = λ d. IsOpen c.accept.new.self.journal (account_of durable) d in
+    let J : Journal → Type 0 = λ j. IsOpen j (account_of durable) old in
+    let A : Input → Type 0 = λ input. IsAhead durable (an_event.Input input ∷ accepted) c.accept.new.self.life in (
+      subst S (sym same) (quiet_step (Accept c.args.input.now) c.args.unit.now.journal durable accepted ahead.more old opened ahead.accepted_is),
+      (subst O (sym same) (subst J (sym c.accept.ensures.device.1) opened), subst A c.copy_of.ensures (c.in-Ok.ensures.accepted durable accepted ahead)),
+    )
+
+pub returns-in-Err-clause-stepped : goal.returns-in-Err-clause-stepped
+returns-in-Err-clause-stepped g c = λ durable accepted honest opened ahead.
+    let old : State = g.D.Disk.state c.args.unit.now.disk in
+    let same : g.D.Disk.state c.accept.new.self.disk ≡ old = ap g.D.Disk.state c.accept.ensures.device.0 in
+    let S : State → Type 0 = λ d. IsStepped (Accept c.args.input.now) durable accepted old d in
+    (subst S (sym same) (quiet_step (Accept c.args.input.now) c.args.unit.now.journal durable accepted ahead.more old opened ahead.accepted_is), tt)

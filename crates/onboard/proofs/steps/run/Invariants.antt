@@ -1,0 +1,15 @@
+use Rattle.std.proofs.Common.{◌≡◌, List, IsTrue}
+use Rattle.events.specs.declared.input.Event.{Event}
+use Rattle.journal.specs.Journals.{IsOpen}
+use Rattle.onboard.specs.Events.{account_of, IsAhead}
+use Rattle.onboard.specs.Runs.{Going}
+use Rattle.onboard.proofs.steps.run.Given as goal
+
+abbrev pub invariant-loop-k : goal.invariant-loop-k
+invariant-loop-k g l = record {
+  sectors : (g.D.Disk.state l.unit.disk).sectors ≡ (g.D.Disk.state l.fn.unit.disk).sectors;
+  honest : (g.D.Disk.state l.unit.disk).honest ≡ (g.D.Disk.state l.fn.unit.disk).honest;
+  faults : (g.D.Disk.state l.unit.disk).faults ≡ (g.D.Disk.state l.fn.unit.disk).faults;
+  going : (s : List Event) → IsTrue (g.D.Disk.state l.fn.unit.disk).honest → IsOpen l.fn.unit.journal (account_of s) (g.D.Disk.state l.fn.unit.disk) →
+      IsAhead s s l.fn.unit.life → Going s l.steps l.k (g.D.Disk.state l.fn.unit.disk) (g.D.Disk.state l.unit.disk) l.unit.journal l.unit.life l.fn.out.items l.out.items;
+}

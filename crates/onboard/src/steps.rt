@@ -1,0 +1,121 @@
+// The steps of a life.
+ghost use Rattle.std.specs.Prelude.{◌≡◌, ◌++◌, ◌∷◌, List, IsTrue, IfOk, OnOk, OnErr};
+ghost use Rattle.disk.specs.State.{Counted};
+ghost use Rattle.events.specs.declared.input.Event.{Event};
+ghost use Rattle.events.specs.declared.input.Event.TheVariants.{Input as an_input};
+ghost use Rattle.journal.specs.Journals.{IsOpen};
+ghost use Rattle.onboard.specs.Answers.{live_failed};
+ghost use Rattle.onboard.specs.Events.{account_of, IsAhead};
+ghost use Rattle.onboard.specs.Runs.{accepted_by, IsStepped, Took, Ran};
+ghost use Rattle.onboard.specs.declared.steps.Step.TheVariants as a_step;
+
+use crate::errors::LiveError;
+use crate::inputs::copy_of;
+use crate::onboard::Onboard;
+use crate::released::Released;
+use disk::Disk;
+use events::Input;
+use std::alloc::Global;
+
+/// What happens in a life.
+#[derive(Drop)]
+pub enum Step {
+    /// An input comes.
+    Accept(Input),
+    /// What is pending is put on the disk and released.
+    Flush,
+}
+
+// Flushes, once there is room for what may be released.
+fn flush_into<D: Disk>(
+    unit: &mut Onboard<D>,
+    k: usize,
+    out: &mut Vec<Released>,
+) -> Result<(), LiveError>
+    ensures counted { Counted (live_failed result) (D.state unit.old.disk) (D.state unit.new.disk) }
+    ensures stepped { (durable accepted : List Event) → IsTrue (D.state unit.old.disk).honest →
+        IsOpen unit.old.journal (account_of durable) (D.state unit.old.disk) → IsAhead durable accepted unit.old.life →
+        IsStepped a_step.Flush durable accepted (D.state unit.old.disk) (D.state unit.new.disk)
+        × OnOk result (IsOpen unit.new.journal (account_of accepted) (D.state unit.new.disk) × IsAhead accepted accepted unit.new.life) }
+    ensures released { IfOk result (λ _. out.new.items ≡ out.old.items ++ unit.old.life.pairs.items) }
+    ensures nothing { OnErr result (out.new.items ≡ out.old.items) }
+{
+    if out.reserve(8).is_err() {
+        return Err(LiveError::NoMemory(k));
+    }
+    match unit.flush() {
+        Ok(pairs) => {
+            let _room = out.extend_from_slice(pairs.as_slice());
+            Ok(())
+        }
+        Err(error) => Err(LiveError::Flush(k, error)),
+    }
+}
+
+// Accepts a copy of the input.
+fn accept_one<D: Disk>(
+    alloc: Global,
+    unit: &mut Onboard<D>,
+    k: usize,
+    input: &Input,
+) -> Result<(), LiveError>
+    ensures counted { Counted (live_failed result) (D.state unit.old.disk) (D.state unit.new.disk) }
+    ensures stepped { (durable accepted : List Event) → IsTrue (D.state unit.old.disk).honest →
+        IsOpen unit.old.journal (account_of durable) (D.state unit.old.disk) → IsAhead durable accepted unit.old.life →
+        IsStepped (a_step.Accept input.now) durable accepted (D.state unit.old.disk) (D.state unit.new.disk)
+        × OnOk result (IsOpen unit.new.journal (account_of durable) (D.state unit.new.disk)
+            × IsAhead durable (an_input input.now ∷ accepted) unit.new.life) }
+{
+    match unit.accept(alloc, copy_of(input)) {
+        Ok(()) => Ok(()),
+        Err(error) => Err(LiveError::Accept(k, error)),
+    }
+}
+
+fn take<D: Disk>(
+    alloc: Global,
+    unit: &mut Onboard<D>,
+    k: usize,
+    step: &Step,
+    out: &mut Vec<Released>,
+) -> Result<(), LiveError>
+    ensures counted { Counted (live_failed result) (D.state unit.old.disk) (D.state unit.new.disk) }
+    ensures stepped { (durable accepted : List Event) → IsTrue (D.state unit.old.disk).honest →
+        IsOpen unit.old.journal (account_of durable) (D.state unit.old.disk) → IsAhead durable accepted unit.old.life →
+        IsStepped step.now durable accepted (D.state unit.old.disk) (D.state unit.new.disk)
+        × OnOk result (Took durable accepted step.now unit.new.journal unit.new.life (D.state unit.new.disk) out.old.items out.new.items) }
+    ensures nothing { OnErr result (out.new.items ≡ out.old.items) }
+{
+    match step {
+        Step::Accept(input) => match accept_one(alloc, unit, k, input) {
+            Ok(()) => Ok(()),
+            Err(error) => Err(error),
+        },
+        Step::Flush => match flush_into(unit, k, out) {
+            Ok(()) => Ok(()),
+            Err(error) => Err(error),
+        },
+    }
+}
+
+/// Takes the steps in order, up to the first error.
+pub fn run<D: Disk>(
+    alloc: Global,
+    unit: &mut Onboard<D>,
+    steps: &[Step],
+    out: &mut Vec<Released>,
+) -> Result<(), LiveError>
+    ensures counted { Counted (live_failed result) (D.state unit.old.disk) (D.state unit.new.disk) }
+    ensures ran { (s : List Event) → IsTrue (D.state unit.old.disk).honest →
+        IsOpen unit.old.journal (account_of s) (D.state unit.old.disk) → IsAhead s s unit.old.life →
+        (it : Ran s steps.now (D.state unit.old.disk) (D.state unit.new.disk) out.old.items out.new.items)
+        × OnOk result (it.after ≡ accepted_by s steps.now) }
+{
+    for k in 0..steps.len() {
+        match take(alloc, unit, k, &steps[k], out) {
+            Ok(()) => {}
+            Err(error) => return Err(error),
+        }
+    }
+    Ok(())
+}

@@ -1,5 +1,5 @@
 pub mod Lists
-pub mod Living
+pub mod WholeLives
 pub mod Numbering
 pub mod Opening
 pub mod Pending

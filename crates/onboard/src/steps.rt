@@ -64,7 +64,7 @@ fn accept_one<D: Disk>(
         IsOpen unit.old.journal (account_of durable) (D.state unit.old.disk) → IsAhead durable accepted unit.old.life →
         IsStepped (a_step.Accept input.now) durable accepted (D.state unit.old.disk) (D.state unit.new.disk)
         × OnOk result (IsOpen unit.new.journal (account_of durable) (D.state unit.new.disk)
-            × IsAhead durable (an_input input.now ∷ accepted) unit.new.life) }
+        × IsAhead durable (an_input input.now ∷ accepted) unit.new.life) }
 {
     match unit.accept(alloc, copy_of(input)) {
         Ok(()) => Ok(()),

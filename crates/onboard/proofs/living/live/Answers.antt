@@ -5,7 +5,7 @@ use Rattle.events.specs.declared.input.Event.{Event}
 use Rattle.events.specs.declared.input.Event.TheVariants.{PowerUp}
 use Rattle.mode_table.specs.declared.statuses.Cold.{Cold}
 use Rattle.onboard.specs.Runs.{accepted_by, Lives}
-use Rattle.onboard.proofs.Living.{lives_refused, lives_ran, on_ok}
+use Rattle.onboard.proofs.WholeLives.{lives_refused, lives_ran, on_ok}
 use Rattle.onboard.proofs.living.live.Goals as goal
 
 pub returns-in-Ok-clause-life : goal.returns-in-Ok-clause-life

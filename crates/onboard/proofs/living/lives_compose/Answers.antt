@@ -1,4 +1,4 @@
-use Rattle.onboard.proofs.Living.{lives_on}
+use Rattle.onboard.proofs.WholeLives.{lives_on}
 use Rattle.onboard.proofs.living.lives_compose.Goals as goal
 
 pub returns : goal.returns

@@ -14,6 +14,13 @@ pub struct Released {
 }
 
 impl Released {
+    // Of an event that is on the disk.
+    pub(crate) fn of(number: u64, output: Output) -> Released
+        ensures { result ≡ record { number = number; output = output } }
+    {
+        Released { number, output }
+    }
+
     /// The number of its event, from 0 on.
     pub fn event(&self) -> u64
         ensures { result ≡ self.now.number }

@@ -1,6 +1,7 @@
 pub mod Lists
-pub mod WholeLives
+pub mod Meeting
 pub mod Numbering
 pub mod Opening
 pub mod Pending
 pub mod Stepping
+pub mod WholeLives

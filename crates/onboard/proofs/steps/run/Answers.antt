@@ -18,7 +18,7 @@ returns-in-Err-clause-ran g c = λ s honest opened ahead.
     let going = c.loop-k.invariant.going s honest opened ahead in
     let still : IsTrue (g.D.Disk.state c.loop-k.unit.disk).honest = subst IsTrue (sym c.loop-k.invariant.honest) honest in
     let step = c.in-Err.ensures.stepped going.durable (accepted_by s (take c.loop-k.k c.args.steps.now)) still going.opened going.ahead in
-    (stopped s c.args.steps.now c.loop-k.k c.loop-k-test.true _ _ refl (g.D.Disk.state c.args.unit.now.disk) (g.D.Disk.state c.loop-k.unit.disk) c.loop-k.invariant.sectors c.loop-k.unit.journal c.loop-k.unit.life c.args.out.now.items c.loop-k.out.items going (g.D.Disk.state c.take.new.unit.disk) c.take.new.out.items step.0 c.in-Err.ensures.nothing, tt)
+    (stopped s c.args.steps.now c.loop-k.k c.loop-k-test.true c.index-steps-k.result _ c.index-steps-k.is (g.D.Disk.state c.args.unit.now.disk) (g.D.Disk.state c.loop-k.unit.disk) c.loop-k.invariant.sectors c.loop-k.unit.journal c.loop-k.unit.life c.args.out.now.items c.loop-k.out.items going (g.D.Disk.state c.take.new.unit.disk) c.take.new.out.items step.0 c.in-Err.ensures.nothing, tt)
 
 pub loop-k-preserved : goal.loop-k-preserved
 loop-k-preserved g c = record {
@@ -29,7 +29,7 @@ loop-k-preserved g c = record {
       let going = c.loop-k.invariant.going s honest opened ahead in
       let still : IsTrue (g.D.Disk.state c.loop-k.unit.disk).honest = subst IsTrue (sym c.loop-k.invariant.honest) honest in
       let step = c.in-Ok.ensures.stepped going.durable (accepted_by s (take c.loop-k.k c.args.steps.now)) still going.opened going.ahead in
-      stepped s c.args.steps.now c.loop-k.k c.loop-k-test.true _ _ refl (g.D.Disk.state c.args.unit.now.disk) (g.D.Disk.state c.loop-k.unit.disk) c.loop-k.invariant.sectors c.loop-k.unit.journal c.loop-k.unit.life c.args.out.now.items c.loop-k.out.items going (g.D.Disk.state c.take.new.unit.disk) c.take.new.unit.journal c.take.new.unit.life c.take.new.out.items step.0 step.1;
+      stepped s c.args.steps.now c.loop-k.k c.loop-k-test.true c.index-steps-k.result _ c.index-steps-k.is (g.D.Disk.state c.args.unit.now.disk) (g.D.Disk.state c.loop-k.unit.disk) c.loop-k.invariant.sectors c.loop-k.unit.journal c.loop-k.unit.life c.args.out.now.items c.loop-k.out.items going (g.D.Disk.state c.take.new.unit.disk) c.take.new.unit.journal c.take.new.unit.life c.take.new.out.items step.0 step.1;
 }
 
 pub returns-clause-ran : goal.returns-clause-ran

@@ -5,7 +5,7 @@ ghost use Rattle.events.specs.declared.input.Event.{Event};
 ghost use Rattle.events.specs.declared.input.Event.TheVariants.{PowerUp};
 ghost use Rattle.mode_table.specs.declared.statuses.Cold.{Cold};
 ghost use Rattle.onboard.specs.Answers.{live_failed};
-ghost use Rattle.onboard.specs.Lives.{IsReady};
+ghost use Rattle.onboard.specs.Lives.{IsReady, StandsBy};
 ghost use Rattle.onboard.specs.Runs.{accepted_by, Lives, LivesCompose};
 
 use crate::errors::LiveError;
@@ -44,4 +44,9 @@ pub fn live<D: Disk>(
 /// A law: wherever a life is cut, what it leaves is ready for the next one.
 pub fn lives_compose()
     ensures { LivesCompose }
+{}
+
+/// A law: behind each power-up the mode is Stand By, whatever was told of movements.
+pub fn stands_by()
+    ensures { StandsBy }
 {}

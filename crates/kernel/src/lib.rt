@@ -2,7 +2,7 @@
 //! it leaves a choice, this project's profile). Distances are centimetres, speeds metres per hour, moments milliseconds.
 #![tactic(auto)]
 
-mod braking;
+mod commanding;
 mod counts;
 mod keeping;
 mod laws;

@@ -1,5 +1,5 @@
 // Images made by hand.
-ghost use Rattle.std.specs.Prelude.{◌≡◌, IfSome, ◌<◌, ◌^◌};
+ghost use Rattle.std.specs.Prelude.{◌<◌, IfSome};
 
 use crate::batches::{batch, kept_of};
 use blocks::{Format, valid_number, write_block_in};
@@ -7,7 +7,9 @@ use disk::{Disk, Memory, SECTOR_BYTES};
 use std::alloc::Global;
 
 // How many slots a disk has room for.
-fn slots_of(disk: &Memory) -> Option<u32> {
+fn slots_of(disk: &Memory) -> Option<u32>
+    ensures { IfSome result (λ slots. 0 < slots) }
+{
     let slots = u32::try_from(disk.sectors() / 6).ok()?;
     if slots == 0 { None } else { Some(slots) }
 }

@@ -7,8 +7,8 @@ use journal::{BlockError, CommitError, FormatError, Found, Journal, OpenError, R
 use std::alloc::Global;
 use units::NoMemory;
 
-/// Room for the calls of the longest row, and for the sectors that they write.
-const CALLS: u64 = 16_384;
+/// Room for the calls of the longest row, openings aside, and for the sectors that they write.
+const CALLS: u64 = 8_192;
 
 /// A disk, and the journal that was opened on it.
 #[derive(Drop)]
@@ -23,7 +23,7 @@ impl Session {
     /// A disk of so many sectors.
     pub fn new(alloc: Global, sectors: u64) -> Result<Session, NoMemory> {
         Ok(Session {
-            disk: Memory::new(alloc, sectors, CALLS, CALLS)?,
+            disk: Memory::new(alloc, sectors, CALLS.saturating_add(sectors), CALLS)?,
             kept: Memory::new(alloc, 0, 0, 0)?,
             journal: None,
         })

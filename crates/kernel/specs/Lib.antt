@@ -4,3 +4,4 @@ pub mod Brake
 pub mod Output
 pub mod StandsFor
 pub mod Laws
+pub mod Quiet

@@ -158,6 +158,7 @@ const ROWS: &[(&str, &[Event])] = &[
             Limit(14_999, 20),
             Keep,
             Turn,
+            Limit(14_999, 20),
             DropBehind(15_000),
             DropBehind(0),
             Add(8, 30),

@@ -1,6 +1,6 @@
 use Rattle.std.proofs.Common.{arith}
 use Rattle.packets.proofs.StaticSteps.{steps_more, steps_end, size_more}
-use Rattle.packets.proofs.static_speeds.steps_fields.Goals as goal
+use Rattle.packets.proofs.static_speeds.handing.steps_fields.Goals as goal
 
 pub step_fields-requires : goal.step_fields-requires
 step_fields-requires g c =

@@ -1,6 +1,6 @@
 use Rattle.std.proofs.Common.{◌≡◌, ◌+◌, ◌≤◌, drop}
 use Rattle.packets.specs.StaticSteps.{steps_taken, steps_size}
-use Rattle.packets.proofs.static_speeds.steps_fields.Given as goal
+use Rattle.packets.proofs.static_speeds.handing.steps_fields.Given as goal
 
 abbrev pub invariant-loop-step : goal.invariant-loop-step
 invariant-loop-step g l = record {

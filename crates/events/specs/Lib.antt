@@ -1,3 +1,4 @@
 pub mod Limits
 pub mod Kept
 pub mod Indications
+pub mod Nothing

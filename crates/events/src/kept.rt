@@ -1,7 +1,10 @@
+ghost use Rattle.std.specs.Prelude.{◌≡◌};
+ghost use Rattle.events.specs.Nothing.{nothing_kept};
+
 use crate::Position;
 use driver::{Datum, DriverIdentity, RunningNumber, TrainData};
 use mode_table::TrainLevel;
-use national::CountryValues;
+use national::{CountryValues, National};
 
 /// What outlives a power-up. Identity, running number and train data are never valid behind one, so only their values are kept;
 /// level and position are kept with the status that they have.
@@ -25,4 +28,40 @@ pub struct Kept {
     pub events: u64,
     /// How many power-ups there were, up to the greatest number of 32 bits.
     pub lives: u32,
+}
+
+impl Kept {
+    /// Before the first event.
+    pub fn nothing() -> Kept
+        ensures { result ≡ nothing_kept }
+    {
+        Kept {
+            identity: None,
+            running_number: None,
+            train_data: None,
+            level: Datum::Unknown,
+            position: Datum::Unknown,
+            national: National::new().in_force().copy(),
+            trip_outstanding: false,
+            events: 0,
+            lives: 0,
+        }
+    }
+
+    /// An equal value.
+    pub fn copy(&self) -> Kept
+        ensures { result ≡ self.now }
+    {
+        Kept {
+            identity: self.identity,
+            running_number: self.running_number,
+            train_data: self.train_data,
+            level: self.level,
+            position: self.position,
+            national: self.national.copy(),
+            trip_outstanding: self.trip_outstanding,
+            events: self.events,
+            lives: self.lives,
+        }
+    }
 }

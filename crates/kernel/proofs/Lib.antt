@@ -1,2 +1,1 @@
-pub mod OneInput
 pub mod Standing

@@ -1,4 +1,5 @@
+pub mod Position
 pub mod Lives
-pub mod Limit
+pub mod Brake
+pub mod Output
 pub mod StandsFor
-pub mod Forgetting

@@ -1,68 +1,62 @@
 -- A list of events, the newest first, is cut into lives at each power-up. What a life says is read off what was kept of the
 -- lives before it and off its own entries, and off nothing else (this project's profile).
-use Rattle.std.specs.Prelude.{ℕ, ◌+◌, ◌-◌, ◌^◌, min, Some, None, List, [], ◌∷◌}
+use Rattle.std.specs.Prelude.{ℕ, ◌+◌, ◌-◌, ◌^◌, min, List, [], ◌∷◌}
+use Rattle.driver.specs.Data.{value_of}
 use Rattle.events.specs.declared.input.Event as events
 use Rattle.events.specs.declared.input.Event.TheVariants.{PowerUp, Input}
-use Rattle.events.specs.declared.input.Input as inputs
-use Rattle.mode_table.specs.declared.mode.Mode.{Mode as TableMode}
-use Rattle.mode_table.specs.declared.mode.Mode.TheVariants as table
-use Rattle.national.specs.InForce as national
-use Rattle.trackside.specs.Entry.{Entry, Begun, Used, turned, marked}
-use Rattle.trackside.specs.Sentences.{received, standing, mark_behind, powered_up}
-use Rattle.trackside.specs.StandsFor.{Life as TrackLife, national_of}
-use Rattle.kernel.specs.declared.kept.Kept.{Kept}
-use Rattle.kernel.specs.declared.train.Mode.{Mode}
-use Rattle.kernel.specs.declared.train.Mode.TheVariants.{FullSupervision, StaffResponsible}
-use Rattle.kernel.specs.declared.train.TrainData.{TrainData}
+use Rattle.events.specs.declared.kept.Kept.{Kept}
+use Rattle.events.specs.Nothing.{nothing_kept}
+use Rattle.mode_table.specs.declared.statuses.Cold.TheVariants as cold
+use Rattle.supervision.specs.Life.{Life, track_of, driver_of, grown}
+use Rattle.supervision.specs.Sentences.{entry_of, begun_life}
+use Rattle.trackside.specs.StandsFor.{national_of}
+use Rattle.kernel.specs.declared.counts.Counts.{Counts}
+use Rattle.kernel.specs.Position.{position_of}
 
-pub record Life : Type 0 where
-  pub lives : ℕ  -- how many lives there were, with this one
-  pub kept : Kept  -- what was kept at its power-up
-  pub entries : List Entry  -- what its events told, the newest first
+-- ---- the counts: how many events there were, and how many of them were power-ups, up to the greatest numbers of 64 and of 32 bits
 
--- what it says of the track
-abbrev pub track_of : Life → TrackLife
-track_of life = record { kept = life.kept.national; entries = life.entries }
+abbrev pub one_more : ℕ → ℕ → ℕ
+one_more count most = min (count + 1) most
 
--- what is kept of a life
-abbrev pub kept_of : Life → Kept
-kept_of life = record { lives = life.lives; national = (national_of (track_of life)).in_force }
+abbrev pub counted : Counts → events.Event → Counts
+counted counts (PowerUp cold) = record { events = one_more counts.events (2 ^ 64 - 1); lives = one_more counts.lives (2 ^ 32 - 1) }
+counted counts (Input input) = record { events = one_more counts.events (2 ^ 64 - 1); lives = counts.lives }
 
--- before the first power-up
-abbrev pub nothing_kept : Kept
-nothing_kept = record { lives = 0; national = national.nothing_kept }
+abbrev pub counts_of : List events.Event → Counts
+counts_of [] = record { events = 0; lives = 0 }
+counts_of (event ∷ events) = counted (counts_of events) event
 
+-- ---- what is kept of a life: the driver's identity, the running number and the train data that were entered last, never valid
+-- behind a power-up; level and position as they are; the national values in force; an outstanding trip; the counts
+
+abbrev pub kept_of : Counts → Life → Kept
+kept_of counts life = record {
+  identity = value_of (driver_of life).identity;
+  running_number = value_of (driver_of life).running_number;
+  train_data = value_of (driver_of life).train_data;
+  level = (driver_of life).level;
+  position = position_of life;
+  national = (national_of (track_of life)).in_force;
+  trip_outstanding = (driver_of life).trip_outstanding;
+  events = counts.events;
+  lives = counts.lives;
+}
+
+-- ---- the life that a list of events is in
+
+-- before the first event
 abbrev pub no_life : Life
-no_life = record { lives = 0; kept = nothing_kept; entries = [] }
+no_life = record { kept = nothing_kept; cold = cold.Unknown; entries = [] }
 
--- one life more, up to the greatest number of 32 bits
-abbrev pub counted : ℕ → ℕ
-counted lives = min (lives + 1) (2 ^ 32 - 1)
+-- a power-up begins a life with what was kept; an input adds what it does
+abbrev pub life_after : Counts → Life → events.Event → Life
+life_after counts life (PowerUp cold) = begun_life (kept_of counts life) cold
+life_after counts life (Input input) = grown life (entry_of life input)
 
--- a power-up begins a life, and counts it
-abbrev pub begun_life : TrainData → Kept → Life
-begun_life train kept = record { lives = counted kept.lives; kept = kept; entries = powered_up train.length ∷ [] }
+abbrev pub life_of : List events.Event → Life
+life_of [] = no_life
+life_of (event ∷ events) = life_after (counts_of events) (life_of events) event
 
--- ---- an input: what it tells in the mode, where the train stands then, and what is forgotten
-
-abbrev pub table_mode : Mode → TableMode
-table_mode FullSupervision = table.FullSupervision
-table_mode StaffResponsible = table.StaffResponsible
-
-abbrev pub ended : ℕ → List Entry → Begun → Used → Entry
-ended length entries begun used =
-    let train = Some (standing length (turned begun used None None ∷ entries)) in
-    marked begun used train None (mark_behind (standing length (turned begun used train None ∷ entries)))
-
-abbrev pub entry_of : Mode → TrainData → List Entry → inputs.Input → Entry
-entry_of mode train entries input =
-    let told = received (table_mode mode) entries input in ended train.length entries told.begun told.used
-
-abbrev pub life_after : Mode → TrainData → Life → events.Event → Life
-life_after mode train life (PowerUp cold) = begun_life train (kept_of life)
-life_after mode train life (Input input) = record life { entries = entry_of mode train life.entries input ∷ life.entries }
-
--- the life that a list of events is in
-abbrev pub life_of : Mode → TrainData → List events.Event → Life
-life_of mode train [] = no_life
-life_of mode train (event ∷ events) = life_after mode train (life_of mode train events) event
+-- what a power-up keeps of these events
+abbrev pub kept_by : List events.Event → Kept
+kept_by events = kept_of (counts_of events) (life_of events)

@@ -1,18 +1,18 @@
-//! The kernel: the speed limit after each event, by the whole history of events (this project's profile). Distances are
-//! centimetres, speeds metres per hour, moments milliseconds.
+//! The kernel: what is answered after each event, by the whole history of events, and what outlives a loss of power (SUBSET-026; where
+//! it leaves a choice, this project's profile). Distances are centimetres, speeds metres per hour, moments milliseconds.
 #![tactic(auto)]
 
-mod kept;
-mod laws;
-mod limiting;
+mod braking;
+mod counts;
+mod keeping;
+mod output;
+mod parts;
+mod position;
 mod receiving;
+mod sight;
 mod state;
 mod steps;
-mod train;
+mod window;
 
-pub use events::{Event, Input, Reading, TelegramBytes};
-pub use kept::Kept;
-pub use laws::{kept_is_the_last, power_up_forgets};
 pub use state::{State, StateOver};
-pub use steps::{limits, step};
-pub use train::{Mode, TrainData};
+pub use steps::step;

@@ -1,53 +1,80 @@
 //! What an event does.
-ghost use Rattle.std.specs.Prelude.{List, ◌∷◌, OnOk};
+ghost use Rattle.std.specs.Prelude.{◌≡◌, List, ◌∷◌, OnOk};
 ghost use Rattle.events.specs.declared.input.Event.{Event};
 ghost use Rattle.events.specs.declared.input.Event.TheVariants as event;
-ghost use Rattle.kernel.specs.Lives.{Life, life_after};
-ghost use Rattle.kernel.specs.StandsFor.{StandsForLife, StandsFor};
+ghost use Rattle.kernel.specs.Brake.{sight_at};
+ghost use Rattle.kernel.specs.Lives.{counted};
+ghost use Rattle.kernel.specs.StandsFor.{StandsForLife, StandsFor, parts_of};
+ghost use Rattle.supervision.specs.Entry.{Entry};
+ghost use Rattle.supervision.specs.Life.{Life, grown};
+ghost use Rattle.supervision.specs.Sentences.{entry_of};
+ghost use Rattle.supervision.specs.StandsFor.{StandsForLife as SupervisionStandsForLife};
 
+use crate::parts::Parts;
+use crate::sight::{Sight, backward_by, reading_of, stands};
 use crate::state::StateOver;
-use crate::train::{Mode, TrainData};
 use events::{Event, Input};
+use mode_limits::limit;
 use speed_profile::CategorySpeeds;
 use std::alloc::Global;
+use supervision::SupervisionOver;
 use track_store::ProfileStore;
 use units::{NoMemory, Permille};
 
-impl<G: ProfileStore<Permille> + Drop, S: ProfileStore<CategorySpeeds> + Drop> StateOver<G, S> {
-    /// All that an input does. Where memory is refused, the state is no longer of use.
-    pub(crate) fn receive(
-        &mut self,
-        alloc: Global,
-        mode: Mode,
-        train: &TrainData,
-        input: &Input,
-    ) -> Result<(), NoMemory>
-        ensures { OnOk result ((life : Life) → StandsForLife G.profile S.profile self.old life
-            → StandsForLife G.profile S.profile self.new (life_after mode train.now life (event.Input input.now))) }
+impl Parts {
+    // An event shows this.
+    fn note(&mut self, sight: &Sight)
+        ensures { (life : Life) (entry : Entry) → self.old ≡ parts_of life → sight.now ≡ sight_at life entry → self.new ≡ parts_of (grown life entry) }
     {
-        self.track.receive(alloc, mode.table_mode(), input)?;
-        self.track.look(train.length);
-        self.track.forget(train.length);
+        self.window = self.window.after(sight);
+        self.limit = sight.limit;
+    }
+}
+
+// What an input shows that was just received.
+fn sight_of<G: ProfileStore<Permille> + Drop, S: ProfileStore<CategorySpeeds> + Drop>(
+    supervision: &SupervisionOver<G, S>,
+    input: &Input,
+) -> Sight
+    ensures { (life : Life) → SupervisionStandsForLife G.profile S.profile supervision.now (grown life (entry_of life input.now))
+        → result ≡ sight_at life (entry_of life input.now) }
+{
+    let reading = reading_of(input);
+    let happened = supervision.track().happened();
+    Sight {
+        stands: stands(&reading),
+        backward: backward_by(happened.overrun, &reading),
+        asked_for_service: happened.asked.service,
+        speed: supervision.track().speed(),
+        limit: limit(supervision),
+    }
+}
+
+impl<G: ProfileStore<Permille> + Drop, S: ProfileStore<CategorySpeeds> + Drop> StateOver<G, S> {
+    // All that an input does. Where memory is refused, the state is no longer of use.
+    fn receive(&mut self, alloc: Global, input: &Input) -> Result<(), NoMemory>
+        ensures life { OnOk result ((life : Life) → StandsForLife G.profile S.profile self.old life
+            → StandsForLife G.profile S.profile self.new (grown life (entry_of life input.now))) }
+        ensures counts { OnOk result (self.new.counts ≡ counted self.old.counts (event.Input input.now)) }
+    {
+        self.supervision.receive(alloc, input)?;
+        let sight = sight_of(&self.supervision, input);
+        self.parts.note(&sight);
+        self.counts = self.counts.received();
         Ok(())
     }
 
     /// All that an event does. Where memory is refused, the state is no longer of use.
-    pub(crate) fn apply(
-        &mut self,
-        alloc: Global,
-        mode: Mode,
-        train: &TrainData,
-        event: &Event,
-    ) -> Result<(), NoMemory>
-        ensures { OnOk result ((events : List Event) → StandsFor G.profile S.profile mode train.now self.old events
-            → StandsFor G.profile S.profile mode train.now self.new (event.now ∷ events)) }
+    pub(crate) fn take(&mut self, alloc: Global, event: &Event) -> Result<(), NoMemory>
+        ensures { OnOk result ((events : List Event) → StandsFor G.profile S.profile self.old events
+            → StandsFor G.profile S.profile self.new (event.now ∷ events)) }
     {
         match event {
-            Event::PowerUp(_) => {
-                *self = StateOver::power_up(alloc, self.kept(), train);
+            Event::PowerUp(cold) => {
+                *self = StateOver::begin(alloc, self.kept(), *cold);
                 Ok(())
             }
-            Event::Input(input) => self.receive(alloc, mode, train, input),
+            Event::Input(input) => self.receive(alloc, input),
         }
     }
 }

@@ -1,25 +1,28 @@
-ghost use Rattle.std.specs.Prelude.{◌≡◌, List, [], IfOk};
-ghost use Rattle.events.specs.declared.input.Event.{Event};
-ghost use Rattle.kernel.specs.declared.train.Mode.{Mode};
-ghost use Rattle.kernel.specs.declared.train.TrainData.{TrainData};
-ghost use Rattle.kernel.specs.Forgetting.{kept};
-ghost use Rattle.kernel.specs.Lives.{begun_life};
+ghost use Rattle.std.specs.Prelude.{◌≡◌, [], IfOk};
+ghost use Rattle.events.specs.declared.input.Event.TheVariants.{PowerUp};
+ghost use Rattle.kernel.specs.Lives.{counted};
 ghost use Rattle.kernel.specs.StandsFor.{StandsForLife, StandsFor};
+ghost use Rattle.supervision.specs.Sentences.{begun_life};
 
-use crate::kept::Kept;
-use crate::train::TrainData;
+use crate::counts::Counts;
+use crate::parts::{Parts, no_speed};
+use crate::window::Window;
+use driver::Datum;
+use events::Kept;
+use mode_table::{Cold, Item, power_up_status};
 use speed_profile::CategorySpeeds;
 use std::alloc::Global;
 use std::marker::Model;
+use supervision::SupervisionOver;
 use track_store::{ProfileStore, SegmentStore};
-use trackside::TracksideOver;
 use units::{NoMemory, Permille};
 
 /// What the kernel knows, with stores for the gradients and the static speeds.
 #[derive(Drop)]
 pub struct StateOver<G, S> {
-    pub(crate) track: TracksideOver<G, S>,
-    pub(crate) lives: u32,
+    pub(crate) parts: Parts,
+    pub(crate) counts: Counts,
+    pub(crate) supervision: SupervisionOver<G, S>,
 }
 
 /// What the kernel knows, with stores that stay short however long the life.
@@ -30,38 +33,42 @@ impl<G, S> Model for StateOver<G, S> {
 
     ghost Value = { Knowledge G S };
 
-    ghost view = { λ s. record { track = s.track; lives = s.lives } };
+    ghost view = { λ s. record { parts = s.parts; counts = s.counts; supervision = s.supervision } };
 }
 
 impl<G: ProfileStore<Permille> + Drop, S: ProfileStore<CategorySpeeds> + Drop> StateOver<G, S> {
-    /// What is known before the first power-up. Takes no memory.
+    /// What is known before the first event. Takes no memory.
     pub fn empty(alloc: Global) -> Self
-        ensures { (mode : Mode) (train : TrainData) → StandsFor G.profile S.profile mode train result [] }
+        ensures { StandsFor G.profile S.profile result [] }
     {
         StateOver {
-            track: TracksideOver::new(alloc, Kept::nothing().national),
-            lives: 0,
+            parts: Parts {
+                window: Window::new(),
+                limit: no_speed(),
+                position: Datum::Unknown,
+            },
+            counts: Counts::NONE,
+            supervision: SupervisionOver::new(alloc, Kept::nothing(), Cold::Unknown),
         }
     }
 
-    /// A life begins, and is counted. Nothing is known but what was kept, and the track behind the train is forgotten. Takes
-    /// no memory.
-    pub(crate) fn power_up(alloc: Global, kept: Kept, train: &TrainData) -> Self
-        ensures { StandsForLife G.profile S.profile result (begun_life train.now kept) }
+    // A life begins with what was kept, and is counted. Takes no memory.
+    pub(crate) fn begin(alloc: Global, kept: Kept, cold: Cold) -> Self
+        ensures life { StandsForLife G.profile S.profile result (begun_life kept cold) }
+        ensures counts { result.counts ≡ counted (record { events = kept.events; lives = kept.lives }) (PowerUp cold) }
     {
-        let lives = kept.next_life();
-        let mut track = TracksideOver::new(alloc, kept.national);
-        track.forget(train.length);
-        StateOver { track, lives }
-    }
-
-    /// What a power-up keeps.
-    pub fn kept(&self) -> Kept
-        ensures { (mode : Mode) (train : TrainData) (events : List Event) → StandsFor G.profile S.profile mode train self.now events → result ≡ kept mode train events }
-    {
-        Kept {
-            lives: self.lives,
-            national: self.track.national().in_force().copy(),
+        StateOver {
+            parts: Parts {
+                window: Window::new(),
+                limit: no_speed(),
+                position: kept.position.met_by(power_up_status(Item::Position, cold)),
+            },
+            counts: Counts {
+                events: kept.events,
+                lives: kept.lives,
+            }
+            .powered_up(),
+            supervision: SupervisionOver::power_up(alloc, kept, cold),
         }
     }
 
@@ -70,8 +77,9 @@ impl<G: ProfileStore<Permille> + Drop, S: ProfileStore<CategorySpeeds> + Drop> S
         ensures { IfOk result (λ copy. copy ≡ self.now) }
     {
         Ok(StateOver {
-            track: self.track.copy(alloc)?,
-            lives: self.lives,
+            parts: self.parts,
+            counts: self.counts,
+            supervision: self.supervision.copy(alloc)?,
         })
     }
 }

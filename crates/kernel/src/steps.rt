@@ -1,51 +1,43 @@
-ghost use Rattle.std.specs.Prelude.{◌≡◌, List, ◌∷◌, IfOk};
+ghost use Rattle.std.specs.Prelude.{◌≡◌, List, ◌∷◌, IfOk, OnOk, OnErr};
 ghost use Rattle.events.specs.declared.input.Event.{Event};
-ghost use Rattle.kernel.specs.Limit.{limit_after, limits_of};
+ghost use Rattle.kernel.specs.Output.{output_after};
 ghost use Rattle.kernel.specs.StandsFor.{StandsFor};
 
-use crate::state::{State, StateOver};
-use crate::train::{Mode, TrainData};
-use events::{Event, Input};
+use crate::state::StateOver;
+use events::{Event, Output};
 use speed_profile::CategorySpeeds;
 use std::alloc::Global;
 use track_store::ProfileStore;
-use units::{Mph, NoMemory, Permille};
+use units::{NoMemory, Permille};
 
-/// One event: what is known after it, and the speed limit. The old state is unchanged.
+/// One event: what is known after it, and what is answered. The old state is unchanged. The moments of the clock don't fall in a life.
 pub fn step<G: ProfileStore<Permille> + Drop, S: ProfileStore<CategorySpeeds> + Drop>(
     alloc: Global,
-    mode: Mode,
-    train: &TrainData,
     state: &StateOver<G, S>,
     event: &Event,
-) -> Result<(StateOver<G, S>, Mph), NoMemory>
-    ensures stands { IfOk result (λ answer. (events : List Event) → StandsFor G.profile S.profile mode train.now state.now events
-        → StandsFor G.profile S.profile mode train.now answer.0 (event.now ∷ events)) }
-    ensures limit { IfOk result (λ answer. (events : List Event) → StandsFor G.profile S.profile mode train.now state.now events
-        → answer.1 ≡ limit_after mode train.now (event.now ∷ events)) }
+) -> Result<(StateOver<G, S>, Output), NoMemory>
+    ensures stands { IfOk result (λ answer. (events : List Event) → StandsFor G.profile S.profile state.now events
+        → StandsFor G.profile S.profile answer.0 (event.now ∷ events)) }
+    ensures output { IfOk result (λ answer. (events : List Event) → StandsFor G.profile S.profile state.now events
+        → answer.1 ≡ output_after (event.now ∷ events)) }
 {
     let mut next = state.copy(alloc)?;
-    next.apply(alloc, mode, train, event)?;
-    let limit = next.limit(mode, train);
-    Ok((next, limit))
+    next.take(alloc, event)?;
+    let output = next.output();
+    Ok((next, output))
 }
 
-/// The speed limit after each input of one life, whatever comes in. The moments of the clock don't fall in a life.
-pub fn limits(
-    alloc: Global,
-    mode: Mode,
-    train: &TrainData,
-    inputs: &[Input],
-) -> Result<Vec<Mph>, NoMemory>
-    ensures { IfOk result (λ limits. limits.items ≡ limits_of mode train.now inputs.now) }
-{
-    let mut limits = Vec::new(alloc);
-    let empty = State::empty(alloc);
-    let kept = empty.kept();
-    let mut state = State::power_up(alloc, kept, train);
-    for input in inputs {
-        state.receive(alloc, mode, train, input)?;
-        limits.push(state.limit(mode, train))?;
+impl<G: ProfileStore<Permille> + Drop, S: ProfileStore<CategorySpeeds> + Drop> StateOver<G, S> {
+    /// The same in place; where memory is refused, nothing changes.
+    pub fn apply(&mut self, alloc: Global, event: &Event) -> Result<Output, NoMemory>
+        ensures stands { OnOk result ((events : List Event) → StandsFor G.profile S.profile self.old events
+            → StandsFor G.profile S.profile self.new (event.now ∷ events)) }
+        ensures output { IfOk result (λ output. (events : List Event) → StandsFor G.profile S.profile self.old events
+            → output ≡ output_after (event.now ∷ events)) }
+        ensures refused { OnErr result (self.new ≡ self.old) }
+    {
+        let (next, output) = step(alloc, self, event)?;
+        *self = next;
+        Ok(output)
     }
-    Ok(limits)
 }

@@ -1,4 +1,4 @@
-ghost use Rattle.std.specs.Prelude.{◌≡◌, ◌↔◌, ◌+◌, ◌^◌, ◌≤◌, List, [], pos, IsTrue, IsOk, IfOk, OnErr};
+ghost use Rattle.std.specs.Prelude.{◌≡◌, ◌↔◌, ◌+◌, ◌*◌, ◌^◌, ◌≤◌, ◌-ℤ◌, List, [], pos, IsTrue, IsOk, IfOk, OnErr};
 ghost use Rattle.std.specs.Int.RustNames.{unsigned_abs};
 ghost use Rattle.units.specs.Limits.{farthest, HasReach};
 ghost use Rattle.odometry.specs.Place.{Entry, known, estimate, uncertainty, min_front, max_front, min_rear, stretch, stretch_about, place_at, is_near, has_room, after_movement, is_made, after_fix};
@@ -105,6 +105,14 @@ impl Place {
         ensures near { unsigned_abs result ≤ farthest }
     {
         Cm::new(self.fix.estimate_at(&self.sums)).unwrap()
+    }
+
+    /// How far the estimate lies behind the place of the last fix.
+    pub fn since_fix(&self) -> Cm
+        ensures value { result ≡ estimate self.now -ℤ self.now.fix.at }
+        ensures near { unsigned_abs result ≤ 2 * farthest }
+    {
+        Cm::new(self.fix.estimate_at(&self.sums) - self.fix.at.get()).unwrap()
     }
 
     /// How far the estimate may be wrong, to either side.

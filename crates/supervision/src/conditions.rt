@@ -92,8 +92,8 @@ impl<G: ProfileStore<Permille> + Drop, S: ProfileStore<CategorySpeeds> + Drop> S
         }
     }
 
-    // Whether the trip is overridden.
-    fn is_overridden(&self) -> bool
+    /// Whether the trip is overridden.
+    pub fn is_overridden(&self) -> bool
         ensures { (life : Life) → StandsForLife G.profile S.profile self.now life → result ≡ is_overridden life }
     {
         let path = self.track.place().sums().path();

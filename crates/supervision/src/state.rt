@@ -1,6 +1,6 @@
-ghost use Rattle.std.specs.Prelude.{◌≡◌, IfOk};
-ghost use Rattle.supervision.specs.Life.{length_by};
-ghost use Rattle.supervision.specs.Sentences.{begun_life};
+ghost use Rattle.std.specs.Prelude.{◌≡◌, [], IfOk};
+ghost use Rattle.supervision.specs.Life.{Life, length_by};
+ghost use Rattle.supervision.specs.Sentences.{begun_life, standing_in};
 ghost use Rattle.supervision.specs.StandsFor.{StandsForLife};
 
 use crate::parts::Parts;
@@ -13,7 +13,7 @@ use std::alloc::Global;
 use std::marker::Model;
 use track_store::{ProfileStore, SegmentStore};
 use trackside::TracksideOver;
-use units::{Length, NoMemory, Permille};
+use units::{Length, NoMemory, Permille, Stretch};
 
 /// The supervision of a train, with stores for the gradients and the static speeds.
 #[derive(Drop)]
@@ -37,6 +37,16 @@ impl<G: ProfileStore<Permille> + Drop, S: ProfileStore<CategorySpeeds> + Drop> S
     G,
     S,
 > {
+    /// What is known before the first event of a life, of what was kept. Takes no memory.
+    pub fn new(alloc: Global, kept: Kept, cold: Cold) -> Self
+        ensures { StandsForLife G.profile S.profile result (record { kept = kept; cold = cold; entries = [] }) }
+    {
+        SupervisionOver {
+            parts: Parts::new(&kept, cold),
+            track: TracksideOver::new(alloc, kept.national),
+        }
+    }
+
     /// A life begins with what was kept; what is known of movements while the power was off decides what of it stays valid. Takes no
     /// memory.
     pub fn power_up(alloc: Global, kept: Kept, cold: Cold) -> Self
@@ -46,6 +56,13 @@ impl<G: ProfileStore<Permille> + Drop, S: ProfileStore<CategorySpeeds> + Drop> S
         let mut track = TracksideOver::new(alloc, kept.national);
         track.forget(parts.length());
         SupervisionOver { parts, track }
+    }
+
+    /// Where the train stands: from the minimum safe rear to the maximum safe front.
+    pub fn standing(&self) -> Stretch
+        ensures { (life : Life) → StandsForLife G.profile S.profile self.now life → result ≡ standing_in life }
+    {
+        self.track.place().stretch(self.parts.length())
     }
 
     /// An equal value.

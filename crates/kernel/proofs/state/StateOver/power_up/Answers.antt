@@ -1,13 +1,10 @@
-use Rattle.std.proofs.Common.{None, ◌∷◌, []}
-use Rattle.trackside.specs.Entry.{turned, no_groups}
-use Rattle.trackside.specs.Sentences.{nothing}
-use Rattle.trackside.specs.StandsFor.{Life, StandsForLife, grown}
+use Rattle.std.proofs.Common.{ap, ◌∙◌}
+use Rattle.events.specs.declared.kept.Kept.{Kept}
+use Rattle.supervision.specs.Sentences.{begun_life}
+use Rattle.kernel.specs.Output.{output_of}
 use Rattle.kernel.proofs.state.StateOver.power_up.Goals as goal
 
-pub returns : goal.returns
-returns g c =
-    let s = c.new-track.ensures in
-    let empty : Life = record { kept = c.args.kept.national; entries = [] } in
-    let bare : StandsForLife g.G.ProfileStore.profile g.S.ProfileStore.profile c.new-track.result (grown empty (turned nothing no_groups None None)) =
-    record { parts_are = s.parts_are; gradients_are = s.gradients_are; speeds_are = s.speeds_are } in
-    record { track_is = c.forget.ensures empty nothing no_groups None None bare; lives_are = c.next_life-lives.ensures }
+pub returns-clause-output : goal.returns-clause-output
+returns-clause-output g c events same =
+    c.output-output.ensures (begun_life c.copy.result c.args.cold) c.begin-state.ensures.life
+    ∙ ap (λ (k : Kept). output_of (begun_life k c.args.cold)) (c.copy.ensures ∙ same)

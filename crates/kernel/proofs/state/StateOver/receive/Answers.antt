@@ -1,24 +1,19 @@
-use Rattle.std.proofs.Common.{None, Some, ◌∷◌, subst}
-use Rattle.mode_table.specs.declared.mode.Mode.{Mode}
-use Rattle.trackside.specs.Entry.{so_far}
-use Rattle.trackside.specs.Sentences.{begun, used_by, standing}
-use Rattle.trackside.specs.StandsFor.{StandsForLife, grown}
-use Rattle.kernel.specs.Lives.{track_of, ended}
+use Rattle.std.proofs.Common.{ap, ◌∙◌}
+use Rattle.events.specs.declared.input.Event.TheVariants as event
+use Rattle.kernel.specs.Lives.{counted}
+use Rattle.kernel.specs.StandsFor.{Knowledge}
 use Rattle.kernel.proofs.Standing.{seen}
+use Rattle.supervision.specs.Sentences.{entry_of}
 use Rattle.kernel.proofs.state.StateOver.receive.Goals as goal
 
-pub returns : goal.returns
-returns g c life s =
+pub returns-clause-life : goal.returns-clause-life
+returns-clause-life g c life s =
     let before = seen c.self.view_is s in
-    let tells = begun life.entries c.args.input.now in
-    let used = used_by c.table_mode.result life.entries c.args.input.now in
-    let length = c.args.train.now.length in
-    let looked = c.look.ensures.stands (track_of life) tells used (c.in_ok-receive.ensures (track_of life) before.track_is) in
-    record {
-      track_is =
-          subst (λ (m : Mode). StandsForLife g.G.ProfileStore.profile g.S.ProfileStore.profile c.forget.new.self
-          (grown (track_of life) (ended length life.entries tells (used_by m life.entries c.args.input.now))))
-          c.table_mode.ensures
-          (c.forget.ensures (track_of life) tells used (Some (standing length (so_far tells used ∷ life.entries))) None looked);
-      lives_are = before.lives_are;
-    }
+    let supervised = c.in_ok-receive.ensures life before.supervision_is in
+    let shown = c.sight_of-sight.ensures life supervised in
+    record { parts_are = c.note.ensures life (entry_of life c.args.input.now) before.parts_are shown; supervision_is = supervised }
+
+pub returns-clause-counts : goal.returns-clause-counts
+returns-clause-counts g c =
+    c.received-self-inside.ensures c.args.input.now
+    ∙ ap (λ (k : Knowledge g.row.G.Denot g.row.S.Denot). counted k.counts (event.Input c.args.input.now)) c.self.view_is

@@ -1,0 +1,26 @@
+use Rattle.std.proofs.Common.{◌≡◌, Option, ap, sym, refl, ◌∙◌}
+use Rattle.events.specs.declared.input.Input.{Input}
+use Rattle.events.specs.declared.input.Input.TheVariants.{Telegram, Odometer, Clock, Driver}
+use Rattle.trackside.specs.StandsFor.{Known}
+use Rattle.kernel.specs.Brake.{reading_of, stands, backward_by}
+use Rattle.supervision.specs.Life.{Life, grown}
+use Rattle.supervision.specs.Sentences.{entry_of}
+use Rattle.kernel.proofs.receiving.sight_of.Goals as goal
+
+reading_is : (life : Life) (input : Input) → (entry_of life input).track.begun.reading ≡ reading_of input
+reading_is life (Telegram bytes) = refl
+reading_is life (Odometer reading) = refl
+reading_is life (Clock moment) = refl
+reading_is life (Driver action) = refl
+
+pub returns : goal.returns
+returns g c life s =
+    let input = c.args.input.now in
+    let track = s.track_is.parts_are in
+    let reading = c.reading_of-reading.ensures ∙ sym (reading_is life input) in
+    let happened = c.happened-happened.ensures ∙ ap (λ t. t.parts.happened) c.track.ensures ∙ ap (λ (k : Known). k.happened) track in
+    let speed = c.speed.ensures ∙ ap (λ t. t.parts.speed) c.track-2.ensures ∙ ap (λ (k : Known). k.speed) track in
+    let limit = c.limit.ensures (grown life (entry_of life input)) s in
+    let stood = c.stands.ensures ∙ ap stands reading in
+    let rolled = c.backward_by.ensures ∙ (λ i. backward_by (happened i).overrun (reading i)) in
+    λ i. record { stands = stood i; backward = rolled i; asked_for_service = (happened i).asked.service; speed = speed i; limit = limit i }

@@ -1,0 +1,53 @@
+-- What is answered after each event (this project's profile).
+use Rattle.std.specs.Prelude.{ℕ, ℤ, nat_lt, not, Option, Some, None, List}
+use Rattle.areas.specs.Acknowledging.{waits}
+use Rattle.driver.specs.declared.datum.Datum.{Datum}
+use Rattle.driver.specs.declared.datum.Datum.TheVariants.{Unknown, Valid, Invalid}
+use Rattle.events.specs.declared.input.Event.{Event}
+use Rattle.events.specs.declared.output.Indications.{Indications}
+use Rattle.events.specs.declared.output.Output.{Output}
+use Rattle.mode_limits.specs.Limit.{limit}
+use Rattle.odometry.specs.Place.{estimate, uncertainty}
+use Rattle.supervision.specs.Conditions.{is_overridden}
+use Rattle.supervision.specs.History.{tracks, mode_of, on_sight_of, shunting_of, level_0_of}
+use Rattle.supervision.specs.Life.{Life, driver_of}
+use Rattle.trackside.specs.History.{place_of, speed_of}
+use Rattle.kernel.specs.Brake.{brake_of, is_revalidated}
+use Rattle.kernel.specs.Lives.{life_of}
+
+-- a datum that holds
+abbrev pub where_valid : {A : Type 0} → Datum A → Option A
+where_valid Unknown = None
+where_valid (Valid value) = Some value
+where_valid (Invalid value) = None
+
+abbrev pub indications_of : Life → Indications
+indications_of life = record {
+  on_sight = waits (on_sight_of life.entries);
+  shunting = waits (shunting_of life.entries);
+  level_0 = waits (level_0_of life.entries);
+  trip = (driver_of life).trip_outstanding;
+  overridden = is_overridden life;
+  not_revalidated = not (is_revalidated life);
+  overspeed = nat_lt (limit life) (speed_of (tracks life.entries));
+}
+
+abbrev pub output_of : Life → Output
+output_of life = record {
+  mode = mode_of life.entries;
+  level = where_valid (driver_of life).level;
+  brake = brake_of life;
+  limit = limit life;
+  indications = indications_of life;
+}
+
+-- after a list of events, the newest first
+abbrev pub output_after : List Event → Output
+output_after events = output_of (life_of events)
+
+-- where the train is thought to be after it, and how far that may be wrong to either side
+abbrev pub estimate_after : List Event → ℤ
+estimate_after events = estimate (place_of (tracks (life_of events).entries))
+
+abbrev pub uncertainty_after : List Event → ℕ
+uncertainty_after events = uncertainty (place_of (tracks (life_of events).entries))

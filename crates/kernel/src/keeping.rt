@@ -1,0 +1,76 @@
+//! What a power-up keeps, and where the train is.
+ghost use Rattle.std.specs.Prelude.{◌≡◌, List, ◌∷◌};
+ghost use Rattle.events.specs.declared.input.Event.{Event};
+ghost use Rattle.events.specs.declared.input.Event.TheVariants as event;
+ghost use Rattle.kernel.specs.Lives.{kept_of, kept_by};
+ghost use Rattle.kernel.specs.Output.{output_after, estimate_after, uncertainty_after};
+ghost use Rattle.kernel.specs.Position.{position_of};
+ghost use Rattle.kernel.specs.StandsFor.{StandsForLife, StandsFor};
+ghost use Rattle.supervision.specs.Life.{Life};
+
+use crate::position::position_by;
+use crate::state::StateOver;
+use driver::Datum;
+use events::{Estimate, Kept, Output, Position};
+use mode_table::Cold;
+use speed_profile::CategorySpeeds;
+use std::alloc::Global;
+use track_store::ProfileStore;
+use units::Permille;
+
+impl<G: ProfileStore<Permille> + Drop, S: ProfileStore<CategorySpeeds> + Drop> StateOver<G, S> {
+    // Where the train is, told by a balise group.
+    fn position(&self) -> Datum<Position>
+        ensures { (life : Life) → StandsForLife G.profile S.profile self.now life → result ≡ position_of life }
+    {
+        let track = self.supervision.track();
+        position_by(&track.group_of_fix(), &self.parts.position, &track.place())
+    }
+
+    // What a power-up keeps of a life.
+    fn kept_of_life(&self) -> Kept
+        ensures { (life : Life) → StandsForLife G.profile S.profile self.now life → result ≡ kept_of self.now.counts life }
+    {
+        let driver = self.supervision.driver().kept();
+        Kept {
+            identity: driver.identity.value(),
+            running_number: driver.running_number.value(),
+            train_data: driver.train_data.value(),
+            level: driver.level,
+            position: self.position(),
+            national: self.supervision.track().national().in_force().copy(),
+            trip_outstanding: driver.trip_outstanding,
+            events: self.counts.events,
+            lives: self.counts.lives,
+        }
+    }
+
+    /// What a power-up keeps. Takes no memory.
+    pub fn kept(&self) -> Kept
+        ensures { (events : List Event) → StandsFor G.profile S.profile self.now events → result ≡ kept_by events }
+    {
+        self.kept_of_life()
+    }
+
+    /// A life begins with what was kept: what is known then, and what is answered. What is known of movements while the power was off
+    /// decides whether level and position stay valid. Takes no memory.
+    pub fn power_up(alloc: Global, kept: &Kept, cold: Cold) -> (Self, Output)
+        ensures stands { (events : List Event) → kept.now ≡ kept_by events → StandsFor G.profile S.profile result.0 (event.PowerUp cold ∷ events) }
+        ensures output { (events : List Event) → kept.now ≡ kept_by events → result.1 ≡ output_after (event.PowerUp cold ∷ events) }
+    {
+        let state = StateOver::begin(alloc, kept.copy(), cold);
+        let output = state.output();
+        (state, output)
+    }
+
+    /// Where the train is thought to be, in centimetres from where its life began, and how far that may be wrong to either side.
+    /// Takes no memory.
+    pub fn place_of(&self) -> (Estimate, u64)
+        ensures estimate { (events : List Event) → StandsFor G.profile S.profile self.now events → result.0 ≡ estimate_after events }
+        ensures uncertainty { (events : List Event) → StandsFor G.profile S.profile self.now events → result.1 ≡ uncertainty_after events }
+    {
+        let place = self.supervision.track().place();
+        let estimate = Estimate::new(place.estimate().get()).unwrap();
+        (estimate, place.uncertainty().get() as u64)
+    }
+}

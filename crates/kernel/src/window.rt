@@ -1,0 +1,51 @@
+ghost use Rattle.std.specs.Prelude.{◌≡◌, []};
+ghost use Rattle.events.specs.declared.kept.Kept.{Kept};
+ghost use Rattle.mode_table.specs.declared.statuses.Cold.{Cold};
+ghost use Rattle.kernel.specs.Brake.{sight_at};
+ghost use Rattle.kernel.specs.StandsFor.{window_of};
+ghost use Rattle.supervision.specs.Entry.{Entry};
+ghost use Rattle.supervision.specs.Life.{Life, grown};
+ghost use Rattle.supervision.specs.Sentences.{begun_life};
+
+use crate::sight::Sight;
+
+/// What the brakes remember. All but the last of it is of the time since the train stood, or else since the power-up.
+#[derive(Clone, Copy)]
+pub struct Window {
+    /// After some event the speed was above the limit by more than 10 km/h.
+    pub far_too_fast: bool,
+    /// Linking or a balise group asked for the service brake.
+    pub asked_for_service: bool,
+    /// How far the train has rolled backward, in centimetres, up to the greatest number of 64 bits.
+    pub backward: u64,
+    /// The speed was above the limit by more than 5 km/h, and not at or below it since.
+    pub too_fast: bool,
+}
+
+impl Window {
+    /// Nothing, as a life begins.
+    pub fn new() -> Self
+        ensures nothing { (kept : Kept) (cold : Cold) → result ≡ window_of (record { kept = kept; cold = cold; entries = [] }) }
+        ensures begun { (kept : Kept) (cold : Cold) → result ≡ window_of (begun_life kept cold) }
+    {
+        Window {
+            far_too_fast: false,
+            asked_for_service: false,
+            backward: 0,
+            too_fast: false,
+        }
+    }
+
+    /// What is remembered after an event that shows this.
+    pub fn after(&self, sight: &Sight) -> Self
+        ensures { (life : Life) (entry : Entry) → self.now ≡ window_of life → sight.now ≡ sight_at life entry → result ≡ window_of (grown life entry) }
+    {
+        Window {
+            far_too_fast: sight.is_above_by(10_000) || sight.unless_standing(self.far_too_fast),
+            asked_for_service: sight.asked_for_service
+                || sight.unless_standing(self.asked_for_service),
+            backward: sight.rolled(self.backward),
+            too_fast: sight.is_above_by(5_000) || (sight.is_above_by(0) && self.too_fast),
+        }
+    }
+}

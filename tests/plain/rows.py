@@ -38,13 +38,15 @@ def answer_to(line, life):
 
 
 def is_met(wanted, answer):
-    """A number alone wants a limit."""
-    return answer.split()[3] == wanted if wanted.isdigit() else answer == wanted
+    """A number alone wants the limit, which is the fourth word of an output."""
+    return wanted == answer or (wanted.isdigit() and answer.split()[3:4] == [wanted])
 
 
 def told(kept, name):
     """An item that is kept, as a row says it."""
-    if name in ("identity", "running-number", "train-data"):
+    if name == "identity":
+        return "-" if kept.identity is None else kept.identity.encode().hex()
+    if name in ("running-number", "train-data"):
         value = getattr(kept, name.replace("-", "_"))
         return "-" if value is None else " ".join(map(str, value)) if name == "train-data" else str(value)
     if name == "level":

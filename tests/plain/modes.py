@@ -61,22 +61,22 @@ EVERY_PACKET = (3, 5, 12, 21, 27, 41, 65, 66, 80)
 USED = {"SH": (3, 65, 66), "TR": (3, 65, 66), "PT": (3, 41, 65, 66), "SF": ()}
 
 
-def _rows():
+def rows_told():
     for line in ROWS.strip().splitlines():
         number, *words = line.split()
         modes = [word for word in words if word.isupper()]
         yield int(number), modes[:-1], modes[-1], words[len(modes):]
 
 
-def _statuses():
+def statuses_told():
     head, *lines = STATUSES.strip("\n").splitlines()
     for line in lines:
         item, *fates = line.split()
         yield item, dict(zip(head.split(), fates))
 
 
-TABLE = tuple(_rows())
-FATES = dict(_statuses())
+TABLE = tuple(rows_told())
+FATES = dict(statuses_told())
 
 
 def row_of(mode, conditions):

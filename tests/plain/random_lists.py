@@ -37,6 +37,7 @@ KINDS = (
 
 NEAR_BOUNDS_CM = (-2_000, -600, -101, -1, 0, 1, 500, 1_300, 1_301)
 SPEEDS = (0, 0, 0, 3_000, 12_000, 20_000, 26_000, 37_000, 52_000, 80_000)
+KEPT = ("level", "position", "trip", "counts", "national", "train-data")
 COLD = ("unknown", "moved", "not-moved")
 
 ANYWHERE = ("acknowledge on-sight", "acknowledge shunting", "acknowledge level-0", "close-desk")
@@ -107,7 +108,7 @@ def event(numbers, telegrams, life):
 
 
 def asked(numbers):
-    return "place" if numbers.below(2) else "kept " + numbers.one_of(("level", "position", "trip", "counts", "national", "train-data"))
+    return "place" if numbers.below(2) else "kept " + numbers.one_of(KEPT)
 
 
 class Made:

@@ -10,7 +10,9 @@ use vars::{TrainCategory, Variable};
 pub fn action(word: &str, value: &str) -> Option<Action> {
     let action = match word {
         "enter-identity" => Action::EnterIdentity(DriverIdentity::new(value.as_bytes())?),
-        "enter-running-number" => Action::EnterRunningNumber(RunningNumber::new(value.parse().ok()?)?),
+        "enter-running-number" => Action::EnterRunningNumber(RunningNumber::new(
+            value.parse().ok()?,
+        )?),
         "enter-train-data" => Action::EnterTrainData(train(value)?),
         "choose-level" => Action::ChooseLevel(level(value)?),
         "confirm" => Action::Confirm(confirmed(value)?),

@@ -14,7 +14,10 @@ pub fn output_text(alloc: Global, output: &Output) -> Result<String, AllocError>
     let level = level_name(output.level);
     let brake = brake_name(output.brake);
     let indications = output.indications.number();
-    format!(in alloc; "{mode} {level} {brake} {} {indications}", output.limit.get())
+    format!(in alloc;
+        "{mode} {level} {brake} {} {indications}",
+        output.limit.get()
+    )
 }
 
 /// The estimate and its uncertainty.

@@ -27,11 +27,7 @@ pub fn short(alloc: Global) -> Short {
 }
 
 /// What is known after an event, and what is answered.
-pub fn after(
-    alloc: Global,
-    state: &Listing,
-    event: &Event,
-) -> Result<(Listing, Output), NoMemory> {
+pub fn after(alloc: Global, state: &Listing, event: &Event) -> Result<(Listing, Output), NoMemory> {
     step(alloc, state, event)
 }
 

@@ -53,13 +53,16 @@ impl Rows {
     // What the row says next.
     fn tell(&mut self, rt: &impl Print, said: &Said, wanted: Option<&str>) -> Result<()> {
         let answers = self.runs.answers(self.alloc, said)?;
-        self.tally.count_line(matches!(said, Said::Event(_)), wanted.is_some());
+        self.tally
+            .count_line(matches!(said, Said::Event(_)), wanted.is_some());
         let Some(wanted) = wanted else {
             return Ok(());
         };
         let (name, line) = (self.name.as_str(), self.line);
-        self.tally.compare(rt, name, "step", line, wanted, answers.by_step.as_str())?;
-        self.tally.compare(rt, name, "apply", line, wanted, answers.in_place.as_str())?;
+        self.tally
+            .compare(rt, name, "step", line, wanted, answers.by_step.as_str())?;
+        self.tally
+            .compare(rt, name, "apply", line, wanted, answers.in_place.as_str())?;
         self.tally.compare(rt, name, "power_up", line, wanted, answers.by_kept.as_str())
     }
 }

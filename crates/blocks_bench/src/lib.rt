@@ -82,6 +82,12 @@ fn number_in(gate: &[u8; 512], head: &[u8; 512]) -> u64 {
     }
 }
 
+/// The first two sectors.
+fn part(bytes: &[u8; 3072], gate: &mut [u8; 512], head: &mut [u8; 512]) {
+    gate.copy_from_slice(&bytes[..512]);
+    head.copy_from_slice(&bytes[512..1024]);
+}
+
 /// A block of eight records in format 3 is written so many times.
 #[unsafe(no_mangle)]
 pub extern "C" fn bench_write_block(runs: u32) -> u64 {
@@ -116,10 +122,11 @@ pub extern "C" fn bench_valid_number(runs: u32) -> u64 {
     write(&entries(), &kept(), &mut bytes);
     let mut gate = [0; 512];
     let mut head = [0; 512];
-    gate.copy_from_slice(&bytes[..512]);
-    head.copy_from_slice(&bytes[512..1024]);
+    part(&bytes, &mut gate, &mut head);
     let mut sum = 0u64;
-    for _ in 0..runs {
+    for run in 0..runs {
+        // Another head each time, so that each is looked at.
+        head[511] = (run % 256) as u8;
         sum = sum.wrapping_add(number_in(&gate, &head));
     }
     sum

@@ -47,8 +47,8 @@ each() {
     printf '%-50s %10d\n' "$1" $(((all + $4 / 2) / $4))
 }
 
-row 'limits, 1 cm a reading' '*limits_after*' limits 1 "$readings"
-row 'limits, 10 cm a reading' '*limits_after*' limits 10 "$readings"
+row 'a reading of 1 cm' '*output_after*' limits 1 "$readings"
+row 'a reading of 10 cm' '*output_after*' limits 10 "$readings"
 row 'permitted, the limit fits' '*permitted_from*' permitted 0 "$calls"
 row 'permitted, sought' '*permitted_from*' permitted -67 "$calls"
 each 'next_mode' '*mode_after*' next_mode 147456

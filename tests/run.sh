@@ -1,5 +1,5 @@
 #!/bin/bash
-# The plain program beside the kernel's rows: the limits that the rows want are its own too, the numbers of rows and inputs
+# The plain program beside the kernel's rows: the answers that the rows want are its own too, the numbers of rows and events
 # that the kernel's program is to print are counted from their text, and the random lists, the tracks and the rows of blocks are
 # those that are made here.
 cd "$(dirname "$0")/plain" || exit 1

@@ -1,12 +1,12 @@
 #!/usr/bin/env python3
-"""Works each limit of the kernel's rows out by the plain program, and prints where it is another one than the row wants. A
+"""Works each answer of the kernel's rows out by the plain program, and prints where it is another one than the row wants. A
 telegram that a row hears is named behind its bytes; its fields stand beside the name at the head of the part, and have to spell
 those bytes.
 
     tests/plain/check_rows.py [FILE ..]
 
-The rows of crates/test_kernel/stdin are taken where no file is named. The last line has the numbers of rows, of inputs, of
-limits and of differences. The exit status is 1 where there is a difference.
+The rows of crates/test_kernel/stdin are taken where no file is named. The last line has the numbers of rows, of events, of
+answers that are wanted and of differences. The exit status is 1 where there is a difference.
 """
 import re
 import sys
@@ -21,13 +21,13 @@ STDIN = Path(__file__).resolve().parents[2] / "crates/test_kernel/stdin"
 GENERATED = "\n# ==== Pseudo-random lists"
 # The name of a telegram and its bytes, and below them its fields.
 NAMED = re.compile(r"^#     (\S.*): ([0-9A-F]+)\n((?:#       .*\n)+)", re.M)
-HEARD = re.compile(r"^hear ([0-9A-F]+)(?: -> \d+)?(?: +# (.+))?$", re.M)
+HEARD = re.compile(r"^hear ([0-9A-F]+)(?: -> [^#\n]*?)?(?: *# (.+))?$", re.M)
 
 
 def differences(row):
-    for line, found in zip(row.lines, row.limits()):
-        if line.limit is not None and found != line.limit:
-            yield f"{row.name}, line {line.number}: wanted {line.limit}, found {found} by the plain program"
+    for line, found in zip(row.lines, row.answers()):
+        if line.wanted is not None and not rows.is_met(line.wanted, found):
+            yield f"{row.name}, line {line.number}: wanted {line.wanted}, found {found} by the plain program"
 
 
 def misnamed(text):
@@ -45,19 +45,19 @@ def misnamed(text):
 
 
 def main(paths):
-    found, inputs, limits, count = 0, 0, 0, 0
+    found, events, answers, count = 0, 0, 0, 0
     for path in paths or [STDIN]:
         text = Path(path).read_text()
         for difference in misnamed(text):
             found += 1
             print(difference)
         for row in rows.read(text):
-            count, inputs = count + 1, inputs + len(row.lines)
-            limits += sum(line.limit is not None for line in row.lines)
+            count, events = count + 1, events + sum(line.word not in rows.ASKED for line in row.lines)
+            answers += sum(line.wanted is not None for line in row.lines)
             for difference in differences(row):
                 found += 1
                 print(difference)
-    print(f"{count} rows, {inputs} inputs, {limits} limits, {found} differences")
+    print(f"{count} rows, {events} events, {answers} answers, {found} differences")
     return 1 if found else 0
 
 

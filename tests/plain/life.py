@@ -1,105 +1,140 @@
-"""One life: each event is taken sentence by sentence, all that it told is kept, and each limit is worked out anew from that
-(this project's profile).
-
-So far the train data and the mode are handed in and hold for the whole life, and packets 41 and 80 and the driver's actions
-do nothing."""
-from collections import namedtuple
+"""One life: each event is taken sentence by sentence, and kept (this project's profile)."""
+from types import SimpleNamespace
 
 import authority
+import driver
 import links
 import telegrams
+from acknowledgements import NOTHING
 from groups import Assembler, Reading
-from national import InForce, National
-from place import FARTHEST_CM, POWER_UP, Fix, Sums, stretch
-from speed import Situation
-from track import Profile, gradient_steps, restrictions_of, speed_steps
+from history import Entry, Fact, History
+from items import VALID, Kept
+from modes import fate, row_of, used_in
+from national import National
+from output import output_of
+from place import FARTHEST_CM, POWER_UP, Sums
 
 REMEMBERED_CM = 100_000
-USED = (3, 5, 12, 21, 27, 65, 66)
 
-Fact = namedtuple("Fact", "packet group place moment")
+KIND_OF_ROW = {7: "on-sight", 31: "on-sight", 32: "on-sight", 29: "shunting", 30: "shunting"}
 
 
-class Life:
-    def __init__(self, train, kept=InForce()):
-        self.train = train
-        self.moment = 0
-        self.sums, self.fix = Sums(), POWER_UP
-        self.assembler, self.links, self.national = Assembler(), links.Links(), National(kept)
+class Life(History):
+    def __init__(self, kept=Kept(), cold="unknown"):
+        self.begun = SimpleNamespace(kept=kept, items=kept.items(cold),
+                                     level_stands=cold == "not-moved" and kept.level.status == VALID)
+        self.sums, self.fix, self.fixed_by = Sums(), POWER_UP, None
+        self.assembler, self.links, self.national = Assembler(), links.Links(), National(kept.national)
         self.facts = []  # all packets that were used
-        self.sights = []  # the moment and the fronts after each event, with the number of facts that it saw
+        power_up = Entry(0, 0, acknowledgements={kind: NOTHING for kind in driver.KINDS})
+        self.entries = [power_up]
         self.mark = self.stretch().min_rear - REMEMBERED_CM  # a power-up is a fix, and counts for the mark
-
-    def stretch(self):
-        return stretch(self.fix, self.sums, self.train.length)
-
-    # ---- what is read off the facts
-
-    def facts_of(self, *kinds):
-        return [fact for fact in self.facts if fact.packet.kind in kinds]
-
-    def gradients(self):
-        return Profile([gradient_steps(fact) for fact in self.facts_of(21)], self.mark)
-
-    def speeds(self):
-        return Profile([speed_steps(fact) for fact in self.facts_of(27)], self.mark)
-
-    def authority(self):
-        """By the latest packet 12, and what was seen from the event that accepted it on."""
-        for number in range(len(self.facts) - 1, -1, -1):
-            if self.facts[number].packet.kind == 12:
-                return authority.Authority(self.facts[number], [seen for facts, seen in self.sights if facts > number])
-        return None
-
-    def limit(self, mode):
-        situation = Situation(self.train, self.stretch(), self.gradients(), self.speeds(),
-                              restrictions_of(self.facts_of(65, 66)), self.mark, self.authority(), self.moment,
-                              self.national.in_force.values)
-        return situation.permitted() if mode == "FS" else situation.responsible_limit()
+        power_up.output = output_of(self)
 
     # ---- the events
 
-    def clock(self, moment):
-        self.moment = moment
-        self.over()
-
-    def driver(self, _action):
-        self.over()
+    def take(self, word, value):
+        """One event, and its output."""
+        accepted = (word, value) if word in driver.ACTIONS and driver.accepts(self, word, value) else None
+        self.entries.append(Entry(self.moment(), self.speed(), path=self.sums.path, values=self.national.in_force.values))
+        if word == "hear":
+            self.hear(bytes.fromhex(value))
+        elif word == "move":
+            self.move(*map(int, value.split()))
+        elif word == "clock":
+            self.now.moment = int(value)
+        else:
+            self.now.accepted = accepted
+        self.now.path = self.sums.path
+        self.over(accepted)
+        return self.now.output
 
     def hear(self, data):
         """A telegram that is refused is an event without effect."""
         telegram = telegrams.read(data)
         if telegram:
+            used = used_in(self.mode())
             for closed in self.assembler.take(Reading(telegram, self.sums)):
-                self.use(closed)
-        self.over()
+                self.use(closed, used)
 
-    def move(self, movement):
+    def move(self, movement, speed=0):
         """A movement that would take the path or the estimate past the farthest place is not added. Then a group may end,
         missed entries are looked for, and the ended group is judged."""
+        self.now.is_reading, self.now.speed = True, speed
         sums = self.sums.after(movement)
         if sums.path <= FARTHEST_CM and abs(self.fix.estimate(sums)) <= FARTHEST_CM:
-            self.sums = sums
+            self.sums, self.now.moved = sums, movement
+        else:
+            self.now.overrun = True
         ended = self.assembler.moved(self.sums.path)
-        self.links.missed(self.stretch().min_front)
+        self.now.verdicts.append(self.links.missed(self.stretch().min_front))
         for closed in ended:
-            self.use(closed)
-        self.over()
+            self.use(closed, used_in(self.mode()))
 
-    def over(self):
-        """The end of each event: announced national values are looked at, and the mark and the sights see the place."""
-        now = self.stretch()
-        self.national.reach(now.max_front)
-        self.mark = max(self.mark, now.min_rear - REMEMBERED_CM)
-        self.sights.append((len(self.facts), authority.Sight(self.moment, now.min_front, now.max_front)))
+    def over(self, accepted):
+        """What follows each event's own effect, in its order."""
+        max_front = self.stretch().max_front
+        self.national.reach(max_front)
+        announced = self.announcement()
+        if announced and (announced.place is None or max_front >= announced.place):
+            self.now.came_in = announced.level
+        self.remember()
+        self.now.seen = authority.Sight(self.moment(), self.stretch().min_front, max_front)
+        row = row_of(self.mode(), self.conditions(accepted))
+        told = self.acknowledgements(accepted, *(row or (None, self.mode())))
+        if row:
+            self.now.row, self.now.entered = row
+            if fate("linking", self.mode()) == "D":
+                self.links.left = []
+            if fate("acknowledgements", self.mode()) == "D":
+                told = {kind: NOTHING for kind in told}
+        left = self.left()
+        self.now.acknowledgements = {kind: told[kind] if left[kind] else told[kind].settled() for kind in told}
+        self.remember()
+        self.now.output = output_of(self)
+
+    def remember(self):
+        """The forgetting mark never falls. It rises by the place after the event's fixes, before the mode is looked for and behind
+        what the mode makes of the train data."""
+        self.mark = max(self.mark, self.stretch().min_rear - REMEMBERED_CM)
+
+    # ---- the mode
+
+    def conditions(self, accepted):
+        word, value = accepted or (None, None)
+        held = {
+            "overrun": self.now.overrun, "desk_closed": word == "close-desk", "trip": self.trips(),
+            "beyond_staff_distance": self.is_too_far(), "level_0": self.level() == 0, "level_1": self.level() == 1,
+            "full": self.is_full(), "on_sight_area": self.is_in("on-sight"), "shunting_area": self.is_in("shunting"),
+            "trip_acknowledged": (word, value) == ("acknowledge", "trip"), "overridden": word == "override",
+            "shunting_chosen": word == "choose-shunting", "shunting_left": word == "leave-shunting", "started": word == "start",
+        }
+        return {name for name, holds in held.items() if holds}
+
+    # ---- acknowledgements
+
+    def acknowledgements(self, accepted, row, mode):
+        """The driver's own comes first, then the transition, then what asks where the mode is not the kind's."""
+        here, told = self.stretch(), {}
+        for kind in driver.KINDS:
+            state = self.acknowledgement(kind)
+            if accepted == ("acknowledge", kind):
+                state = state.acknowledged()
+            if KIND_OF_ROW.get(row) == kind or (kind == "level-0" and self.now.came_in == 0):
+                state = state.turned(self.moment())
+            if self.asks(kind, here) and mode != {"on-sight": "OS", "shunting": "SH"}.get(kind):
+                state = state.asked()
+            told[kind] = state
+        return told
 
     # ---- a group that closed: judged, fixed, and its packets used
 
-    def use(self, closed):
+    def use(self, closed, used):
         if closed.cause:
-            self.links.broken(closed)
+            self.now.verdicts.append(self.links.broken(closed))
             return
         verdict = self.links.judge(closed, self.fix.max_front(closed.sums))
+        self.now.verdicts.append(verdict)
         if verdict.kind != links.ACCEPT:
             return
         place = self.fixed(closed, verdict.entry)
@@ -107,30 +142,26 @@ class Life:
         nominal = closed.nominal
         if nominal is None and verdict.entry:
             nominal = verdict.entry.nominal  # with one place read, what linking announces
-        used = [p for p in closed.packets if p.kind in USED and (p.direction == 2 or p.direction == nominal)]
-        for packet in sorted(used, key=lambda packet: packet.kind):
-            self.tell(Fact(packet, closed.group, place, self.moment))
-
-    def is_free(self):
-        """Nothing lies at a known place: linking is not in use, no authority is stored, and no centimetre has a gradient or
-        a static speed."""
-        return (not self.links.left and not self.facts_of(12)
-                and self.gradients().is_empty() and self.speeds().is_empty())
+        taken = [p for p in closed.packets if p.kind in used and (p.direction == 2 or p.direction == nominal)]
+        for packet in sorted(taken, key=lambda packet: packet.kind):
+            self.tell(Fact(packet, closed.group, place, self.moment(), len(self.entries) - 1))
 
     def fixed(self, closed, entry):
         """An announced group makes a fix at its announced place, another one at its own place where nothing lies at a known
         place. The distances of its message count from there; where no fix is made, from its own place."""
         own = self.fix.estimate(closed.sums)
+        fix = None
         if entry:
-            fix = Fix(entry.place, entry.accuracy, closed.sums, closed.missed)
+            fix = self.fix_at(entry.place, entry.accuracy, closed)
         elif self.is_free():
-            fix = Fix(own, 0, closed.sums, closed.missed)
-        else:
+            fix = self.fix_at(own, 0, closed)
+        if fix is None or not fix.is_within(self.sums):
             return own
-        if not fix.is_within(self.sums):
-            return own
-        self.fix = fix
+        self.fix, self.fixed_by = fix, closed.group
         return fix.at
+
+    def fix_at(self, place, accuracy, closed):
+        return type(self.fix)(place, accuracy, closed.sums, closed.missed)
 
     def tell(self, fact):
         self.facts.append(fact)

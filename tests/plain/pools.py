@@ -135,3 +135,74 @@ TRACK = (
     "N_PIG 1, N_TOTAL 1, NID_BG 15; 27: Q_DIR 0, D_STATIC 0, V_STATIC 3, Q_FRONT 1, N_ITER 0, N_ITER 1, D_STATIC 5, "
     "V_STATIC 9, Q_FRONT 0, N_ITER 0",
 )
+
+# What the modes and the driver's actions turn on.
+OPEN = ("V_LOA 0, T_LOA 1023, N_ITER 0, L_ENDSECTION {}, Q_SECTIONTIMER 0, Q_ENDTIMER 0, Q_DANGERPOINT 0, Q_OVERLAP 0; "
+        "21: D_GRADIENT 0, Q_GDIR 1, G_A 0, N_ITER 0; 27: D_STATIC 0, V_STATIC {}, Q_FRONT 1, N_ITER 0, N_ITER 0")
+NATIONAL = ("V_NVSHUNT {}, V_NVSTFF {}, V_NVONSIGHT {}, V_NVUNFIT {}, V_NVREL 3, D_NVROLL {}, V_NVALLOWOVTRP {}, V_NVSUPOVTRP {}, "
+            "D_NVOVTRP {}, T_NVOVTRP {}, D_NVSTFF {}")
+
+SUPERVISION = (
+    # Group 20: an authority of 80 km/h over 60 m, level track, 60 km/h.
+    "NID_BG 20; 12: V_MAIN 16, " + OPEN.format(60, 12),
+    # Group 21: the same over 100 m, with an On Sight area of 15 km/h 20 m ahead for 20 m, to be acknowledged from 10 m before it on.
+    "NID_BG 21; 12: V_MAIN 16, " + OPEN.format(100, 10)
+    + "; 80: D_MAMODE 20, M_MAMODE 0, V_MAMODE 3, L_MAMODE 20, L_ACKMAMODE 10, N_ITER 0",
+    # Group 22: the same with a Shunting area 30 m ahead for 10 m.
+    "NID_BG 22; 12: V_MAIN 16, " + OPEN.format(100, 10)
+    + "; 80: D_MAMODE 30, M_MAMODE 1, V_MAMODE 127, L_MAMODE 10, L_ACKMAMODE 15, N_ITER 0",
+    # Group 23: V_MAIN 0.
+    "NID_BG 23; 12: V_MAIN 0, " + OPEN.format(50, 10),
+    # Level 0 at once; level 1 in 20 m, behind an element for STM; level 0 in 25 m, to be acknowledged from 15 m before it on; level 2.
+    "NID_BG 24; 41: D_LEVELTR 32767, M_LEVELTR 0, L_ACKLEVELTR 10, N_ITER 0",
+    "NID_BG 25; 41: D_LEVELTR 20, M_LEVELTR 1, NID_STM 5, L_ACKLEVELTR 3, N_ITER 1, M_LEVELTR 2, L_ACKLEVELTR 5",
+    "NID_BG 26; 41: D_LEVELTR 25, M_LEVELTR 0, L_ACKLEVELTR 15, N_ITER 0",
+    "NID_BG 27; 41: D_LEVELTR 5, M_LEVELTR 3, L_ACKLEVELTR 5, N_ITER 0",
+    # Group 28 announces group 29, 15 m ahead, to 3 m, with the reaction trip, and group 30, 10 m behind it, with a service brake.
+    "NID_BG 28; 5: D_LINK 15, Q_NEWCOUNTRY 0, NID_BG 29, Q_LINKORIENTATION 1, Q_LINKREACTION 0, Q_LOCACC 3, N_ITER 1, "
+    "D_LINK 10, Q_NEWCOUNTRY 0, NID_BG 30, Q_LINKORIENTATION 1, Q_LINKREACTION 1, Q_LOCACC 4",
+    "NID_BG 29",
+    "M_MCOUNT 254, NID_BG 29",
+    "NID_BG 30",
+    "M_MCOUNT 254, NID_BG 30",
+    # Group 28 announces three groups with no reaction, 3 m, 2 m and 2 m ahead, to 1 m.
+    "NID_BG 28; 5: D_LINK 3, Q_NEWCOUNTRY 0, NID_BG 31, Q_LINKORIENTATION 1, Q_LINKREACTION 2, Q_LOCACC 1, N_ITER 2, "
+    "D_LINK 2, Q_NEWCOUNTRY 0, NID_BG 32, Q_LINKORIENTATION 0, Q_LINKREACTION 2, Q_LOCACC 1, "
+    "D_LINK 2, Q_NEWCOUNTRY 1, NID_C 2, NID_BG 33, Q_LINKORIENTATION 1, Q_LINKREACTION 2, Q_LOCACC 1",
+    # National values at once: Override is allowed up to 40 km/h, for 30 m and 5 s; 40 m in Staff Responsible; 1 m to roll.
+    "NID_BG 31; 3: D_VALIDNV 32767, N_ITER 0, " + NATIONAL.format(4, 5, 3, 12, 1, 8, 4, 30, 5, 40),
+    # In 10 m: Override up to 20 km/h without an end in time; 5 m to roll.
+    "NID_BG 32; 3: D_VALIDNV 10, N_ITER 1, NID_C 3, " + NATIONAL.format(5, 9, 4, 10, 5, 4, 5, 100, 255, 32767),
+    # At once: Override never lasts, and Staff Responsible neither.
+    "NID_BG 34; 3: D_VALIDNV 32767, N_ITER 0, " + NATIONAL.format(6, 8, 6, 20, 2, 10, 6, 0, 0, 5),
+    # Two areas: On Sight 5 m ahead for 10 m, and Shunting of no length 10 m behind its start.
+    "NID_BG 33; 80: D_MAMODE 5, M_MAMODE 0, V_MAMODE 4, L_MAMODE 10, L_ACKMAMODE 3, N_ITER 1, D_MAMODE 10, M_MAMODE 1, "
+    "V_MAMODE 2, L_MAMODE 0, L_ACKMAMODE 8",
+    # Group 35: an On Sight area without an end, of the national speed, with an authority over 80 m.
+    "NID_BG 35; 12: V_MAIN 20, " + OPEN.format(80, 14)
+    + "; 80: D_MAMODE 0, M_MAMODE 0, V_MAMODE 127, L_MAMODE 32767, L_ACKMAMODE 0, N_ITER 0",
+    # Group 36: an authority over 30 m with 15 km/h at its end for 6 s, and an end timer of 4 s from 25 m before the end on; a section
+    # timer of 9 s that stops after 20 m.
+    "NID_BG 36; 12: V_MAIN 12, V_LOA 3, T_LOA 6, N_ITER 0, L_ENDSECTION 30, Q_SECTIONTIMER 1, T_SECTIONTIMER 9, "
+    "D_SECTIONTIMERSTOPLOC 20, Q_ENDTIMER 1, T_ENDTIMER 4, D_ENDTIMERSTARTLOC 25, Q_DANGERPOINT 1, D_DP 5, V_RELEASEDP 127, "
+    "Q_OVERLAP 0; 21: D_GRADIENT 0, Q_GDIR 0, G_A 10, N_ITER 0; 27: D_STATIC 0, V_STATIC 10, Q_FRONT 0, N_ITER 0, N_ITER 0",
+    # Group 37, not linked, with counter 254.
+    "M_MCOUNT 254, NID_BG 37, Q_LINK 0",
+    # Group 38, not linked: 50 km/h over 40 m.
+    "NID_BG 38, Q_LINK 0; 12: V_MAIN 10, " + OPEN.format(40, 16),
+    # Two balises: an authority over 50 m in the nominal direction, level 1 at once in the reverse one, level 0 in both in 30 m.
+    "N_TOTAL 1, NID_BG 39; 12: Q_DIR 1, V_MAIN 14, " + OPEN.format(50, 13) + "; 41: D_LEVELTR 30, M_LEVELTR 0, L_ACKLEVELTR 20, N_ITER 0",
+    "N_PIG 1, N_TOTAL 1, NID_BG 39; 41: Q_DIR 0, D_LEVELTR 32767, M_LEVELTR 2, L_ACKLEVELTR 0, N_ITER 0",
+    # Group 40: level 1 at once, an authority of 80 km/h over 70 m.
+    "NID_BG 40; 12: V_MAIN 16, " + OPEN.format(70, 12) + "; 41: D_LEVELTR 32767, M_LEVELTR 2, L_ACKLEVELTR 0, N_ITER 0",
+    # Group 41: level 1 in 10 m.
+    "NID_BG 41; 41: D_LEVELTR 10, M_LEVELTR 2, L_ACKLEVELTR 0, N_ITER 0",
+    # Group 42: the same as group 40, with an On Sight area of 20 km/h for 15 m.
+    "NID_BG 42; 12: V_MAIN 16, " + OPEN.format(70, 12) + "; 41: D_LEVELTR 32767, M_LEVELTR 2, L_ACKLEVELTR 0, N_ITER 0; "
+    "80: D_MAMODE 0, M_MAMODE 0, V_MAMODE 4, L_MAMODE 15, L_ACKMAMODE 5, N_ITER 0",
+    # Group 43: an authority over 80 m, an On Sight area for 15 m, and a Shunting area behind it.
+    "NID_BG 43; 12: V_MAIN 20, " + OPEN.format(80, 14) + "; 80: D_MAMODE 0, M_MAMODE 0, V_MAMODE 5, L_MAMODE 15, L_ACKMAMODE 5, "
+    "N_ITER 1, D_MAMODE 15, M_MAMODE 1, V_MAMODE 3, L_MAMODE 20, L_ACKMAMODE 2",
+)
+
+LEVEL_0 = "NID_BG 24; 41: D_LEVELTR 32767, M_LEVELTR 0, L_ACKLEVELTR 10, N_ITER 0"

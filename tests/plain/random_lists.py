@@ -1,34 +1,59 @@
 #!/usr/bin/env python3
-"""Pseudo-random lists of inputs, the same in every run, with the limits that the plain program gives.
+"""Pseudo-random lists of events of several lives, the same in every run, with the answers that the plain program gives.
 
     tests/plain/random_lists.py            writes them behind the rows of crates/test_kernel/stdin
-    tests/plain/random_lists.py --check    makes them anew; the exit status is 1 where others stand there
+    tests/plain/random_lists.py --check    makes them anew; the exit status is 1 where others stand there, or where a mode, a
+                                           row of the mode table or a cause to brake does not come up
 """
 import sys
+from collections import Counter
 
+import modes
+import output
 import pools
 import rows
 from check_rows import STDIN
+from items import VALID
+from life import Life
 from named import written
 from rows import Line, Row
-from speed import Train
 
 HEADING = """\
-# ==== Pseudo-random lists, with the limits that tests/plain gives. tests/plain/random_lists.py writes all that follows.
+# ==== Pseudo-random lists, with the answers that tests/plain gives. tests/plain/random_lists.py writes all that follows.
 """
 
-RESTRICTIONS, GROUPS, TRACK = (tuple(map(written, pool)) for pool in (pools.RESTRICTIONS, pools.GROUPS, pools.TRACK))
-EVERYTHING = RESTRICTIONS + GROUPS + TRACK
+RESTRICTIONS, GROUPS, TRACK, SUPERVISION = (
+    tuple(map(written, pool)) for pool in (pools.RESTRICTIONS, pools.GROUPS, pools.TRACK, pools.SUPERVISION))
+LEVEL_0 = written(pools.LEVEL_0)
 
-# name, telegrams, modes in turn, how many lists, inputs of each
+# name, telegrams, how many lists, events of each life
 KINDS = (
-    ("restrictions", RESTRICTIONS, ("SR",), 60, 16),
-    ("groups", GROUPS, ("SR",), 60, 24),
-    ("track", TRACK, ("FS", "FS", "SR"), 120, 24),
-    ("everything", EVERYTHING, ("FS", "SR"), 80, 30),
+    ("restrictions", RESTRICTIONS, 40, 16),
+    ("groups", GROUPS, 50, 20),
+    ("track", TRACK + SUPERVISION[:2], 80, 22),
+    ("supervision", SUPERVISION, 150, 30),
+    ("everything", RESTRICTIONS + GROUPS + TRACK + 2 * SUPERVISION, 80, 30),
 )
 
-NEAR_BOUNDS_CM = (-2_000, -600, -1, 0, 1, 500, 1_300, 1_301)
+NEAR_BOUNDS_CM = (-2_000, -600, -101, -1, 0, 1, 500, 1_300, 1_301)
+SPEEDS = (0, 0, 0, 3_000, 12_000, 20_000, 26_000, 37_000, 52_000, 80_000)
+KEPT = ("level", "position", "trip", "counts", "national", "train-data")
+COLD = ("unknown", "moved", "not-moved")
+
+ANYWHERE = ("acknowledge on-sight", "acknowledge shunting", "acknowledge level-0", "close-desk")
+PLAUSIBLE = {
+    "SB": ("enter-identity B 7", "enter-running-number 4711", "choose-level 0", "choose-level 1", "confirm running-number",
+           "confirm level", "acknowledge trip", "choose-shunting", "start"),
+    "FS": ("override", "choose-shunting", *ANYWHERE, *ANYWHERE),
+    "OS": ("override", "choose-shunting", *ANYWHERE, *ANYWHERE),
+    "SR": ("override", "override", "choose-shunting", *ANYWHERE),
+    "UN": ("choose-shunting", *ANYWHERE),
+    "SH": ("leave-shunting", "leave-shunting", *ANYWHERE),
+    "TR": ("acknowledge trip", "acknowledge trip", "acknowledge trip", "start"),
+    "PT": ("start", "override", "choose-shunting", *ANYWHERE),
+    "SF": ("start",),
+}
+EVERY = tuple(dict.fromkeys(action for actions in PLAUSIBLE.values() for action in actions))
 
 
 class Numbers:
@@ -47,51 +72,118 @@ class Numbers:
 
 def train(numbers):
     """A short train, whose brakes act after up to 1 s."""
-    return Train(length=100 + numbers.below(900), maximum=numbers.one_of((60_000, 160_000, 300_000)),
-                 deceleration=20 + numbers.below(100), reaction_ms=numbers.below(1_001),
-                 category=numbers.one_of((3, 5, 15)))
+    return (f"{100 + numbers.below(900)} {numbers.one_of((60_000, 160_000, 300_000))} {20 + numbers.below(100)} "
+            f"{numbers.below(1_001)} {numbers.one_of((3, 5, 15))}")
 
 
-def inputs(numbers, telegrams, count):
-    """Movements from -20 to 30 m or near the bounds of groups, moments up to 4 s later, and telegrams."""
-    moment = 0
-    for _ in range(count):
-        kind = numbers.below(5)
-        if kind == 0:
-            yield "move", str(numbers.below(5_001) - 2_000)
-        elif kind == 1:
-            yield "move", str(numbers.one_of(NEAR_BOUNDS_CM))
-        elif kind == 2:
-            moment += numbers.below(4_001)
-            yield "clock", str(moment)
-        else:
-            yield "hear", numbers.one_of(telegrams)
+def preparing(numbers, life):
+    """What the driver does next to start."""
+    if life.is_tripped():
+        return "acknowledge trip"
+    for name, entering in (("identity", "enter-identity A"), ("level", f"choose-level {min(1, numbers.below(4))}"),
+                           ("train-data", f"enter-train-data {train(numbers)}")):
+        item = life.item(name)
+        if item.status != VALID:
+            return f"confirm {name}" if item.value is not None and numbers.below(2) else entering
+    return "start" if life.is_revalidated() or numbers.below(6) else "choose-shunting"
+
+
+def event(numbers, telegrams, life):
+    """Telegrams, movements from -20 to 30 m or near the bounds of groups, moments up to 4 s later, and the driver's actions."""
+    if life.mode() == "SB" and life.speed() == 0 and numbers.below(2):
+        return preparing(numbers, life)
+    if life.mode() == "PT" and numbers.below(6) == 0:
+        return "hear " + LEVEL_0
+    kind = numbers.below(20)
+    if kind < 7:
+        return "hear " + numbers.one_of(telegrams)
+    if kind < 11:
+        movement = numbers.one_of(NEAR_BOUNDS_CM) if numbers.below(3) == 0 else numbers.below(4_001) - 600
+        return f"move {movement} {numbers.one_of(SPEEDS)}"
+    if kind < 13:
+        return f"clock {life.moment() + numbers.below(4_001)}"
+    if life.speed() > 0 and numbers.below(2):
+        return "move 0 0"
+    return numbers.one_of(PLAUSIBLE[life.mode()] if numbers.below(5) else EVERY)
+
+
+def asked(numbers):
+    return "place" if numbers.below(2) else "kept " + numbers.one_of(KEPT)
+
+
+class Made:
+    """A list as it is made: each event is chosen by what the plain program knows after the ones before."""
+
+    def __init__(self, name, numbers, telegrams, length):
+        self.row, self.life, self.counted = Row(name), None, Counter()
+        for number in range(1 + numbers.below(3)):
+            self.say("power-up " + (COLD[numbers.below(3)] if number else "unknown"))
+            for _ in range(length):
+                self.say(event(numbers, telegrams, self.life))
+                if numbers.below(8) == 0:
+                    self.say(asked(numbers))
+
+    def say(self, text):
+        word, _, value = text.partition(" ")
+        if word == "power-up":
+            self.life = Life(self.life.kept(), value) if self.life else Life()
+        elif word not in rows.ASKED:
+            self.life.take(word, value)
+        line = Line(None, word, value, None)
+        self.row.lines.append(line._replace(wanted=rows.answer_to(line, self.life)))
+        if word not in rows.ASKED:
+            self.count(word, value)
+
+    def count(self, word, value):
+        now = self.life.now
+        mode, _, brake, limit, _ = now.output
+        self.counted[f"mode {mode}"] += 1
+        self.counted[f"row {now.row}"] += now.row is not None
+        self.counted[f"power-up {value}"] += word == "power-up"
+        emergency, service = output.emergency_causes(self.life, mode, limit), output.service_causes(self.life, mode, limit)
+        for name, holds in (emergency if brake == "emergency" else service).items():
+            self.counted[f"{brake}: {name}"] += holds
+        if sum(emergency.values()) == 1 and brake == "emergency":
+            self.counted.update(f"alone {brake}: {name}" for name, holds in emergency.items() if holds)
+
+    def text(self):
+        said = [f"row {self.row.name}"]
+        said += [f"{line.word} {line.value}".strip() + f" -> {line.wanted}" for line in self.row.lines]
+        return "\n".join(said) + "\n"
+
+
+# No list as short as these has a path of 2^40 cm, so row 1 and mode SF do not come up.
+WANTED = (
+    *(f"mode {mode}" for mode in ("FS", "OS", "SR", "SH", "UN", "SB", "TR", "PT")),
+    *(f"row {number}" for number, *_ in modes.TABLE if number > 1),
+    *(f"power-up {word}" for word in COLD),
+    *(f"emergency: {cause}" for cause in ("not revalidated", "mode", "trip outstanding", "far too fast", "rolled back")),
+    *(f"alone emergency: {cause}" for cause in ("not revalidated", "far too fast", "rolled back")),
+    *(f"service: {cause}" for cause in ("linking", "too fast", "moves", "owed")),
+)
 
 
 def lists():
     numbers = Numbers(2026)
-    for name, telegrams, modes, count, length in KINDS:
+    for name, telegrams, count, length in KINDS:
         for number in range(count):
-            row = Row(f"random {name} {number + 1}")
-            row.train, row.mode = train(numbers), modes[number % len(modes)]
-            row.lines = [Line(None, word, value, None) for word, value in inputs(numbers, telegrams, length)]
-            yield row
-
-
-def text_of(row):
-    said = [f"row {row.name}", "train " + " ".join(map(str, row.train)), f"mode {row.mode}"]
-    said += [f"{line.word} {line.value} -> {limit}" for line, limit in zip(row.lines, row.limits())]
-    return "\n".join(said) + "\n"
+            yield Made(f"random {name} {number + 1}", numbers, telegrams, length)
 
 
 def main(words):
     worked, heading, written = STDIN.read_text().partition(HEADING)
-    made = "".join("\n" + text_of(row) for row in lists())
-    if words == ["--check"]:
-        print(f"the random lists are {'the same' if made == written else 'others'}")
-        return 0 if made == written else 1
-    STDIN.write_text(worked + HEADING + made)
-    return 0
+    made = list(lists())
+    text = "".join("\n" + one.text() for one in made)
+    counted = sum((one.counted for one in made), Counter())
+    if words != ["--check"]:
+        STDIN.write_text(worked + HEADING + text)
+        return 0
+    print(f"the random lists are {'the same' if text == written else 'others'}")
+    print("of these came up: " + ", ".join(f"{name} {counted[name]}" for name in WANTED))
+    absent = [name for name in WANTED if not counted[name]]
+    if absent:
+        print("did not come up: " + ", ".join(absent))
+    return 0 if text == written and not absent else 1
 
 
 if __name__ == "__main__":

@@ -1,31 +1,69 @@
-"""Rows of the kernel, as the program test_kernel reads them."""
+"""Rows of the kernel, as the program test_kernel reads them: lists of events of one or several lives."""
 from collections import namedtuple
 
+from items import UNKNOWN, Kept
 from life import Life
-from speed import Train
 
-Line = namedtuple("Line", "number word value limit")
+Line = namedtuple("Line", "number word value wanted")
+
+ASKED = ("kept", "place")
 
 
 class Row:
     def __init__(self, name):
-        self.name, self.train, self.mode, self.lines = name, None, None, []
+        self.name, self.lines = name, []
 
-    def limits(self):
-        """The limit after each line, by the plain program. Power comes on before the first input."""
-        life = Life(self.train)
+    def lives(self):
+        """The life after each line."""
+        life, kept = None, Kept()
         for line in self.lines:
             if line.word == "power-up":
-                life = Life(self.train, life.national.in_force)
-            elif line.word == "hear":
-                life.hear(bytes.fromhex(line.value))
-            elif line.word in ("move", "clock"):
-                getattr(life, line.word)(int(line.value))
-            elif line.word == "driver":
-                life.driver(line.value)
-            else:
-                raise ValueError(f"line {line.number}: {line.word}")
-            yield life.limit(self.mode)
+                life = Life(life.kept() if life else kept, line.value)
+            elif line.word not in ASKED:
+                life.take(line.word, line.value)
+            yield line, life
+
+    def answers(self):
+        """What the plain program answers to each line."""
+        return [answer_to(line, life) for line, life in self.lives()]
+
+
+def answer_to(line, life):
+    if line.word == "kept":
+        return told(life.kept(), line.value)
+    if line.word == "place":
+        return " ".join(map(str, life.place()))
+    output = life.now.output
+    return f"{output.mode} {output.level} {output.brake} {output.limit} {output.indications}"
+
+
+def is_met(wanted, answer):
+    """A number alone wants the limit, which is the fourth word of an output."""
+    return wanted == answer or (wanted.isdigit() and answer.split()[3:4] == [wanted])
+
+
+def told(kept, name):
+    """An item that is kept, as a row says it."""
+    if name == "identity":
+        return "-" if kept.identity is None else kept.identity.encode().hex()
+    if name in ("running-number", "train-data"):
+        value = getattr(kept, name.replace("-", "_"))
+        return "-" if value is None else " ".join(map(str, value)) if name == "train-data" else str(value)
+    if name == "level":
+        return kept.level.status if kept.level.status == UNKNOWN else f"{kept.level.status} {kept.level.value}"
+    if name == "position":
+        if kept.position.status == UNKNOWN:
+            return UNKNOWN
+        (country, number), distance = kept.position.value
+        return f"{kept.position.status} {country} {number} {distance}"
+    if name == "national":
+        values = ["-" if value is None else value for value in vars(kept.national.values).values()]
+        return " ".join(map(str, (*values, "of", *kept.national.countries)))
+    if name == "trip":
+        return "yes" if kept.trip else "no"
+    if name == "counts":
+        return f"{kept.events} {kept.lives}"
+    raise ValueError(name)
 
 
 def read(text):
@@ -36,12 +74,8 @@ def read(text):
         word, _, value = said.partition(" ")
         if word == "row":
             rows.append(Row(value))
-        elif word == "train":
-            rows[-1].train = Train(*map(int, value.split()))
-        elif word == "mode":
-            rows[-1].mode = value
         elif said:
-            told, _, limit = said.partition("->")
-            word, _, value = told.strip().partition(" ")
-            rows[-1].lines.append(Line(number, word, value, int(limit) if limit else None))
+            happens, _, wanted = said.partition("->")
+            word, _, value = happens.strip().partition(" ")
+            rows[-1].lines.append(Line(number, word, value, wanted.strip() or None))
     return rows

@@ -2,18 +2,23 @@
 places in centimetres."""
 from collections import namedtuple
 
+import areas
 from track import covers, pieces, restriction_starts, speed_for
 
 Target = namedtuple("Target", "place speed")
 Train = namedtuple("Train", "length maximum deceleration reaction_ms category")
 
+NO_CATEGORY = 15
+
 
 class Situation:
     """All that bears on the limit now."""
 
-    def __init__(self, train, stretch, gradients, speeds, restrictions, mark, authority, now, national):
+    def __init__(self, train, stretch, gradients, speeds, restrictions, mode_areas, mark, authority, now, national):
         self.train, self.stretch = train, stretch
         self.gradients, self.speeds, self.restrictions, self.mark = gradients, speeds, restrictions, mark
+        self.areas = mode_areas
+        self.category = train.category if train else NO_CATEGORY
         self.main = authority.main_speed() if authority else None
         self.end = authority.end(now, national.release) if authority else None
         self.national = national
@@ -35,14 +40,30 @@ class Situation:
         for place in pieces(starts, self.stretch.min_rear, self.stretch.max_front):
             static = self.speeds.at(place)
             if static and place >= self.from_where(static.front):
-                yield speed_for(static, self.train.category)
+                yield speed_for(static, self.category)
 
-    def responsible_limit(self):
-        return min(self.national.staff_responsible, self.train.maximum, *self.restriction_speeds())
+    def area_speed(self, area):
+        """127 is the national value of its kind."""
+        national = self.national.on_sight if area.kind == "on-sight" else self.national.shunting
+        return national if area.speed is None else area.speed
+
+    def area_speeds(self):
+        """An area counts with Q_FRONT 1."""
+        for area in self.areas:
+            if areas.is_met(area, self.stretch.min_front, self.stretch.max_front):
+                yield self.area_speed(area)
+
+    def maximum(self):
+        """Of the train; a missing bound does not limit."""
+        return [self.train.maximum] if self.train else []
+
+    def least(self, *bounds):
+        """The least of some bounds, the train's maximum and the restrictions."""
+        return min([*bounds, *self.maximum(), *self.restriction_speeds()])
 
     def limit(self):
         """The least of all that limits the train where it stands; a missing bound does not limit."""
-        bounds = [self.train.maximum, *self.static_speeds(), *self.restriction_speeds()]
+        bounds = [*self.maximum(), *self.static_speeds(), *self.restriction_speeds(), *self.area_speeds()]
         if self.end:
             bounds.append(self.main)
             if self.stretch.max_front >= self.end.place and self.end.speed > 0:
@@ -52,19 +73,23 @@ class Situation:
     # ---- what lies ahead: above the greatest front
 
     def targets(self):
-        """Each centimetre ahead with a static speed or restriction is a target of that speed, each one ahead and before the
+        """Each centimetre ahead with a static speed, restriction or area is a target of that speed, each one ahead and before the
         end without a static speed is one of speed 0. Of equal speeds the first centimetre asks for the most."""
         first = self.stretch.max_front + 1
         starts = self.speeds.starts() | restriction_starts(self.restrictions) | {self.mark}
+        starts |= {place for area in self.areas for place in (area.start, area.end) if place is not None}
         for place in pieces(starts, first, max(starts | {first})):
             static = self.speeds.at(place)
             if static:
-                yield Target(place, speed_for(static, self.train.category))
+                yield Target(place, speed_for(static, self.category))
             elif self.end and place < self.end.place:
                 yield Target(place, 0)
             for restriction in self.restrictions:
                 if covers(restriction, place, self.mark):
                     yield Target(place, restriction.speed)
+            for area in self.areas:
+                if areas.covers(area, place):
+                    yield Target(place, self.area_speed(area))
 
     def deceleration_at(self, place):
         """In cm/s2, on the gradient there and rounded down; 0 where no gradient is stored."""

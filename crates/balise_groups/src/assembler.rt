@@ -1,4 +1,4 @@
-ghost use Rattle.std.specs.Prelude.{◌≡◌, ℕ, List, [], ◌∷◌, None, false};
+ghost use Rattle.std.specs.Prelude.{◌≡◌, ℕ, List, [], ◌∷◌, None, is_none, false};
 ghost use Rattle.balise_groups.specs.Closing.{close_of};
 ghost use Rattle.balise_groups.specs.Groups.{Entry, Groups, Known, seen_at, is_close, is_left, goes_on, ended, ended_if_whole, joined_by, close_if_whole, with_reading, known_of, known, taken_by, ended_by};
 ghost use Rattle.balise_groups.specs.Groups.Entry.{Read, Went};
@@ -127,6 +127,13 @@ impl Assembler {
             → self.now ≡ known (Went path ∷ entries) }
     {
         is_left(path, &self.current)
+    }
+
+    /// Whether no group is being read, so that no movement closes one.
+    pub fn is_idle(&self) -> bool
+        ensures { result ≡ is_none self.now.current }
+    {
+        self.current.is_none()
     }
 
     /// Is told the path of the life after a movement, and answers the group that is left by it.

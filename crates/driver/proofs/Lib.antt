@@ -1,7 +1,7 @@
-mod Revalidated
+pub mod Revalidated
 mod Storing
-mod Outstanding
-mod Giving
+pub mod Outstanding
+pub mod Giving
 mod Validity
-mod Columns
+pub mod Columns
 mod Overridden

@@ -3,3 +3,5 @@ pub mod Lives
 pub mod Brake
 pub mod Output
 pub mod StandsFor
+pub mod Laws
+pub mod Quiet

@@ -2,9 +2,10 @@
 //! it leaves a choice, this project's profile). Distances are centimetres, speeds metres per hour, moments milliseconds.
 #![tactic(auto)]
 
-mod braking;
+mod commanding;
 mod counts;
 mod keeping;
+mod laws;
 mod output;
 mod parts;
 mod position;
@@ -14,5 +15,6 @@ mod state;
 mod steps;
 mod window;
 
+pub use laws::{brakes_until_revalidated, kept_is_the_last, power_up_forgets, trip_brakes};
 pub use state::{State, StateOver};
 pub use steps::step;

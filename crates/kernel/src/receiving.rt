@@ -1,14 +1,16 @@
 //! What an event does.
-ghost use Rattle.std.specs.Prelude.{◌≡◌, List, ◌∷◌, OnOk};
+ghost use Rattle.std.specs.Prelude.{◌≡◌, true, List, ◌∷◌, IsOk, OnOk};
 ghost use Rattle.events.specs.declared.input.Event.{Event};
 ghost use Rattle.events.specs.declared.input.Event.TheVariants as event;
 ghost use Rattle.kernel.specs.Brake.{sight_at};
 ghost use Rattle.kernel.specs.Lives.{counted};
+ghost use Rattle.kernel.specs.Quiet.{is_quiet_event};
 ghost use Rattle.kernel.specs.StandsFor.{StandsForLife, StandsFor, parts_of};
 ghost use Rattle.supervision.specs.Entry.{Entry};
 ghost use Rattle.supervision.specs.Life.{Life, grown};
 ghost use Rattle.supervision.specs.Sentences.{entry_of};
 ghost use Rattle.supervision.specs.StandsFor.{StandsForLife as SupervisionStandsForLife};
+ghost use Rattle.trackside.specs.Steps.{is_quiet};
 
 use crate::parts::Parts;
 use crate::sight::{Sight, backward_by, reading_of, stands};
@@ -53,6 +55,7 @@ fn sight_of<G: ProfileStore<Permille> + Drop, S: ProfileStore<CategorySpeeds> + 
 impl<G: ProfileStore<Permille> + Drop, S: ProfileStore<CategorySpeeds> + Drop> StateOver<G, S> {
     // All that an input does. Where memory is refused, the state is no longer of use.
     fn receive(&mut self, alloc: Global, input: &Input) -> Result<(), NoMemory>
+        ensures quiet { is_quiet self.old.supervision.track.parts input.now ≡ true → IsOk result }
         ensures life { OnOk result ((life : Life) → StandsForLife G.profile S.profile self.old life
             → StandsForLife G.profile S.profile self.new (grown life (entry_of life input.now))) }
         ensures counts { OnOk result (self.new.counts ≡ counted self.old.counts (event.Input input.now)) }
@@ -64,9 +67,10 @@ impl<G: ProfileStore<Permille> + Drop, S: ProfileStore<CategorySpeeds> + Drop> S
         Ok(())
     }
 
-    /// All that an event does. Where memory is refused, the state is no longer of use.
+    /// All that an event does. Where memory is refused, the state is no longer of use; a quiet event is never refused any.
     pub(crate) fn take(&mut self, alloc: Global, event: &Event) -> Result<(), NoMemory>
-        ensures { OnOk result ((events : List Event) → StandsFor G.profile S.profile self.old events
+        ensures quiet { is_quiet_event self.old event.now ≡ true → IsOk result }
+        ensures stands { OnOk result ((events : List Event) → StandsFor G.profile S.profile self.old events
             → StandsFor G.profile S.profile self.new (event.now ∷ events)) }
     {
         match event {

@@ -107,5 +107,6 @@ pub fn limit<G: ProfileStore<Permille> + Drop, S: ProfileStore<CategorySpeeds> +
 ) -> Mph
     ensures { (life : Life) → StandsForLife G.profile S.profile supervision.now life → result ≡ limit life }
 {
-    limit_in(supervision.mode(), supervision)
+    let mode = supervision.mode();
+    limit_in(mode, supervision)
 }

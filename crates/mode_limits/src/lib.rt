@@ -3,7 +3,9 @@
 #![tactic(auto)]
 
 mod by_mode;
+mod laws;
 mod permitted;
 mod release;
 
 pub use by_mode::limit;
+pub use laws::limit_is_within_maximum;

@@ -5,4 +5,4 @@ mod reading;
 mod writing;
 
 pub use reading::{one_spelling, read_numbered, read_packet};
-pub use writing::write_packet;
+pub use writing::{hand_packet, write_packet};

@@ -1,9 +1,26 @@
 ghost use Rattle.std.specs.Prelude.{◌≡◌, ◌+◌, ◌*◌, ◌<◌, ◌≤◌, ◌^◌, ◌↔◌, ◌++◌, List, Bool, length, IsOk, OnOk, OnErr};
 ghost use Rattle.bits.specs.Layout.{Spells};
-ghost use Rattle.packets.specs.Packets.{packet as packet_layout};
+ghost use Rattle.bits.specs.Writing.{named};
+ghost use Rattle.bits.specs.declared.name.VariableName.TheVariants as names;
+ghost use Rattle.packets.specs.Packets.{packet as packet_layout, length_of, number_of, packet_taken};
 
 use bits::{BitWriter, Full, VariableName};
-use packets::{Packet, put};
+use packets::{FieldSink, Packet, put};
+
+/// Hands a whole packet to a sink, NID_PACKET first; stops where the sink takes no more. The length is the packet's own
+/// (`Packet::length`). Where L_PACKET can't tell it, the packet has no spelling, and nothing is said of what the sink takes.
+pub fn hand_packet<S: FieldSink>(
+    packet: &Packet<'_>,
+    length: u64,
+    sink: &mut S,
+) -> Result<(), S::Error>
+    requires length { length ≡ length_of packet.now }
+    requires room { S.held sink.old + length ≤ S.most }
+    ensures { length < 2 ^ 13 → OnOk result (S.seen sink.new ≡ packet_taken S.took length packet.now (S.took (S.seen sink.old) (named names.NidPacket 8 (number_of packet.now)))) }
+{
+    put(sink, VariableName::NidPacket, &packet.number())?;
+    packet.fields(length, sink)
+}
 
 /// Writes a packet that has a spelling (SUBSET-026, 7.4.2). Nothing is written where its bits do not fit.
 pub fn write_packet<const N: usize>(
@@ -19,10 +36,7 @@ pub fn write_packet<const N: usize>(
     if !writer.has_room(length) {
         return Err(Full);
     }
-    match put(writer, VariableName::NidPacket, &packet.number()) {
-        Ok(()) => {}
-    }
-    match packet.fields(length, writer) {
+    match hand_packet(packet, length, writer) {
         Ok(()) => Ok(()),
     }
 }

@@ -1,11 +1,14 @@
 ghost use Rattle.std.specs.Prelude.{◌≡◌, ◌+◌, ◌<◌, ◌≤◌, ◌^◌, length, OnOk, ◌↔◌, IsTrue};
-ghost use Rattle.bits.specs.Fitting.{Fits, Spellable};
+ghost use Rattle.bits.specs.Fitting.{Fits};
 ghost use Rattle.bits.specs.Layout.{Gives, kind, read};
 ghost use Rattle.bits.specs.Writing.{size, taken};
-ghost use Rattle.packets.specs.Packets.{as_packet, as_movement_authority, movement_authority, movement_authority_telling, section as section_layout};
-ghost use Rattle.bits.specs.declared.name.VariableName.TheVariants as names;
+ghost use Rattle.packets.specs.Packets.{as_packet, as_movement_authority, movement_authority, movement_authority_telling};
 ghost use Rattle.packets.specs.declared.packet.Packet.TheVariants as packets;
 
+mod ends;
+mod sections;
+
+use crate::authority::sections::{end_section_fits, read_end_section, section_fields};
 use crate::element::{Element, read_list, read_qualified};
 use crate::fault::PacketFault;
 use crate::fitting::{all_fit, qualified_fits};
@@ -39,35 +42,6 @@ impl Default for SectionTimer {
     }
 }
 
-impl Element for SectionTimer {
-    ghost use Rattle.packets.specs.Packets.{section_timer};
-
-    ghost layout = { section_timer };
-
-    #[tactic(auto, unfolding(crate::specs::Packets::section_timer))]
-    fn read(reader: &mut BitReader<'_>) -> Result<SectionTimer, PacketFault> {
-        let time = field(reader)?;
-        let stop = field(reader)?;
-        Ok(SectionTimer { time, stop })
-    }
-
-    #[tactic(auto, unfolding(crate::specs::Packets::section_timer))]
-    fn fields<S: FieldSink>(&self, sink: &mut S) -> Result<(), S::Error> {
-        put(sink, VariableName::TSectiontimer, &self.time)?;
-        put(sink, VariableName::DSectiontimerstoploc, &self.stop)
-    }
-
-    #[tactic(auto, unfolding(crate::specs::Packets::section_timer))]
-    fn bits(&self) -> u64 {
-        25
-    }
-
-    #[tactic(auto, unfolding(crate::specs::Packets::section_timer))]
-    fn fits(&self) -> bool {
-        has_number(&self.time) && has_number(&self.stop)
-    }
-}
-
 /// A section of an authority.
 #[derive(Clone, Copy)]
 pub struct Section {
@@ -85,67 +59,6 @@ impl Default for Section {
             timer: None,
         }
     }
-}
-
-impl Element for Section {
-    ghost use Rattle.packets.specs.Packets.{section};
-
-    ghost layout = { section names.LSection };
-
-    #[tactic(auto, unfolding(crate::specs::Packets::section))]
-    fn read(reader: &mut BitReader<'_>) -> Result<Section, PacketFault> {
-        let length = field(reader)?;
-        let timer = read_qualified(reader)?;
-        Ok(Section { length, timer })
-    }
-
-    fn fields<S: FieldSink>(&self, sink: &mut S) -> Result<(), S::Error> {
-        section_fields(self, VariableName::LSection, sink)
-    }
-
-    #[tactic(auto, unfolding(crate::specs::Packets::section, crate::specs::Packets::section_timer))]
-    fn bits(&self) -> u64 {
-        match &self.timer {
-            Some(_) => 41,
-            None => 16,
-        }
-    }
-
-    #[tactic(auto, unfolding(crate::specs::Packets::section))]
-    fn fits(&self) -> bool {
-        has_number(&self.length) && qualified_fits(&self.timer)
-    }
-}
-
-/// Reads the end section.
-#[tactic(auto, unfolding(crate::specs::Packets::section))]
-fn read_end_section(reader: &mut BitReader<'_>) -> Result<Section, PacketFault>
-    ensures { Gives (λ x. x) result reader.new (read (section_layout names.LEndsection) reader.old) }
-{
-    Section::read(reader)
-}
-
-/// Whether an end section is as its layout wants it.
-#[tactic(auto, unfolding(crate::specs::Packets::section))]
-fn end_section_fits(section: &Section) -> bool
-    ensures { IsTrue result ↔ Spellable (section_layout names.LEndsection) section.now }
-{
-    section.fits()
-}
-
-/// Hands a section to a sink, under the name of its length.
-#[tactic(auto, unfolding(crate::specs::Packets::section))]
-fn section_fields<S: FieldSink>(
-    section: &Section,
-    name: VariableName,
-    sink: &mut S,
-) -> Result<(), S::Error>
-    requires room { S.held sink.old + size (section_layout name) section.now ≤ S.most }
-    ensures value { OnOk result (S.seen sink.new ≡ taken S.took (section_layout name) section.now (S.seen sink.old)) }
-    ensures held { OnOk result (S.held sink.new ≤ S.held sink.old + size (section_layout name) section.now) }
-{
-    put(sink, name, &section.length)?;
-    qualified(sink, VariableName::QSectiontimer, &section.timer)
 }
 
 /// The timer of the end section.
@@ -167,35 +80,6 @@ impl Default for EndTimer {
     }
 }
 
-impl Element for EndTimer {
-    ghost use Rattle.packets.specs.Packets.{end_timer};
-
-    ghost layout = { end_timer };
-
-    #[tactic(auto, unfolding(crate::specs::Packets::end_timer))]
-    fn read(reader: &mut BitReader<'_>) -> Result<EndTimer, PacketFault> {
-        let time = field(reader)?;
-        let start = field(reader)?;
-        Ok(EndTimer { time, start })
-    }
-
-    #[tactic(auto, unfolding(crate::specs::Packets::end_timer))]
-    fn fields<S: FieldSink>(&self, sink: &mut S) -> Result<(), S::Error> {
-        put(sink, VariableName::TEndtimer, &self.time)?;
-        put(sink, VariableName::DEndtimerstartloc, &self.start)
-    }
-
-    #[tactic(auto, unfolding(crate::specs::Packets::end_timer))]
-    fn bits(&self) -> u64 {
-        25
-    }
-
-    #[tactic(auto, unfolding(crate::specs::Packets::end_timer))]
-    fn fits(&self) -> bool {
-        has_number(&self.time) && has_number(&self.start)
-    }
-}
-
 /// The danger point behind the end.
 #[derive(Clone, Copy)]
 pub struct DangerPoint {
@@ -212,35 +96,6 @@ impl Default for DangerPoint {
             distance: Distance::of_number(0).unwrap(),
             release: ReleaseSpeed::National,
         }
-    }
-}
-
-impl Element for DangerPoint {
-    ghost use Rattle.packets.specs.Packets.{danger_point};
-
-    ghost layout = { danger_point };
-
-    #[tactic(auto, unfolding(crate::specs::Packets::danger_point))]
-    fn read(reader: &mut BitReader<'_>) -> Result<DangerPoint, PacketFault> {
-        let distance = field(reader)?;
-        let release = field(reader)?;
-        Ok(DangerPoint { distance, release })
-    }
-
-    #[tactic(auto, unfolding(crate::specs::Packets::danger_point))]
-    fn fields<S: FieldSink>(&self, sink: &mut S) -> Result<(), S::Error> {
-        put(sink, VariableName::DDp, &self.distance)?;
-        put(sink, VariableName::VReleasedp, &self.release)
-    }
-
-    #[tactic(auto, unfolding(crate::specs::Packets::danger_point))]
-    fn bits(&self) -> u64 {
-        22
-    }
-
-    #[tactic(auto, unfolding(crate::specs::Packets::danger_point))]
-    fn fits(&self) -> bool {
-        has_number(&self.distance) && has_number(&self.release)
     }
 }
 
@@ -266,47 +121,6 @@ impl Default for Overlap {
             distance: Distance::of_number(0).unwrap(),
             release: ReleaseSpeed::National,
         }
-    }
-}
-
-impl Element for Overlap {
-    ghost use Rattle.packets.specs.Packets.{overlap};
-
-    ghost layout = { overlap };
-
-    #[tactic(auto, unfolding(crate::specs::Packets::overlap))]
-    fn read(reader: &mut BitReader<'_>) -> Result<Overlap, PacketFault> {
-        let start = field(reader)?;
-        let time = field(reader)?;
-        let distance = field(reader)?;
-        let release = field(reader)?;
-        Ok(Overlap {
-            start,
-            time,
-            distance,
-            release,
-        })
-    }
-
-    #[tactic(auto, unfolding(crate::specs::Packets::overlap))]
-    fn fields<S: FieldSink>(&self, sink: &mut S) -> Result<(), S::Error> {
-        put(sink, VariableName::DStartol, &self.start)?;
-        put(sink, VariableName::TOl, &self.time)?;
-        put(sink, VariableName::DOl, &self.distance)?;
-        put(sink, VariableName::VReleaseol, &self.release)
-    }
-
-    #[tactic(auto, unfolding(crate::specs::Packets::overlap))]
-    fn bits(&self) -> u64 {
-        47
-    }
-
-    #[tactic(auto, unfolding(crate::specs::Packets::overlap))]
-    fn fits(&self) -> bool {
-        has_number(&self.start)
-            && has_number(&self.time)
-            && has_number(&self.distance)
-            && has_number(&self.release)
     }
 }
 

@@ -1,24 +1,25 @@
-ghost use Rattle.std.specs.Prelude.{◌≡◌, ◌+◌, ◌≤◌, ◌<◌, ◌^◌, length, drop, min, slice_index_or, take, OnOk, ◌↔◌, IsTrue};
-ghost use Rattle.bits.specs.Layout.{Gives, folded, kind, read};
+ghost use Rattle.std.specs.Prelude.{◌≡◌, ◌+◌, ◌≤◌, ◌<◌, ◌^◌, length, min, OnOk, ◌↔◌, IsTrue};
 ghost use Rattle.bits.specs.Sums.{total};
 ghost use Rattle.bits.specs.Writing.{size, taken};
-ghost use Rattle.packets.specs.Packets.{as_packet, as_static_speeds, no_step, static_step, static_speeds, static_speeds_telling};
-ghost use Rattle.packets.specs.StaticSteps.{StepFits, SpeedsFit, profile_size, profile_taken, step_size, step_taken, steps_size, steps_taken};
+ghost use Rattle.packets.specs.Packets.{static_speeds_telling};
+ghost use Rattle.packets.specs.StaticSteps.{StepFits, SpeedsFit};
 ghost use Rattle.std.specs.List.{AllByRecursion as Each};
-ghost use Rattle.packets.specs.declared.packet.Packet.TheVariants as packets;
 
-use crate::element::{Element, read_list};
+mod handing;
+mod reading;
+
+use crate::element::Element;
 use crate::fault::PacketFault;
 use crate::fitting::all_fit;
-use crate::packet::Packet;
 use crate::reading::field;
 use crate::sink::{FieldSink, put};
-use crate::walk::list;
+use crate::static_speeds::handing::profile_fields;
+pub use crate::static_speeds::reading::read_static_speeds;
 use arrayvec::ArrayVec;
 use bits::{BitReader, VariableName};
 use vars::{
-    Distance, Iterations, PacketLength, Scale, SpeedStep, StaticSpeed, TrainCategory,
-    TrainLengthDelay, ValidityDirection, Variable, has_number,
+    Distance, Iterations, Scale, SpeedStep, StaticSpeed, TrainCategory, TrainLengthDelay,
+    ValidityDirection, Variable, has_number,
 };
 
 /// A speed for trains of a category.
@@ -109,152 +110,6 @@ pub struct StaticSpeeds {
     pub steps: ArrayVec<StaticStep, 32>,
     /// The speeds for categories of trains, those of the first step first, at most 70.
     pub differences: ArrayVec<Difference, 70>,
-}
-
-#[tactic(auto, unfolding(crate::specs::Packets::static_step))]
-fn read_step(reader: &mut BitReader<'_>, speeds: &mut StaticSpeeds) -> Result<(), PacketFault>
-    requires few { length speeds.old.steps.items < 32 }
-    requires room { length speeds.old.differences.items ≤ 70 }
-    ensures value { Gives (λ _. speeds.new) result reader.new (read (static_step speeds.old) reader.old) }
-    ensures len { OnOk result (length speeds.new.steps.items ≡ length speeds.old.steps.items + 1) }
-    ensures room { OnOk result (length speeds.new.differences.items ≤ 70) }
-{
-    let distance = field(reader)?;
-    let speed = field(reader)?;
-    let delay = field(reader)?;
-    let differences: Iterations = field(reader)?;
-    if speeds.differences.len() + usize::from(differences.count()) > 70 {
-        return Err(PacketFault::OutOfRange);
-    }
-    read_list(reader, &mut speeds.differences, differences.count())?;
-    speeds.steps.push(StaticStep {
-        distance,
-        speed,
-        delay,
-        differences,
-    });
-    Ok(())
-}
-
-fn read_steps(
-    reader: &mut BitReader<'_>,
-    speeds: &mut StaticSpeeds,
-    count: u8,
-) -> Result<(), PacketFault>
-    requires few { length speeds.old.steps.items + count ≤ 32 }
-    requires room { length speeds.old.differences.items ≤ 70 }
-    ensures { Gives (λ _. speeds.new) result reader.new (read (folded static_step count speeds.old) reader.old) }
-{
-    for i in 0..count {
-        read_step(reader, speeds)?;
-    }
-    Ok(())
-}
-
-/// Reads packet 27 behind its number, into the place of another packet; answers the length that it tells.
-#[tactic(auto, unfolding(crate::specs::Packets::static_speeds_telling))]
-pub fn read_static_speeds<'a>(
-    reader: &mut BitReader<'a>,
-    out: &mut Packet<'a>,
-) -> Result<PacketLength, PacketFault>
-    ensures { Gives (λ told. (told, out.new)) result reader.new (read (kind (as_packet packets.StaticSpeeds) as_static_speeds static_speeds) reader.old) }
-{
-    let direction = field(reader)?;
-    let told: PacketLength = field(reader)?;
-    let scale = field(reader)?;
-    let mut speeds = StaticSpeeds {
-        direction,
-        scale,
-        steps: ArrayVec::new(),
-        differences: ArrayVec::new(),
-    };
-    read_step(reader, &mut speeds)?;
-    let more: Iterations = field(reader)?;
-    read_steps(reader, &mut speeds, more.count())?;
-    *out = Packet::StaticSpeeds(speeds);
-    Ok(told)
-}
-
-/// The first step, or another one where there is none.
-fn first_step<'a>(steps: &'a [StaticStep], other: &'a StaticStep) -> &'a StaticStep
-    ensures { result.now ≡ slice_index_or steps.now 0 other.now }
-{
-    match steps.first() {
-        Some(step) => step,
-        None => other,
-    }
-}
-
-/// The steps behind the first.
-fn other_steps(steps: &[StaticStep]) -> &[StaticStep]
-    ensures { result.now ≡ drop 1 steps.now }
-{
-    &steps[steps.len().min(1)..]
-}
-
-/// The step's own of the differences that are left, and those behind them.
-fn split_own<'a>(step: &StaticStep, left: &'a [Difference]) -> (&'a [Difference], &'a [Difference])
-    ensures own { result.0.now ≡ take step.now.differences left.now }
-    ensures others { result.1.now ≡ drop step.now.differences left.now }
-{
-    left.split_at(usize::from(step.differences.count()).min(left.len()))
-}
-
-/// Hands a step to a sink, with its own differences.
-fn step_fields<S: FieldSink>(
-    step: &StaticStep,
-    own: &[Difference],
-    sink: &mut S,
-) -> Result<(), S::Error>
-    requires room { S.held sink.old + step_size own.now ≤ S.most }
-    ensures value { OnOk result (S.seen sink.new ≡ step_taken S.took step.now own.now (S.seen sink.old)) }
-    ensures held { OnOk result (S.held sink.new ≤ S.held sink.old + step_size own.now) }
-{
-    put(sink, VariableName::DStatic, &step.distance)?;
-    put(sink, VariableName::VStatic, &step.speed)?;
-    put(sink, VariableName::QFront, &step.delay)?;
-    put(sink, VariableName::NIter, &step.differences)?;
-    list(own, sink)
-}
-
-/// Hands steps to a sink, each with its own of the differences.
-fn steps_fields<S: FieldSink>(
-    steps: &[StaticStep],
-    differences: &[Difference],
-    sink: &mut S,
-) -> Result<(), S::Error>
-    requires room { S.held sink.old + steps_size steps.now differences.now ≤ S.most }
-    ensures { OnOk result (S.seen sink.new ≡ steps_taken S.took steps.now differences.now (S.seen sink.old)) }
-{
-    let mut left = differences;
-    for step in steps {
-        let (own, others) = split_own(step, left);
-        step_fields(step, own, sink)?;
-        left = others;
-    }
-    Ok(())
-}
-
-/// Hands a profile to a sink: the first step, N_ITER and the other steps, each with its own of the differences.
-fn profile_fields<S: FieldSink>(
-    steps: &[StaticStep],
-    differences: &[Difference],
-    sink: &mut S,
-) -> Result<(), S::Error>
-    requires few { length steps.now ≤ 32 }
-    requires room { S.held sink.old + profile_size steps.now differences.now ≤ S.most }
-    ensures { OnOk result (S.seen sink.new ≡ profile_taken S.took steps.now differences.now (S.seen sink.old)) }
-{
-    let none = StaticStep::default();
-    let first = first_step(steps, &none);
-    let (own, left) = split_own(first, differences);
-    step_fields(first, own, sink)?;
-    sink.field(
-        VariableName::NIter,
-        5,
-        (steps.len() as u64).saturating_sub(1),
-    )?;
-    steps_fields(other_steps(steps), left, sink)
 }
 
 /// How many differences the steps count.

@@ -4,6 +4,8 @@
 #[cfg(test)]
 mod country_values;
 #[cfg(test)]
+mod faults;
+#[cfg(test)]
 mod groups;
 #[cfg(test)]
 mod links;

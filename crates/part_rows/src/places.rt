@@ -1,32 +1,47 @@
 // Worked rows of the place.
 use crate::numbers::cm;
+use crate::wanted::same;
 use odometry::{Fix, Place, Sums};
 use std::process::Abort;
 use units::{Length, Movement};
+
+/// What happens, and what the place tells.
+enum Event {
+    /// The train moves, where there is room for it.
+    Go(i64, bool),
+    /// A balise is read: the next fix is at it.
+    Read,
+    /// A fix at a place, with an accuracy; whether a balise was missed, and whether the fix is made.
+    Set(i64, u64, bool, bool),
+    /// The least and the greatest front.
+    Fronts(i64, i64),
+    /// The estimate of the front, and its uncertainty.
+    Front(i64, i64),
+    /// What the front was at the reading.
+    FrontRead(i64, i64),
+    /// What it was at the start of the life.
+    FrontFirst(i64, i64),
+    /// The least rear of a train of a length.
+    Rear(u64, i64),
+    /// The sums of the movements and of the path.
+    Moved(i64, u64),
+}
+
+use Event::{Front, FrontFirst, FrontRead, Fronts, Go, Moved, Read, Rear, Set};
 
 fn length<R: Abort>(rt: &R, number: u64) -> Length {
     Length::new(number).expect(rt, "a length")
 }
 
-fn movement<R: Abort>(rt: &R, number: i64) -> Movement {
-    Movement::new(number).expect(rt, "a movement")
-}
-
 // With no clauses, so that those of the place don't come to the rows.
 fn goes<R: Abort>(rt: &R, place: &mut Place, by: i64) -> bool {
-    place.moved(movement(rt, by)).is_ok()
+    place
+        .moved(Movement::new(by).expect(rt, "a movement"))
+        .is_ok()
 }
 
-fn is_fixed(place: &mut Place, fix: Fix) -> bool {
+fn is_set(place: &mut Place, fix: Fix) -> bool {
     place.fix(fix).is_ok()
-}
-
-fn fronts(place: &Place) -> (i64, i64) {
-    (place.min_front().get(), place.max_front().get())
-}
-
-fn front(place: &Place) -> (i64, i64) {
-    (place.estimate().get(), place.uncertainty().get())
 }
 
 fn front_at(place: &Place, moment: &Sums) -> (i64, i64) {
@@ -34,73 +49,130 @@ fn front_at(place: &Place, moment: &Sums) -> (i64, i64) {
     (then.estimate.get(), then.uncertainty.get())
 }
 
-fn sums(place: &Place) -> (i64, u64) {
-    let sums = place.sums();
-    (sums.moved().get(), sums.path().get())
-}
-
-#[test]
-fn fronts_on_the_way(rt: HostRuntime) {
-    let mut place = Place::new();
-    for (by, min_front, max_front) in [
-        (0, -500, 500),
-        (9_046, 8_093, 9_999),
-        (1, 8_094, 10_000),
-        (7_268, 14_999, 17_631),
-        (1, 15_000, 17_632),
-        (-10_000, 4_500, 8_132),
-        (-6_316, -2_132, 2_132),
-    ] {
-        assert!(rt; goes(&rt, &mut place, by));
-        assert_eq!(rt; fronts(&place), (min_front, max_front), "after {by}");
+/// The two numbers that an event asks for, if it asks, and those that it wants.
+fn told<R: Abort>(
+    rt: &R,
+    place: &Place,
+    read: &Sums,
+    event: &Event,
+) -> Option<((i64, i64), (i64, i64))> {
+    match event {
+        Fronts(least, greatest) => Some((
+            (place.min_front().get(), place.max_front().get()),
+            (*least, *greatest),
+        )),
+        Front(estimate, uncertainty) => Some((
+            (place.estimate().get(), place.uncertainty().get()),
+            (*estimate, *uncertainty),
+        )),
+        FrontRead(estimate, uncertainty) => {
+            Some((front_at(place, read), (*estimate, *uncertainty)))
+        }
+        FrontFirst(estimate, uncertainty) => {
+            Some((front_at(place, &Sums::ZERO), (*estimate, *uncertainty)))
+        }
+        Rear(train, rear) => Some(((place.min_rear(length(rt, *train)).get(), 0), (*rear, 0))),
+        Go(_, _) | Read | Set(_, _, _, _) | Moved(_, _) => None,
     }
 }
 
-#[test]
-fn fix_with_a_missed_balise(rt: HostRuntime) {
-    let mut place = Place::new();
-    assert!(rt; goes(&rt, &mut place, 400));
-    let reading = place.sums();
-    assert!(rt; goes(&rt, &mut place, 300));
-    let fix = Fix {
-        at: cm(&rt, 50_000),
-        accuracy: length(&rt, 1_000),
-        sums: reading,
-        missed: true,
-    };
-    assert!(rt; is_fixed(&mut place, fix));
-    assert_eq!(rt; front(&place), (50_300, 2_715));
-    assert_eq!(rt; place.min_rear(length(&rt, 20_000)).get(), 27_585);
-    assert!(rt; goes(&rt, &mut place, 20));
-    assert_eq!(rt; fronts(&place), (47_604, 53_036));
-    assert_eq!(rt; sums(&place), (720, 720));
-    // At the reading itself, and 400 cm before it, at the start of the life.
-    for (moment, wanted) in [(reading, (50_000, 2_700)), (Sums::ZERO, (49_600, 2_720))] {
-        assert_eq!(rt; front_at(&place, &moment), wanted);
+fn happens<R: Abort>(
+    rt: &R,
+    place: &mut Place,
+    read: &Sums,
+    event: &Event,
+    row: &str,
+    step: usize,
+) {
+    match event {
+        Go(by, room) => same(rt, &goes(rt, place, *by), room, row, step),
+        Set(at, accuracy, missed, made) => {
+            let fix = Fix {
+                at: cm(rt, *at),
+                accuracy: length(rt, *accuracy),
+                sums: *read,
+                missed: *missed,
+            };
+            same(rt, &is_set(place, fix), made, row, step);
+        }
+        Moved(moved, path) => {
+            let sums = place.sums();
+            same(rt, &sums.moved().get(), moved, row, step);
+            same(rt, &sums.path().get(), path, row, step);
+        }
+        _ => {
+            if let Some((told, wanted)) = told(rt, place, read, event) {
+                same(rt, &told, &wanted, row, step);
+            }
+        }
     }
 }
 
-#[test]
-fn nothing_beyond_the_farthest_place(rt: HostRuntime) {
-    let mut place = Place::new();
-    assert!(rt; goes(&rt, &mut place, 6));
+/// What a row is called, and what happens in it.
+const ROWS: &[(&str, &[Event])] = &[
+    (
+        "fronts on the way",
+        &[
+            Go(0, true),
+            Fronts(-500, 500),
+            Go(9_046, true),
+            Fronts(8_093, 9_999),
+            Go(1, true),
+            Fronts(8_094, 10_000),
+            Go(7_268, true),
+            Fronts(14_999, 17_631),
+            Go(1, true),
+            Fronts(15_000, 17_632),
+            Go(-10_000, true),
+            Fronts(4_500, 8_132),
+            Go(-6_316, true),
+            Fronts(-2_132, 2_132),
+        ],
+    ),
+    (
+        "a fix with a missed balise",
+        &[
+            Go(400, true),
+            Read,
+            Go(300, true),
+            Set(50_000, 1_000, true, true),
+            Front(50_300, 2_715),
+            Rear(20_000, 27_585),
+            Go(20, true),
+            Fronts(47_604, 53_036),
+            Moved(720, 720),
+            // At the reading itself, and 400 cm before it.
+            FrontRead(50_000, 2_700),
+            FrontFirst(49_600, 2_720),
+        ],
+    ),
     // 2^40 is the farthest place.
-    for (at, made) in [
-        (1_099_511_627_777, false),
-        (1_099_511_627_771, false),
-        (1_099_511_627_770, true),
-    ] {
-        let fix = Fix {
-            at: cm(&rt, at),
-            accuracy: Length::ZERO,
-            sums: Sums::ZERO,
-            missed: false,
-        };
-        assert_eq!(rt; is_fixed(&mut place, fix), made, "at {at}");
+    (
+        "nothing beyond the farthest place",
+        &[
+            Go(6, true),
+            Set(1_099_511_627_777, 0, false, false),
+            Set(1_099_511_627_771, 0, false, false),
+            Set(1_099_511_627_770, 0, false, true),
+            Go(1, false),
+            Front(1_099_511_627_776, 501),
+            Go(-2, true),
+            Front(1_099_511_627_774, 501),
+            Moved(4, 8),
+        ],
+    ),
+];
+
+#[test]
+fn places(rt: HostRuntime) {
+    for (row, events) in ROWS {
+        let mut place = Place::new();
+        let mut read = Sums::ZERO;
+        for (step, event) in events.iter().enumerate() {
+            match event {
+                Read => read = place.sums(),
+                _ => happens(&rt, &mut place, &read, event, row, step),
+            }
+        }
     }
-    for (by, room, estimate) in [(1, false, 1_099_511_627_776), (-2, true, 1_099_511_627_774)] {
-        assert_eq!(rt; goes(&rt, &mut place, by), room, "by {by}");
-        assert_eq!(rt; front(&place).0, estimate, "by {by}");
-    }
-    assert_eq!(rt; sums(&place), (4, 8));
 }

@@ -1,9 +1,10 @@
 //! What an input does, sentence by sentence in the order of one event.
-ghost use Rattle.std.specs.Prelude.{OnOk, Option, Some};
+ghost use Rattle.std.specs.Prelude.{◌≡◌, true, IsOk, OnOk, Option, Some};
 ghost use Rattle.mode_table.specs.declared.level.TrainLevel.{TrainLevel as Level};
 ghost use Rattle.mode_table.specs.declared.mode.Mode.{Mode};
 ghost use Rattle.units.specs.Stretches.{Span};
 ghost use Rattle.trackside.specs.Entry.{Begun, Used, turned};
+ghost use Rattle.trackside.specs.Steps.{is_quiet};
 ghost use Rattle.supervision.specs.declared.calls.Calls.{Calls};
 ghost use Rattle.supervision.specs.declared.calls.Left.{Left};
 ghost use Rattle.supervision.specs.declared.deed.Deed.{Deed};
@@ -25,7 +26,8 @@ impl<G: ProfileStore<Permille> + Drop, S: ProfileStore<CategorySpeeds> + Drop> S
 > {
     // What the input itself tells, and the groups do that it closes.
     fn begin(&mut self, alloc: Global, input: &Input) -> Result<(), NoMemory>
-        ensures { OnOk result ((life : Life) → StandsForLife G.profile S.profile self.old life
+        ensures quiet { is_quiet self.old.track.parts input.now ≡ true → IsOk result }
+        ensures stands { OnOk result ((life : Life) → StandsForLife G.profile S.profile self.old life
             → StandsForLife G.profile S.profile self.new (grown life (begun (told life input.now) (deed_of life input.now)))) }
     {
         let deed = self.deed(input);
@@ -44,9 +46,10 @@ impl<G: ProfileStore<Permille> + Drop, S: ProfileStore<CategorySpeeds> + Drop> S
         self.track.forget(self.parts.length());
     }
 
-    /// All that an input does. Where memory is refused, the state is no longer of use.
+    /// All that an input does. Where memory is refused, the state is no longer of use; a quiet input is never refused any.
     pub fn receive(&mut self, alloc: Global, input: &Input) -> Result<(), NoMemory>
-        ensures { OnOk result ((life : Life) → StandsForLife G.profile S.profile self.old life
+        ensures quiet { is_quiet self.old.track.parts input.now ≡ true → IsOk result }
+        ensures stands { OnOk result ((life : Life) → StandsForLife G.profile S.profile self.old life
             → StandsForLife G.profile S.profile self.new (grown life (entry_of life input.now))) }
     {
         self.begin(alloc, input)?;

@@ -1,63 +1,57 @@
 // The kernel's calls, with no clauses, so that those of the kernel don't come to the rows.
-use kernel::{Event, Input, Mode, StateOver, TrainData, limits, step};
+use events::{Event, Kept, Output};
+use kernel::{StateOver, step};
 use mode_table::Cold;
 use speed_profile::CategorySpeeds;
 use std::alloc::Global;
-use track_store::FactStore;
+use track_store::{FactStore, ProfileStore};
 use units::{NoMemory, Permille};
 
+/// What the kernel knows, with any stores.
+pub type Known<G, S> = StateOver<G, S>;
+
 /// What the kernel knows, with stores that keep all that was told.
-type Listing = StateOver<FactStore<Permille>, FactStore<CategorySpeeds>>;
+pub type Listing = StateOver<FactStore<Permille>, FactStore<CategorySpeeds>>;
 
-/// What is known after an event, and the limit in metres per hour.
-fn after(
-    alloc: Global,
-    mode: Mode,
-    train: &TrainData,
-    state: &Listing,
-    event: &Event,
-) -> Result<(Listing, u32), NoMemory> {
-    let (next, limit) = step(alloc, mode, train, state, event)?;
-    Ok((next, limit.get()))
+/// What the kernel knows, with stores that stay short.
+pub type Short = kernel::State;
+
+/// Equipment that never had power.
+pub fn listing(alloc: Global) -> Listing {
+    Listing::empty(alloc)
 }
 
-/// The same after a first event.
-fn after_first(
-    alloc: Global,
-    mode: Mode,
-    train: &TrainData,
-    event: &Event,
-) -> Result<(Listing, u32), NoMemory> {
-    after(alloc, mode, train, &Listing::empty(alloc), event)
+/// Equipment that never had power.
+pub fn short(alloc: Global) -> Short {
+    Short::empty(alloc)
 }
 
-/// The limit after each event, step by step, in metres per hour. Before the first one power has come on.
-pub fn limits_by_step(
-    alloc: Global,
-    mode: Mode,
-    train: &TrainData,
-    events: &[Event],
-) -> Result<Vec<u32>, NoMemory> {
-    let mut speeds = Vec::new(alloc);
-    let (mut state, _) = after_first(alloc, mode, train, &Event::PowerUp(Cold::Unknown))?;
-    for event in events {
-        let (next, limit) = after(alloc, mode, train, &state, event)?;
-        state = next;
-        speeds.push(limit)?;
-    }
-    Ok(speeds)
+/// What is known after an event, and what is answered.
+pub fn after(alloc: Global, state: &Listing, event: &Event) -> Result<(Listing, Output), NoMemory> {
+    step(alloc, state, event)
 }
 
-/// The limit after each input of one life, in metres per hour.
-pub fn limits_of_life(
-    alloc: Global,
-    mode: Mode,
-    train: &TrainData,
-    inputs: &[Input],
-) -> Result<Vec<u32>, NoMemory> {
-    let mut speeds = Vec::new(alloc);
-    for limit in &limits(alloc, mode, train, inputs)? {
-        speeds.push(limit.get())?;
-    }
-    Ok(speeds)
+/// The same in place.
+pub fn apply(alloc: Global, state: &mut Short, event: &Event) -> Result<Output, NoMemory> {
+    state.apply(alloc, event)
+}
+
+/// A life begins with what was kept.
+pub fn begin(alloc: Global, state: &Short, cold: Cold) -> (Short, Output) {
+    Short::power_up(alloc, &state.kept(), cold)
+}
+
+/// What is kept.
+pub fn kept_by<G: ProfileStore<Permille> + Drop, S: ProfileStore<CategorySpeeds> + Drop>(
+    state: &Known<G, S>,
+) -> Kept {
+    state.kept()
+}
+
+/// The estimate and its uncertainty.
+pub fn place_of<G: ProfileStore<Permille> + Drop, S: ProfileStore<CategorySpeeds> + Drop>(
+    state: &Known<G, S>,
+) -> (i64, u64) {
+    let (estimate, uncertainty) = state.place_of();
+    (estimate.get(), uncertainty)
 }

@@ -1,19 +1,12 @@
 // What was counted, and what is printed of differences.
 use anyhow::Result;
 
-/// The limit that is wanted after an input, in metres per hour, if one is, and the line that says so.
-#[derive(Clone, Copy)]
-pub struct Wanted {
-    pub line: u64,
-    pub limit: Option<u32>,
-}
-
 /// How many there were.
 #[derive(Clone, Copy)]
 pub struct Tally {
     pub rows: u64,
-    pub inputs: u64,
-    pub limits: u64,
+    pub events: u64,
+    pub answers: u64,
     pub differences: u64,
 }
 
@@ -21,8 +14,8 @@ impl Tally {
     /// Nothing was counted.
     pub const NOTHING: Tally = Tally {
         rows: 0,
-        inputs: 0,
-        limits: 0,
+        events: 0,
+        answers: 0,
         differences: 0,
     };
 
@@ -30,53 +23,41 @@ impl Tally {
         self.rows = self.rows.wrapping_add(1);
     }
 
-    /// One input more, after which a limit is wanted or none.
-    pub fn count_input(&mut self, is_wanted: bool) {
-        self.inputs = self.inputs.wrapping_add(1);
-        self.limits = self.limits.wrapping_add(u64::from(is_wanted));
+    /// One line more, which tells an event or asks, and of which an answer is wanted or none.
+    pub fn count_line(&mut self, is_event: bool, is_wanted: bool) {
+        self.events = self.events.wrapping_add(u64::from(is_event));
+        self.answers = self.answers.wrapping_add(u64::from(is_wanted));
     }
 
-    /// Says where another limit was found than is wanted, or none.
-    pub fn compare_all(
+    /// Says where another answer was found than is wanted.
+    pub fn compare(
         &mut self,
         rt: &impl Print,
         name: &str,
         by: &str,
-        all_wanted: &[Wanted],
-        found: &[u32],
+        line: u64,
+        wanted: &str,
+        found: &str,
     ) -> Result<()> {
-        for (number, wanted) in all_wanted.iter().enumerate() {
-            match found.get(number) {
-                Some(found) => self.compare(rt, name, by, *wanted, *found)?,
-                None => self.refuse(rt, wanted.line, "no limit is found")?,
-            }
+        if !is_met(wanted, found) {
+            self.differences = self.differences.wrapping_add(1);
+            println!(rt; "{name}, line {line}: wanted {wanted}, found {found} by {by}")?;
         }
         Ok(())
     }
 
-    fn compare(
-        &mut self,
-        rt: &impl Print,
-        name: &str,
-        by: &str,
-        wanted: Wanted,
-        found: u32,
-    ) -> Result<()> {
-        match wanted.limit {
-            Some(limit) if limit != found => {
-                self.differences = self.differences.wrapping_add(1);
-                let line = wanted.line;
-                println!(rt; "{name}, line {line}: wanted {limit}, found {found} by {by}")?;
-            }
-            _ => {}
-        }
-        Ok(())
-    }
-
-    /// Says what else is wrong at a line.
-    pub fn refuse(&mut self, rt: &impl Print, line: u64, text: &str) -> Result<()> {
+    /// Says that a line says nothing.
+    pub fn refuse(&mut self, rt: &impl Print, line: u64) -> Result<()> {
         self.differences = self.differences.wrapping_add(1);
-        println!(rt; "line {line}: {text}")?;
+        println!(rt; "line {line}: what is that?")?;
         Ok(())
     }
+}
+
+// A number alone wants the limit, which is the fourth word of an output.
+fn is_met(wanted: &str, found: &str) -> bool {
+    if wanted == found {
+        return true;
+    }
+    wanted.parse::<u32>().is_ok() && found.split_whitespace().nth(3) == Some(wanted)
 }

@@ -1,9 +1,11 @@
 -- What stands between the sentences of one event.
-use Rattle.std.specs.Prelude.{◌*◌, ℤ, Bool, if◌then◌else◌, Option, Some, None, List, []}
+use Rattle.std.specs.Prelude.{◌*◌, ℤ, Bool, true, false, if◌then◌else◌, Option, Some, None, is_none, List, []}
 use Rattle.packets.specs.declared.packet.Packet.{Packet}
 use Rattle.linking.specs.declared.announcement.Announcement.{Announcement}
 use Rattle.trackside.specs.declared.fixing.Wanted.{Wanted}
 use Rattle.balise_groups.specs.declared.message.Closed.{Closed}
+use Rattle.events.specs.declared.input.Input.{Input}
+use Rattle.events.specs.declared.input.Input.TheVariants.{Telegram, Odometer, Clock, Driver}
 use Rattle.events.specs.declared.input.Reading.{Reading}
 use Rattle.trackside.specs.declared.using.Use.{Use}
 use Rattle.trackside.specs.Entry.{Entry, Fact, Used}
@@ -35,3 +37,10 @@ facts used packets = facts_of used.mode used.group used.place used.moment used.d
 abbrev pub fix_wanted : Bool → ℤ → Option Announcement → Option Wanted
 fix_wanted free own (Some a) = Some (record { place = a.place; accuracy = 100 * a.accuracy })
 fix_wanted free own None = if free then Some (record { place = own; accuracy = 0 }) else None
+
+-- no group can close by it: a moment of the clock, an action of the driver, and a reading while no group is being read
+abbrev pub is_quiet : Known → Input → Bool
+is_quiet known (Telegram bytes) = false
+is_quiet known (Odometer reading) = is_none known.groups.current
+is_quiet known (Clock moment) = true
+is_quiet known (Driver action) = true

@@ -1,12 +1,12 @@
 //! What an input does: its own effect, and then that of the groups which it closes.
-ghost use Rattle.std.specs.Prelude.{◌≡◌, ℕ, false, List, ◌∷◌, OnOk, Some, None};
+ghost use Rattle.std.specs.Prelude.{◌≡◌, ℕ, true, false, List, ◌∷◌, IsOk, OnOk, Some, None, is_none};
 ghost use Rattle.events.specs.declared.input.Reading.{Reading as Told};
 ghost use Rattle.trackside.specs.Bytes.{telegram_in};
 ghost use Rattle.trackside.specs.Entry.{nothing_happened, no_groups};
 ghost use Rattle.trackside.specs.History.{groups_of};
 ghost use Rattle.trackside.specs.Sentences.{nothing, moved, happened_by, heard, begun, closed_by, with_groups, used_by, received};
 ghost use Rattle.trackside.specs.StandsFor.{Life, StandsForLife, parts_of, grown, grown_so_far};
-ghost use Rattle.trackside.specs.Steps.{left_by, after_moving, still_reading};
+ghost use Rattle.trackside.specs.Steps.{left_by, after_moving, still_reading, is_quiet};
 
 use crate::happened::Happened;
 use crate::parts::Parts;
@@ -41,6 +41,7 @@ impl Parts {
     fn go(&mut self, reading: &Reading) -> bool
         ensures moved { (life : Life) → self.old ≡ parts_of life → self.new ≡ still_reading life reading.now }
         ensures none { (life : Life) → self.old ≡ parts_of life → result ≡ false → left_by life.entries reading.now ≡ None }
+        ensures idle { is_none self.old.groups.current ≡ true → result ≡ false }
         ensures stands { (life : Life) → self.old ≡ parts_of life → result ≡ false
             → self.new ≡ parts_of (grown_so_far life (moved life.entries reading.now) (after_moving life.entries reading.now)) }
     {
@@ -89,7 +90,8 @@ impl Parts {
 impl<G: ProfileStore<Permille> + Drop, S: ProfileStore<CategorySpeeds> + Drop> TracksideOver<G, S> {
     // A movement, and the group that closed by it.
     fn move_by(&mut self, alloc: Global, mode: Mode, reading: &Reading) -> Result<(), NoMemory>
-        ensures { OnOk result ((life : Life) → StandsForLife G.profile S.profile self.old life
+        ensures idle { is_none self.old.parts.groups.current ≡ true → IsOk result }
+        ensures stands { OnOk result ((life : Life) → StandsForLife G.profile S.profile self.old life
             → StandsForLife G.profile S.profile self.new (grown_so_far life (moved life.entries reading.now)
             (with_groups mode life.entries (moved life.entries reading.now) (happened_by life.entries reading.now)))) }
     {
@@ -127,9 +129,11 @@ impl<G: ProfileStore<Permille> + Drop, S: ProfileStore<CategorySpeeds> + Drop> T
     }
 
     /// What an input tells in a mode, and the groups do that it closes: first its own effect, then each group is judged, makes its
-    /// fix, and the packets are used that the mode uses. Where memory is refused, the state is no longer of use.
+    /// fix, and the packets are used that the mode uses. Where memory is refused, the state is no longer of use; a quiet input is
+    /// never refused any.
     pub fn receive(&mut self, alloc: Global, mode: Mode, input: &Input) -> Result<(), NoMemory>
-        ensures { OnOk result ((life : Life) → StandsForLife G.profile S.profile self.old life
+        ensures quiet { is_quiet self.old.parts input.now ≡ true → IsOk result }
+        ensures stands { OnOk result ((life : Life) → StandsForLife G.profile S.profile self.old life
             → StandsForLife G.profile S.profile self.new (grown life (received mode life.entries input.now))) }
     {
         match input {
@@ -143,6 +147,18 @@ impl<G: ProfileStore<Permille> + Drop, S: ProfileStore<CategorySpeeds> + Drop> T
                 self.parts.pass_over();
                 Ok(())
             }
+        }
+    }
+
+    /// Whether no group can close by an input: a moment of the clock, an action of the driver, and a reading while no group is being
+    /// read. Such an input takes no memory.
+    pub fn is_quiet(&self, input: &Input) -> bool
+        ensures { result ≡ is_quiet self.now.parts input.now }
+    {
+        match input {
+            Input::Telegram(_) => false,
+            Input::Odometer(_) => self.parts.groups.is_idle(),
+            Input::Clock(_) | Input::Driver(_) => true,
         }
     }
 }

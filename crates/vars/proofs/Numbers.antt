@@ -23,15 +23,10 @@ use Rattle.vars.specs.declared.level.Level.{Level}
 use Rattle.vars.specs.declared.level.Level.TheVariants as levels
 use Rattle.vars.specs.declared.level.AreaMode.{AreaMode}
 use Rattle.vars.specs.declared.level.AreaMode.TheVariants as area_modes
-use Rattle.vars.specs.declared.special_distance.OpenLength.{OpenLength}
 use Rattle.vars.specs.declared.special_distance.OpenLength.TheVariants as lengths
-use Rattle.vars.specs.declared.special_distance.StartPlace.{StartPlace}
 use Rattle.vars.specs.declared.special_distance.StartPlace.TheVariants as places
-use Rattle.vars.specs.declared.special_speed.AreaSpeed.{AreaSpeed}
 use Rattle.vars.specs.declared.special_speed.AreaSpeed.TheVariants as area_speeds
-use Rattle.vars.specs.declared.special_speed.ReleaseSpeed.{ReleaseSpeed}
 use Rattle.vars.specs.declared.special_speed.ReleaseSpeed.TheVariants as release_speeds
-use Rattle.vars.specs.declared.special_speed.StaticSpeed.{StaticSpeed}
 use Rattle.vars.specs.declared.special_speed.StaticSpeed.TheVariants as static_speeds
 use Rattle.vars.specs.Variables.{plain, up_to, flag, speed, n_iter, l_packet, duplicate_of, m_dup, duplicate_number, direction_of, direction_number, q_dir, scale_of, scale_number, q_scale, q_front, delay_number, orientation_of, orientation_number, q_linkorientation, reaction_of, reaction_number, q_linkreaction, release_of, release_number, v_release, gradient_direction_of, gradient_direction_number, q_gdir, static_of, static_number, v_static, start_place_of, start_place_number, start_place, level_of, level_number, m_leveltr, area_mode_of, area_mode_number, m_mamode, area_speed_of, area_speed_number, v_mamode, open_length_of, open_length_number, open_length}
 

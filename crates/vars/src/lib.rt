@@ -2,6 +2,7 @@
 //! numbers stand for.
 #![tactic(auto)]
 
+mod counter;
 mod distance;
 mod gradient;
 mod group;
@@ -17,9 +18,10 @@ mod speed;
 mod time;
 mod variable;
 
+pub use counter::MessageCounter;
 pub use distance::Distance;
 pub use gradient::{GradientDirection, Steepness};
-pub use group::{Country, Duplicate, GroupIdentity, GroupNumber, MessageCounter, PositionInGroup};
+pub use group::{Country, Duplicate, GroupIdentity, GroupNumber, PositionInGroup};
 pub use level::{AreaMode, Level, StmIdentity};
 pub use linking::{LinkOrientation, LinkReaction, LocationAccuracy};
 pub use lists::{Iterations, TrainCategory};

@@ -1,4 +1,4 @@
-use Rattle.std.proofs.Common.{◌≡◌, Ok, Err, ap, ◌∙◌}
+use Rattle.std.proofs.Common.{◌≡◌, Ok, Err, ap, ◌∙◌, rules}
 use Rattle.std.proofs.lemmas.Result.{err_from_is_err_and}
 use Rattle.bits.specs.Layout.{Begins, Refuses, read}
 use Rattle.packets.specs.Packets.{packet}
@@ -19,6 +19,9 @@ returns-in_err-packet-clause-fault c =
       λ same. refused packet c.args.reader.now e (refusal ∙ ap (λ d. Err d) (err_same Packet _ e same)),
       λ r. ap (λ d. Err d) (refused_once packet _ e c.args.reader.now (refused packet _ _ refusal) r),
     ))
+
+pub returns-in_err-packet-clause-err : goal.returns-in_err-packet-clause-err
+returns-in_err-packet-clause-err c = search rules
 
 pub returns-clause-found : goal.returns-clause-found
 returns-clause-found c = found packet c.args.reader.now c.in_ok-packet.packet c.whole.new.reader (rw c.fork-trial.ensures at c.in_ok-packet.ensures)

@@ -9,7 +9,6 @@ pub returns-clause-ok : goal.returns-clause-ok
 returns-clause-ok g c = λ bits s.
     let w = spelled-packet c.args.packet.now bits s in
     let small : c.length-length.result < 2 ^ 13 = subst (λ (n : ℕ). n < 2 ^ 13) (sym c.length-length.ensures.value) w.small in
-    let behind : c.put.new.sink ≡ c.args.writer.now ++ number_bits 8 (number_of c.args.packet.now) = c.in-Ok.ensures.value ∙ ap (λ (n : ℕ). c.args.writer.now ++ number_bits 8 n) c.number.ensures in
-    c.in-Ok-fields.ensures small
-    ∙ ap (λ (n : ℕ). packet_taken with_bits n c.args.packet.now c.put.new.sink) c.length-length.ensures.value
-    ∙ ap (packet_taken with_bits (length_of c.args.packet.now) c.args.packet.now) behind ∙ sym (w.written c.args.writer.now)
+    c.in-Ok.ensures small
+    ∙ ap (λ (n : ℕ). packet_taken with_bits n c.args.packet.now (c.args.writer.now ++ number_bits 8 (number_of c.args.packet.now))) c.length-length.ensures.value
+    ∙ sym (w.written c.args.writer.now)

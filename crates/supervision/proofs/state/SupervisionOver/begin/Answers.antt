@@ -10,8 +10,8 @@ use Rattle.supervision.specs.StandsFor.{Known, StandsForLife}
 use Rattle.supervision.proofs.Standing.{seen}
 use Rattle.supervision.proofs.state.SupervisionOver.begin.Goals as goal
 
-pub returns : goal.returns
-returns g c life s =
+pub returns-clause-stands : goal.returns-clause-stands
+returns-clause-stands g c life s =
     let before = seen c.self.view_is s in
     let mode = c.mode-mode.ensures ∙ ap (λ (k : Known). k.mode) s.parts_are in
     let deed = c.deed-deed.ensures life s in
@@ -23,5 +23,5 @@ returns g c life s =
     (λ i. (mode i, deed i))
     (record {
       parts_are = c.note.ensures life tells (used_by c.mode-mode.result (tracks life.entries) input) before.parts_are;
-      track_is = c.in_ok-receive.ensures (track_of life) before.track_is;
+      track_is = c.in_ok-receive.ensures.stands (track_of life) before.track_is;
     })

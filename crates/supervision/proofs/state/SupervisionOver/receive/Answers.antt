@@ -8,11 +8,11 @@ use Rattle.supervision.specs.Sentences.{told, deed_of, standing_in, level_in, an
 use Rattle.supervision.specs.StandsFor.{StandsForLife}
 use Rattle.supervision.proofs.state.SupervisionOver.receive.Goals as goal
 
-pub returns : goal.returns
-returns g c life s =
+pub returns-clause-stands : goal.returns-clause-stands
+returns-clause-stands g c life s =
     let t = told life c.args.input.now in
     let deed = deed_of life c.args.input.now in
-    let began = c.in_ok-begin.ensures life s in
+    let began = c.in_ok-begin.ensures.stands life s in
     let train = c.see-seen.ensures.train life t.begun t.used deed began in
     let level = c.see-seen.ensures.level life t.begun t.used deed began in
     let saw = c.see-seen.ensures.stands life t.begun t.used deed began in

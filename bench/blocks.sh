@@ -1,0 +1,38 @@
+#!/bin/sh
+# Prints the instructions of a block of eight records in format 3 that is written and read, and of the number in a slot,
+# and beside each those of the same in plain C: what callgrind counts for twice as many runs less what it counts for so
+# many, by so many. Builds what it needs first; what the builds have to say goes to standard error.
+#
+#     bench/blocks.sh [RUNS]
+set -e
+top=$(cd "$(dirname "$0")/.." && pwd)
+out=$top/bench/out
+runs=${1:-1000}
+# What the library calls to take memory is in the toolchain's C library.
+memory=$(dirname "$(rt doc)")/c/liblibc_c.a
+
+(cd "$top/crates/blocks_bench" && rt lib) >&2
+mkdir -p "$out"
+gcc -O2 -Wall -Wextra "$top/bench/blocks.c" "$top/crates/blocks_bench/out/libblocks_bench.a" "$memory" \
+    -o "$out/blocks" >&2
+
+# counted CALL COUNT: the instructions of the whole process
+cd "$out"
+counted() {
+    if ! env -i PATH="$PATH" valgrind --tool=callgrind --callgrind-out-file=/dev/null ./blocks "$@" >counted 2>&1; then
+        cat counted >&2
+        return 1
+    fi
+    sed -n 's/^==[0-9]*== Collected : //p' counted
+}
+
+printf '%-20s %10s %10s\n' call blocks plain_C
+for call in write_block read_block valid_number; do
+    printf '%-20s' "$call"
+    for by in "$call" "plain_$call"; do
+        few=$(counted "$by" "$runs")
+        many=$(counted "$by" $((2 * runs)))
+        printf ' %10d' $(((many - few + runs / 2) / runs))
+    done
+    printf '\n'
+done

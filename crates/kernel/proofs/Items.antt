@@ -1,0 +1,245 @@
+-- What is kept, read off the whole list of events.
+use Rattle.std.proofs.Common.{◌≡◌, ℕ, ◌-◌, ◌^◌, min, Bool, true, false, List, [], ◌∷◌, ◌++◌, length, cond, refl, ap, sym, ◌∙◌, subst, inl, inr, ◌⊎◌, arith}
+use Rattle.std.specs.Prelude.{Option, Some, None, ◌↔◌, IsTrue}
+use Rattle.std.specs.Option.{option_or}
+use Rattle.driver.specs.declared.datum.Datum.{Datum}
+use Rattle.driver.specs.declared.datum.Datum.TheVariants.{Unknown, Valid, Invalid}
+use Rattle.driver.specs.Data.{value_of, confirmed, met_by}
+use Rattle.driver.specs.Entries.{Entry as DriverEntry, after_all}
+use Rattle.driver.specs.Known.{trip_after}
+use Rattle.driver.specs.LastGiven.{HasValue, WasGiven}
+use Rattle.driver.specs.Laws.{HasTripped, IsOutstanding}
+use Rattle.driver.specs.Limits.{Train}
+use Rattle.driver.specs.Telling.{Told, after_told, datum_after, deletes, identity_told, running_number_told, train_data_told, level_told}
+use Rattle.driver.specs.Telling.Told.{Gives, Confirms, Leaves, Nothing}
+use Rattle.driver.proofs.Giving.{value_so}
+use Rattle.driver.proofs.Outstanding.{outstanding_so}
+use Rattle.events.specs.declared.input.Event.{Event}
+use Rattle.events.specs.declared.input.Event.TheVariants.{PowerUp, Input}
+use Rattle.events.specs.Kept.{PositionFrom}
+use Rattle.mode_table.specs.declared.level.TrainLevel.{TrainLevel}
+use Rattle.mode_table.specs.declared.mode.Mode.{Mode}
+use Rattle.mode_table.specs.declared.statuses.Cold.{Cold}
+use Rattle.mode_table.specs.declared.statuses.Cold.TheVariants as cold
+use Rattle.mode_table.specs.declared.statuses.Fate.{Fate}
+use Rattle.mode_table.specs.declared.statuses.Fate.TheVariants.{Kept as K, Invalid as I, Deleted as D}
+use Rattle.mode_table.specs.declared.statuses.Item.TheVariants as item
+use Rattle.mode_table.specs.Statuses.{power_up_status}
+use Rattle.odometry.specs.Place.{Known as Place}
+use Rattle.trackside.specs.Entry.{Outcome}
+use Rattle.trackside.specs.History.{after_fixing, fixed_by, group_of_fix, place_of}
+use Rattle.units.specs.Limits.{farthest}
+use Rattle.vars.specs.declared.group.GroupIdentity.{GroupIdentity}
+use Rattle.supervision.specs.declared.deed.Deed.{Deed}
+use Rattle.supervision.specs.Entry.{Entry}
+use Rattle.supervision.specs.History.{deeds, after_deed, after_level, after_mode, tracks}
+use Rattle.supervision.specs.Life.{Life, entered, kept_of, driver_of}
+use Rattle.supervision.specs.Sentences.{entry_of}
+use Rattle.kernel.specs.Laws.{power_ups, all_deeds, last_group, group_in, IsLastGiven}
+use Rattle.kernel.specs.Lives.{counts_of, life_of, kept_by}
+use Rattle.kernel.specs.Position.{gone_on, went_on, position_by, position_at_power_up, position_of}
+
+-- ---- the counts
+
+pub events_counted : (events : List Event) → (counts_of events).events ≡ min (length events) (2 ^ 64 - 1)
+events_counted [] = refl
+events_counted (PowerUp c ∷ events) = omega (arith, events_counted events)
+events_counted (Input input ∷ events) = omega (arith, events_counted events)
+
+pub lives_counted : (events : List Event) → (counts_of events).lives ≡ min (power_ups events) (2 ^ 32 - 1)
+lives_counted [] = refl
+lives_counted (PowerUp c ∷ events) = omega (arith, lives_counted events)
+lives_counted (Input input ∷ events) = lives_counted events
+
+-- ---- what bears on the driver's data, entry by entry
+
+behind_deed : (deed : Option Deed) (rest : List DriverEntry) → after_deed deed rest ≡ after_deed deed [] ++ rest
+behind_deed None rest = refl
+behind_deed (Some deed) rest = refl
+
+behind_level : (level : Option TrainLevel) (first rest : List DriverEntry) → after_level level (first ++ rest) ≡ after_level level first ++ rest
+behind_level None first rest = refl
+behind_level (Some level) first rest = refl
+
+behind_mode : (mode : Option Mode) (first rest : List DriverEntry) → after_mode mode (first ++ rest) ≡ after_mode mode first ++ rest
+behind_mode None first rest = refl
+behind_mode (Some mode) first rest = refl
+
+one_entry : (entry : Entry) (entries : List Entry) → deeds (entry ∷ entries) ≡ deeds (entry ∷ []) ++ deeds entries
+one_entry entry entries =
+    let rest = deeds entries in
+    ap (λ (es : List DriverEntry). after_mode entry.track.entered (after_level entry.level es)) (behind_deed entry.deed rest)
+    ∙ ap (after_mode entry.track.entered) (behind_level entry.level (after_deed entry.deed []) rest)
+    ∙ behind_mode entry.track.entered (after_level entry.level (after_deed entry.deed [])) rest
+
+-- ---- the value of a datum
+
+by_fate : {A : Type 0} (fate : Fate) (one other : Datum A) → value_of one ≡ value_of other → value_of (met_by fate one) ≡ value_of (met_by fate other)
+by_fate K one other same = same
+by_fate D one other same = refl
+by_fate I Unknown Unknown same = same
+by_fate I Unknown (Valid w) same = same
+by_fate I Unknown (Invalid w) same = same
+by_fate I (Valid v) Unknown same = same
+by_fate I (Valid v) (Valid w) same = same
+by_fate I (Valid v) (Invalid w) same = same
+by_fate I (Invalid v) Unknown same = same
+by_fate I (Invalid v) (Valid w) same = same
+by_fate I (Invalid v) (Invalid w) same = same
+
+as_confirmed : {A : Type 0} (one : Datum A) → value_of (confirmed one) ≡ value_of one
+as_confirmed Unknown = refl
+as_confirmed (Valid v) = refl
+as_confirmed (Invalid v) = refl
+
+by_told : {A : Type 0} (told : Told A) (one other : Datum A) → value_of one ≡ value_of other → value_of (after_told told one) ≡ value_of (after_told told other)
+by_told (Gives v) one other same = refl
+by_told Confirms one other same = as_confirmed one ∙ same ∙ sym (as_confirmed other)
+by_told (Leaves fate) one other same = by_fate fate one other same
+by_told Nothing one other same = same
+
+still_invalid : {A : Type 0} (kept : Option A) → value_of (met_by I (entered kept)) ≡ kept
+still_invalid None = refl
+still_invalid (Some v) = refl
+
+still_known : {A : Type 0} (c : Cold) (kept : Datum A) → value_of (met_by (power_up_status item.Level c) kept) ≡ value_of kept
+still_known cold.NotMoved kept = refl
+still_known cold.Unknown Unknown = refl
+still_known cold.Unknown (Valid v) = refl
+still_known cold.Unknown (Invalid v) = refl
+still_known cold.Moved Unknown = refl
+still_known cold.Moved (Valid v) = refl
+still_known cold.Moved (Invalid v) = refl
+
+module _ {A : Type 0} (told : DriverEntry → Told A) where
+  in_turn : (kept : Datum A) (first rest : List DriverEntry) → datum_after told kept (first ++ rest) ≡ datum_after told (datum_after told kept rest) first
+  in_turn kept [] rest = refl
+  in_turn kept (e ∷ first) rest = ap (after_told (told e)) (in_turn kept first rest)
+
+  by_all : (one other : Datum A) (entries : List DriverEntry) → value_of one ≡ value_of other → value_of (datum_after told one entries) ≡ value_of (datum_after told other entries)
+  by_all one other [] same = same
+  by_all one other (e ∷ entries) same = by_told (told e) (datum_after told one entries) (datum_after told other entries) (by_all one other entries same)
+
+  -- one input more
+  one_more : (kept : Datum A) (entry : Entry) (entries : List Entry) (all : List DriverEntry) → value_of (datum_after told kept (deeds entries)) ≡ value_of (datum_after told Unknown all) →
+      value_of (datum_after told kept (deeds (entry ∷ entries))) ≡ value_of (datum_after told Unknown (deeds (entry ∷ []) ++ all))
+  one_more kept entry entries all same =
+      let now = deeds (entry ∷ []) in
+      ap (λ (es : List DriverEntry). value_of (datum_after told kept es)) (one_entry entry entries)
+      ∙ ap value_of (in_turn kept now (deeds entries))
+      ∙ by_all (datum_after told kept (deeds entries)) (datum_after told Unknown all) now same
+      ∙ sym (ap value_of (in_turn Unknown now all))
+
+  given_alone : (entries : List DriverEntry) (value : A) → HasValue told Unknown entries value → WasGiven told entries value
+  given_alone entries value (inl given) = given
+  given_alone entries value (inr was) = absurd (let no : None ≡ Some value = was.1 in cc)
+
+  pub last_given : ((entry : DriverEntry) → deletes (told entry) ≡ false) → (kept : List Event → Option A) →
+      ((events : List Event) → kept events ≡ value_of (datum_after told Unknown (all_deeds events))) → IsLastGiven told kept
+  last_given never kept is events value =
+      let all = all_deeds events in
+      let so = value_so told never Unknown all value in (
+        λ (h : kept events ≡ Some value). given_alone all value (so.0 (sym (is events) ∙ h)),
+        λ (h : WasGiven told all value). is events ∙ so.1 (inl h),
+      )
+
+pub identity_is : (events : List Event) → (kept_by events).identity ≡ value_of (datum_after identity_told Unknown (all_deeds events))
+identity_is [] = refl
+identity_is (PowerUp c ∷ events) = still_invalid (kept_by events).identity ∙ identity_is events
+identity_is (Input input ∷ events) =
+    let life = life_of events in one_more identity_told (kept_of life).identity (entry_of life input) life.entries (all_deeds events) (identity_is events)
+
+pub running_number_is : (events : List Event) → (kept_by events).running_number ≡ value_of (datum_after running_number_told Unknown (all_deeds events))
+running_number_is [] = refl
+running_number_is (PowerUp c ∷ events) = still_invalid (kept_by events).running_number ∙ running_number_is events
+running_number_is (Input input ∷ events) =
+    let life = life_of events in one_more running_number_told (kept_of life).running_number (entry_of life input) life.entries (all_deeds events) (running_number_is events)
+
+pub train_data_is : (events : List Event) → (kept_by events).train_data ≡ value_of (datum_after train_data_told Unknown (all_deeds events))
+train_data_is [] = refl
+train_data_is (PowerUp c ∷ events) = still_invalid (kept_by events).train_data ∙ train_data_is events
+train_data_is (Input input ∷ events) =
+    let life = life_of events in one_more train_data_told (kept_of life).train_data (entry_of life input) life.entries (all_deeds events) (train_data_is events)
+
+pub level_is : (events : List Event) → value_of (kept_by events).level ≡ value_of (datum_after level_told Unknown (all_deeds events))
+level_is [] = refl
+level_is (PowerUp c ∷ events) = still_known c (kept_by events).level ∙ level_is events
+level_is (Input input ∷ events) =
+    let life = life_of events in one_more level_told (kept_of life).level (entry_of life input) life.entries (all_deeds events) (level_is events)
+
+-- ---- an outstanding trip
+
+trips_in_turn : (kept : Bool) (first rest : List DriverEntry) → after_all trip_after kept (first ++ rest) ≡ after_all trip_after (after_all trip_after kept rest) first
+trips_in_turn kept [] rest = refl
+trips_in_turn kept (e ∷ first) rest = ap (trip_after e) (trips_in_turn kept first rest)
+
+trip_is : (events : List Event) → (kept_by events).trip_outstanding ≡ after_all trip_after false (all_deeds events)
+trip_is [] = refl
+trip_is (PowerUp c ∷ events) = trip_is events
+trip_is (Input input ∷ events) =
+    let life = life_of events in
+    let entry = entry_of life input in
+    let now = deeds (entry ∷ []) in
+    ap (after_all trip_after life.kept.trip_outstanding) (one_entry entry life.entries)
+    ∙ trips_in_turn life.kept.trip_outstanding now (deeds life.entries)
+    ∙ ap (λ (b : Bool). after_all trip_after b now) (trip_is events)
+    ∙ sym (trips_in_turn false now (all_deeds events))
+
+tripped_alone : (entries : List DriverEntry) → IsOutstanding false entries → HasTripped entries
+tripped_alone entries (inl tripped) = tripped
+tripped_alone entries (inr was) = absurd (let no : false ≡ true = was.0 in cc)
+
+pub trip_so : (events : List Event) → IsTrue (kept_by events).trip_outstanding ↔ HasTripped (all_deeds events)
+trip_so events =
+    let all = all_deeds events in
+    let so = outstanding_so false all in (
+      λ (h : IsTrue (kept_by events).trip_outstanding). tripped_alone all (so.0 (sym (trip_is events) ∙ h)),
+      λ (h : HasTripped all). trip_is events ∙ so.1 (inl h),
+    )
+
+-- ---- the group of the position
+
+first_of : {A : Type 0} (one two three : Option A) → option_or (option_or one two) three ≡ option_or one (option_or two three)
+first_of None two three = refl
+first_of (Some v) two three = refl
+
+fixing_behind : (outcomes : List Outcome) (group other : Option GroupIdentity) → option_or (after_fixing outcomes group) other ≡ after_fixing outcomes (option_or group other)
+fixing_behind [] group other = refl
+fixing_behind (outcome ∷ outcomes) group other =
+    first_of (fixed_by outcome) (after_fixing outcomes group) other ∙ ap (option_or (fixed_by outcome)) (fixing_behind outcomes group other)
+
+going_on : (near : Bool) (one two : PositionFrom) → one.group ≡ two.group → group_in (cond near (Valid one) (Invalid two)) ≡ Some two.group
+going_on true one two same = ap Some same
+going_on false one two same = refl
+
+goes_on : (kept : Datum PositionFrom) (place : Place) → group_in (position_by None kept place) ≡ group_in kept
+goes_on Unknown place = refl
+goes_on (Valid position) place = going_on _ _ position refl
+goes_on (Invalid position) place = refl
+
+group_by : (group : Option GroupIdentity) (kept : Datum PositionFrom) (place : Place) → group_in (position_by group kept place) ≡ option_or group (group_in kept)
+group_by None kept place = goes_on kept place
+group_by (Some group) kept place = refl
+
+still_there : (c : Cold) (kept : Datum PositionFrom) → group_in (met_by (power_up_status item.Position c) kept) ≡ group_in kept
+still_there cold.NotMoved kept = refl
+still_there cold.Unknown Unknown = refl
+still_there cold.Unknown (Valid v) = refl
+still_there cold.Unknown (Invalid v) = refl
+still_there cold.Moved Unknown = refl
+still_there cold.Moved (Valid v) = refl
+still_there cold.Moved (Invalid v) = refl
+
+group_of_life : (life : Life) → group_in (position_of life) ≡ option_or (group_of_fix (tracks life.entries)) (group_in (position_at_power_up life))
+group_of_life life = group_by (group_of_fix (tracks life.entries)) (position_at_power_up life) (place_of (tracks life.entries))
+
+groups_are : (events : List Event) → (let life = life_of events in option_or (group_of_fix (tracks life.entries)) (group_in (position_at_power_up life)) ≡ last_group events)
+groups_are [] = refl
+groups_are (PowerUp c ∷ events) = still_there c (kept_by events).position ∙ group_of_life (life_of events) ∙ groups_are events
+groups_are (Input input ∷ events) =
+    let life = life_of events in
+    let outcomes = (entry_of life input).track.used.groups in
+    fixing_behind outcomes (group_of_fix (tracks life.entries)) (group_in (position_at_power_up life)) ∙ ap (after_fixing outcomes) (groups_are events)
+
+pub position_so : (events : List Event) → group_in (kept_by events).position ≡ last_group events
+position_so events = group_of_life (life_of events) ∙ groups_are events

@@ -1,0 +1,29 @@
+//! Laws of every list of events.
+ghost use Rattle.kernel.specs.Laws.{CountsSo, IdentitySo, RunningNumberSo, TrainDataSo, LevelSo, TripSo, PositionSo, NationalSo, Forgets, BrakesUntilRevalidated, TripBrakes};
+
+/// A law: what is kept of a list of events is what the whole list tells, item by item.
+pub fn kept_is_the_last()
+    ensures counts { CountsSo }
+    ensures identity { IdentitySo }
+    ensures running_number { RunningNumberSo }
+    ensures train_data { TrainDataSo }
+    ensures level { LevelSo }
+    ensures trip { TripSo }
+    ensures position { PositionSo }
+    ensures national { NationalSo }
+{}
+
+/// A law: nothing but what is kept crosses a power-up.
+pub fn power_up_forgets()
+    ensures { Forgets }
+{}
+
+/// A law: the emergency brake is commanded while the driver hasn't revalidated since the power-up.
+pub fn brakes_until_revalidated()
+    ensures { BrakesUntilRevalidated }
+{}
+
+/// A law: the emergency brake is commanded in Trip and in System Failure.
+pub fn trip_brakes()
+    ensures { TripBrakes }
+{}

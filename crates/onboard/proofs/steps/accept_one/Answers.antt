@@ -4,7 +4,7 @@ use Rattle.events.specs.declared.input.Event.{Event}
 use Rattle.events.specs.declared.input.Event.TheVariants as an_event
 use Rattle.events.specs.declared.input.Input.{Input}
 use Rattle.journal.specs.Journals.{IsOpen}
-use Rattle.journal.specs.declared.journal.Journal.{Journal}
+use Rattle.journal.specs.JournalState.{JournalState as Journal}
 use Rattle.onboard.specs.Events.{account_of, IsAhead}
 use Rattle.onboard.specs.Runs.{IsStepped}
 use Rattle.onboard.specs.declared.steps.Step.TheVariants.{Accept}

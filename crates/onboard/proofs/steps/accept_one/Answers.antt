@@ -1,6 +1,5 @@
-use Rattle.std.proofs.Common.{rules, ◌≡◌, ◌∷◌, List, sym, subst, ap}
+use Rattle.std.proofs.Common.{◌≡◌, ◌∷◌, sym, subst, ap}
 use Rattle.disk.specs.State.{State}
-use Rattle.events.specs.declared.input.Event.{Event}
 use Rattle.events.specs.declared.input.Event.TheVariants as an_event
 use Rattle.events.specs.declared.input.Input.{Input}
 use Rattle.journal.specs.Journals.{IsOpen}

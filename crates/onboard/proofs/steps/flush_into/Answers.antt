@@ -1,4 +1,3 @@
-use Rattle.std.proofs.Common.{rules}
 use Rattle.onboard.specs.declared.steps.Step.TheVariants.{Flush}
 use Rattle.onboard.proofs.Stepping.{quiet_step, flush_step}
 use Rattle.onboard.proofs.steps.flush_into.Goals as goal

@@ -1,4 +1,4 @@
-use Rattle.std.proofs.Common.{rules, ◌≡◌, ◌+◌, ◌∙◌, sym, subst, ap, refl, IsTrue, take, List}
+use Rattle.std.proofs.Common.{rules, ◌∙◌, sym, subst, ap, refl, IsTrue, take, List}
 use Rattle.std.proofs.lemmas.List.{take_all}
 use Rattle.onboard.specs.declared.steps.Step.{Step}
 use Rattle.onboard.specs.Runs.{accepted_by}

@@ -1,5 +1,4 @@
-use Rattle.std.proofs.Common.{rules, ◌≡◌, sym, subst, ap}
-use Rattle.std.specs.Prelude.{OnOk}
+use Rattle.std.proofs.Common.{sym, subst}
 use Rattle.onboard.specs.declared.steps.Step.{Step}
 use Rattle.onboard.specs.Runs.{IsStepped, Took}
 use Rattle.onboard.proofs.Stepping.{took_input, took_flush}

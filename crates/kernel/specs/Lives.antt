@@ -1,12 +1,15 @@
 -- A list of events, the newest first, is cut into lives at each power-up. What a life says is read off what was kept of the
 -- lives before it and off its own entries, and off nothing else (this project's profile).
 use Rattle.std.specs.Prelude.{ℕ, ◌+◌, ◌-◌, ◌^◌, min, List, [], ◌∷◌}
-use Rattle.driver.specs.Data.{value_of}
+use Rattle.driver.specs.Data.{value_of, met_by}
 use Rattle.events.specs.declared.input.Event as events
 use Rattle.events.specs.declared.input.Event.TheVariants.{PowerUp, Input}
 use Rattle.events.specs.declared.kept.Kept.{Kept}
 use Rattle.events.specs.Nothing.{nothing_kept}
+use Rattle.mode_table.specs.declared.statuses.Cold.{Cold}
 use Rattle.mode_table.specs.declared.statuses.Cold.TheVariants as cold
+use Rattle.mode_table.specs.declared.statuses.Item.TheVariants as item
+use Rattle.mode_table.specs.Statuses.{power_up_status}
 use Rattle.supervision.specs.Life.{Life, track_of, driver_of, grown}
 use Rattle.supervision.specs.Sentences.{entry_of, begun_life}
 use Rattle.trackside.specs.StandsFor.{national_of}
@@ -56,6 +59,13 @@ life_after counts life (Input input) = grown life (entry_of life input)
 abbrev pub life_of : List events.Event → Life
 life_of [] = no_life
 life_of (event ∷ events) = life_after (counts_of events) (life_of events) event
+
+-- what a power-up leaves of what was kept, by what is known of movements while the power was off
+abbrev pub left_by : Cold → Kept → Kept
+left_by cold kept = record kept {
+  level = met_by (power_up_status item.Level cold) kept.level;
+  position = met_by (power_up_status item.Position cold) kept.position;
+}
 
 -- what a power-up keeps of these events
 abbrev pub kept_by : List events.Event → Kept

@@ -2,7 +2,7 @@
 ghost use Rattle.std.specs.Prelude.{◌≡◌, List, ◌∷◌};
 ghost use Rattle.events.specs.declared.input.Event.{Event};
 ghost use Rattle.events.specs.declared.input.Event.TheVariants as event;
-ghost use Rattle.kernel.specs.Lives.{kept_of, kept_by};
+ghost use Rattle.kernel.specs.Lives.{kept_of, left_by, kept_by};
 ghost use Rattle.kernel.specs.Output.{output_after, estimate_after, uncertainty_after};
 ghost use Rattle.kernel.specs.Position.{position_of};
 ghost use Rattle.kernel.specs.StandsFor.{StandsForLife, StandsFor};
@@ -53,10 +53,10 @@ impl<G: ProfileStore<Permille> + Drop, S: ProfileStore<CategorySpeeds> + Drop> S
     }
 
     /// A life begins with what was kept: what is known then, and what is answered. What is known of movements while the power was off
-    /// decides whether level and position stay valid. Takes no memory.
+    /// decides whether level and position stay valid, so that only what it leaves of them counts. Takes no memory.
     pub fn power_up(alloc: Global, kept: &Kept, cold: Cold) -> (Self, Output)
-        ensures stands { (events : List Event) → kept.now ≡ kept_by events → StandsFor G.profile S.profile result.0 (event.PowerUp cold ∷ events) }
-        ensures output { (events : List Event) → kept.now ≡ kept_by events → result.1 ≡ output_after (event.PowerUp cold ∷ events) }
+        ensures stands { (events : List Event) → left_by cold kept.now ≡ left_by cold (kept_by events) → StandsFor G.profile S.profile result.0 (event.PowerUp cold ∷ events) }
+        ensures output { (events : List Event) → left_by cold kept.now ≡ left_by cold (kept_by events) → result.1 ≡ output_after (event.PowerUp cold ∷ events) }
     {
         let state = StateOver::begin(alloc, kept.copy(), cold);
         let output = state.output();

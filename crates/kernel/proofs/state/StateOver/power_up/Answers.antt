@@ -1,10 +1,21 @@
-use Rattle.std.proofs.Common.{ap, ◌∙◌}
+use Rattle.std.proofs.Common.{ap, sym, subst, ◌∙◌}
 use Rattle.events.specs.declared.kept.Kept.{Kept}
+use Rattle.events.specs.declared.input.Event.TheVariants as event
 use Rattle.supervision.specs.Sentences.{begun_life}
+use Rattle.kernel.specs.Lives.{counted, left_by, kept_by}
 use Rattle.kernel.specs.Output.{output_of}
+use Rattle.kernel.proofs.Leaving.{left_alike, answered_alike}
 use Rattle.kernel.proofs.state.StateOver.power_up.Goals as goal
+
+pub returns-clause-stands : goal.returns-clause-stands
+returns-clause-stands g c events same =
+    let alike = ap (left_by c.args.cold) c.copy.ensures ∙ same in
+    record {
+      life_is = left_alike c.args.cold c.copy.result (kept_by events) alike c.begin-state.ensures.life;
+      counts_are = c.begin-state.ensures.counts ∙ ap (λ (k : Kept). counted (record { events = k.events; lives = k.lives }) (event.PowerUp c.args.cold)) alike;
+    }
 
 pub returns-clause-output : goal.returns-clause-output
 returns-clause-output g c events same =
     c.output-output.ensures (begun_life c.copy.result c.args.cold) c.begin-state.ensures.life
-    ∙ ap (λ (k : Kept). output_of (begun_life k c.args.cold)) (c.copy.ensures ∙ same)
+    ∙ answered_alike c.args.cold c.copy.result (kept_by events) (ap (left_by c.args.cold) c.copy.ensures ∙ same)

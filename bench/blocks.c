@@ -8,7 +8,7 @@
 
 enum { BLOCK = 3072, GATE = 512, HEAD = 512, RECORD = 256, RECORDS = 8, TELEGRAM = 104, COUNTRIES = 32 };
 
-/* The exports of crates/blocks_bench. */
+/* The exports of crates/bench_blocks. */
 uint64_t bench_write_block(uint32_t runs);
 uint64_t bench_read_block(uint32_t runs);
 uint64_t bench_valid_number(uint32_t runs);

@@ -11,7 +11,7 @@
 /* TELEGRAM: the room of a telegram, in bytes. STRETCHES: those of one gradient before the stop. */
 enum { TELEGRAM = 104, TELEGRAMS = 5, SEGMENTS = 30, RESTRICTIONS = 10, STRETCHES = 32 };
 
-/* What the permitted speed is asked for, as crates/kernel_bench has it. */
+/* What the permitted speed is asked for, as crates/bench_kernel has it. */
 struct stop {
     int64_t place;
     uint32_t limit;
@@ -19,7 +19,7 @@ struct stop {
     uint16_t reaction;
 };
 
-/* The exports of crates/kernel_bench. Each answers a sum, or all ones where it could not run. */
+/* The exports of crates/bench_kernel. Each answers a sum, or all ones where it could not run. */
 uint64_t bench_limits(const uint8_t *telegrams, size_t len, int64_t movement, uint32_t readings);
 uint64_t bench_permitted(const int16_t *gradients, size_t len, const struct stop *stop, uint32_t runs);
 uint64_t bench_next_mode(uint32_t runs);

@@ -13,9 +13,9 @@ calls=${2:-1000}
 # What the library calls to take memory is in the toolchain's C library.
 memory=$(dirname "$(rt doc)")/c/liblibc_c.a
 
-(cd "$top/crates/kernel_bench" && rt lib) >&2
+(cd "$top/crates/bench_kernel" && rt lib) >&2
 mkdir -p "$out"
-gcc -O2 -Wall -Wextra "$top/bench/kernel.c" "$top/crates/kernel_bench/out/libkernel_bench.a" "$memory" \
+gcc -O2 -Wall -Wextra "$top/bench/kernel.c" "$top/crates/bench_kernel/out/libbench_kernel.a" "$memory" \
     -o "$out/kernel" >&2
 
 # counted FUNCTION CALL NUMBER COUNT: the instructions within the function, with all that it calls. The profile of the

@@ -1,5 +1,5 @@
--- What the driver has to acknowledge of one kind: On Sight, Shunting or level 0 (SUBSET-026, 5.7, 5.9 and 5.10; the times:
--- this project's profile). Lists of entries have the newest first.
+-- What the driver has to acknowledge of one kind: On Sight, Shunting or level 0 (SUBSET-026, 5.7, 5.9 and 5.10; the
+-- times: this project's profile). Lists of entries have the newest first. Moments are milliseconds.
 use Rattle.std.specs.Prelude.{ℕ, ◌+◌, nat_le, Bool, true, false, List, [], ◌∷◌}
 use Rattle.areas.specs.declared.acknowledgement.Acknowledgement.{Acknowledgement}
 use Rattle.areas.specs.declared.acknowledgement.Acknowledgement.TheVariants.{Nothing, Asked, Done, Owed}

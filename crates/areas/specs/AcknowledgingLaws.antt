@@ -1,5 +1,5 @@
 -- What it says that an acknowledgement is owed, and that it was given before the transition, in words of the entries
--- (this project's profile).
+-- (this project's profile). Moments are milliseconds.
 use Rattle.std.specs.Prelude.{◌≡◌, ◌≢◌, ◌↔◌, ℕ, Bool, true, false, List, ◌∷◌, ◌++◌}
 use Rattle.std.specs.List.{list_any}
 use Rattle.areas.specs.declared.acknowledgement.Acknowledgement.TheVariants.{Asked, Done, Owed}

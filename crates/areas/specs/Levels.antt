@@ -1,5 +1,5 @@
--- The level that is announced (SUBSET-026, 5.10; which level is taken and when it is asked for: this project's profile). Lists
--- of entries have the newest first.
+-- The level that is announced (SUBSET-026, 5.10; which level is taken and when it is asked for: this project's profile).
+-- Lists of entries have the newest first. Places are centimetres.
 use Rattle.std.specs.Prelude.{ℕ, ℤ, pos, ◌+ℤ◌, ◌-ℤ◌, Bool, true, false, not, ◌&&◌, int_lt, if◌then◌else◌, List, [], ◌∷◌, Option, Some, None}
 use Rattle.std.specs.Option.{option_or}
 use Rattle.vars.specs.declared.scale.Scale.{Scale}

@@ -4,7 +4,7 @@ ghost use Rattle.areas.specs.Acknowledging.Entry.{Acknowledged, Turned, Asking, 
 
 use units::Ms;
 
-/// What the driver has to acknowledge of one kind.
+/// What the driver has to acknowledge of one kind: On Sight, Shunting or level 0 (SUBSET-026, 5.7, 5.9, 5.10).
 #[derive(Clone, Copy)]
 pub enum Acknowledgement {
     /// Nothing.
@@ -39,7 +39,7 @@ impl Acknowledgement {
         };
     }
 
-    /// The transition: its mode is entered because of an area, or the announced level 0 comes into force.
+    /// The transition, at a moment: its mode is entered because of an area, or the announced level 0 comes into force.
     pub fn turn(&mut self, moment: Ms)
         ensures { (entries : List Entry) → self.old ≡ after_all entries → self.new ≡ after_all (Turned moment ∷ entries) }
     {

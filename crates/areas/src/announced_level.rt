@@ -8,7 +8,7 @@ use packets::LevelTransition;
 use std::marker::Model;
 use units::{Cm, GroupPlace};
 
-/// The level that is announced, if one is.
+/// The level that is announced, if one is (packet 41; SUBSET-026, 5.10).
 #[derive(Clone, Copy)]
 pub struct AnnouncedLevel {
     announced: Option<Announcement>,

@@ -1,5 +1,6 @@
--- The end of authority, read off what was told in one life (SUBSET-026, 3.8; when timers run out and which release speed
--- holds: this project's profile).
+-- The end of authority, read off what one life brought (SUBSET-026, 3.8; when timers run out and which release speed
+-- holds: this project's profile). Places are centimetres, moments milliseconds, the times of timers seconds, speeds
+-- metres per hour.
 use Rattle.std.specs.Prelude.{ℕ, ◌*◌, ◌==◌, ℤ, ◌+ℤ◌, ◌-ℤ◌, Bool, false, ◌&&◌, not, int_lt, if◌then◌else◌, List, [], ◌∷◌, find, Option, Some, None, option_map, unwrap_or}
 use Rattle.std.specs.Option.{option_or}
 use Rattle.std.specs.List.{list_any}

@@ -1,5 +1,5 @@
--- What bears on the movement authority in one life (SUBSET-026, 3.8; the order of one event: this project's profile). Lists
--- of entries have the newest first.
+-- What bears on the movement authority in one life (SUBSET-026, 3.8; the order of one event: this project's profile).
+-- Lists of entries have the newest first. Places are centimetres, moments milliseconds.
 use Rattle.std.specs.Prelude.{ℕ, ℤ, ◌≤◌, List, [], ◌∷◌, Option, Some, None}
 use Rattle.units.specs.Stretches.{Span}
 use Rattle.packets.specs.declared.authority.MovementAuthority.{MovementAuthority}

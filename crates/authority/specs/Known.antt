@@ -1,4 +1,5 @@
--- What is kept of what was told: the clock, and the authority with what was seen of its timers (this project's profile).
+-- What is kept of the entries: the clock, and the authority with what was seen of its timers (this project's profile).
+-- Places are centimetres, moments milliseconds, the times of timers seconds.
 use Rattle.std.specs.Prelude.{ℕ, ℤ, ◌-ℤ◌, not, filter, List, Option, option_map}
 use Rattle.vars.specs.declared.scale.Scale.{Scale}
 use Rattle.packets.specs.declared.authority.EndTimer.{EndTimer}

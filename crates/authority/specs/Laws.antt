@@ -1,4 +1,5 @@
--- What follows from the definitions, in words of places and moments (SUBSET-026, 3.8, and this project's profile).
+-- What follows from the definitions, in words of places and moments (SUBSET-026, 3.8, and this project's profile). Places
+-- are centimetres, moments milliseconds, the times of timers seconds.
 use Rattle.std.specs.Prelude.{◌≡◌, ◌≢◌, ◌⊎◌, ◌↔◌, ℕ, ◌+◌, ◌*◌, ◌<◌, ◌≤◌, ℤ, ◌<ℤ◌, ◌≤ℤ◌, List, [], ◌∷◌, ◌++◌, Some, IsTrue}
 use Rattle.authority.specs.declared.answers.End.{End}
 use Rattle.authority.specs.declared.timers.TimedSection.{TimedSection}

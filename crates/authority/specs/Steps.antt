@@ -1,4 +1,5 @@
--- What single functions do with what is stored of an authority, and read off it (this project's profile).
+-- What single functions do with what is stored of an authority, and read off it (this project's profile). Places are
+-- centimetres, moments milliseconds, the times of timers seconds.
 use Rattle.std.specs.Prelude.{ℕ, ℤ, Bool, false, not, ◌&&◌, if◌then◌else◌, filter, find, List, Option, Some, None, option_map, unwrap_or}
 use Rattle.std.specs.Option.{option_or}
 use Rattle.units.specs.Stretches.{Span}

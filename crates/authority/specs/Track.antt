@@ -1,4 +1,5 @@
--- Where the sections of an authority lie on the track (SUBSET-026, 3.8.3 and 7.4.2, packet 12).
+-- Where the sections of an authority lie on the track (SUBSET-026, 3.8.3 and 7.4.2, packet 12). Places are centimetres,
+-- times seconds.
 use Rattle.std.specs.Prelude.{ℕ, ◌*◌, ℤ, pos, ◌+ℤ◌, List, [], ◌∷◌, ◌++◌, Option, Some, None}
 use Rattle.vars.specs.declared.scale.Scale.{Scale}
 use Rattle.vars.specs.Meanings.{centimetres_of}

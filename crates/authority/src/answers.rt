@@ -36,11 +36,11 @@ impl Release {
 /// Up to where the train may go.
 #[derive(Clone, Copy)]
 pub struct End {
-    /// The end of authority.
+    /// The end of authority, in centimetres.
     pub end: Cm,
-    /// The speed allowed there: V_LOA while it is in force, else 0.
+    /// The speed allowed there, in metres per hour: V_LOA while it is in force, else 0.
     pub speed: Mph,
-    /// The supervised location: the end of the overlap, else the danger point, else the end.
+    /// The supervised location, in centimetres: the end of the overlap, else the danger point, else the end.
     pub location: Cm,
     /// The release speed that holds.
     pub release: Release,

@@ -11,7 +11,7 @@ use packets::MovementAuthority;
 use std::marker::Model;
 use units::{GroupPlace, Mph, Ms, Stretch};
 
-/// The movement authority, if one is stored, and the clock that its timers go by.
+/// The movement authority, if one is stored, and the clock that its timers go by (SUBSET-026, 3.8).
 #[derive(Drop)]
 pub struct Authority {
     moment: Ms,
@@ -47,7 +47,7 @@ impl Authority {
         };
     }
 
-    /// Moves the clock.
+    /// Moves the clock to a moment of the life. That moments don't fall is for the caller.
     pub fn tick(&mut self, moment: Ms)
         ensures { (entries : List Entry) → self.old ≡ known entries
             → self.new ≡ known (Ticked moment ∷ entries) }
@@ -55,7 +55,7 @@ impl Authority {
         self.moment = moment;
     }
 
-    /// Takes where the front is after an event.
+    /// Takes where the front is after an event, so that timers start and stop. The caller calls it once an event.
     pub fn pass(&mut self, train: &Stretch)
         ensures { (entries : List Entry) → self.old ≡ known entries
             → self.new ≡ known (Passed train.now ∷ entries) }
@@ -73,7 +73,7 @@ impl Authority {
         self.stored = None;
     }
 
-    /// The end of authority now, and what is supervised there; None where no authority is stored.
+    /// The end of authority now, and what is supervised behind it; None where no authority is stored.
     pub fn end(&self) -> Option<End>
         ensures { (entries : List Entry) → self.now ≡ known entries → result ≡ end_of entries }
     {
@@ -83,7 +83,7 @@ impl Authority {
         }
     }
 
-    /// V_MAIN, the greatest speed of the whole authority; None where no authority is stored.
+    /// V_MAIN, the greatest speed of the whole authority, in metres per hour; None where no authority is stored.
     pub fn main_speed(&self) -> Option<Mph>
         ensures { (entries : List Entry) → self.now ≡ known entries → result ≡ main_speed_of entries }
     {

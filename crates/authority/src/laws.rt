@@ -11,7 +11,7 @@ pub fn timers_start()
     ensures { TimersStart }
 {}
 
-/// A law: the end is at the nearest of the end as it was told and the entries of the sections that have run out.
+/// A law: the end is at the nearest of the end of the last section and the entries of the sections that have run out.
 pub fn end_is_the_nearest()
     ensures { EndIsTheNearest }
 {}

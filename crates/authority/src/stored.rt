@@ -13,14 +13,18 @@ pub const MOST_SECTIONS: usize = 32;
 /// A place behind the end that is supervised, and its release speed.
 #[derive(Clone, Copy)]
 pub struct Point {
+    /// Where it is, in centimetres of the life.
     pub location: Cm,
+    /// The release speed that goes with it.
     pub release: Release,
 }
 
 /// The overlap with its timer.
 #[derive(Clone, Copy)]
 pub struct TimedOverlap {
+    /// Its end, with its release speed.
     pub point: Point,
+    /// When it is over.
     pub timer: PlaceTimer,
 }
 
@@ -31,17 +35,21 @@ pub struct Stored {
     pub accepted: Ms,
     /// The sections whose timers aren't stopped, along the track.
     pub timed: ArrayVec<TimedSection, MOST_SECTIONS>,
-    /// Where the end section begins.
+    /// Where the end section begins, in centimetres.
     pub end_entry: Cm,
-    /// The end as it was told.
+    /// The end of the end section, in centimetres.
     pub end: Cm,
-    /// V_MAIN.
+    /// V_MAIN, in metres per hour.
     pub main_speed: Mph,
-    /// V_LOA and T_LOA.
+    /// The speed at the end, V_LOA, in metres per hour.
     pub end_speed: Mph,
+    /// How long the speed at the end holds from the acceptance on, T_LOA.
     pub end_time: Timer,
+    /// The timer of the end section.
     pub end_timer: Option<PlaceTimer>,
+    /// The danger point.
     pub danger_point: Option<Point>,
+    /// The overlap.
     pub overlap: Option<TimedOverlap>,
 }
 

@@ -22,6 +22,7 @@ pub struct TimedSection {
     pub entry: Cm,
     /// Where the least front stops the timer.
     pub stop_at: Cm,
+    /// How long it runs.
     pub time: Timer,
 }
 
@@ -41,6 +42,7 @@ impl Default for TimedSection {
 pub struct PlaceTimer {
     /// Where the greatest front starts it.
     pub from: Cm,
+    /// How long it runs.
     pub time: Timer,
     /// When it started.
     pub started: Option<Ms>,

@@ -1,5 +1,5 @@
 -- The groups of a life, read off its readings of balises and its movements (SUBSET-026, 3.4; the 1,300 cm, and that a
--- telegram of the group that closed last is ignored, are this project's profile).
+-- telegram of the group that closed last is ignored, are this project's profile). Paths are centimetres.
 use Rattle.std.specs.Prelude.{ℕ, ◌+◌, List, [], ◌∷◌, ◌++◌, Bool, false, ◌&&◌, not, ◌==◌, nat_le, if◌then◌else◌, Option, Some, None}
 use Rattle.vars.specs.declared.group.GroupIdentity.{GroupIdentity}
 use Rattle.balise_groups.specs.declared.reading.Reading.{Reading}

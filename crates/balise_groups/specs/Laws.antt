@@ -1,4 +1,4 @@
--- What the definitions of groups mean, said in other ways.
+-- What the definitions of groups mean, said in other ways (this project's profile). Paths are centimetres.
 use Rattle.std.specs.Prelude.{ℕ, ◌≡◌, List, [], ◌∷◌, false, if◌then◌else◌}
 use Rattle.vars.specs.declared.group.GroupIdentity.{GroupIdentity}
 use Rattle.balise_groups.specs.declared.reading.Reading.{Reading}

@@ -1,4 +1,4 @@
--- Readings of different places, of which there are at most eight.
+-- Readings of different places, of which there are at most eight (this project's profile).
 use Rattle.std.specs.Prelude.{ℕ, ◌<◌, ◌≡◌, List, [], ◌∷◌, false}
 use Rattle.balise_groups.specs.declared.reading.Reading.{Reading}
 use Rattle.balise_groups.specs.Closing.{is_read}

@@ -1,4 +1,4 @@
--- The packets that a group tells (SUBSET-026, 3.4 and 8.4; that infill isn't used is this project's profile).
+-- The packets of a group (SUBSET-026, 3.4 and 8.4; that infill isn't used is this project's profile).
 use Rattle.std.specs.Prelude.{ℕ, List, [], ◌∷◌, ◌++◌, ◌==◌, if◌then◌else◌}
 use Rattle.packets.specs.Packets.{number_of}
 use Rattle.packets.specs.declared.packet.Packet.{Packet}

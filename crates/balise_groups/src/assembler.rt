@@ -16,14 +16,18 @@ const GROUP_PATH: u64 = 1_300;
 /// A group, and the path of the life at a telegram of it.
 #[derive(Clone, Copy)]
 pub struct Seen {
+    /// The group of the telegram.
     pub group: GroupIdentity,
+    /// The path of the life at it, in centimetres.
     pub path: Length,
 }
 
 /// What closes at a reading: the group that it ended, and its own where that is whole now.
 #[derive(Drop)]
 pub struct Taken {
+    /// The group that the reading ended.
     pub ended: Option<Closed>,
+    /// The reading's own group, where it is whole now.
     pub whole: Option<Closed>,
 }
 
@@ -136,7 +140,7 @@ impl Assembler {
         self.current.is_none()
     }
 
-    /// Is told the path of the life after a movement, and answers the group that is left by it.
+    /// Takes the path of the life after a movement, and answers the group that is left by it. The caller owes each movement.
     pub fn moved(&mut self, path: Length) -> Option<Closed>
         ensures answer { result ≡ ended_by path self.old }
         ensures stands { (entries : List Entry) → self.old ≡ known entries → self.new ≡ known (Went path ∷ entries) }

@@ -2,9 +2,10 @@ use crate::group_packets::GroupPackets;
 use odometry::Sums;
 use vars::{GroupIdentity, LinkOrientation};
 
-/// What a balise group tells (SUBSET-026, 3.4).
+/// The message of a balise group (SUBSET-026, 3.4).
 #[derive(Drop)]
 pub struct Message {
+    /// NID_C and NID_BG of the group.
     pub group: GroupIdentity,
     /// Q_LINK: whether the group may be announced by linking.
     pub linked: bool,
@@ -14,6 +15,7 @@ pub struct Message {
     pub sums: Sums,
     /// Whether balise 1 was missed.
     pub missed: bool,
+    /// Its packets, in order of place, of each telegram those before its first packet 136.
     pub packets: GroupPackets,
 }
 
@@ -31,15 +33,19 @@ pub enum Cause {
 /// A group that gave no message.
 #[derive(Drop)]
 pub struct Broken {
+    /// NID_C and NID_BG of the group.
     pub group: GroupIdentity,
     /// Q_LINK: whether the group may be announced by linking.
     pub linked: bool,
+    /// The first cause that holds, Mixed before Counter before Missing.
     pub cause: Cause,
 }
 
 /// A group that has ended.
 #[derive(Drop)]
 pub enum Closed {
+    /// Its message.
     Whole(Message),
+    /// No message, and why.
     Broken(Broken),
 }

@@ -6,7 +6,9 @@ use telegram::Received;
 /// A telegram of a balise, and the sums of the life when the balise was read.
 #[derive(Drop)]
 pub struct Reading {
+    /// The telegram of one balise.
     pub telegram: Received,
+    /// The movements and the path of the life at it, in centimetres.
     pub sums: Sums,
 }
 

@@ -1,4 +1,5 @@
--- Which values have a spelling: each variable is read again from its number, and what tells of other parts tells the truth.
+-- Which values have a spelling: each variable is read again from its number, and qualifiers and counts are true (this
+-- project's profile).
 use Rattle.std.specs.Prelude.{◌≡◌, ◌+◌, ◌<◌, ◌^◌, ℕ, Bool, true, false, List, [], ◌∷◌, length, take, drop, Option, Some, Ok, IfSome, is_some}
 use Rattle.std.specs.List.{AllByRecursion as Each}
 use Rattle.bits.specs.Layout.{Codes, Layout, done, unless, field, run, choice, kind, part, inner, measured, more, told_as, then_}

@@ -1,4 +1,4 @@
--- What may stand in bits, field after field: a grammar as data, and what it says of bits.
+-- What may stand in bits, field after field: a grammar as data, and what it says of bits (this project's profile).
 use Rattle.std.specs.Prelude.{◌≡◌, ◌≢◌, ◌==◌, ◌+◌, ◌-◌, ◌⊎◌, ◌<◌, ◌≤◌, ℕ, zero, suc, Bool, true, false, List, [], ◌∷◌, ◌++◌, length, take, drop, Option, Some, None, Result, Ok, Err, nat_lt, if◌then◌else◌}
 use Rattle.bits.specs.Bits.{number}
 use Rattle.bits.specs.declared.name.VariableName.{VariableName}

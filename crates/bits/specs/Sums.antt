@@ -1,4 +1,4 @@
--- Sums over lists.
+-- Sums over lists (this project's profile).
 use Rattle.std.specs.Prelude.{ℕ, ◌+◌, List, [], ◌∷◌}
 
 -- the sum of what w says of each element

@@ -1,4 +1,5 @@
--- What follows from a layout for a value that is written or printed: its fields, their bits and how many these are.
+-- What follows from a layout for a value that is written or printed: its fields, their bits and how many these are (this
+-- project's profile).
 use Rattle.std.specs.Prelude.{ℕ, ◌+◌, List, [], ◌∷◌, ◌++◌, Bool, length, drop, Option, Some, option_map, option_and_then, if◌then◌else◌}
 use Rattle.std.specs.Option.{option_map_or}
 use Rattle.bits.specs.Bits.{number_bits}

@@ -1,5 +1,5 @@
--- A train that comes nearer to what lies ahead, and the greatest speed from which it can brake for what it was told of so
--- far (this project's profile).
+-- A train that comes nearer to what lies ahead, and the greatest speed from which it can brake for what it met so far
+-- (this project's profile). Places are centimetres, speeds metres per hour.
 use Rattle.std.specs.Prelude.{ℕ, ◌≡◌, true, ℤ, ◌≤ℤ◌, Option, List, IfSome}
 use Rattle.braking.specs.declared.brakes.Brakes.{Brakes}
 use Rattle.braking.specs.declared.target.Target.{Target}

@@ -1,4 +1,5 @@
--- The limits of what is known of a train's brakes (this project's profile).
+-- The limits of what is known of a train's brakes (this project's profile). Decelerations are cm/s^2, reaction times
+-- milliseconds.
 use Rattle.std.specs.Prelude.{ℕ, ◌≤◌}
 
 -- a deceleration in cm/s^2

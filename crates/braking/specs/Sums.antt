@@ -1,4 +1,5 @@
--- What is known of what the brakes take off before a target (this project's profile).
+-- What is known of what the brakes take off before a target (this project's profile). Places are centimetres, speeds
+-- metres per hour.
 use Rattle.std.specs.Prelude.{◌≡◌, ℕ, ◌+◌, ◌-◌, ◌*◌, ◌<◌, ◌≤◌, ◌^◌, ℤ, pos, ◌+ℤ◌, ◌≤ℤ◌, ◌<ℤ◌, ◌⊎◌, Option}
 use Rattle.std.specs.Int.{int_min}
 use Rattle.braking.specs.declared.brakes.Brakes.{Brakes}

@@ -65,14 +65,14 @@ impl<'a, P: Profile<Permille>> Approach<'a, P> {
         }
     }
 
-    /// The greatest speed up to the limit that fits all targets so far; 0 where none does.
+    /// The greatest speed up to the limit that fits all targets so far, in metres per hour; 0 where none does.
     pub fn speed(&self) -> Mph
         ensures { result ≡ self.now.speed }
     {
         self.speed
     }
 
-    /// Whether the speed so far fits a target. Keeps what it summed for that.
+    /// Whether the speed so far fits a target. What it summed for that is kept.
     pub fn fits(&mut self, target: &Target) -> bool
         ensures value { result ≡ fits self.old.front (P.value self.old.gradient) self.old.brakes target.now self.old.speed }
         ensures same { self.new ≡ self.old }

@@ -29,7 +29,7 @@ pub fn fits<P: Profile<Permille>>(
     fits
 }
 
-// Whether a speed above a target's fits it, and what was summed on the way.
+/// Whether a speed above a target's fits it, and what was summed on the way.
 pub fn fits_summed<P: Profile<Permille>>(
     front: Cm,
     speed: Mph,
@@ -49,8 +49,8 @@ pub fn fits_summed<P: Profile<Permille>>(
     }
 }
 
-// What the brakes take off before a target from where they act at a speed above its own, as far as is needed to see whether the
-// speed fits; None where they don't act before it. What is summed already isn't gone through again, where it lies within.
+/// What the brakes take off before a target from where they act at a speed above its own, as far as is needed to see whether the
+/// speed fits; None where they don't act before it. What is summed already isn't gone through again, where it lies within.
 pub fn summed_before<P: Profile<Permille>>(
     front: Cm,
     speed: Mph,
@@ -75,7 +75,7 @@ pub fn summed_before<P: Profile<Permille>>(
     Some(begun.gone_on(gradient, brakes.deceleration, place, enough))
 }
 
-// Whether a train comes to a stop within what is summed.
+/// Whether a train comes to a stop within what is summed.
 pub fn stops_within(front: Cm, speed: Mph, brakes: &Brakes, sum: &Summed) -> bool
     ensures { IsTrue result → IsStopping front brakes.now.reaction speed sum.now }
 {
@@ -86,7 +86,7 @@ pub fn stops_within(front: Cm, speed: Mph, brakes: &Brakes, sum: &Summed) -> boo
     front.get() + i64::from(reaction_way(brakes.reaction, speed)) <= sum.from.get()
 }
 
-// What the brakes must take off the square of the speed, from one speed down to another.
+/// What the brakes must take off the square of the speed, from one speed down to another.
 pub fn lacking(from: Mph, to: Mph) -> u64
     requires { to ≤ from }
     ensures { result ≡ from * from - to * to }
@@ -95,7 +95,7 @@ pub fn lacking(from: Mph, to: Mph) -> u64
     from * from - to * to
 }
 
-// The way that a train runs before its brakes act, in centimetres.
+/// The way that a train runs before its brakes act, in centimetres.
 pub fn reaction_way(reaction: Reaction, speed: Mph) -> u32
     ensures value { result ≡ reaction_way reaction speed }
     ensures small { result ≤ 166_667 }
@@ -103,7 +103,7 @@ pub fn reaction_way(reaction: Reaction, speed: Mph) -> u32
     (u64::from(speed.get()) * u64::from(reaction.get())).div_ceil(36_000) as u32
 }
 
-// Where the brakes act after a way from the front; None where this isn't before a place.
+/// Where the brakes act after a way from the front; None where this isn't before a place.
 pub fn brakes_act(front: Cm, way: u32, place: Cm) -> Option<Cm>
     requires { way ≤ 166_667 }
     ensures found { IsSome result ↔ (front +ℤ pos way) <ℤ place }

@@ -7,21 +7,21 @@ use crate::slowing::{end_of_stretch, slowing, taken_off_evenly};
 use track_store::Profile;
 use units::{Cm, Permille};
 
-// What a stretch takes off the square of the speed, reckoned once for many speeds and targets.
+/// What a stretch takes off the square of the speed, reckoned once for many speeds and targets.
 #[derive(Clone, Copy)]
 pub struct Summed {
-    // Where it begins.
+    /// Where it begins.
     pub from: Cm,
-    // Where it ends, that centimetre not included.
+    /// Where it ends, that centimetre not included.
     pub to: Cm,
-    // What it takes off.
+    /// What it takes off.
     pub taken_off: u64,
-    // What finds the gradient where it ends sooner.
+    /// What finds the gradient where it ends sooner.
     pub near: usize,
 }
 
 impl Summed {
-    // No stretch, at a place.
+    /// No stretch, at a place.
     pub fn none(place: Cm) -> Summed
         ensures from { result.from ≡ place }
         ensures to { result.to ≡ place }
@@ -36,8 +36,8 @@ impl Summed {
         }
     }
 
-    // The same, gone on with up to a place, or only until it takes off enough. It is gone through from one change of the
-    // gradient to the next.
+    /// The same, gone on with up to a place, or only until it takes off enough. It is gone through from one change of the
+    /// gradient to the next.
     pub fn gone_on<P: Profile<Permille>>(
         self,
         gradient: &P,
@@ -71,7 +71,7 @@ impl Summed {
         }
     }
 
-    // The same, begun before.
+    /// The same, begun before.
     pub fn begun<P: Profile<Permille>>(
         self,
         gradient: &P,
@@ -97,7 +97,7 @@ impl Summed {
         }
     }
 
-    // The one that goes farther ahead.
+    /// The one that goes farther ahead.
     pub fn farther(self, other: Summed) -> Summed
         ensures { (gradient : ℤ → Option ℤ) → (deceleration : ℕ) → IsSummed gradient deceleration self → IsSummed gradient deceleration other
             → IsSummed gradient deceleration result }

@@ -1,4 +1,4 @@
--- The driver's data, read off what was told in one life and what was kept when it began (SUBSET-026, 4.10; the column of each
+-- The driver's data, read off what one life brought and what was kept when it began (SUBSET-026, 4.10; the column of each
 -- mode: this project's profile).
 use Rattle.std.specs.Prelude.{ℕ, Bool, true, false, List, Option, Some, None}
 use Rattle.driver.specs.declared.action.Action.TheVariants.{Override, Acknowledge}

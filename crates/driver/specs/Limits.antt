@@ -1,4 +1,4 @@
--- The limits of what is entered (this project's profile).
+-- The limits of what is entered (this project's profile). Lengths are centimetres, speeds metres per hour.
 use Rattle.std.specs.Prelude.{◌≡◌, ℕ, ◌-◌, ◌≤◌, List, ◌++◌, length, replicate}
 use Rattle.std.specs.List.{All}
 use Rattle.braking.specs.declared.brakes.Brakes.{Brakes}

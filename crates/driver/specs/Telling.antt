@@ -1,5 +1,5 @@
--- What each entry tells of the driver's data, a line for each way (SUBSET-026, 4.10; the column of each mode: this project's
--- profile).
+-- What each entry means for the driver's data, a line for each way (SUBSET-026, 4.10; the column of each mode: this
+-- project's profile).
 use Rattle.std.specs.Prelude.{ℕ, Bool, true, false, List}
 use Rattle.driver.specs.declared.action.Action.TheVariants.{EnterIdentity, EnterRunningNumber, EnterTrainData, ChooseLevel, Confirm}
 use Rattle.driver.specs.declared.action.Confirmed.TheVariants as confirm

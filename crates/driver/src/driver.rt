@@ -17,7 +17,7 @@ use mode_table::{Fate, Item, Mode, TrainLevel, status_on};
 use std::marker::Model;
 use units::{Length, Ms};
 
-/// The driver's data, and what the driver's actions brought about in one life.
+/// The driver's data, and what the driver's actions brought about in one life (SUBSET-026, 4.10, 5.4).
 #[derive(Clone, Copy)]
 pub struct Driver {
     identity: Datum<DriverIdentity>,
@@ -61,7 +61,7 @@ impl Driver {
         }
     }
 
-    /// An action is accepted on an occasion.
+    /// An action that `accepts` took is done, on an occasion. The caller owes that it was accepted.
     pub fn act(&mut self, action: &Action, occasion: &Occasion)
         ensures { (kept : KeptData) → (entries : List Entry) → self.old ≡ known kept entries
             → self.new ≡ known kept (Did action.now occasion.now ∷ entries) }
@@ -158,7 +158,7 @@ impl Driver {
         self.trip_outstanding
     }
 
-    /// Whether the trip is overridden now.
+    /// Whether the trip is overridden now: at a moment of the life, and at its path in centimetres (SUBSET-026, 5.8).
     pub fn is_overridden(&self, moment: Ms, path: Length) -> bool
         ensures { result ≡ is_active self.now.overridden moment path }
     {

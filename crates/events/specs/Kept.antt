@@ -1,4 +1,4 @@
--- What is kept over a loss of power (this project's profile).
+-- What is kept over a loss of power (this project's profile). Distances are centimetres.
 use Rattle.std.specs.Prelude.{ℤ}
 use Rattle.vars.specs.declared.group.GroupIdentity.{GroupIdentity}
 

@@ -3,12 +3,12 @@ use driver::Action;
 use mode_table::Cold;
 use units::{Movement, Mph, Ms};
 
-/// What the odometer tells.
+/// One reading of the odometer.
 #[derive(Clone, Copy)]
 pub struct Reading {
-    /// The movement since the last reading, forward or backward.
+    /// The movement since the last reading, forward or backward, in centimetres.
     pub movement: Movement,
-    /// The speed now.
+    /// The speed now, in metres per hour: 0 only where the train stands.
     pub speed: Mph,
 }
 
@@ -19,7 +19,7 @@ pub enum Input {
     Telegram(TelegramBytes),
     /// A reading of the odometer.
     Odometer(Reading),
-    /// A moment of this life.
+    /// A moment of this life, in milliseconds. Moments don't fall within a life.
     Clock(Ms),
     /// What the driver did.
     Driver(Action),
@@ -28,7 +28,7 @@ pub enum Input {
 /// One atomic event.
 #[derive(Drop)]
 pub enum Event {
-    /// Power comes on, and a life begins; what is known of movements while it was off.
+    /// Power comes on, and a life begins, with the word on movements while it was off.
     PowerUp(Cold),
     /// Something comes in.
     Input(Input),

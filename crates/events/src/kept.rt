@@ -16,9 +16,9 @@ pub struct Kept {
     pub running_number: Option<RunningNumber>,
     /// The train data that were entered last; None where none were.
     pub train_data: Option<TrainData>,
-    /// The level.
+    /// The level, with its status.
     pub level: Datum<TrainLevel>,
-    /// Where the train is, told by the last balise group that made a fix.
+    /// Where the train is, behind the last balise group that made a fix.
     pub position: Datum<Position>,
     /// The national values in force, with the countries that they are for.
     pub national: CountryValues,

@@ -52,13 +52,13 @@ impl Indications {
 /// What the kernel answers to an event.
 #[derive(Clone, Copy)]
 pub struct Output {
-    /// The mode after the event.
+    /// The mode after the event (SUBSET-026, 4.4).
     pub mode: Mode,
     /// The level after the event; None where it isn't valid.
     pub level: Option<TrainLevel>,
     /// What the brakes are commanded to do.
     pub brake: Brake,
-    /// The speed that the train may run.
+    /// The speed that the train may run, in metres per hour.
     pub limit: Mph,
     /// What the driver is shown.
     pub indications: Indications,

@@ -5,7 +5,7 @@ use std::marker::Model;
 use units::Cm;
 use vars::GroupIdentity;
 
-/// Where the train is, told by a balise group: how far behind it the estimated front lies, from -2^41 to 2^41 cm.
+/// Where the train is, by a balise group: how far behind it the estimated front lies, from -2^41 to 2^41 cm.
 #[derive(Clone, Copy)]
 pub struct Position {
     group: GroupIdentity,

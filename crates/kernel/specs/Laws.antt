@@ -1,4 +1,5 @@
--- What is true of every list of events, the newest first (this project's profile).
+-- What is true of every list of events, the newest first (this project's profile). Moments are milliseconds, distances
+-- centimetres.
 use Rattle.std.specs.Prelude.{◌≡◌, ◌↔◌, ◌⊎◌, ℕ, ◌+◌, ◌-◌, ◌^◌, min, IsTrue, Option, Some, None, List, [], ◌∷◌, ◌++◌, length}
 use Rattle.driver.specs.declared.datum.Datum.{Datum}
 use Rattle.driver.specs.declared.datum.Datum.TheVariants.{Unknown, Valid, Invalid}

@@ -1,4 +1,4 @@
--- What is answered after each event (this project's profile).
+-- What is answered after each event (this project's profile). Places are centimetres, speeds metres per hour.
 use Rattle.std.specs.Prelude.{ℕ, ℤ, nat_lt, not, Option, Some, None, List}
 use Rattle.areas.specs.Acknowledging.{waits}
 use Rattle.driver.specs.declared.datum.Datum.{Datum}

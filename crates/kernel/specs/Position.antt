@@ -1,5 +1,5 @@
--- The position of a life: where the train is, told by the balise group of the last fix (this project's profile). Distances are
--- centimetres.
+-- The position of a life: where the train is, behind the balise group of the last fix (this project's profile). Distances
+-- are centimetres.
 use Rattle.std.specs.Prelude.{◌*◌, ℤ, ◌+ℤ◌, ◌-ℤ◌, nat_le, if◌then◌else◌, Option, Some, None}
 use Rattle.std.specs.Int.RustNames.{unsigned_abs}
 use Rattle.driver.specs.declared.datum.Datum.{Datum}

@@ -1,4 +1,4 @@
--- What the kernel knows stands for a life, and so for a list of events.
+-- What the kernel knows represents a life, and so a list of events (this project's profile).
 use Rattle.std.specs.Prelude.{◌≡◌, ℕ, ◌-◌, ◌^◌, ℤ, min, List}
 use Rattle.driver.specs.declared.datum.Datum.{Datum}
 use Rattle.events.specs.declared.input.Event.{Event}

@@ -1,7 +1,7 @@
 //! Laws of every list of events.
 ghost use Rattle.kernel.specs.Laws.{CountsSo, IdentitySo, RunningNumberSo, TrainDataSo, LevelSo, TripSo, PositionSo, NationalSo, Forgets, BrakesUntilRevalidated, TripBrakes};
 
-/// A law: what is kept of a list of events is what the whole list tells, item by item.
+/// A law: what is kept of a list of events is what the whole list says, item by item.
 pub fn kept_is_the_last()
     ensures counts { CountsSo }
     ensures identity { IdentitySo }

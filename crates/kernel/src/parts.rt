@@ -9,8 +9,9 @@ use units::Mph;
 /// What is known beside what is supervised.
 #[derive(Clone, Copy)]
 pub struct Parts {
+    /// What the brakes remember since the train stood.
     pub window: Window,
-    /// The limit after the last event.
+    /// The limit after the last event, in metres per hour.
     pub limit: Mph,
     /// What the power-up left of the position that was kept.
     pub position: Datum<Position>,

@@ -14,9 +14,9 @@ pub struct Sight {
     pub backward: u64,
     /// Whether linking or a balise group asks for the service brake.
     pub asked_for_service: bool,
-    /// The speed of the last reading.
+    /// The speed of the last reading, in metres per hour.
     pub speed: Mph,
-    /// The limit after the event.
+    /// The limit after the event, in metres per hour.
     pub limit: Mph,
 }
 
@@ -45,7 +45,7 @@ impl Sight {
     }
 }
 
-/// What the odometer tells, if an input is a reading.
+/// The odometer's reading, if an input is one.
 pub fn reading_of(input: &Input) -> Option<Reading>
     ensures { result ≡ reading_of input.now }
 {

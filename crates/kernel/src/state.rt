@@ -52,7 +52,7 @@ impl<G: ProfileStore<Permille> + Drop, S: ProfileStore<CategorySpeeds> + Drop> S
         }
     }
 
-    // A life begins with what was kept, and is counted. Takes no memory.
+    /// A life begins with what was kept, and is counted. Takes no memory.
     pub(crate) fn begin(alloc: Global, kept: Kept, cold: Cold) -> Self
         ensures life { StandsForLife G.profile S.profile result (begun_life kept cold) }
         ensures counts { result.counts ≡ counted (record { events = kept.events; lives = kept.lives }) (PowerUp cold) }
@@ -72,7 +72,7 @@ impl<G: ProfileStore<Permille> + Drop, S: ProfileStore<CategorySpeeds> + Drop> S
         }
     }
 
-    /// An equal value.
+    /// An equal value; NoMemory where it is refused.
     pub fn copy(&self, alloc: Global) -> Result<Self, NoMemory>
         ensures { IfOk result (λ copy. copy ≡ self.now) }
     {

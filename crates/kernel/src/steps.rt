@@ -11,7 +11,8 @@ use std::alloc::Global;
 use track_store::ProfileStore;
 use units::{NoMemory, Permille};
 
-/// One event: what is known after it, and what is answered. The old state is unchanged. The moments of the clock don't fall in a life.
+/// One event: what is known after it, and what is answered. The old state is unchanged; NoMemory where the new one is refused. The caller
+/// owes that the moments of the clock don't fall in a life (`Onboard::accept` tests that).
 pub fn step<G: ProfileStore<Permille> + Drop, S: ProfileStore<CategorySpeeds> + Drop>(
     alloc: Global,
     state: &StateOver<G, S>,
@@ -51,7 +52,7 @@ impl<G: ProfileStore<Permille> + Drop, S: ProfileStore<CategorySpeeds> + Drop> S
         Ok(self.output())
     }
 
-    /// The same in place; where memory is refused, nothing changes. Only where a group may close is the state copied.
+    /// The same in place; NoMemory where memory is refused, and then nothing changes. Only where a group may close is the state copied.
     pub fn apply(&mut self, alloc: Global, event: &Event) -> Result<Output, NoMemory>
         ensures stands { OnOk result ((events : List Event) → StandsFor G.profile S.profile self.old events
             → StandsFor G.profile S.profile self.new (event.now ∷ events)) }

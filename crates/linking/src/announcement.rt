@@ -9,14 +9,14 @@ use vars::{
     Country, GroupIdentity, GroupNumber, LinkOrientation, LinkReaction, LocationAccuracy, Variable,
 };
 
-/// A balise group that a list of links (packet 5) announces.
+/// A balise group that a list of links (packet 5; SUBSET-026, 3.4.4) announces.
 #[derive(Clone, Copy)]
 pub struct Announcement {
     /// Its number in its list, from 0, as `Links::replace` gives it.
     pub number: u8,
     /// Which group it is.
     pub group: GroupIdentity,
-    /// Where the group is to lie.
+    /// Where the group is to lie, in centimetres.
     pub place: Cm,
     /// How far it may lie from there, to either side (Q_LOCACC).
     pub accuracy: LocationAccuracy,
@@ -44,7 +44,7 @@ impl Default for Announcement {
 }
 
 impl Announcement {
-    // Whether it announces this group.
+    /// Whether it announces this group.
     pub(crate) fn is_of(&self, group: &GroupIdentity) -> bool
         ensures { result ≡ is_of group.now self.now }
     {
@@ -67,14 +67,14 @@ impl Announcement {
         self.place.get() + self.accuracy.accuracy().get()
     }
 
-    // Whether a group was read before the place where it is announced.
+    /// Whether a group was read before the place where it is announced.
     pub(crate) fn is_too_early(&self, group: &GroupRead) -> bool
         ensures { result ≡ is_too_early group.now self.now }
     {
         group.max_front() < self.first_place()
     }
 
-    // Whether a group is known to have been passed in the other direction.
+    /// Whether a group is known to have been passed in the other direction.
     pub(crate) fn is_wrong_way(&self, group: &GroupRead) -> bool
         ensures { result ≡ is_wrong_way group.now self.now }
     {
@@ -84,21 +84,21 @@ impl Announcement {
         }
     }
 
-    // Whether it stands in the list before a number.
+    /// Whether it stands in the list before a number.
     pub(crate) fn is_before(&self, number: u8) -> bool
         ensures { result ≡ is_before number self.now }
     {
         self.number < number
     }
 
-    // Whether the least front lies beyond the place where it is announced.
+    /// Whether the least front lies beyond the place where it is announced.
     pub(crate) fn is_passed_by(&self, min_front: Cm) -> bool
         ensures { result ≡ is_passed_by min_front self.now }
     {
         self.last_place() < min_front.get()
     }
 
-    // What it asks for where it is missed, and where another was missed before.
+    /// What it asks for where it is missed, and where another was missed before.
     pub(crate) fn miss(&self, has_missed: bool) -> Effect
         ensures { result ≡ both (effect_of self.now.reaction) (if has_missed then service else no_effect) }
     {

@@ -6,9 +6,9 @@ use vars::LinkReaction;
 /// What linking asks of the train.
 #[derive(Clone, Copy, Debug, PartialEq, Eq)]
 pub struct Effect {
-    /// A trip.
+    /// Whether it asks for a trip.
     pub trip: bool,
-    /// The service brake.
+    /// Whether it asks for the service brake.
     pub service: bool,
 }
 

@@ -20,7 +20,7 @@ pub struct GroupRead {
 }
 
 impl GroupRead {
-    // The greatest front at its reading. It may lie beyond the limits of a place.
+    /// The greatest front at its reading. It may lie beyond the limits of a place.
     pub(crate) fn max_front(&self) -> i64
         ensures value { result ≡ max_front self.now }
         ensures near { unsigned_abs result ≤ 2 ^ 43 }

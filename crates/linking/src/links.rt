@@ -64,7 +64,8 @@ impl Links {
         Judgement { verdict, effect }
     }
 
-    /// Takes note of a broken group: what it asks for. One that is announced takes its announcement with it.
+    /// Takes note of a broken group, which `linked` says by its Q_LINK: answers what it asks for. One that is announced takes its
+    /// announcement with it.
     pub fn broken(&mut self, group: GroupIdentity, linked: bool) -> Effect
         ensures answer { result ≡ broken_effect self.old group linked }
         ensures stands { (entries : List Entry) → self.old ≡ known entries
@@ -82,7 +83,8 @@ impl Links {
         }
     }
 
-    /// Drops the announcements that the least front has passed: what they ask for.
+    /// Drops the announcements that the least front has passed, and answers what they ask for. The caller asks once at each
+    /// odometer reading.
     pub fn missed(&mut self, min_front: Cm) -> Effect
         ensures answer { result ≡ misses self.old.has_missed (filter (is_passed_by min_front) self.old.left) }
         ensures stands { (entries : List Entry) → self.old ≡ known entries

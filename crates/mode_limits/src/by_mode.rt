@@ -24,7 +24,7 @@ fn within_maximum(train: &Datum<TrainData>, speed: Mph) -> Mph
     }
 }
 
-// The national values in force.
+/// The national values in force.
 pub fn values<G: ProfileStore<Permille> + Drop, S: ProfileStore<CategorySpeeds> + Drop>(
     supervision: &SupervisionOver<G, S>,
 ) -> &Values
@@ -101,7 +101,8 @@ fn limit_in<G: ProfileStore<Permille> + Drop, S: ProfileStore<CategorySpeeds> + 
     }
 }
 
-/// The speed that the train may run now.
+/// The speed that the train may run now, by the mode, in metres per hour (SUBSET-026, 3.12, 3.13; what counts in which mode: this
+/// project's profile).
 pub fn limit<G: ProfileStore<Permille> + Drop, S: ProfileStore<CategorySpeeds> + Drop>(
     supervision: &SupervisionOver<G, S>,
 ) -> Mph

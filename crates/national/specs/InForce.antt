@@ -1,5 +1,5 @@
--- The national values in force, read off what was told in one life (SUBSET-026, 3.18.2; when they come into force: this
--- project's profile). Lists of entries have the newest first.
+-- The national values in force, read off what one life brought (SUBSET-026, 3.18.2; when they come into force: this
+-- project's profile). Lists of entries have the newest first. Places are centimetres.
 use Rattle.std.specs.Prelude.{ℕ, ℤ, pos, ◌+ℤ◌, Bool, true, false, not, ◌||◌, int_lt, is_some, if◌then◌else◌, Option, Some, None, option_map, unwrap_or, List, [], ◌∷◌}
 use Rattle.std.specs.List.{list_any}
 use Rattle.vars.specs.declared.scale.Scale.{Scale}

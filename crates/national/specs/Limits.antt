@@ -1,4 +1,5 @@
--- The limits of the national values that may have no end (SUBSET-026, 7.5.1: the greatest number of each tells that).
+-- The limits of the national values that may have no end (SUBSET-026, 7.5.1: the greatest number of each means that).
+-- Distances are centimetres, times milliseconds.
 use Rattle.std.specs.Prelude.{ℕ, ◌≤◌}
 
 -- how long the trip stays overridden, in milliseconds: T_NVOVTRP is up to 254 seconds

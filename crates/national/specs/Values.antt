@@ -1,5 +1,5 @@
 -- National values and the countries that they are for (SUBSET-026, 3.18.2 and 7.4.2; the defaults and the order of the
--- countries: this project's profile).
+-- countries: this project's profile). Speeds are metres per hour, distances centimetres, times milliseconds.
 use Rattle.std.specs.Prelude.{ℕ, ◌*◌, ◌==◌, Bool, true, false, ◌&&◌, not, if◌then◌else◌, Option, Some, None, List, [], ◌∷◌, ◌++◌}
 use Rattle.std.specs.List.{list_any}
 use Rattle.vars.specs.Meanings.{centimetres_of}

@@ -6,12 +6,12 @@ use packets::NationalValues;
 use units::{Cm, GroupPlace};
 use vars::{Country, Scale, StartPlace};
 
-/// Values that are to come into force.
+/// National values that are to come into force.
 #[derive(Drop)]
 pub struct Announcement {
     /// The values, with the countries that they are for.
     pub values: CountryValues,
-    /// Where they come into force; None: wherever the train is.
+    /// Where they come into force, in centimetres; None: wherever the train is.
     pub start: Option<Cm>,
 }
 

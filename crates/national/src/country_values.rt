@@ -62,7 +62,7 @@ impl CountryValues {
         }
     }
 
-    // The defaults, for no country.
+    /// The defaults, for no country.
     pub(crate) fn for_no_country() -> Self
         ensures { result ≡ values_for defaults [] }
     {
@@ -72,7 +72,7 @@ impl CountryValues {
         }
     }
 
-    // The defaults, for one country.
+    /// The defaults, for one country.
     pub(crate) fn defaults_for(country: Country) -> Self
         ensures { result ≡ values_for defaults (country ∷ []) }
     {
@@ -84,7 +84,7 @@ impl CountryValues {
         }
     }
 
-    // What packet 3 of a group of a country tells.
+    /// What packet 3 of a group of a country tells.
     pub(crate) fn told_by(packet: &NationalValues, country: Country) -> Self
         ensures { result ≡ told_by packet.now country }
     {
@@ -96,7 +96,7 @@ impl CountryValues {
         }
     }
 
-    // Whether a country is none of several.
+    /// Whether a country is none of several.
     pub(crate) fn is_foreign(&self, country: Country) -> bool
         ensures { result ≡ is_foreign country self.now.countries }
     {

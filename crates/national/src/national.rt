@@ -10,7 +10,7 @@ use std::marker::Model;
 use units::{Cm, GroupPlace};
 use vars::Country;
 
-/// The national values in force, and those that are announced.
+/// The national values in force, and those that are announced (SUBSET-026, 3.18.2).
 #[derive(Drop)]
 pub struct National {
     in_force: CountryValues,

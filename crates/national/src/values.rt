@@ -6,7 +6,7 @@ use packets::NationalValues;
 use units::{Mph, Reach};
 use vars::{OpenLength, OverrideTime, Scale, SpeedStep, Variable};
 
-/// National values (packet 3).
+/// National values (packet 3; SUBSET-026, 3.18.2). Speeds are metres per hour.
 #[derive(Clone, Copy, Debug, PartialEq, Eq)]
 pub struct Values {
     /// The speed in Shunting (V_NVSHUNT).
@@ -19,13 +19,13 @@ pub struct Values {
     pub unfitted: Mph,
     /// The release speed (V_NVREL).
     pub release: Mph,
-    /// How far the train may roll (D_NVROLL).
+    /// How far the train may roll back, in centimetres (D_NVROLL).
     pub roll: Reach,
     /// The speed at or below which the trip may be overridden (V_NVALLOWOVTRP).
     pub override_allowed: Mph,
     /// The speed while the trip is overridden (V_NVSUPOVTRP).
     pub override_speed: Mph,
-    /// How far the trip stays overridden (D_NVOVTRP).
+    /// How far the trip stays overridden, in centimetres (D_NVOVTRP).
     pub override_distance: Reach,
     /// How long the trip stays overridden (T_NVOVTRP); None has no end.
     pub override_time: Option<OverrideDuration>,
@@ -53,7 +53,7 @@ impl Values {
         }
     }
 
-    /// What packet 3 tells.
+    /// The values of a packet 3, in units.
     pub fn of(packet: &NationalValues) -> Values
         ensures { result ≡ values_of packet.now }
     {

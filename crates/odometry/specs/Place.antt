@@ -1,5 +1,5 @@
 -- Where the train's front is, read off the movements and fixes of one life (this project's profile; its words are those
--- of SUBSET-026, 3.6.4). Lists have the newest first.
+-- of SUBSET-026, 3.6.4). Lists have the newest first. Places, movements and paths are centimetres.
 use Rattle.std.specs.Prelude.{ℕ, ◌+◌, ◌≤◌, ℤ, pos, ◌+ℤ◌, ◌-ℤ◌, Bool, false, ◌&&◌, if◌then◌else◌, nat_le, List, [], ◌∷◌}
 use Rattle.std.specs.Int.{div_ceil}
 use Rattle.std.specs.Int.RustNames.{unsigned_abs}

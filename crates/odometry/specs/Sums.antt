@@ -1,4 +1,5 @@
--- The sums of a life at one moment, and what lies between two moments (this project's profile).
+-- The sums of a life at one moment, and what lies between two moments (this project's profile). Movements and paths are
+-- centimetres.
 use Rattle.std.specs.Prelude.{ℕ, ◌+◌, ◌≤◌, ℤ, pos, ◌+ℤ◌, ◌-ℤ◌}
 use Rattle.std.specs.Int.{abs_diff}
 use Rattle.std.specs.Int.RustNames.{unsigned_abs}

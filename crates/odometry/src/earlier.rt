@@ -4,6 +4,8 @@ use units::{Cm, GroupPlace};
 /// either side.
 #[derive(Clone, Copy)]
 pub struct EarlierPlace {
+    /// Where the front was thought to be, in centimetres of the life.
     pub estimate: GroupPlace,
+    /// How far that may be wrong to either side, in centimetres.
     pub uncertainty: Cm,
 }

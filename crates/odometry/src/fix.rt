@@ -1,12 +1,12 @@
 use crate::Sums;
 use units::{Cm, Length};
 
-/// A place that a balise group tells.
+/// A place that a balise group gives (SUBSET-026, 3.6.4).
 #[derive(Clone, Copy)]
 pub struct Fix {
-    /// Where the group lies.
+    /// Where the group lies, in centimetres of the life.
     pub at: Cm,
-    /// How exactly that is known.
+    /// How far it may lie from there, in centimetres.
     pub accuracy: Length,
     /// The sums of the life when its balise was read.
     pub sums: Sums,
@@ -20,7 +20,7 @@ impl Fix {
     ghost use Rattle.units.specs.Limits.{farthest};
     ghost use Rattle.odometry.specs.Place.{estimate_at, uncertainty_at};
 
-    // The fix with which a life starts: exactly 0.
+    /// The fix with which a life starts: exactly 0.
     pub(crate) const FIRST: Fix = Fix {
         at: Cm::ZERO,
         accuracy: Length::ZERO,
@@ -28,7 +28,7 @@ impl Fix {
         missed: false,
     };
 
-    // Where the front was at a moment of the life.
+    /// Where the front was at a moment of the life.
     pub(crate) fn estimate_at(&self, moment: &Sums) -> i64
         ensures value { result ≡ estimate_at self.now moment.now }
         ensures near { unsigned_abs result ≤ unsigned_abs self.now.at + 2 * farthest }
@@ -36,7 +36,7 @@ impl Fix {
         self.at.get() + moment.movement_from(&self.sums)
     }
 
-    // How far that may be wrong, to either side, in centimetres.
+    /// How far that may be wrong, to either side, in centimetres.
     pub(crate) fn uncertainty_at(&self, moment: &Sums) -> u64
         ensures value { result ≡ uncertainty_at self.now moment.now }
         ensures near { result ≤ farthest + 2 ^ 37 }

@@ -10,7 +10,7 @@ use units::{Cm, GroupPlace, Length, Movement, Stretch};
 /// The farthest place of a life, in centimetres.
 const FARTHEST: u64 = 1 << 40;
 
-/// Where the train's front is, by what the odometer and the balise groups told in this life.
+/// Where the train's front is, by the odometer and the balise groups of this life (SUBSET-026, 3.6.4; the formula: this project's profile).
 #[derive(Clone, Copy)]
 pub struct Place {
     // The last fix, and the sums now.
@@ -82,14 +82,14 @@ impl Place {
         Ok(GroupPlace::new(at).unwrap())
     }
 
-    /// The sums of the life now.
+    /// The sums of the life now, in centimetres.
     pub fn sums(&self) -> Sums
         ensures { result ≡ self.now.sums }
     {
         self.sums
     }
 
-    /// Where the front was at a moment of this life, reckoned from the last fix.
+    /// Where the front was at a moment of this life, reckoned from the last fix, in centimetres. The sums are those of the moment.
     pub fn place_at(&self, moment: &Sums) -> EarlierPlace
         ensures { result ≡ place_at self.now.fix moment.now }
     {
@@ -99,7 +99,7 @@ impl Place {
         }
     }
 
-    /// Where the front is thought to be.
+    /// Where the front is thought to be, in centimetres.
     pub fn estimate(&self) -> Cm
         ensures value { result ≡ estimate self.now }
         ensures near { unsigned_abs result ≤ farthest }
@@ -107,7 +107,7 @@ impl Place {
         Cm::new(self.fix.estimate_at(&self.sums)).unwrap()
     }
 
-    /// How far the estimate lies behind the place of the last fix.
+    /// How far the estimate lies behind the place of the last fix, in centimetres.
     pub fn since_fix(&self) -> Cm
         ensures value { result ≡ estimate self.now -ℤ self.now.fix.at }
         ensures near { unsigned_abs result ≤ 2 * farthest }
@@ -115,7 +115,8 @@ impl Place {
         Cm::new(self.fix.estimate_at(&self.sums) - self.fix.at.get()).unwrap()
     }
 
-    /// How far the estimate may be wrong, to either side.
+    /// How far the estimate may be wrong, to either side, in centimetres: the accuracy of the fix, 500, a twentieth of the path
+    /// since, and 1,200 for a missed balise 1.
     pub fn uncertainty(&self) -> Cm
         ensures value { result ≡ pos (uncertainty self.now) }
         ensures near { unsigned_abs result ≤ farthest + 2 ^ 37 }
@@ -123,14 +124,14 @@ impl Place {
         Cm::new(self.fix.uncertainty_at(&self.sums) as i64).unwrap()
     }
 
-    /// The minimum safe front.
+    /// The minimum safe front, in centimetres: the estimate less the uncertainty.
     pub fn min_front(&self) -> Cm
         ensures { result ≡ min_front self.now }
     {
         self.stretch(Length::ZERO).min_front()
     }
 
-    /// The maximum safe front.
+    /// The maximum safe front, in centimetres: the estimate and the uncertainty.
     pub fn max_front(&self) -> Cm
         ensures { result ≡ max_front self.now }
     {

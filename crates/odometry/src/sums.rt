@@ -32,7 +32,7 @@ impl Sums {
     /// The sums at the start of a life.
     pub const ZERO: Sums = Sums { moved: 0, path: 0 };
 
-    /// The sum of the movements.
+    /// The sum of the movements, in centimetres.
     pub fn moved(&self) -> Cm
         ensures value { result ≡ self.now.moved }
         ensures near { unsigned_abs result ≤ farthest }
@@ -40,14 +40,14 @@ impl Sums {
         Cm::new(self.moved).unwrap()
     }
 
-    /// The path.
+    /// The path, in centimetres.
     pub fn path(&self) -> Length
         ensures { result ≡ self.now.path }
     {
         Length::new(self.path).unwrap()
     }
 
-    // The sums after one movement more; None exactly where the path would be too long.
+    /// The sums after one movement more; None exactly where the path would be too long.
     pub(crate) fn moved_on(&self, movement: Movement) -> Option<Sums>
         ensures found { IsSome result ↔ (self.now.path + unsigned_abs movement ≤ farthest) }
         ensures value { IfSome result (λ sums. sums ≡ moved_on self.now movement) }
@@ -63,7 +63,7 @@ impl Sums {
         })
     }
 
-    // The movement from an earlier or a later moment to this one.
+    /// The movement from an earlier or a later moment to this one.
     pub(crate) fn movement_from(&self, other: &Sums) -> i64
         ensures value { result ≡ movement_between other.now self.now }
         ensures near { unsigned_abs result ≤ 2 * farthest }
@@ -71,7 +71,7 @@ impl Sums {
         self.moved - other.moved
     }
 
-    // The path between two moments, whichever came first.
+    /// The path between two moments, whichever came first.
     pub(crate) fn path_from(&self, other: &Sums) -> u64
         ensures value { result ≡ path_between other.now self.now }
         ensures near { result ≤ farthest }

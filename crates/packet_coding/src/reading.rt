@@ -106,8 +106,8 @@ fn whole<'a>(reader: &mut BitReader<'a>) -> Result<Packet<'a>, PacketFault>
     Ok(out)
 }
 
-/// Reads the packet that the bits begin with. A fault is the first one in the order of the bits; the reader then stands
-/// where it stood.
+/// Reads the packet that the bits begin with. A fault is the first one in the order of the bits; the reader is
+/// then where it was.
 pub fn read_packet<'a>(reader: &mut BitReader<'a>) -> Result<Packet<'a>, PacketFault>
     ensures found { IfOk result (λ p. Begins packet p reader.old reader.new) }
     ensures only { (p : Packet) (rest : List Bool) → Begins packet p reader.old rest → (result ≡ Ok p) × (reader.new ≡ rest) }

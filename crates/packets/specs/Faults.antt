@@ -1,4 +1,4 @@
--- How a number that stands for no value is told of a packet.
+-- The fault of a packet where a number stands for no value (this project's profile).
 use Rattle.vars.specs.declared.variable.NoValue.{NoValue}
 use Rattle.vars.specs.declared.variable.NoValue.TheVariants as values
 use Rattle.packets.specs.declared.fault.PacketFault.{PacketFault}

@@ -1,5 +1,5 @@
 -- The layouts of packets (SUBSET-026, 7.4.2; the orders and widths of packets 3, 5, 12, 41 and 80 are this project's
--- profile). A layout stands behind the number of its packet, and tells the length that was told beside the packet.
+-- profile). A layout follows the number of its packet, and hands the L_PACKET that was read on beside the packet.
 use Rattle.std.specs.Prelude.{ℕ, ◌+◌, ◌-◌, ◌==◌, nat_lt, Bool, true, false, List, [], ◌∷◌, ◌++◌, length, take, Option, Some, None, slice_index_or}
 use Rattle.bits.specs.Layout.{Layout, done, unless, run, choice, kind, part, inner, measured, more, ◌>>=◌, folded}
 use Rattle.bits.specs.Sums.{total}

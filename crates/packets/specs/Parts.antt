@@ -1,4 +1,4 @@
--- What layouts of packets are made of, and what becomes of a sink that takes these parts.
+-- What layouts of packets are made of, and what becomes of a sink that takes these parts (this project's profile).
 use Rattle.std.specs.Prelude.{ℕ, ◌+◌, ◌-◌, Bool, List, [], length, take, drop, Option, is_some, Result}
 use Rattle.std.specs.Int.{from_bool}
 use Rattle.std.specs.Option.{option_map_or}

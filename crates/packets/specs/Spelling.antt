@@ -1,4 +1,4 @@
--- Which packets have a spelling, but for those that are longer than L_PACKET can tell.
+-- Which packets have a spelling, but for those that are longer than L_PACKET can hold (this project's profile).
 use Rattle.std.specs.Prelude.{◌≢◌, ℕ}
 use Rattle.bits.specs.Fitting.{HasNumber, Fits}
 use Rattle.vars.specs.Variables.{nid_packet, untested_direction}

@@ -149,7 +149,7 @@ pub struct MovementAuthority {
     pub overlap: Option<Overlap>,
 }
 
-/// Reads packet 12 behind its number, into the place of another packet; answers the length that it tells.
+/// Reads packet 12 behind its number, into the place of another packet; answers its L_PACKET.
 #[tactic(auto, unfolding(crate::specs::Packets::movement_authority_telling))]
 pub fn read_movement_authority<'a>(
     reader: &mut BitReader<'a>,

@@ -87,7 +87,7 @@ pub struct Gradients {
     pub gradients: ArrayVec<Gradient, 32>,
 }
 
-/// Reads packet 21 behind its number, into the place of another packet; answers the length that it tells.
+/// Reads packet 21 behind its number, into the place of another packet; answers its L_PACKET.
 #[tactic(auto, unfolding(crate::specs::Packets::gradients_telling))]
 pub fn read_gradients<'a>(
     reader: &mut BitReader<'a>,

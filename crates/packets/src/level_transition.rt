@@ -55,7 +55,7 @@ impl Element for StmIdentity {
     }
 }
 
-/// A level that a transition leads to; a train takes the first that it can run in.
+/// A level that a transition leads to. A train takes the first that it can run in.
 #[derive(Clone, Copy)]
 pub struct LevelOrder {
     /// M_LEVELTR.
@@ -132,7 +132,7 @@ pub struct LevelTransition {
     pub orders: ArrayVec<LevelOrder, 32>,
 }
 
-/// Reads packet 41 behind its number, into the place of another packet; answers the length that it tells.
+/// Reads packet 41 behind its number, into the place of another packet; answers its L_PACKET.
 #[tactic(auto, unfolding(crate::specs::Packets::level_transition_telling))]
 pub fn read_level_transition<'a>(
     reader: &mut BitReader<'a>,

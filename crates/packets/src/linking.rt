@@ -113,7 +113,7 @@ pub struct Linking {
     pub links: ArrayVec<Link, 32>,
 }
 
-/// Reads packet 5 behind its number, into the place of another packet; answers the length that it tells.
+/// Reads packet 5 behind its number, into the place of another packet; answers its L_PACKET.
 #[tactic(auto, unfolding(crate::specs::Packets::linking_telling))]
 pub fn read_linking<'a>(
     reader: &mut BitReader<'a>,

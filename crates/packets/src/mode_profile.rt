@@ -103,7 +103,7 @@ pub struct ModeProfile {
     pub areas: ArrayVec<ModeArea, 32>,
 }
 
-/// Reads packet 80 behind its number, into the place of another packet; answers the length that it tells.
+/// Reads packet 80 behind its number, into the place of another packet; answers its L_PACKET.
 #[tactic(auto, unfolding(crate::specs::Packets::mode_profile_telling))]
 pub fn read_mode_profile<'a>(
     reader: &mut BitReader<'a>,

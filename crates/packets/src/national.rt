@@ -81,7 +81,7 @@ pub struct NationalValues {
     pub staff_responsible_distance: OpenLength,
 }
 
-/// Reads packet 3 behind its number, into the place of another packet; answers the length that it tells.
+/// Reads packet 3 behind its number, into the place of another packet; answers its L_PACKET.
 #[tactic(auto, unfolding(crate::specs::Packets::national_values_telling))]
 pub fn read_national_values<'a>(
     reader: &mut BitReader<'a>,

@@ -43,7 +43,7 @@ pub struct RestrictionRevocation {
     pub number: RestrictionNumber,
 }
 
-/// Reads packet 65 behind its number, into the place of another packet; answers the length that it tells.
+/// Reads packet 65 behind its number, into the place of another packet; answers its L_PACKET.
 #[tactic(auto, unfolding(crate::specs::Packets::speed_restriction_telling))]
 pub fn read_restriction<'a>(
     reader: &mut BitReader<'a>,
@@ -71,7 +71,7 @@ pub fn read_restriction<'a>(
     Ok(told)
 }
 
-/// Reads packet 66 behind its number, into the place of another packet; answers the length that it tells.
+/// Reads packet 66 behind its number, into the place of another packet; answers its L_PACKET.
 #[tactic(auto, unfolding(crate::specs::Packets::restriction_revocation_telling))]
 pub fn read_revocation<'a>(
     reader: &mut BitReader<'a>,

@@ -1,5 +1,6 @@
--- What lies ahead of a train and asks for a speed, and the greatest speed from which the train can still brake for all of it
--- (this project's profile). Each centimetre ahead is looked at, up to the last one that there is.
+-- What lies ahead of a train and asks for a speed, and the greatest speed from which the train can still brake for all of
+-- it (this project's profile). Each centimetre ahead is looked at, up to the last one that there is. Places are
+-- centimetres, speeds metres per hour.
 use Rattle.std.specs.Prelude.{ℕ, ◌^◌, ℤ, pos, ◌+ℤ◌, int_lt, Bool, not, ◌&&◌, if◌then◌else◌, Option, None, Some, List, ◌++◌, filter, map}
 use Rattle.units.specs.Stretches.{over}
 use Rattle.track_store.specs.Profiles.{listed}

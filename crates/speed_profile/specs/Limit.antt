@@ -1,4 +1,4 @@
--- The speed that holds where the train stands (this project's profile).
+-- The speed that holds where the train is (this project's profile). Places are centimetres, speeds metres per hour.
 use Rattle.std.specs.Prelude.{ℕ, nat_lt, ℤ, int_lt, Bool, true, not, ◌&&◌, if◌then◌else◌, Option, None, Some, List}
 use Rattle.units.specs.Stretches.{Span, over, least}
 use Rattle.vars.specs.declared.restriction.TrainLengthDelay.{TrainLengthDelay}

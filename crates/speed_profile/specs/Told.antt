@@ -1,4 +1,5 @@
--- What packets 21 and 27 tell (SUBSET-026, 3.11.3; 7.4.2).
+-- What packets 21 and 27 mean on the track (SUBSET-026, 3.11.3; 7.4.2). Places are centimetres, speeds metres per hour,
+-- gradients per mille.
 use Rattle.std.specs.Prelude.{ℕ, ◌*◌, ◌==◌, ◌&&◌, not, ℤ, pos, ◌+ℤ◌, if◌then◌else◌, Option, None, Some, List, [], ◌∷◌, map, take, drop, slice_index}
 use Rattle.std.specs.List.{range_with_len}
 use Rattle.vars.specs.Meanings.{centimetres_of, signed_permille}

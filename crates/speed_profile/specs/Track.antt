@@ -1,4 +1,4 @@
--- What is told of the speeds along the track (this project's profile).
+-- The speeds along the track (this project's profile). Places are centimetres, speeds metres per hour.
 use Rattle.std.specs.Prelude.{ℤ, Option, List}
 use Rattle.track_store.specs.Restrictions.{InForce}
 use Rattle.areas.specs.declared.area.Area.{Area}

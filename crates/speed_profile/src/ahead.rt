@@ -17,13 +17,13 @@ use units::{Cm, Mph, Permille};
 /// What lies ahead of a train, and how it brakes.
 #[derive(Clone, Copy)]
 pub struct Ahead<'a, S, G> {
-    /// The train's greatest front.
+    /// The train's greatest front, in centimetres.
     pub front: Cm,
     /// What limits the train wherever it stands.
     pub bounds: &'a Bounds,
-    /// What is told of the speeds along the track.
+    /// The speeds along the track.
     pub track: &'a Track<'a, S>,
-    /// The gradients.
+    /// The gradients, in per mille.
     pub gradient: &'a G,
     /// What is known of the train's brakes.
     pub brakes: &'a Brakes,

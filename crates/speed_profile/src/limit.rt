@@ -14,11 +14,11 @@ use vars::TrainCategory;
 /// What limits the train's speed wherever it stands.
 #[derive(Clone, Copy)]
 pub struct Bounds {
-    /// The train's greatest speed.
+    /// The train's greatest speed, in metres per hour.
     pub maximum: Mph,
     /// The train's category (NC_TRAIN).
     pub category: TrainCategory,
-    /// V_MAIN of the stored authority; None without one.
+    /// V_MAIN of the stored authority, in metres per hour; None without one.
     pub main: Option<Mph>,
     /// The end of the stored authority; None without one.
     pub end: Option<End>,

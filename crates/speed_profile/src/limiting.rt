@@ -8,11 +8,14 @@ use track_store::{Piece, Profile};
 use units::{Cm, Mph};
 use vars::{TrainCategory, TrainLengthDelay};
 
-// At each centimetre the static speed for a train of a category whose least front is at a place.
+/// At each centimetre the static speed for a train of a category whose least front is at a place.
 #[derive(Clone, Copy)]
 pub struct Limiting<'a, S> {
+    /// The static speeds.
     pub speeds: &'a S,
+    /// The category of the train.
     pub category: TrainCategory,
+    /// The minimum safe front, in centimetres.
     pub min_front: Cm,
 }
 

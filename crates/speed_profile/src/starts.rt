@@ -10,14 +10,14 @@ use braking::Target;
 use track_store::Restriction;
 use units::{Cm, Mph};
 
-// The centimetre after another one; None after the last one that there is.
+/// The centimetre after another one; None after the last one that there is.
 pub fn next_after(place: Cm) -> Option<Cm>
     ensures { MatchOption result (greatest_place <ℤ (place +ℤ pos 1)) (λ next. next ≡ place +ℤ pos 1) }
 {
     Cm::new(place.get() + 1)
 }
 
-// A place where the train must stop.
+/// A place where the train must stop.
 pub fn stop_at(place: Cm) -> Target
     ensures { result ≡ record { place = place; speed = 0 } }
 {
@@ -27,7 +27,7 @@ pub fn stop_at(place: Cm) -> Target
     }
 }
 
-// What the static speed of a centimetre asks for. No centimetre lies beyond the greatest place.
+/// What the static speed of a centimetre asks for. No centimetre lies beyond the greatest place.
 pub fn static_target(bounds: &Bounds, place: Cm, speeds: Option<CategorySpeeds>) -> Option<Target>
     ensures value { result ≡ static_target bounds.now place speeds }
     ensures within { place ≤ℤ greatest_place }
@@ -59,7 +59,7 @@ fn first_covered(front: Cm, mark: Cm, restriction: &Restriction) -> i64
     first.max(restriction.start.get())
 }
 
-// What a restriction asks for there, if it covers that centimetre.
+/// What a restriction asks for there, if it covers that centimetre.
 pub fn first_target(front: Cm, mark: Cm, restriction: &Restriction) -> Option<Target>
     ensures { result ≡ first_target front mark restriction.now }
 {
@@ -75,7 +75,7 @@ pub fn first_target(front: Cm, mark: Cm, restriction: &Restriction) -> Option<Ta
     }
 }
 
-// What a mode area asks for at the first centimetre ahead of a front that it may cover, if it covers that one.
+/// What a mode area asks for at the first centimetre ahead of a front that it may cover, if it covers that one.
 pub fn first_in_area(front: Cm, national: &NationalSpeeds, area: &Area) -> Option<Target>
     ensures { result ≡ first_in_area front national.now area.now }
 {

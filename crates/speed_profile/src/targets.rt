@@ -45,7 +45,7 @@ impl<'a, S: Profile<CategorySpeeds>> Model for Targets<'a, S> {
 }
 
 impl<'a, S: Profile<CategorySpeeds>> Targets<'a, S> {
-    // Those ahead of a front.
+    /// Those ahead of a front.
     pub(crate) fn new(
         front: Cm,
         bounds: &'a Bounds,

@@ -11,14 +11,14 @@ use vars::{StaticSpeed, TrainCategory, TrainLengthDelay, Variable};
 /// A static speed, with what holds for each category of trains (SUBSET-026, 3.11.3; 7.4.2, packet 27).
 #[derive(Clone, Copy, PartialEq, Eq)]
 pub struct CategorySpeeds {
-    /// The speed for each category (NC_DIFF) from 0 to 15.
+    /// The speed for each category (NC_DIFF) from 0 to 15, in metres per hour.
     pub speeds: [Mph; 16],
     /// Q_FRONT.
     pub delay: TrainLengthDelay,
 }
 
 impl CategorySpeeds {
-    /// The speed for trains of a category.
+    /// The speed for trains of a category, in metres per hour.
     pub fn for_category(&self, category: TrainCategory) -> Mph
         ensures { result ≡ speed_of self.now category }
     {
@@ -32,10 +32,10 @@ impl Same for CategorySpeeds {
     }
 }
 
-/// A profile as one packet tells it (SUBSET-026, 7.4.2, packets 21 and 27).
+/// A profile as one packet gives it (SUBSET-026, 7.4.2, packets 21 and 27).
 #[derive(Drop)]
 pub struct Told<T> {
-    /// The first place that it tells of.
+    /// Its first place, in centimetres.
     pub start: Cm,
     /// The values, the nearest first.
     pub steps: ArrayVec<Step<T>, 32>,

@@ -2,7 +2,7 @@
 use areas::{Areas, NationalSpeeds};
 use track_store::Restrictions;
 
-/// What is told of the speeds along the track.
+/// The speeds along the track.
 #[derive(Clone, Copy)]
 pub struct Track<'a, S> {
     /// The static speeds.
@@ -11,6 +11,6 @@ pub struct Track<'a, S> {
     pub restrictions: &'a Restrictions,
     /// The mode areas.
     pub areas: &'a Areas,
-    /// The national speeds of now, for the areas that tell no speed of their own.
+    /// The national speeds of now, for the areas without a speed of their own.
     pub national: NationalSpeeds,
 }

@@ -1,5 +1,6 @@
--- What each event of a life did, its power-up included, sentence by sentence in the order of one event: what the track told, what the
--- driver did, which level came into force, which mode was entered, and what became of the acknowledgements (this project's profile).
+-- What each event of a life did, its power-up included, sentence by sentence in the order of one event: what the track
+-- sent, what the driver did, which level came into force, which mode was entered, and what became of the acknowledgements
+-- (this project's profile). Moments are milliseconds.
 use Rattle.std.specs.Prelude.{true, false, Option, None}
 use Rattle.mode_table.specs.declared.level.TrainLevel.{TrainLevel}
 use Rattle.trackside.specs.Entry as track

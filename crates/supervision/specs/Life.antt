@@ -1,4 +1,4 @@
--- One life: what was kept at its power-up, and what its events did (this project's profile).
+-- One life: what was kept at its power-up, and what its events did (this project's profile). Lengths are centimetres.
 use Rattle.std.specs.Prelude.{ℕ, Option, Some, None, List, ◌∷◌}
 use Rattle.driver.specs.declared.datum.Datum.{Datum}
 use Rattle.driver.specs.declared.datum.Datum.TheVariants.{Unknown, Valid, Invalid}

@@ -1,4 +1,5 @@
--- What an input does in a life, sentence by sentence in the order of one event (this project's profile).
+-- What an input does in a life, sentence by sentence in the order of one event (this project's profile). Places are
+-- centimetres, moments milliseconds, speeds metres per hour.
 use Rattle.std.specs.Prelude.{ℕ, Bool, false, not, ◌&&◌, if◌then◌else◌, Option, Some, None, unwrap_or, List, [], ◌∷◌}
 use Rattle.std.specs.Option.{option_map_or}
 use Rattle.units.specs.Stretches.{Span}

@@ -12,15 +12,21 @@ pub struct Call {
 /// Of all kinds.
 #[derive(Clone, Copy)]
 pub struct Calls {
+    /// Of On Sight.
     pub on_sight: Call,
+    /// Of Shunting.
     pub shunting: Call,
+    /// Of level 0.
     pub level_0: Call,
 }
 
 /// Of which kinds an area or an announcement is left at the end of an event.
 #[derive(Clone, Copy)]
 pub struct Left {
+    /// Of On Sight.
     pub on_sight: bool,
+    /// Of Shunting.
     pub shunting: bool,
+    /// Of level 0.
     pub level_0: bool,
 }

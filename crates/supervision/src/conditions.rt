@@ -32,6 +32,7 @@ fn is_start(done: &Option<Action>) -> bool
     matches!(done, Some(Action::Start))
 }
 
+/// Whether the driver's choice of Shunting was accepted.
 pub fn is_shunting_choice(done: &Option<Action>) -> bool
     ensures { result ≡ is_shunting_choice done.now }
 {

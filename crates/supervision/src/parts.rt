@@ -11,15 +11,20 @@ use mode_table::{Cold, Mode};
 use std::marker::Model;
 use units::Length;
 
-/// What is known but for what the track told.
+/// What is known beside what the track sent.
 #[derive(Clone, Copy)]
 pub struct Parts {
+    /// What the driver entered.
     pub driver: Driver,
+    /// The mode.
     pub mode: Mode,
-    /// The path of the life when Staff Responsible was entered last.
+    /// The path of the life when Staff Responsible was entered last, in centimetres.
     pub staff_from: Length,
+    /// The acknowledgement of On Sight.
     pub on_sight: Acknowledgement,
+    /// That of Shunting.
     pub shunting: Acknowledgement,
+    /// That of level 0.
     pub level_0: Acknowledgement,
     /// The action that was accepted in the last event.
     pub done: Option<Action>,
@@ -100,7 +105,7 @@ impl Parts {
         }
     }
 
-    /// The length of the train; 0 where its data aren't valid.
+    /// The length of the train, in centimetres; 0 where its data aren't valid.
     pub fn length(&self) -> Length
         ensures { result ≡ length_by self.now.driver.train_data }
     {

@@ -23,7 +23,7 @@ use units::{Permille, Stretch};
 /// What was seen of the train.
 #[derive(Clone, Copy)]
 pub struct Seen {
-    /// Where it stands.
+    /// Where it is.
     pub train: Stretch,
     /// The announced level that came into force.
     pub level: Option<TrainLevel>,

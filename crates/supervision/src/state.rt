@@ -65,7 +65,7 @@ impl<G: ProfileStore<Permille> + Drop, S: ProfileStore<CategorySpeeds> + Drop> S
         self.track.place().stretch(self.parts.length())
     }
 
-    /// An equal value.
+    /// An equal value; NoMemory where it is refused.
     pub fn copy(&self, alloc: Global) -> Result<Self, NoMemory>
         ensures { IfOk result (λ copy. copy ≡ self.now) }
     {
@@ -77,7 +77,7 @@ impl<G: ProfileStore<Permille> + Drop, S: ProfileStore<CategorySpeeds> + Drop> S
 }
 
 impl<G, S> SupervisionOver<G, S> {
-    /// What the track told.
+    /// What the track sent.
     pub fn track(&self) -> &TracksideOver<G, S>
         ensures { result.now ≡ self.now.track }
     {
@@ -119,7 +119,7 @@ impl<G, S> SupervisionOver<G, S> {
         self.parts.level_0
     }
 
-    /// The length of the train; 0 where its data aren't valid.
+    /// The length of the train, in centimetres; 0 where its data aren't valid.
     pub fn length(&self) -> Length
         ensures { result ≡ length_by self.now.parts.driver.train_data }
     {

@@ -1,4 +1,4 @@
--- A telegram in the front of bytes.
+-- A telegram in the front of bytes (this project's profile).
 use Rattle.std.specs.Prelude.{◌≡◌, ◌+◌, ◌-◌, ◌*◌, ◌/◌, ℕ, Bool, false, List, ◌++◌, length, take, drop, replicate}
 use Rattle.bits.specs.Bits.{bits_of}
 use Rattle.telegram.specs.Telegrams.{SpellsTelegram}

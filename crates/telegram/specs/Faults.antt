@@ -1,4 +1,4 @@
--- How faults of variables and packets are told of a telegram.
+-- The faults of a telegram, by those of variables and packets (this project's profile).
 use Rattle.vars.specs.declared.variable.NoValue.{NoValue}
 use Rattle.vars.specs.declared.variable.NoValue.TheVariants as values
 use Rattle.packets.specs.declared.fault.PacketFault.{PacketFault}

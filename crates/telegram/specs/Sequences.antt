@@ -1,4 +1,4 @@
--- The packets of a telegram as they come, one after another.
+-- The packets of a telegram as they come, one after another (this project's profile).
 use Rattle.std.specs.Prelude.{ℕ, ◌+◌, Bool, List, [], ◌∷◌, Some, None}
 use Rattle.bits.specs.Layout.{Begins}
 use Rattle.packets.specs.Packets.{length_of}

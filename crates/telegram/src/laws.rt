@@ -18,7 +18,7 @@ pub fn telegrams_spelled_once()
     ensures { (s t : Telegram) (a b u v : List Bool) → SpellsTelegram s a → SpellsTelegram t b → a ++ u ≡ b ++ v → (s ≡ t) × (a ≡ b) }
 {}
 
-/// Each packet of a telegram stands in the bytes of its place, and none of these bytes is without a bit of it.
+/// Each packet of a telegram is spelled in the bytes of its place, and none of these bytes is without a bit of it.
 pub fn packets_stand_in_place()
     ensures { (bytes : List ℕ) (w : Walk) → IsWalkOf bytes w → All StandsInPlace w.items }
 {}

@@ -13,7 +13,9 @@ use packets::Packet;
 /// The telegram of a balise: its header and its packets up to the end mark.
 #[derive(Drop)]
 pub struct Telegram<'a> {
+    /// The 50 bits in front (SUBSET-026, 8.4.2).
     pub header: Header,
+    /// The packets in order, without the end mark.
     pub packets: ArrayVec<Packet<'a>, 33>,
 }
 

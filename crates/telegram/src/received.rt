@@ -45,7 +45,7 @@ fn copy_of(bytes: &[u8]) -> ArrayVec<u8, 104>
 
 impl Received {
     /// The telegram that the bytes carry (SUBSET-026, 8.4.2), with a copy of them. The whole telegram is tested here, and
-    /// a fault is the one that `decode` tells.
+    /// a fault is the one that `decode` answers.
     pub fn new(bytes: &[u8]) -> Result<Received, TelegramFault>
         ensures found { (t : Telegram) → (result ≡ Ok t) ↔ Carries bytes.now t }
         ensures fault { (e : TelegramFault) → (result ≡ Err e) ↔ RefusesBytes e bytes.now }

@@ -1,4 +1,4 @@
--- Where a profile may change next (this project's profile).
+-- Where a profile may change next (this project's profile). Places are centimetres.
 use Rattle.std.specs.Prelude.{ℤ, ◌&&◌, if◌then◌else◌, int_lt, Option, None, Some, List, [], ◌∷◌}
 use Rattle.track_store.specs.declared.profile.Step.{Step}
 use Rattle.track_store.specs.Remembered.{Remembered}

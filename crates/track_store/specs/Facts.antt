@@ -1,5 +1,5 @@
--- A profile read off what was told of it in one life (SUBSET-026, 3.7.1.1, 3.11; 7.4.2, packets 21 and 27; the forgetting
--- mark: this project's profile). Lists of facts have the newest first.
+-- A profile read off its facts of one life (SUBSET-026, 3.7.1.1, 3.11; 7.4.2, packets 21 and 27; the forgetting mark:
+-- this project's profile). Lists of facts have the newest first. Places are centimetres, moments milliseconds.
 use Rattle.std.specs.Prelude.{ℤ, not, int_lt, Option, None, is_none, if◌then◌else◌, List, [], ◌∷◌, filter}
 use Rattle.std.specs.List.{list_any}
 use Rattle.track_store.specs.declared.profile.Step.{Step}

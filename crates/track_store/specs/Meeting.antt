@@ -1,4 +1,4 @@
--- Whether a restriction limits a train somewhere, told by the ends of both (this project's profile).
+-- Whether a restriction limits a train somewhere, by the ends of both (this project's profile). Places are centimetres.
 use Rattle.std.specs.Prelude.{ℤ, pos, ◌-ℤ◌, Bool, not, int_lt}
 use Rattle.std.specs.Int.{int_max, int_min}
 use Rattle.units.specs.Stretches.{Span}

@@ -1,4 +1,5 @@
 -- A value at each centimetre of the track, which changes now and then (SUBSET-026, 3.11; 7.4.2, packets 21 and 27).
+-- Places are centimetres.
 use Rattle.std.specs.Prelude.{◌≡◌, ℕ, min, ℤ, pos, neg_ℤ, ◌≤ℤ◌, ◌<ℤ◌, Bool, true, false, Option, None, Some, IsSome, List, [], ◌∷◌}
 use Rattle.units.specs.Limits.{outermost}
 use Rattle.units.specs.Stretches.{over}

@@ -1,5 +1,5 @@
--- A profile as a list of what was told, where each fact keeps what of it was forgotten since (this project's profile). The
--- newest stands first.
+-- A profile as a list of facts, each with what of it was forgotten since (this project's profile). The newest comes
+-- first. Places are centimetres.
 use Rattle.std.specs.Prelude.{ℤ, int_lt, Option, None, if◌then◌else◌, List, [], ◌∷◌}
 use Rattle.std.specs.Int.{int_max}
 use Rattle.track_store.specs.declared.profile.Step.{Step}

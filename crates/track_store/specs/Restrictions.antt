@@ -1,5 +1,6 @@
--- Temporary speed restrictions, read off what was told in one life (SUBSET-026, 3.11.5; the forgetting mark and what the
--- lengths of trains have to do with it: this project's profile). Lists of entries have the newest first.
+-- Temporary speed restrictions, read off what one life brought (SUBSET-026, 3.11.5; the forgetting mark and what the
+-- lengths of trains have to do with it: this project's profile). Lists of entries have the newest first. Places are
+-- centimetres, speeds metres per hour.
 use Rattle.std.specs.Prelude.{ℕ, ℤ, pos, neg_ℤ, ◌+ℤ◌, Bool, false, not, ◌==◌, ◌&&◌, if◌then◌else◌, int_lt, List, [], ◌∷◌, ◌++◌, filter, map}
 use Rattle.std.specs.Int.{int_max}
 use Rattle.std.specs.List.{list_any}

@@ -1,5 +1,5 @@
 -- A profile as segments of one value each (SUBSET-026, 3.11; 7.4.2, packets 21 and 27; how the segments are kept: this
--- project's profile).
+-- project's profile). Places are centimetres.
 use Rattle.std.specs.Prelude.{◌≢◌, ℕ, count_by, is_some, ◌≤◌, length, ℤ, ◌≤ℤ◌, ◌<ℤ◌, Bool, false, not, int_lt, Option, None, Some, if◌then◌else◌, List, [], ◌∷◌}
 use Rattle.std.specs.Int.{int_max}
 use Rattle.std.specs.List.Sorted.{IsPartitionPoint}

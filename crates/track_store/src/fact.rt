@@ -8,7 +8,7 @@ use std::alloc::Global;
 use std::marker::Model;
 use units::{Cm, NoMemory};
 
-/// What is told at once: a profile from a first place on.
+/// One message about a profile: its values from a first place on.
 #[derive(Drop)]
 pub struct Fact<T> {
     start: Cm,
@@ -26,7 +26,7 @@ impl<T> Model for Fact<T> {
 }
 
 impl<T: Copy> Fact<T> {
-    /// A profile from a first place on, as steps give it.
+    /// A profile from a first place on, as steps give it. NoMemory where the copy of the steps is refused.
     pub fn new(alloc: Global, start: Cm, steps: &[Step<T>]) -> Result<Self, NoMemory>
         ensures { IfOk result (λ fact. fact ≡ record { start = start; steps = steps.now; mark = start }) }
     {
@@ -67,7 +67,7 @@ impl<T: Copy> Fact<T> {
         self.mark = self.mark.max(mark);
     }
 
-    // The nearest of its changes ahead of a place, and of the nearest of others.
+    /// The nearest of its changes ahead of a place, and of the nearest of others.
     pub(crate) fn nearest_change(&self, place: Cm, nearest: Option<Cm>) -> Option<Cm>
         ensures { result ≡ nearest_in place nearest self.now }
     {
@@ -79,7 +79,7 @@ impl<T: Copy> Fact<T> {
         nearest
     }
 
-    /// An equal fact.
+    /// An equal fact; NoMemory where it is refused.
     pub fn copy(&self, alloc: Global) -> Result<Self, NoMemory>
         ensures { IfOk result (λ copy. copy ≡ self.now) }
     {

@@ -7,7 +7,7 @@ use std::alloc::Global;
 use std::marker::Model;
 use units::{Cm, NoMemory};
 
-/// A profile as the list of all that was told of it.
+/// A profile as the list of all its facts.
 #[derive(Drop)]
 pub struct FactStore<T> {
     // The newest first.

@@ -9,9 +9,9 @@ use units::{Cm, NoMemory};
 /// A step of a profile: from its place on, the value holds up to the next step's place.
 #[derive(Clone, Copy)]
 pub struct Step<T> {
-    /// Where it begins.
+    /// Where it begins, in centimetres.
     pub place: Cm,
-    /// The value; None at an end mark, from which on nothing is told.
+    /// The value; None at an end mark, from which on there is none.
     pub value: Option<T>,
 }
 

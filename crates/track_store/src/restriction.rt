@@ -4,18 +4,18 @@ ghost use Rattle.std.specs.Int.RustNames.{unsigned_abs};
 use units::{Cm, Mph, Reach, Stretch};
 use vars::{RestrictionNumber, TrainLengthDelay};
 
-/// A temporary speed restriction (packet 65) at its place on the track.
+/// A temporary speed restriction (packet 65; SUBSET-026, 3.11.5) at its place on the track.
 #[derive(Clone, Copy)]
 pub struct Restriction {
-    /// NID_TSR.
+    /// Its number, NID_TSR.
     pub number: RestrictionNumber,
     /// Its first centimetre.
     pub start: Cm,
     /// How far it reaches from there; it covers nothing where this is 0.
     pub length: Reach,
-    /// Q_FRONT.
+    /// Whether the train's length delays its end, Q_FRONT.
     pub delay: TrainLengthDelay,
-    /// V_TSR.
+    /// Its speed, V_TSR, in metres per hour.
     pub speed: Mph,
 }
 
@@ -31,14 +31,14 @@ impl Restriction {
         self.start.get() + i64::from(self.length.get())
     }
 
-    // Whether some of it lies at or ahead of a forgetting mark.
+    /// Whether some of it lies at or ahead of a forgetting mark.
     pub(crate) fn reaches_past(&self, mark: Cm) -> bool
         ensures { result ≡ reaches_past mark self.now }
     {
         mark.get() < self.end()
     }
 
-    // Whether it limits a train somewhere, where no track before a first centimetre counts.
+    /// Whether it limits a train somewhere, where no track before a first centimetre counts.
     pub(crate) fn meets(&self, first: Cm, train: &Stretch) -> bool
         ensures { result ≡ meets first train.now self.now }
     {

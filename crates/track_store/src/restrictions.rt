@@ -11,7 +11,7 @@ use std::marker::Model;
 use units::{Cm, Mph, NoMemory, Stretch};
 use vars::RestrictionNumber;
 
-/// The temporary speed restrictions in force.
+/// The temporary speed restrictions in force (SUBSET-026, 3.11.5).
 #[derive(Drop)]
 pub struct Restrictions {
     // No track before this place counts.
@@ -62,7 +62,7 @@ impl Restrictions {
         drop_number(&mut self.items, number);
     }
 
-    /// Forgets all track before a place. What was forgotten before stays so.
+    /// Forgets all track before a place, in centimetres. What was forgotten before stays so.
     pub fn drop_behind(&mut self, mark: Cm)
         ensures { (entries : List Entry) → self.old ≡ in_force entries
             → self.new ≡ in_force (Forgotten mark ∷ entries) }
@@ -73,7 +73,7 @@ impl Restrictions {
         }
     }
 
-    /// The least of a speed and of those that limit a train that may stand on this stretch.
+    /// The least of a speed and of those that limit a train that may stand on this stretch, in metres per hour.
     pub fn least(&self, train: &Stretch, otherwise: Mph) -> Mph
         ensures { result ≡ least_speed self.now train.now otherwise }
     {
@@ -85,7 +85,7 @@ impl Restrictions {
         limit
     }
 
-    /// An equal value.
+    /// An equal value; NoMemory where it is refused.
     pub fn copy(&self, alloc: Global) -> Result<Self, NoMemory>
         ensures { IfOk result (λ copy. copy ≡ self.now) }
     {

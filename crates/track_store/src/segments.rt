@@ -78,7 +78,7 @@ fn start_behind<T: Copy>(segments: &[Segment<T>], count: usize) -> Option<Cm>
     Some(next.start)
 }
 
-// The value of the last segment that starts at or below a place.
+/// The value of the last segment that starts at or below a place.
 pub(crate) fn value_at<T: Copy>(segments: &[Segment<T>], place: Cm) -> Option<T>
     requires { IsRising segments.now }
     ensures { result ≡ value_of_segments segments.now place }
@@ -86,7 +86,7 @@ pub(crate) fn value_at<T: Copy>(segments: &[Segment<T>], place: Cm) -> Option<T>
     last_value(segments, started(segments, place))
 }
 
-// The start of the first segment ahead of a place.
+/// The start of the first segment ahead of a place.
 pub(crate) fn next_start<T: Copy>(segments: &[Segment<T>], place: Cm) -> Option<Cm>
     requires { IsRising segments.now }
     ensures { result ≡ next_among place segments.now }
@@ -94,7 +94,7 @@ pub(crate) fn next_start<T: Copy>(segments: &[Segment<T>], place: Cm) -> Option<
     start_behind(segments, started(segments, place))
 }
 
-// Both.
+/// Both.
 pub(crate) fn piece_at<T: Copy>(segments: &[Segment<T>], place: Cm, near: usize) -> Piece<T>
     requires { IsRising segments.now }
     ensures value { result.value ≡ value_of_segments segments.now place }
@@ -170,8 +170,8 @@ fn first_of(first: Option<Cm>, place: Cm) -> Cm
     }
 }
 
-// Takes what steps give from a first place on, in place of all segments there. Each step holds from its place on,
-// whatever the order of their places, and the first place of end marks ends them all. The list has room for them all.
+/// Takes what steps give from a first place on, in place of all segments there. Each step holds from its place on,
+/// whatever the order of their places, and the first place of end marks ends them all. The list has room for them all.
 pub(crate) fn hold_steps<T: Copy + Same>(
     segments: &mut Vec<Segment<T>>,
     start: Cm,
@@ -237,7 +237,7 @@ fn drop_gap<T: Copy>(segments: &mut Vec<Segment<T>>)
     }
 }
 
-// Drops what lies before a mark.
+/// Drops what lies before a mark.
 pub(crate) fn drop_below<T: Copy>(segments: &mut Vec<Segment<T>>, mark: Cm)
     requires { IsKept segments.old.items }
     ensures value { (place : ℤ) → value_of_segments segments.new.items place

@@ -1,5 +1,5 @@
--- What each event of a life told of the track and of the train on it, its power-up included, sentence by sentence in the order of
--- one event (this project's profile). Distances and places are centimetres, moments milliseconds.
+-- What each event of a life brought of the track and of the train on it, its power-up included, sentence by sentence in
+-- the order of one event (this project's profile). Distances and places are centimetres, moments milliseconds.
 use Rattle.std.specs.Prelude.{ℕ, ℤ, false, Option, None, Some, List, [], ◌∷◌}
 use Rattle.units.specs.Stretches.{Span}
 use Rattle.vars.specs.declared.group.GroupIdentity.{GroupIdentity}

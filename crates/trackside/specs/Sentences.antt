@@ -1,6 +1,6 @@
--- What an input tells in a life of the track and of the train on it, sentence by sentence in the order of one event (this project's
--- profile; balise groups are those of SUBSET-026, 3.4 and 3.16.2). Distances and places are centimetres. Of the driver's actions
--- nothing is told here.
+-- What an input brings in a life of the track and of the train on it, sentence by sentence in the order of one event
+-- (this project's profile; balise groups are those of SUBSET-026, 3.4 and 3.16.2). Distances and places are centimetres.
+-- The driver's actions don't matter here.
 use Rattle.std.specs.Prelude.{ℕ, ◌*◌, ℤ, pos, ◌-ℤ◌, Bool, true, false, not, ◌&&◌, Option, Some, None, is_some, List, [], ◌∷◌, map, filter, if◌then◌else◌}
 use Rattle.std.specs.Option.{option_map, option_map_or, option_or}
 use Rattle.units.specs.Stretches.{Span}

@@ -1,4 +1,4 @@
--- What is known stands for a life.
+-- What is known represents a life (this project's profile).
 use Rattle.std.specs.Prelude.{◌≡◌, ℕ, ℤ, Bool, Option, List, ◌∷◌}
 use Rattle.areas.specs.declared.announcement.Announcement.{Announcement as AnnouncedLevel}
 use Rattle.areas.specs.declared.area.Area.{Area}

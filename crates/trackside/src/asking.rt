@@ -26,14 +26,14 @@ impl<G, S> TracksideOver<G, S> {
         self.parts.group
     }
 
-    /// The speed of the last reading, 0 before the first.
+    /// The speed of the last reading, in metres per hour; 0 before the first.
     pub fn speed(&self) -> Mph
         ensures { result ≡ self.now.parts.speed }
     {
         self.parts.speed
     }
 
-    /// The moment of this life.
+    /// The moment of this life, in milliseconds; 0 before the first of the clock.
     pub fn moment(&self) -> Ms
         ensures { result ≡ self.now.parts.moment }
     {

@@ -3,7 +3,7 @@ ghost use Rattle.trackside.specs.Entry.{asking};
 
 use linking::Effect;
 
-/// What an event brings about for the train, beside what it tells.
+/// What an event brings about for the train, beside its packets.
 #[derive(Clone, Copy)]
 pub struct Happened {
     /// Whether its movement led too far, and wasn't added.
@@ -22,7 +22,7 @@ impl Happened {
         },
     };
 
-    // The same, where linking asks for something more.
+    /// The same, where linking asks for something more.
     pub(crate) fn asking(self, effect: Effect) -> Happened
         ensures { result ≡ asking self effect }
     {

@@ -17,17 +17,27 @@ use vars::GroupIdentity;
 /// What is known but for the profiles of the track.
 #[derive(Drop)]
 pub struct Parts {
+    /// Where the train's front is.
     pub place: Place,
     /// The group of the last fix.
     pub group: Option<GroupIdentity>,
+    /// The speed of the last reading, in metres per hour.
     pub speed: Mph,
+    /// The group being read, and the one that closed last.
     pub groups: Assembler,
+    /// The announced groups that are left.
     pub links: Links,
+    /// The national values in force and announced.
     pub national: National,
+    /// The temporary speed restrictions.
     pub restrictions: Restrictions,
+    /// The last moment of the clock, in milliseconds.
     pub moment: Ms,
+    /// The movement authority.
     pub authority: Authority,
+    /// The mode areas.
     pub areas: Areas,
+    /// The announced level.
     pub level: AnnouncedLevel,
     /// What the last event brought about.
     pub happened: Happened,
@@ -79,7 +89,7 @@ impl Parts {
         }
     }
 
-    /// An equal value.
+    /// An equal value; NoMemory where it is refused.
     pub fn copy(&self, alloc: Global) -> Result<Self, NoMemory>
         ensures { IfOk result (λ copy. copy ≡ self.now) }
     {

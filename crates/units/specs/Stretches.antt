@@ -1,4 +1,4 @@
--- Stretches of track, told by places in centimetres (this project's profile).
+-- Stretches of track, by places in centimetres (this project's profile).
 use Rattle.std.specs.Prelude.{ℕ, zero, suc, ℤ, pos, negsuc, ◌+ℤ◌, ◌-ℤ◌, ◌≤ℤ◌, List, [], ◌∷◌, ◌++◌, min}
 
 -- what a train may stand on: its least rear, its least front, its greatest front

@@ -5,7 +5,7 @@ ghost use Rattle.units.specs.Limits.{IsCm};
 use crate::Cm;
 use std::marker::Model;
 
-/// What a train may stand on: from its least rear over its least front to its greatest front.
+/// What a train may stand on, in centimetres: from its least rear over its least front to its greatest front.
 #[derive(Clone, Copy)]
 pub struct Stretch {
     rear: Cm,
@@ -42,7 +42,7 @@ impl Stretch {
         }
     }
 
-    /// The least place of the train's rear.
+    /// The least place of the train's rear: the minimum safe rear.
     pub fn rear(&self) -> Cm
         ensures value { result ≡ self.now.rear }
         ensures ordered { IsOrdered self.now.rear self.now.min_front self.now.max_front }
@@ -50,7 +50,7 @@ impl Stretch {
         self.rear
     }
 
-    /// The least place of the train's front.
+    /// The least place of the train's front: the minimum safe front.
     pub fn min_front(&self) -> Cm
         ensures value { result ≡ self.now.min_front }
         ensures ordered { IsOrdered self.now.rear self.now.min_front self.now.max_front }
@@ -58,7 +58,7 @@ impl Stretch {
         self.min_front
     }
 
-    /// The greatest place of the train's front.
+    /// The greatest place of the train's front: the maximum safe front.
     pub fn max_front(&self) -> Cm
         ensures value { result ≡ self.now.max_front }
         ensures ordered { IsOrdered self.now.rear self.now.min_front self.now.max_front }

@@ -1,4 +1,4 @@
--- What the values of variables mean (SUBSET-026, 7.5.1).
+-- What the values of variables mean (SUBSET-026, 7.5.1). Distances are centimetres, gradients per mille.
 use Rattle.std.specs.Prelude.{ℕ, ℤ, pos, neg_ℤ}
 use Rattle.vars.specs.declared.gradient.GradientDirection.{GradientDirection}
 use Rattle.vars.specs.declared.gradient.GradientDirection.TheVariants.{Downhill, Uphill}

@@ -3,7 +3,7 @@ ghost use Rattle.std.specs.Prelude.{◌≡◌, ◌↔◌, IsTrue};
 use crate::variable::{NoValue, Variable};
 use std::marker::Model;
 
-/// M_MCOUNT: tells which telegrams of a group belong to one message.
+/// M_MCOUNT: telegrams of a group with one counter belong to one message.
 #[derive(Clone, Copy, PartialEq, Eq)]
 pub struct MessageCounter {
     count: u8,

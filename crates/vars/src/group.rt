@@ -49,7 +49,7 @@ impl Variable for PositionInGroup {
     ghost width_small = { Prim.omega arith };
 }
 
-/// M_DUP: whether a balise repeats what a neighbour tells.
+/// M_DUP: whether a balise repeats its neighbour.
 #[derive(Clone, Copy)]
 pub enum Duplicate {
     /// It repeats none.

@@ -6,8 +6,11 @@ use crate::variable::{NoValue, Variable};
 /// Q_SCALE: the unit of the distances and lengths of a packet.
 #[derive(Clone, Copy)]
 pub enum Scale {
+    /// 10 cm.
     TenCentimetres,
+    /// 1 m.
     OneMetre,
+    /// 10 m.
     TenMetres,
 }
 

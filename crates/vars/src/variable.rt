@@ -46,7 +46,7 @@ pub trait Variable: Sized {
     ghost width_small: { (codes).width < 16 };
 }
 
-/// Whether the value has a number that is told by the variable's bits and stands for it.
+/// Whether the value has a number that fits the variable's bits and is its own.
 #[inline]
 pub fn has_number<V: Variable>(value: &V) -> bool
     ensures { IsTrue result ↔ HasNumber V.codes value.now }

@@ -53,7 +53,7 @@ fn read_steps(
     Ok(())
 }
 
-/// Reads packet 27 behind its number, into the place of another packet; answers the length that it tells.
+/// Reads packet 27 behind its number, into the place of another packet; answers its L_PACKET.
 #[tactic(auto, unfolding(crate::specs::Packets::static_speeds_telling))]
 pub fn read_static_speeds<'a>(
     reader: &mut BitReader<'a>,

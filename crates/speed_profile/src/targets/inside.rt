@@ -10,7 +10,7 @@ use braking::Target;
 use std::marker::Model;
 use units::Cm;
 
-// Each mode area at the first centimetre that it covers ahead of a front.
+/// Each mode area at the first centimetre that it covers ahead of a front.
 #[derive(Drop)]
 pub struct AreaTargets<'a> {
     front: Cm,
@@ -30,6 +30,7 @@ impl<'a> Model for AreaTargets<'a> {
 }
 
 impl<'a> AreaTargets<'a> {
+    /// The areas that are covered ahead of a front.
     pub fn new(front: Cm, national: NationalSpeeds, areas: &'a Areas) -> AreaTargets<'a>
         ensures { result.targets ≡ over_ahead front (area_targets national areas.now) }
     {

@@ -10,7 +10,7 @@ use std::marker::Model;
 use track_store::{Restriction, Restrictions};
 use units::Cm;
 
-// Each restriction at the first centimetre that it covers ahead of a front.
+/// Each restriction at the first centimetre that it covers ahead of a front.
 #[derive(Drop)]
 pub struct RestrictionTargets<'a> {
     front: Cm,
@@ -30,6 +30,7 @@ impl<'a> Model for RestrictionTargets<'a> {
 }
 
 impl<'a> RestrictionTargets<'a> {
+    /// The restrictions that are covered ahead of a front.
     pub fn new(front: Cm, restrictions: &'a Restrictions) -> RestrictionTargets<'a>
         ensures { result.targets ≡ over_ahead front (restriction_targets restrictions.now.mark restrictions.now.restrictions) }
     {

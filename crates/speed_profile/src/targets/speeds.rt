@@ -11,7 +11,7 @@ use std::marker::Model;
 use track_store::Profile;
 use units::Cm;
 
-// Each piece of the static speeds ahead of a front at its first centimetre, the nearest first.
+/// Each piece of the static speeds ahead of a front at its first centimetre, the nearest first.
 #[derive(Drop)]
 pub struct SpeedTargets<'a, S: Profile<CategorySpeeds>> {
     bounds: &'a Bounds,
@@ -33,6 +33,7 @@ impl<'a, S: Profile<CategorySpeeds>> Model for SpeedTargets<'a, S> {
 }
 
 impl<'a, S: Profile<CategorySpeeds>> SpeedTargets<'a, S> {
+    /// The static speeds ahead of a front.
     pub fn new(front: Cm, bounds: &'a Bounds, speeds: &'a S) -> SpeedTargets<'a, S>
         ensures { result.targets ≡ over_ahead front (static_targets bounds.now (S.value speeds.now)) }
     {
@@ -44,14 +45,14 @@ impl<'a, S: Profile<CategorySpeeds>> SpeedTargets<'a, S> {
         }
     }
 
-    // Where those begin that are left.
+    /// Where those begin that are left.
     pub fn start(&self) -> Option<Cm>
         ensures { result ≡ self.now.speeds_from }
     {
         self.start
     }
 
-    // Leaves out those that are left: all lie where they begin or farther ahead.
+    /// Leaves out those that are left: all lie where they begin or farther ahead.
     pub fn skip_all(&mut self)
         ensures asks { AskTheSameBeyond self.old.speeds_from self.old.targets [] }
         ensures none { self.new ≡ record { targets = []; most = 0; speeds_from = None } }

@@ -12,7 +12,7 @@ pub struct Slope {
 }
 
 impl Profile<Permille> for Slope {
-    ghost use Rattle.part_rows.specs.Slopes.{gradient_of};
+    ghost use Rattle.test_parts.specs.Slopes.{gradient_of};
 
     ghost value = { λ s place. gradient_of s.begins s.changes s.ends s.before s.after place };
 

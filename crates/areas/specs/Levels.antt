@@ -22,7 +22,7 @@ pub record Fact : Type 0 where
 abbrev pub fact_of : LevelTransition → ℤ → Fact
 fact_of packet place = record { packet = packet; place = place }
 
--- what was told: a packet 41; where the greatest front is after an event; that the announcement was deleted
+-- what bears on it: a packet 41; where the greatest front is after an event; that the announcement was deleted
 pub data Entry : Type 0 where
   Announced : Fact → Entry
   Reached : ℤ → Entry

@@ -65,7 +65,7 @@ taken_back fact now seen =
     option_or (option_map (λ section. section.entry) (find (section_has_run_out fact.moment now seen) (timed_sections fact)))
     (if end_timer_has_run_out (told_end fact) fact.packet.scale now seen fact.packet.end_timer then Some (end_entry fact) else None)
 
--- speeds, which are told in steps of 5 km/h
+-- speeds, which are in steps of 5 km/h
 abbrev pub speed_of : ℕ → ℕ
 speed_of steps = 5_000 * steps
 
@@ -105,12 +105,12 @@ supervised fact now seen =
     (option_map (danger_point_of (told_end fact) fact.packet.scale) fact.packet.danger_point))
     (bare_end (told_end fact))
 
--- the end as it was told; while a speed is allowed there, there is no release speed
+-- the end of the last section; while a speed is allowed there, there is no release speed
 abbrev pub end_with : ℤ → ℕ → Point → End
 end_with end speed point =
     record { end = end; speed = speed; location = point.location; release = if speed == 0 then point.release else no_release }
 
--- the end now: as it was told, or taken back
+-- the end now: that of the last section, or taken back
 abbrev pub end_by : Fact → ℕ → List Sight → Option ℤ → End
 end_by fact now seen None = end_with (told_end fact) (speed_at_end fact now) (supervised fact now seen)
 end_by fact now seen (Some place) = end_with place 0 (bare_end place)

@@ -13,7 +13,7 @@ pub record Fact : Type 0 where
 abbrev pub fact_of : MovementAuthority → ℤ → ℕ → Fact
 fact_of packet place moment = record { packet = packet; place = place; moment = moment }
 
--- what was told: the clock, an authority that was accepted, where the train was after a whole event, and that the
+-- what bears on it: the clock, an authority that was accepted, where the train was after a whole event, and that the
 -- authority was deleted
 pub data Entry : Type 0 where
   Ticked : ℕ → Entry

@@ -42,7 +42,7 @@ TimersStart = (place : ℤ) (seen : List Sight) (moment : ℕ) → (first_reache
 
 -- ---- the end
 
--- where the end may be: at the end as it was told; at the entry of the end section, where the end timer has run out; at the
+-- where the end may be: at that of the last section; at the entry of the end section, where the end timer has run out; at the
 -- entry of a section that has run out
 abbrev pub MayBeEnd : Fact → ℕ → List Sight → ℤ → Type 0
 MayBeEnd fact now seen place =

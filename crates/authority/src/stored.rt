@@ -139,7 +139,7 @@ impl Stored {
         }
     }
 
-    // The end as it was told, with what is behind it.
+    // The end of the last section, with what is behind it.
     fn end_as_told(&self, now: Ms) -> End
         ensures { result ≡ told_in now self.now }
     {

@@ -36,7 +36,7 @@ abbrev pub is_whole : List Reading → Bool
 is_whole [] = false
 is_whole (first ∷ readings) = all_below (first.telegram.header.last_position + 1) (is_read (first ∷ readings))
 
--- M_DUP: a balise repeats what the next one tells, or what the previous one tells
+-- M_DUP: a balise repeats the next one, or the previous one
 abbrev pub is_of_next : Duplicate → Bool
 is_of_next NoDuplicate = false
 is_of_next OfNext = true

@@ -20,19 +20,19 @@ abbrev pub CountsTheFirst : Type 0
 CountsTheFirst = (group : List Reading) (place : ℕ) (other : Reading) →
     reading_at place other (counting group) ≡ oldest place other group
 
--- the path of the life, as its movements tell it
+-- the path of the life, by its movements
 abbrev pub path_of : List Entry → ℕ
 path_of [] = 0
 path_of (Read reading ∷ entries) = path_of entries
 path_of (Went path ∷ entries) = path
 
--- each reading tells the path of the life at it
+-- each reading has the path of the life at it
 abbrev pub TellPaths : List Entry → Type 0
 TellPaths [] = Unit {0}
 TellPaths (Read reading ∷ entries) = (reading.sums.path ≡ path_of entries) × TellPaths entries
 TellPaths (Went path ∷ entries) = TellPaths entries
 
--- Where all movements are told, the group being read is never left: a telegram goes on with it where it has its name.
+-- Where all movements are handed in, the group being read is never left: a telegram goes on with it where it has its name.
 abbrev pub IsNeverLeft : Type 0
 IsNeverLeft = (entries : List Entry) → TellPaths entries →
     is_left (path_of entries) (newest (groups_of entries).current) ≡ false

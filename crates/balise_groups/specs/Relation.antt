@@ -14,7 +14,7 @@ abbrev pub Has : {X : Type 0} → List X → X → Type 0
 Has [] x = ⊥
 Has (y ∷ ys) x = (x ≡ y) ⊎ Has ys x
 
--- All tell the N_TOTAL and the Q_LINK of the first.
+-- All have the N_TOTAL and the Q_LINK of the first.
 pub record AreOfOneGroup (first : Reading) (readings : List Reading) : Type 0 where
   pub all : (reading : Reading) → Has readings reading →
       (reading.telegram.header.last_position ≡ first.telegram.header.last_position)
@@ -38,7 +38,7 @@ pub record CoverAll (first : Reading) (readings : List Reading) : Type 0 where
   pub each : (place : ℕ) → place ≤ first.telegram.header.last_position →
       (reading : Reading) × Has readings reading × Covers place reading
 
--- Mixed is told before Counter, and Counter before Missing.
+-- Mixed comes before Counter, and Counter before Missing.
 abbrev pub Breaks : Reading → List Reading → Cause → Type 0
 Breaks first readings Mixed = ¬ AreOfOneGroup first readings
 Breaks first readings Counter = AreOfOneGroup first readings × (¬ HaveOneCounter readings)

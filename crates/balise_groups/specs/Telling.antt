@@ -4,7 +4,7 @@ use Rattle.packets.specs.Packets.{number_of}
 use Rattle.packets.specs.declared.packet.Packet.{Packet}
 use Rattle.telegram.specs.declared.message.Telegram.{Telegram}
 
--- the number of the packet that announces infill: neither it nor what stands behind it is used
+-- the number of the packet that announces infill: neither it nor what follows it is used
 abbrev pub infill : ℕ
 infill = 136
 
@@ -12,7 +12,7 @@ abbrev pub before_infill : List Packet → List Packet
 before_infill [] = []
 before_infill (packet ∷ packets) = if number_of packet == infill then [] else packet ∷ before_infill packets
 
--- what telegrams tell, one after another
+-- the packets of telegrams, one after another
 abbrev pub told_by : List Telegram → List Packet
 told_by [] = []
 told_by (telegram ∷ telegrams) = before_infill telegram.packets.items ++ told_by telegrams

@@ -87,7 +87,7 @@ fn places(first: &Reading) -> u64
     first.telegram.header().last_position.number() + 1
 }
 
-/// Whether each place of the group that the first reading tells of is read.
+/// Whether each place up to the first reading's N_TOTAL is read.
 pub fn are_all_read(readings: &[Reading]) -> bool
     ensures { result ≡ is_whole readings.now }
 {

@@ -8,10 +8,10 @@ use packets::Packet;
 use std::marker::Model;
 use telegram::{PacketInPlace, Packets, Received};
 
-/// NID_PACKET of infill: neither it nor what stands behind it is used.
+/// NID_PACKET of infill: neither it nor what follows it is used.
 const INFILL: u8 = 136;
 
-/// The packets that a group tells: those of its telegrams in order of place, of each those before its first packet 136.
+/// The packets of a group: those of its telegrams in order of place, of each those before its first packet 136.
 #[derive(Drop)]
 pub struct GroupPackets {
     pub(crate) telegrams: ArrayVec<Received, 8>,

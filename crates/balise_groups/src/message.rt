@@ -19,7 +19,7 @@ pub struct Message {
     pub packets: GroupPackets,
 }
 
-/// Why a group gives no message. Where more than one holds, Mixed is told before Counter, and Counter before Missing.
+/// Why a group gives no message. Where more than one holds, Mixed comes before Counter, and Counter before Missing.
 #[derive(Clone, Copy, Debug, PartialEq, Eq, Drop)]
 pub enum Cause {
     /// A balise wasn't read, and no neighbour that was read repeats it.

@@ -47,7 +47,7 @@ impl Readings {
         }
     }
 
-    /// Whether each place of the group that the first reading tells of is read.
+    /// Whether each place up to the first reading's N_TOTAL is read.
     pub fn are_whole(&self) -> bool
         ensures { result ≡ is_whole self.now }
     {

@@ -5,7 +5,7 @@ use Rattle.std.specs.List.{AllByRecursion as Each}
 use Rattle.bits.specs.Layout.{Codes, Layout, done, unless, field, run, choice, kind, part, inner, measured, more, told_as, then_}
 use Rattle.bits.specs.Writing.{value, size}
 
--- The number of the value has no more bits than the variable, and stands for this value.
+-- The number of the value has no more bits than the variable, and is that of this value.
 pub record HasNumber {E A : Type 0} (codes : Codes E A) (x : A) : Type 0 where
   pub small : codes.number x < 2 ^ codes.width
   pub own : codes.value (codes.number x) ≡ Ok x

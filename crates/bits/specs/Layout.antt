@@ -1,18 +1,18 @@
--- What may stand in bits, field after field: a grammar as data, and what it says of bits (this project's profile).
+-- What bits may hold, field after field: a grammar as data, and what it says of bits (this project's profile).
 use Rattle.std.specs.Prelude.{◌≡◌, ◌≢◌, ◌==◌, ◌+◌, ◌-◌, ◌⊎◌, ◌<◌, ◌≤◌, ℕ, zero, suc, Bool, true, false, List, [], ◌∷◌, ◌++◌, length, take, drop, Option, Some, None, Result, Ok, Err, nat_lt, if◌then◌else◌}
 use Rattle.bits.specs.Bits.{number}
 use Rattle.bits.specs.declared.name.VariableName.{VariableName}
 
--- How the values of a variable stand as numbers of so many bits. A number that stands for no value tells why.
+-- The values of a variable as numbers of so many bits. A number without a value says why.
 pub record Codes (E A : Type 0) : Type 0 where
   pub width : ℕ
   pub value : ℕ → Result A E
   pub number : A → ℕ
 
--- A layout tells how an A stands in bits: as nothing; as nothing, unless a fault is there; as a variable, with its name, the
+-- A layout says how an A is spelled in bits: as nothing; as nothing, unless a fault is there; as a variable, with its name, the
 -- fault of too few bits and the faults of its own; as a run of bits; as one of two layouts; as one kind of an A; as a part
--- that is there where it is given; as a part that is always there; with a number that must tell how many bits there are,
--- those before them included; as so many more elements of a list; with its faults told in other words; as one layout and
+-- that is there where it is given; as a part that is always there; with a number that must say how many bits there are,
+-- those before them included; as so many more elements of a list; with its faults in other words; as one layout and
 -- then another that goes by its value. Each field also says where in the C that is spelled its value is found.
 pub data Layout : Type 0 → Type 0 → Type 0 → Type 1 where
   done : {F C A : Type 0} → A → Layout F C A
@@ -109,7 +109,7 @@ read_field f g codes bits = if nat_lt (length bits) codes.width then Err f else 
 unfoldable pub read_run : {F : Type 0} → ℕ → F → List Bool → Result (List Bool × List Bool) F
 read_run n f bits = if nat_lt (length bits) n then Err f else Ok (take n bits, drop n bits)
 
--- the value, where the number beside it tells the bits that were taken and those before them
+-- the value, where the number beside it is that of the bits that were taken and those before them
 abbrev pub checked : {F A : Type 0} → F → ℕ → List Bool → (ℕ × A) → List Bool → Result (A × List Bool) F
 checked f before bits p rest = if p.0 == before + (length bits - length rest) then Ok (p.1, rest) else Err f
 

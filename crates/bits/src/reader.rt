@@ -49,7 +49,7 @@ impl<'a> Run<'a> {
         self.len == 0
     }
 
-    /// A reader that the bits stand in front of.
+    /// A reader with the bits in front of it.
     pub(crate) fn bits(&self) -> BitReader<'a>
         ensures front { take (length self.now) result ≡ self.now }
         ensures some { length self.now ≤ length result }

@@ -13,7 +13,7 @@ pub struct Full;
 #[derive(Drop)]
 pub struct BitWriter<const N: usize> {
     bytes: ArrayVec<u8, N>,
-    /// The bits behind those of the bytes: its lowest `held`. What stands above them is no matter.
+    /// The bits behind those of the bytes: its lowest `held`. What is above them doesn't matter.
     word: u64,
     held: u32,
 }

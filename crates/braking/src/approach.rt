@@ -11,7 +11,7 @@ use std::marker::Model;
 use track_store::Profile;
 use units::{Cm, Mph, Permille};
 
-/// A train that is told one target ahead after another, and the greatest speed that fits those so far. What the braking
+/// A train that takes one target ahead after another, and the greatest speed that fits those so far. What the braking
 /// takes off is carried from one target to the next: for a target farther ahead only the gradients between are gone
 /// through.
 #[derive(Drop)]
@@ -93,7 +93,7 @@ impl<'a, P: Profile<Permille>> Approach<'a, P> {
         fits
     }
 
-    /// Tells it of a target: the greatest speed up to the one so far that fits the target. A target whose speed is no less
+    /// Takes one more target: then the greatest speed up to the one so far that fits the target. A target whose speed is no less
     /// than the one so far costs nothing, nor does one behind a place where the train is known to come to a stop.
     pub fn lower(&mut self, target: &Target)
         ensures { self.new ≡ lowered (P.value self.old.gradient) target.now self.old }
@@ -103,7 +103,7 @@ impl<'a, P: Profile<Permille>> Approach<'a, P> {
         }
     }
 
-    // The same where its speed is above the target's. It stands apart, so that what costs nothing is done where it is asked.
+    // The same where its speed is above the target's. It is a function of its own, so that what costs nothing is done where it is asked.
     #[inline(never)]
     fn seek(&mut self, target: &Target)
         requires { target.now.speed < self.old.speed }

@@ -60,7 +60,7 @@ after_told Nothing before = before
 abbrev pub datum_after : {A : Type 0} → (Entry → Told A) → Datum A → List Entry → Datum A
 datum_after told kept entries = after_all (λ entry. after_told (told entry)) kept entries
 
--- ---- of what is told
+-- ---- of what comes in
 
 abbrev pub gives : {A : Type 0} → Told A → Bool
 gives (Gives value) = true

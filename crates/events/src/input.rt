@@ -8,7 +8,7 @@ use units::{Movement, Mph, Ms};
 pub struct Reading {
     /// The movement since the last reading, forward or backward, in centimetres.
     pub movement: Movement,
-    /// The speed now, in metres per hour: 0 only where the train stands.
+    /// The speed now, in metres per hour: 0 only at standstill.
     pub speed: Mph,
 }
 

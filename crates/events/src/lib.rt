@@ -1,4 +1,4 @@
-//! What the kernel is told, what it answers, and what it keeps over a loss of power (this project's profile). Distances are
+//! What comes into the kernel, what it answers, and what it keeps over a loss of power (this project's profile). Distances are
 //! centimetres, speeds metres per hour, moments milliseconds.
 #![tactic(auto)]
 

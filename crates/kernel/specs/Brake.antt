@@ -116,7 +116,7 @@ brake_of life = brake_by (is_emergency life) (is_service life)
 
 -- ---- what an event shows, on which that depends: a life that the entry is added to
 
--- what the odometer tells, if an input is a reading
+-- the odometer's reading, if an input is one
 abbrev pub reading_of : Input → Option Reading
 reading_of (Odometer reading) = Some reading
 reading_of (Telegram bytes) = None

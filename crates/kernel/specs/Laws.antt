@@ -60,7 +60,7 @@ LevelSo = IsLastGiven level_told (λ events. value_of (kept_by events).level)
 abbrev pub TripSo : Type 0
 TripSo = (events : List Event) → IsTrue (kept_by events).trip_outstanding ↔ HasTripped (all_deeds events)
 
--- the position is told by the group of the last fix of all lives
+-- the position is by the group of the last fix of all lives
 abbrev pub last_group : List Event → Option GroupIdentity
 last_group [] = None
 last_group (PowerUp cold ∷ events) = last_group events

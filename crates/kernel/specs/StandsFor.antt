@@ -41,7 +41,7 @@ pub record Knowledge (G S : Type 0) : Type 0 where
   pub counts : Counts
   pub supervision : supervision.Knowledge G S
 
--- It stands for a life; what the two stores give is read off them so
+-- It represents a life; what the two stores give is read off them so
 pub record StandsForLife {G S : Type 0} (gradients_in : G → Profile ℤ) (speeds_in : S → Profile CategorySpeeds) (known : Knowledge G S) (life : Life) : Type 0 where
   pub parts_are : known.parts ≡ parts_of life
   pub supervision_is : supervision.StandsForLife gradients_in speeds_in known.supervision life

@@ -19,7 +19,7 @@ use track_store::ProfileStore;
 use units::Permille;
 
 impl<G: ProfileStore<Permille> + Drop, S: ProfileStore<CategorySpeeds> + Drop> StateOver<G, S> {
-    // Where the train is, told by a balise group.
+    // Where the train is, by a balise group.
     fn position(&self) -> Datum<Position>
         ensures { (life : Life) → StandsForLife G.profile S.profile self.now life → result ≡ position_of life }
     {

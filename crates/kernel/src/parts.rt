@@ -35,7 +35,7 @@ impl Model for Parts {
     } };
 }
 
-/// The speed of a train that stands.
+/// The speed of a train at standstill.
 pub fn no_speed() -> Mph
     ensures { result ≡ 0 }
 {

@@ -1,4 +1,4 @@
-//! Where the train is, told by a balise group.
+//! Where the train is, by a balise group.
 ghost use Rattle.std.specs.Prelude.{◌≡◌};
 ghost use Rattle.kernel.specs.Position.{gone_on, went_on, fixed_at, position_by};
 

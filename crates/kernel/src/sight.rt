@@ -28,7 +28,7 @@ impl Sight {
         self.limit.get() + u32::from(margin) < self.speed.get()
     }
 
-    /// What was so before the event still counts, unless the train stands at it.
+    /// What was so before the event still counts, unless it is a standstill.
     pub fn unless_standing(&self, before: bool) -> bool
         ensures { result ≡ (not self.now.stands && before) }
     {

@@ -8,7 +8,7 @@ use Rattle.vars.specs.declared.linking.LinkReaction.TheVariants.{Trip, ServiceBr
 use Rattle.linking.specs.declared.announcement.Announcement.{Announcement}
 use Rattle.linking.specs.declared.effect.Effect.{Effect}
 
--- what was told
+-- what bears on it
 pub data Entry : Type 0 where
   Announced : List Announcement → Entry  -- a list of links (packet 5), in place of the one before; an empty one deletes linking
   Accepted : ℕ → Entry  -- the group of the announcement of this number was accepted
@@ -24,7 +24,7 @@ takes (Accepted last) number = nat_le number last
 takes (Reacted one) number = number == one
 takes (Missed one) number = number == one
 
--- a list numbered in its order, whatever numbers were told
+-- a list numbered in its order, whatever numbers it had
 abbrev pub numbered_from : ℕ → List Announcement → List Announcement
 numbered_from number [] = []
 numbered_from number (a ∷ announcements) = record a { number = number } ∷ numbered_from (number + 1) announcements
@@ -78,7 +78,7 @@ IsRising announcements = AllPairs (λ a b. a.number < b.number) announcements
 
 -- ---- where an announced group may lie, in centimetres
 
--- Q_LOCACC tells metres
+-- Q_LOCACC is in metres
 abbrev pub doubt : Announcement → ℕ
 doubt a = 100 * a.accuracy
 

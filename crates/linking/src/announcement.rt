@@ -84,7 +84,7 @@ impl Announcement {
         }
     }
 
-    /// Whether it stands in the list before a number.
+    /// Whether it comes before a number in the list.
     pub(crate) fn is_before(&self, number: u8) -> bool
         ensures { result ≡ is_before number self.now }
     {

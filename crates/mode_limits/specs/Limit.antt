@@ -60,7 +60,7 @@ bounds_of life train =
       end = end_of (authorities (tracks life.entries));
     }
 
--- what is told of the speeds along the track
+-- the speeds along the track
 abbrev pub in_areas : Values → NationalSpeeds
 in_areas values = record { on_sight = values.on_sight; shunting = values.shunting }
 

@@ -16,7 +16,7 @@ use supervision::SupervisionOver;
 use track_store::ProfileStore;
 use units::{Mph, Permille};
 
-// What limits the train wherever it stands.
+// What limits the train wherever it is.
 fn bounds<G: ProfileStore<Permille> + Drop, S: ProfileStore<CategorySpeeds> + Drop>(
     supervision: &SupervisionOver<G, S>,
     train: &TrainData,
@@ -42,7 +42,7 @@ fn in_areas(values: &Values) -> NationalSpeeds
     }
 }
 
-// What is told of the speeds along the track.
+// The speeds along the track.
 fn along<G: ProfileStore<Permille> + Drop, S: ProfileStore<CategorySpeeds> + Drop>(
     supervision: &SupervisionOver<G, S>,
 ) -> Track<'_, S>

@@ -18,7 +18,7 @@ pub record Fact : Type 0 where
 abbrev pub fact_of : NationalValues → ℕ → ℤ → Fact
 fact_of packet country place = record { packet = packet; country = country; place = place }
 
--- what was told
+-- what bears on it
 pub data Entry : Type 0 where
   Announced : Fact → Entry  -- a packet 3 was stored
   Entered : ℕ → Entry  -- a group of this country was accepted, and its packets aren't taken yet

@@ -9,13 +9,13 @@ use Rattle.vars.specs.declared.special_distance.OpenLength.TheVariants.{Length, 
 use Rattle.packets.specs.declared.national.NationalValues.{NationalValues}
 use Rattle.national.specs.declared.values.Values.{Values}
 
--- ---- what a packet 3 tells, in metres per hour, centimetres and milliseconds
+-- ---- the values of a packet 3, in metres per hour, centimetres and milliseconds
 
--- a speed is told in steps of 5 km/h
+-- a speed is in steps of 5 km/h
 abbrev pub speed_of : ℕ → ℕ
 speed_of steps = 5_000 * steps
 
--- a distance is told in units of the packet's scale
+-- a distance is in units of the packet's scale
 abbrev pub distance_in : Scale → ℕ → ℕ
 distance_in scale number = number * centimetres_of scale
 
@@ -31,7 +31,7 @@ open_distance_in scale NoEnd = None
 abbrev pub endless_time : ℕ
 endless_time = 255
 
--- a time is told in seconds
+-- a time is in seconds
 abbrev pub time_of : ℕ → Option ℕ
 time_of seconds = if seconds == endless_time then None else Some (1_000 * seconds)
 

@@ -47,7 +47,7 @@ impl Announcement {
     }
 }
 
-// Where an announcement comes into force that is told from a place.
+// Where an announcement comes into force that counts from a place.
 fn start_from(scale: Scale, place: GroupPlace, start: StartPlace) -> Option<Cm>
     ensures { result ≡ start_from scale place start }
 {

@@ -14,7 +14,7 @@ pub const MOST_COUNTRIES: usize = 32;
 #[derive(Drop)]
 pub struct CountryValues {
     values: Values,
-    // In the order in which they were told; none stands for no country.
+    // In the order in which they came; none means no country.
     countries: ArrayVec<Country, MOST_COUNTRIES>,
 }
 
@@ -44,7 +44,7 @@ impl CountryValues {
         &self.values
     }
 
-    /// The countries that the values are for, repeated where they were told so; none where they are for no country.
+    /// The countries that the values are for, repeated where they came so; none where they are for no country.
     pub fn countries(&self) -> &[Country]
         ensures value { result.now ≡ self.now.countries }
         ensures few { length result.now ≤ MOST_COUNTRIES }
@@ -84,7 +84,7 @@ impl CountryValues {
         }
     }
 
-    /// What packet 3 of a group of a country tells.
+    /// The values of a packet 3 of a group of a country.
     pub(crate) fn told_by(packet: &NationalValues, country: Country) -> Self
         ensures { result ≡ told_by packet.now country }
     {

@@ -100,7 +100,7 @@ impl National {
         self.in_force.values()
     }
 
-    /// The countries that the values in force are for, repeated where they were told so. Where a life began with the
+    /// The countries that the values in force are for, repeated where they came so. Where a life began with the
     /// defaults for no country, there are none exactly while no packet 3 came into force.
     pub fn countries(&self) -> &[Country]
         ensures value { result.now ≡ self.now.in_force.countries }

@@ -9,8 +9,8 @@ use Rattle.odometry.specs.Sums.{Sums, no_sums, moved_on, movement_between, path_
 use Rattle.odometry.specs.declared.earlier.EarlierPlace.{EarlierPlace}
 use Rattle.odometry.specs.declared.fix.Fix.{Fix}
 
--- what bears on the place: a movement of the odometer, forward or backward, or a fix, which is a place that a balise group
--- tells
+-- what bears on the place: a movement of the odometer, forward or backward, or a fix, which is the place of a balise
+-- group
 pub data Entry : Type 0 where
   Moved : ℤ → Entry
   Fixed : Fix → Entry
@@ -71,7 +71,7 @@ max_front place = estimate place +ℤ pos (uncertainty place)
 abbrev pub min_rear : Known → ℕ → ℤ
 min_rear place length = min_front place -ℤ pos length
 
--- what a train of this length may stand on
+-- the track that a train of this length may cover
 abbrev pub stretch_about : ℤ → ℕ → ℕ → Span
 stretch_about estimate uncertainty length =
     let min_front = estimate -ℤ pos uncertainty in

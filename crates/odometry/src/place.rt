@@ -145,7 +145,7 @@ impl Place {
         self.stretch(length).rear()
     }
 
-    /// What a train of this length may stand on. Even from its rear each distance of a packet leads to a place.
+    /// The track that a train of this length may cover. Even from its rear each distance of a packet leads to a place.
     pub fn stretch(&self, length: Length) -> Stretch
         ensures value { result ≡ stretch self.now length }
         ensures near { HasReach result.rear }
@@ -154,7 +154,7 @@ impl Place {
     }
 }
 
-// What a train of this length may stand on, where its front may be so far from an estimate.
+// The track that a train of this length may cover, where its front may be so far from an estimate.
 fn stretch_about(estimate: Cm, uncertainty: u64, length: Length) -> Stretch
     requires estimate { unsigned_abs estimate ≤ farthest }
     requires uncertainty { uncertainty ≤ farthest + 2 ^ 37 }

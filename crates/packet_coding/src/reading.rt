@@ -21,7 +21,7 @@ fn run<'a>(reader: &mut BitReader<'a>, bits: u32) -> Result<Run<'a>, PacketFault
     reader.run(bits).ok_or(PacketFault::Truncated)
 }
 
-/// Reads a packet that is skipped, behind its number, into the place of another packet; answers the length that it tells.
+/// Reads a packet that is skipped, behind its number, into the place of another packet; answers its L_PACKET.
 #[tactic(auto, unfolding(packets::specs::Packets::skipped_telling))]
 fn read_other<'a>(
     reader: &mut BitReader<'a>,
@@ -89,7 +89,7 @@ pub fn read_numbered<'a>(
     }
 }
 
-// Whether a told length is that of a packet that has so many bits behind its number.
+// Whether an L_PACKET is that of a packet that has so many bits behind its number.
 fn is_length(told: PacketLength, taken: u128) -> bool
     ensures { result ≡ (told == 8 + taken) }
 {

@@ -8,7 +8,7 @@ use bits::{BitWriter, Full, VariableName};
 use packets::{FieldSink, Packet, put};
 
 /// Hands a whole packet to a sink, NID_PACKET first; stops where the sink takes no more. The length is the packet's own
-/// (`Packet::length`). Where L_PACKET can't tell it, the packet has no spelling, and nothing is said of what the sink takes.
+/// (`Packet::length`). Where L_PACKET can't hold it, the packet has no spelling, and nothing is said of what the sink takes.
 pub fn hand_packet<S: FieldSink>(
     packet: &Packet<'_>,
     length: u64,

@@ -1,4 +1,4 @@
--- The fault of a packet where a number stands for no value (this project's profile).
+-- The fault of a packet where a number has no value (this project's profile).
 use Rattle.vars.specs.declared.variable.NoValue.{NoValue}
 use Rattle.vars.specs.declared.variable.NoValue.TheVariants as values
 use Rattle.packets.specs.declared.fault.PacketFault.{PacketFault}

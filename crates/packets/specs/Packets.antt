@@ -339,7 +339,7 @@ skipped number = telling (skipped_telling number)
 
 -- ---- any packet
 
--- a kind of packet, beside the length that was told
+-- a kind of packet, beside its L_PACKET
 abbrev pub as_packet : {A : Type 0} → (A → Packet) → (ℕ × A) → (ℕ × Packet)
 as_packet make p = (p.0, make p.1)
 
@@ -383,7 +383,7 @@ abbrev pub as_other : Packet → Option Other
 as_other (packets.Other p) = Some p
 as_other _ = None
 
--- What stands behind the number of a packet, with the length that was told.
+-- What follows the number of a packet, with its L_PACKET.
 unfoldable pub body_of : ℕ → Layout PacketFault Packet (ℕ × Packet)
 body_of number =
     choice (number == 3) (kind (as_packet packets.NationalValues) as_national_values national_values)
@@ -397,7 +397,7 @@ body_of number =
     (choice (number == 80) (kind (as_packet packets.ModeProfile) as_mode_profile mode_profile)
     (kind (as_packet packets.Other) as_other (skipped number))))))))))
 
--- The packet of a number that was read: L_PACKET tells its bits, those of the number included. 255 is none of a packet.
+-- The packet of a number that was read: L_PACKET is the count of its bits, those of the number included. 255 is none of a packet.
 unfoldable pub packet_of : ℕ → Layout PacketFault Packet Packet
 packet_of number = do
   _ ← unless (number == 255) OutOfRange
@@ -411,7 +411,7 @@ packet = do
 
 -- ---- what is shown of any packet
 
--- what a packet's own layout gives, where L_PACKET tells what another function says
+-- what a packet's own layout gives, where L_PACKET is what another function says
 abbrev pub by_layout : {R : Type 0} → ((C : Type 0) → ((C → ℕ) → Layout PacketFault C (ℕ × C)) → C → R) → Packet → R
 by_layout f (packets.NationalValues p) = f NationalValues national_values_telling p
 by_layout f (packets.Linking p) = f Linking linking_telling p

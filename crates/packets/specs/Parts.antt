@@ -18,11 +18,11 @@ use Rattle.packets.specs.declared.fault.PacketFault.TheVariants.{Truncated}
 abbrev pub variable : {C A : Type 0} → VariableName → Codes NoValue A → (C → A) → Layout PacketFault C A
 variable name codes get = field name Truncated packet_fault codes get
 
--- a qualifier, and the part that it tells of
+-- a qualifier, and its part
 abbrev pub qualified : {C A : Type 0} → VariableName → Layout PacketFault A A → (C → Option A) → Layout PacketFault C (Option A)
 qualified name m get = variable name flag (λ c. is_some (get c)) >>= (λ given. part given m get)
 
--- a packet that tells its own bits, those of its number included
+-- a packet with the count of its own bits, those of its number included
 abbrev pub telling : {C A : Type 0} → ((C → ℕ) → Layout PacketFault C A) → Layout PacketFault C A
 telling m = m (λ c. 8 + size (m (λ _. 0)) c)
 
@@ -36,7 +36,7 @@ from_first_taken t m xs s =
 abbrev pub from_first_size : {D : Type 0} → Layout PacketFault D D → List D → ℕ
 from_first_size m xs = total (λ x. size m x) (take 1 xs) + (5 + total (λ x. size m x) (drop (length (take 1 xs)) xs))
 
--- a qualifier, and the part that it tells of
+-- a qualifier, and its part
 abbrev pub qualified_taken : {D S : Type 0} → (S → Shown → S) → Layout PacketFault D D → VariableName → Option D → S → S
 qualified_taken t m name o s = let told = t s (named name 1 (from_bool (is_some o))) in option_map_or (λ d. taken t m d told) o told
 
@@ -50,12 +50,12 @@ abbrev pub FromFirstFits : {D : Type 0} → Layout PacketFault D D → List D �
 FromFirstFits {D = D} m xs =
     Fits (more 1 m [] (λ (ys : List D). take 1 ys)) xs × HasNumber n_iter (length xs - 1) × Fits (more (length xs - 1) m (take 1 xs) (λ (ys : List D). ys)) xs
 
--- a qualifier, and the part that it tells of
+-- a qualifier, and its part
 abbrev pub QualifiedFits : {D : Type 0} → Layout PacketFault D D → Option D → Type 0
 QualifiedFits {D = D} m o = HasNumber flag (is_some o) × Fits (part (is_some o) m (λ (x : Option D). x)) o
 
 -- ---- reading
 
--- a qualifier at the front of the bits, and the part that it tells of
+-- a qualifier at the front of the bits, and its part
 abbrev pub read_qualified : {D : Type 0} → Layout PacketFault D D → List Bool → Result (Option D × List Bool) PacketFault
 read_qualified m bits = after (read_field Truncated packet_fault flag bits) (λ given rest. read (part given m (λ (x : Option _). x)) rest)

@@ -199,7 +199,7 @@ impl MovementAuthority {
             + qualified_bits(&self.overlap)
     }
 
-    /// Whether it is as its layout wants it, but for the length that L_PACKET tells.
+    /// Whether it is as its layout wants it, but for its L_PACKET.
     #[tactic(auto, unfolding(crate::specs::Packets::movement_authority_telling), using(vars::proofs::Numbers::l_packet_has, vars::proofs::Numbers::n_iter_has))]
     pub(crate) fn fits(&self) -> bool
         ensures { IsTrue result ↔ Fits (movement_authority_telling (λ _. 0)) self.now }
@@ -216,7 +216,7 @@ impl MovementAuthority {
             && qualified_fits(&self.overlap)
     }
 
-    /// Hands the fields behind NID_PACKET to a sink, with the length that L_PACKET tells.
+    /// Hands the fields behind NID_PACKET to a sink, with its L_PACKET.
     #[tactic(auto, unfolding(crate::specs::Packets::movement_authority_telling))]
     pub(crate) fn fields<S: FieldSink>(&self, told: u64, sink: &mut S) -> Result<(), S::Error>
         requires told { told < 2 ^ 13 }

@@ -14,7 +14,7 @@ use bits::BitReader;
 
 /// A part of a packet that has a layout of its own: an element of a list, or what a qualifier says is there.
 pub(crate) trait Element: Copy + Default {
-    /// How it stands in bits.
+    /// How it is spelled in bits.
     ghost layout: { Layout PacketFault Self Self };
 
     /// Reads one.
@@ -69,7 +69,7 @@ pub(crate) fn read_part<T: Element>(
     Ok(Some(part))
 }
 
-/// Reads a qualifier, and the part that it tells of.
+/// Reads a qualifier, and its part.
 #[inline(always)]
 pub(crate) fn read_qualified<T: Element>(
     reader: &mut BitReader<'_>,

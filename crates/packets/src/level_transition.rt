@@ -167,7 +167,7 @@ impl LevelTransition {
         40 + from_first_bits(self.orders.as_slice())
     }
 
-    /// Whether it is as its layout wants it, but for the length that L_PACKET tells.
+    /// Whether it is as its layout wants it, but for its L_PACKET.
     #[tactic(auto, unfolding(crate::specs::Packets::level_transition_telling), using(vars::proofs::Numbers::l_packet_has))]
     pub(crate) fn fits(&self) -> bool
         ensures { IsTrue result ↔ Fits (level_transition_telling (λ _. 0)) self.now }
@@ -178,7 +178,7 @@ impl LevelTransition {
             && from_first_fits(self.orders.as_slice())
     }
 
-    /// Hands the fields behind NID_PACKET to a sink, with the length that L_PACKET tells.
+    /// Hands the fields behind NID_PACKET to a sink, with its L_PACKET.
     #[tactic(auto, unfolding(crate::specs::Packets::level_transition_telling))]
     pub(crate) fn fields<S: FieldSink>(&self, told: u64, sink: &mut S) -> Result<(), S::Error>
         requires told { told < 2 ^ 13 }

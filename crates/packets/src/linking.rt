@@ -146,7 +146,7 @@ impl Linking {
         25 + from_first_bits(self.links.as_slice())
     }
 
-    /// Whether it is as its layout wants it, but for the length that L_PACKET tells.
+    /// Whether it is as its layout wants it, but for its L_PACKET.
     #[tactic(auto, unfolding(crate::specs::Packets::linking_telling), using(vars::proofs::Numbers::l_packet_has))]
     pub(crate) fn fits(&self) -> bool
         ensures { IsTrue result ↔ Fits (linking_telling (λ _. 0)) self.now }
@@ -156,7 +156,7 @@ impl Linking {
             && from_first_fits(self.links.as_slice())
     }
 
-    /// Hands the fields behind NID_PACKET to a sink, with the length that L_PACKET tells.
+    /// Hands the fields behind NID_PACKET to a sink, with its L_PACKET.
     #[tactic(auto, unfolding(crate::specs::Packets::linking_telling))]
     pub(crate) fn fields<S: FieldSink>(&self, told: u64, sink: &mut S) -> Result<(), S::Error>
         requires told { told < 2 ^ 13 }

@@ -149,7 +149,7 @@ impl NationalValues {
             && has_number(&self.roll)
     }
 
-    /// Whether what is told of an override has numbers.
+    /// Whether the values of an override have numbers.
     fn override_has_numbers(&self) -> bool
         ensures { IsTrue result ↔ (HasNumber speed self.now.override_allowed × (HasNumber speed self.now.override_speed × (HasNumber distance self.now.override_distance × HasNumber t_nvovtrp self.now.override_time))) }
     {
@@ -159,7 +159,7 @@ impl NationalValues {
             && has_number(&self.override_time)
     }
 
-    /// Whether it is as its layout wants it, but for the length that L_PACKET tells.
+    /// Whether it is as its layout wants it, but for its L_PACKET.
     #[tactic(auto, unfolding(crate::specs::Packets::national_values_telling), using(vars::proofs::Numbers::l_packet_has, vars::proofs::Numbers::n_iter_has))]
     pub(crate) fn fits(&self) -> bool
         ensures { IsTrue result ↔ Fits (national_values_telling (λ _. 0)) self.now }
@@ -173,7 +173,7 @@ impl NationalValues {
             && has_number(&self.staff_responsible_distance)
     }
 
-    /// Hands the fields behind NID_PACKET to a sink, with the length that L_PACKET tells.
+    /// Hands the fields behind NID_PACKET to a sink, with its L_PACKET.
     #[tactic(auto, unfolding(crate::specs::Packets::national_values_telling))]
     pub(crate) fn fields<S: FieldSink>(&self, told: u64, sink: &mut S) -> Result<(), S::Error>
         requires told { told < 2 ^ 13 }

@@ -56,10 +56,10 @@ pub enum Packet<'a> {
     Other(Other<'a>),
 }
 
-/// The greatest length that L_PACKET can tell.
+/// The greatest length that L_PACKET can hold.
 const MOST_BITS: u64 = 8191;
 
-/// The length that L_PACKET tells: of one that it can't tell its lowest bits.
+/// The L_PACKET of a length: of one that it can't hold its lowest bits.
 fn told_length(length: u64) -> u64
     ensures bound { result < 2 ^ 13 }
     ensures same { length < 2 ^ 13 → result ≡ length }
@@ -94,7 +94,7 @@ impl<'a> Other<'a> {
         23 + u64::from(self.body.len())
     }
 
-    /// Hands the fields behind NID_PACKET to a sink, with the length that L_PACKET tells.
+    /// Hands the fields behind NID_PACKET to a sink, with its L_PACKET.
     #[tactic(auto, unfolding(crate::specs::Packets::skipped_telling))]
     fn fields<S: FieldSink>(&self, told: u64, sink: &mut S) -> Result<(), S::Error>
         requires told { told < 2 ^ 13 }
@@ -157,7 +157,7 @@ impl<'a> Packet<'a> {
         self.bits()
     }
 
-    /// Whether it is as its layout wants it, but for the length that L_PACKET tells.
+    /// Whether it is as its layout wants it, but for its L_PACKET.
     fn fits(&self) -> bool
         ensures { IsTrue result ↔ PacketFits self.now }
     {
@@ -178,7 +178,7 @@ impl<'a> Packet<'a> {
     /// Whether there are bits that spell it (SUBSET-026, 7.4.2). There are none of a list that wants a first element and has
     /// none; of a level order with a transmission module that its level hasn't, or without one that it has; of a static
     /// speed profile whose steps count other differences than there are; of a distance or a length whose number is kept
-    /// for another value; of an `Other` with the number of a packet that isn't skipped, or longer than L_PACKET can tell.
+    /// for another value; of an `Other` with the number of a packet that isn't skipped, or longer than L_PACKET can hold.
     #[tactic(auto, using(crate::proofs::AnyPacket::has_spelling))]
     pub fn has_spelling(&self) -> bool
         ensures { IsTrue result ↔ ((bits : List Bool) × Spells packet self.now bits) }
@@ -186,7 +186,7 @@ impl<'a> Packet<'a> {
         self.bits() <= MOST_BITS && self.fits()
     }
 
-    /// Hands the fields behind NID_PACKET to a sink, with the length that L_PACKET tells.
+    /// Hands the fields behind NID_PACKET to a sink, with its L_PACKET.
     fn fields_telling<S: FieldSink>(&self, told: u64, sink: &mut S) -> Result<(), S::Error>
         requires told { told < 2 ^ 13 }
         requires room { S.held sink.old + length_of self.now ≤ S.most + 8 }
@@ -207,7 +207,7 @@ impl<'a> Packet<'a> {
     }
 
     /// Hands the fields behind NID_PACKET to the sink, and then the bits that are skipped; stops where it takes no more.
-    /// The length is the packet's own (`length`). Where L_PACKET can't tell it, the packet has no spelling, and nothing
+    /// The length is the packet's own (`length`). Where L_PACKET can't hold it, the packet has no spelling, and nothing
     /// is said of what the sink takes.
     pub fn fields<S: FieldSink>(&self, length: u64, sink: &mut S) -> Result<(), S::Error>
         requires length { length ≡ length_of self.now }

@@ -96,7 +96,7 @@ impl SpeedRestriction {
         71
     }
 
-    /// Whether it is as its layout wants it, but for the length that L_PACKET tells.
+    /// Whether it is as its layout wants it, but for its L_PACKET.
     #[tactic(auto, unfolding(crate::specs::Packets::speed_restriction_telling), using(vars::proofs::Numbers::l_packet_has))]
     pub(crate) fn fits(&self) -> bool
         ensures { IsTrue result ↔ Fits (speed_restriction_telling (λ _. 0)) self.now }
@@ -110,7 +110,7 @@ impl SpeedRestriction {
             && has_number(&self.speed)
     }
 
-    /// Hands the fields behind NID_PACKET to a sink, with the length that L_PACKET tells.
+    /// Hands the fields behind NID_PACKET to a sink, with its L_PACKET.
     #[tactic(auto, unfolding(crate::specs::Packets::speed_restriction_telling))]
     pub(crate) fn fields<S: FieldSink>(&self, told: u64, sink: &mut S) -> Result<(), S::Error>
         requires told { told < 2 ^ 13 }
@@ -138,7 +138,7 @@ impl RestrictionRevocation {
         31
     }
 
-    /// Whether it is as its layout wants it, but for the length that L_PACKET tells.
+    /// Whether it is as its layout wants it, but for its L_PACKET.
     #[tactic(auto, unfolding(crate::specs::Packets::restriction_revocation_telling), using(vars::proofs::Numbers::l_packet_has))]
     pub(crate) fn fits(&self) -> bool
         ensures { IsTrue result ↔ Fits (restriction_revocation_telling (λ _. 0)) self.now }
@@ -146,7 +146,7 @@ impl RestrictionRevocation {
         has_number(&self.direction) && has_number(&self.number)
     }
 
-    /// Hands the fields behind NID_PACKET to a sink, with the length that L_PACKET tells.
+    /// Hands the fields behind NID_PACKET to a sink, with its L_PACKET.
     #[tactic(auto, unfolding(crate::specs::Packets::restriction_revocation_telling))]
     pub(crate) fn fields<S: FieldSink>(&self, told: u64, sink: &mut S) -> Result<(), S::Error>
         requires told { told < 2 ^ 13 }

@@ -170,7 +170,7 @@ impl StaticSpeeds {
         steps.len() > 0 && counted_differences(steps) == differences
     }
 
-    /// Whether it is as its layout wants it, but for the length that L_PACKET tells.
+    /// Whether it is as its layout wants it, but for its L_PACKET.
     pub(crate) fn fits(&self) -> bool
         ensures { IsTrue result ↔ SpeedsFit self.now }
     {
@@ -191,7 +191,7 @@ impl StaticSpeeds {
             + 11 * owned_differences(steps, self.differences.len())
     }
 
-    /// Hands the fields behind NID_PACKET to a sink, with the length that L_PACKET tells.
+    /// Hands the fields behind NID_PACKET to a sink, with its L_PACKET.
     #[tactic(auto, using(crate::proofs::StaticSteps::speeds_size))]
     pub(crate) fn fields<S: FieldSink>(&self, told: u64, sink: &mut S) -> Result<(), S::Error>
         requires told { told < 2 ^ 13 }

@@ -31,7 +31,7 @@ pub(crate) fn from_first_bits<T: Element>(elements: &[T]) -> u64
     5 + bits_of_all(elements)
 }
 
-/// The bits of a qualifier, and of the part that it tells of.
+/// The bits of a qualifier, and of its part.
 pub(crate) fn qualified_bits<T: Element>(part: &Option<T>) -> u64
     ensures value { result ≡ qualified_size T.layout part.now }
     ensures bound { result ≤ 64 }
@@ -87,7 +87,7 @@ pub(crate) fn from_first<T: Element, S: FieldSink>(
     Ok(())
 }
 
-/// Hands a qualifier, and the part that it tells of, to a sink.
+/// Hands a qualifier, and its part, to a sink.
 pub(crate) fn qualified<T: Element, S: FieldSink>(
     sink: &mut S,
     name: VariableName,

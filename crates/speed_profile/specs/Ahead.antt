@@ -71,6 +71,6 @@ abbrev pub permitted_ahead : ℤ → ℕ → Option Target → Bounds → TrackS
 permitted_ahead front limit last bounds track gradient brakes =
     permitted_by front gradient brakes (targets_ahead front bounds track ++ listed last) limit
 
--- a train that was told of no target yet
+-- a train without a target yet
 abbrev pub setting_out : {G : Type 0} → ℤ → ℕ → G → Brakes → Course G
 setting_out front limit gradient brakes = record { front = front; gradient = gradient; brakes = brakes; speed = limit }

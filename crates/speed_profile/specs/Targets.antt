@@ -22,13 +22,13 @@ AskTheSameBeyond (Some place) some others = (front : ℤ) (gradient : ℤ → Op
     fits front gradient brakes (record { place = place; speed = 0 }) speed ≡ true →
     fits_all front gradient brakes some speed ≡ fits_all front gradient brakes others speed
 
--- what is still to be told: what it asks, how many targets that takes at most, and where the static speeds among them begin
+-- what is left: what it asks, how many targets that takes at most, and where the static speeds among them begin
 pub record Left : Type 0 where
   pub targets : List Target
   pub most : ℕ
   pub speeds_from : Option ℤ
 
--- one is told, or none is left
+-- one comes, or none is left
 abbrev pub Tells : Left → Option Target → Left → Type 0
 Tells before None after = AskNothing before.targets × AskNothing after.targets × (after.most ≡ 0)
 Tells before (Some target) after = AskTheSame before.targets (target ∷ after.targets)

@@ -7,7 +7,7 @@ use Rattle.speed_profile.specs.declared.told.CategorySpeeds.{CategorySpeeds}
 use Rattle.speed_profile.specs.declared.track.Track.{Track}
 
 -- the static speed of each centimetre, the temporary restrictions in force, the mode areas, and the national speeds of now for
--- those that tell no speed of their own
+-- those without a speed of their own
 pub record TrackSpeeds : Type 0 where
   pub static : ℤ → Option CategorySpeeds
   pub restrictions : InForce

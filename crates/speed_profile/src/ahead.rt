@@ -19,7 +19,7 @@ use units::{Cm, Mph, Permille};
 pub struct Ahead<'a, S, G> {
     /// The train's greatest front, in centimetres.
     pub front: Cm,
-    /// What limits the train wherever it stands.
+    /// What limits the train wherever it is.
     pub bounds: &'a Bounds,
     /// The speeds along the track.
     pub track: &'a Track<'a, S>,
@@ -56,7 +56,7 @@ impl<'a, S: Profile<CategorySpeeds>, G: Profile<Permille>> Ahead<'a, S, G> {
         (to_one.speed(), to_other.speed())
     }
 
-    /// All that is a target ahead, and a last target where it is given, one after another. A speed fits those that are told
+    /// All that is a target ahead, and a last target where it is given, one after another. A speed fits those that come
     /// exactly where it fits a target at each centimetre with a static speed, a restriction or an area, a stop at each
     /// without a static speed before the end of the authority, and the last target. Takes no memory.
     pub fn targets(&self, last: Option<Target>) -> Targets<'a, S>

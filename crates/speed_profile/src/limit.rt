@@ -1,4 +1,4 @@
-//! The speed that holds where the train stands.
+//! The speed that holds where the train is.
 ghost use Rattle.std.specs.Prelude.{◌≡◌};
 ghost use Rattle.track_store.specs.Profiles.{lesser};
 ghost use Rattle.speed_profile.specs.Limit.{speed_at_end, bound_speed, limit_on};
@@ -11,7 +11,7 @@ use track_store::{Profile, least_over};
 use units::{Cm, Mph, Stretch};
 use vars::TrainCategory;
 
-/// What limits the train's speed wherever it stands.
+/// What limits the train's speed wherever it is.
 #[derive(Clone, Copy)]
 pub struct Bounds {
     /// The train's greatest speed, in metres per hour.
@@ -24,9 +24,9 @@ pub struct Bounds {
     pub end: Option<End>,
 }
 
-/// The greatest speed that a train which may stand on this stretch may have there (this project's profile): the least of
+/// The greatest speed of a train that may cover this stretch (this project's profile): the least of
 /// its greatest speed, of V_MAIN, of V_LOA once its greatest front is at the end, of the static speeds, of the restrictions and
-/// of the mode areas that its front may stand in. Takes no memory.
+/// of the mode areas that its front may be in. Takes no memory.
 pub fn limit_on<S: Profile<CategorySpeeds>>(
     train: &Stretch,
     bounds: &Bounds,
@@ -45,7 +45,7 @@ pub fn limit_on<S: Profile<CategorySpeeds>>(
     track.areas.least(train, &track.national, restricted)
 }
 
-// The least of what holds wherever the train stands, its greatest front being at a place.
+// The least of what holds wherever the train is, its greatest front being at a place.
 fn bound_speed(front: Cm, bounds: &Bounds) -> Mph
     ensures { result ≡ bound_speed front bounds.now }
 {

@@ -1,4 +1,4 @@
-//! What packets 21 and 27 tell.
+//! What packets 21 and 27 mean on the track.
 ghost use Rattle.std.specs.Prelude.{◌≡◌, min, length, take, drop};
 ghost use Rattle.speed_profile.specs.Told.{speed_of, speed_for, speeds_for, first_place, gradient_value, gradient_fact, speed_value, speed_fact};
 
@@ -41,7 +41,7 @@ pub struct Told<T> {
     pub steps: ArrayVec<Step<T>, 32>,
 }
 
-/// The gradients that packet 21 tells (SUBSET-026, 7.4.2), in per mille, uphill positive; a steepness of 255 is an end
+/// The gradients of a packet 21 (SUBSET-026, 7.4.2), in per mille, uphill positive; a steepness of 255 is an end
 /// mark. Its first distance counts from a place.
 pub fn gradients(packet: &Gradients, place: GroupPlace) -> Told<Permille>
     ensures start { result.start ≡ (gradient_fact place packet.now).start }
@@ -61,7 +61,7 @@ pub fn gradients(packet: &Gradients, place: GroupPlace) -> Told<Permille>
     Told { start, steps }
 }
 
-/// The static speeds that packet 27 tells (SUBSET-026, 7.4.2); a V_STATIC of 127 is an end mark. Its first distance
+/// The static speeds of a packet 27 (SUBSET-026, 7.4.2); a V_STATIC of 127 is an end mark. Its first distance
 /// counts from a place.
 pub fn static_speeds(packet: &StaticSpeeds, place: GroupPlace) -> Told<CategorySpeeds>
     ensures start { result.start ≡ (speed_fact place packet.now).start }
@@ -136,7 +136,7 @@ fn speed_for(basic: Mph, differences: &[Difference], category: u64) -> Mph
     basic
 }
 
-// NC_DIFF 15 stands for no category.
+// NC_DIFF 15 means no category.
 const NO_CATEGORY: u64 = 15;
 
 // An element's own differences, of those that are left.

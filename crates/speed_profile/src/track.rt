@@ -1,4 +1,4 @@
-//! What is told of the speeds along the track.
+//! The speeds along the track.
 use areas::{Areas, NationalSpeeds};
 use track_store::Restrictions;
 

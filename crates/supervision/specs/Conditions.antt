@@ -103,7 +103,7 @@ abbrev pub is_trip_acknowledging : Option Action → Bool
 is_trip_acknowledging (Some (Acknowledge kind.Trip)) = true
 is_trip_acknowledging action = false
 
--- ---- all of them, where the train stands there
+-- ---- all of them, where the train is there
 
 abbrev pub conditions : Life → Span → Conditions
 conditions life train =

@@ -23,7 +23,7 @@ use Rattle.supervision.specs.declared.calls.Calls.{Calls}
 use Rattle.supervision.specs.declared.calls.Left.{Left}
 use Rattle.supervision.specs.Entry.{Entry}
 
--- ---- what the track told
+-- ---- what the track sent
 
 abbrev pub tracks : List Entry → List track.Entry
 tracks [] = []

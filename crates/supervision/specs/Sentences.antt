@@ -36,7 +36,7 @@ use Rattle.supervision.specs.Entry.{Entry, begun, seen, answered}
 use Rattle.supervision.specs.History.{tracks, mode_of, done_in, on_sight_of, shunting_of, level_0_of}
 use Rattle.supervision.specs.Life.{Life, track_of, driver_of, length_of, grown}
 
--- ---- first what the input itself tells of the track, by the mode before the event; and an action of the driver counts where it
+-- ---- first what the input itself brings of the track, by the mode before the event; and an action of the driver counts where it
 -- is accepted in the situation before the event
 
 abbrev pub values_of : Life → Values
@@ -73,7 +73,7 @@ deed_of life (Driver action) = deed_by life action
 abbrev pub told : Life → inputs.Input → track.Entry
 told life input = received (mode_of life.entries) (tracks life.entries) input
 
--- ---- then where the train stands, and the announced level that comes into force there
+-- ---- then where the train is, and the announced level that comes into force there
 
 abbrev pub standing_in : Life → Span
 standing_in life = standing (length_of life) (tracks life.entries)
@@ -132,7 +132,7 @@ calls_in life train level entered = record {
   level_0 = call_of_level life train level;
 }
 
--- by what the track has told once the mode is entered
+-- by what the track has sent once the mode is entered
 abbrev pub left_in : List track.Entry → Span → Left
 left_in told train = record {
   on_sight = any_left area.OnSight train.min_front (areas_of told);

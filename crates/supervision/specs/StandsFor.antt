@@ -10,7 +10,7 @@ use Rattle.trackside.specs.StandsFor as trackside
 use Rattle.supervision.specs.History.{mode_of, staff_from, done_in, on_sight_of, shunting_of, level_0_of}
 use Rattle.supervision.specs.Life.{Life, track_of, driver_of}
 
--- what each part knows but for what the track told
+-- what each part knows but for what the track sent
 pub record Known : Type 0 where
   pub driver : driver.Known
   pub mode : Mode
@@ -20,7 +20,7 @@ pub record Known : Type 0 where
   pub level_0 : Acknowledgement
   pub done : Option Action
 
--- .. and what the track told
+-- .. and what the track sent
 pub record Knowledge (G S : Type 0) : Type 0 where
   pub parts : Known
   pub track : trackside.Knowledge G S
@@ -37,7 +37,7 @@ parts_of life = record {
   done = done_in life.entries;
 }
 
--- it stands for a life; what the two stores give is read off them so
+-- it represents a life; what the two stores give is read off them so
 pub record StandsForLife {G S : Type 0} (gradients_in : G → Profile ℤ) (speeds_in : S → Profile CategorySpeeds) (known : Knowledge G S) (life : Life) : Type 0 where
   pub parts_are : known.parts ≡ parts_of life
   pub track_is : trackside.StandsForLife gradients_in speeds_in known.track (track_of life)

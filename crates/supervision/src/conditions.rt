@@ -134,7 +134,7 @@ impl<G: ProfileStore<Permille> + Drop, S: ProfileStore<CategorySpeeds> + Drop> S
         }
     }
 
-    /// All conditions, where the train stands there.
+    /// All conditions, where the train is there.
     pub(crate) fn conditions(&self, train: &Stretch) -> Conditions
         ensures { (life : Life) → StandsForLife G.profile S.profile self.now life → result ≡ conditions life train.now }
     {

@@ -1,5 +1,5 @@
 //! The supervision of the train: which mode it is in, what the driver does and has to acknowledge, for every list of events of one
-//! life, over what the track tells (SUBSET-026, 4 and 5; the order of one event: this project's profile). Distances are
+//! life, over what the track sends (SUBSET-026, 4 and 5; the order of one event: this project's profile). Distances are
 //! centimetres, speeds metres per hour, moments milliseconds.
 #![tactic(auto)]
 

@@ -24,7 +24,7 @@ impl<G: ProfileStore<Permille> + Drop, S: ProfileStore<CategorySpeeds> + Drop> S
     G,
     S,
 > {
-    // What the input itself tells, and the groups do that it closes.
+    // What the input itself brings, and the groups that it closes.
     fn begin(&mut self, alloc: Global, input: &Input) -> Result<(), NoMemory>
         ensures quiet { is_quiet self.old.track.parts input.now ≡ true → IsOk result }
         ensures stands { OnOk result ((life : Life) → StandsForLife G.profile S.profile self.old life

@@ -58,7 +58,7 @@ impl<G: ProfileStore<Permille> + Drop, S: ProfileStore<CategorySpeeds> + Drop> S
         SupervisionOver { parts, track }
     }
 
-    /// Where the train stands: from the minimum safe rear to the maximum safe front.
+    /// Where the train is: from the minimum safe rear to the maximum safe front.
     pub fn standing(&self) -> Stretch
         ensures { (life : Life) → StandsForLife G.profile S.profile self.now life → result ≡ standing_in life }
     {

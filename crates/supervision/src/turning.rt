@@ -105,7 +105,7 @@ impl Parts {
     }
 }
 
-// What is left of what the track told.
+// What is left of what the track sent.
 fn left_by<G, S>(track: &TracksideOver<G, S>, train: &Stretch) -> Left
     ensures { (life : TrackLife) → track.now.parts ≡ track_parts_of life → result ≡ left_in life.entries train.now }
 {
@@ -118,7 +118,7 @@ fn left_by<G, S>(track: &TracksideOver<G, S>, train: &Stretch) -> Left
     }
 }
 
-// The track may tell that another mode is entered.
+// The track takes note of another mode that is entered.
 fn enter<G: ProfileStore<Permille> + Drop, S: ProfileStore<CategorySpeeds> + Drop>(
     track: &mut TracksideOver<G, S>,
     entered: &Option<Mode>,
@@ -136,7 +136,7 @@ impl<G: ProfileStore<Permille> + Drop, S: ProfileStore<CategorySpeeds> + Drop> S
     G,
     S,
 > {
-    // The mode that is entered, if another one is, where the train stands there.
+    // The mode that is entered, if another one is, where the train is there.
     fn entered(&self, train: &Stretch) -> Option<Mode>
         ensures { (life : Life) → StandsForLife G.profile S.profile self.now life → result ≡ entered_in life train.now }
     {

@@ -78,7 +78,7 @@ RefusesPackets e (p ∷ ps) bits = (rest : List Bool) × Begins next_packet (Som
 abbrev pub RefusesTelegram : TelegramFault → List Bool → Type 0
 RefusesTelegram e bits = Refuses header e bits ⊎ ((h : Header) × (rest : List Bool) × (ps : List Packet) × Begins header h bits rest × RefusesPackets e ps rest)
 
--- The bytes carry no telegram, and this is the fault that is told: too many bytes before all others.
+-- The bytes carry no telegram, and this is the fault: too many bytes before all others.
 abbrev pub RefusesBytes : TelegramFault → List ℕ → Type 0
 RefusesBytes e bytes = ((104 < length bytes) × (e ≡ TooLong)) ⊎ ((length bytes ≤ 104) × RefusesTelegram e (bits_of bytes))
 

@@ -35,7 +35,7 @@ IsWalkOf bytes w = (t : Telegram) × Carries bytes t × (w ≡ record { header =
 abbrev pub packets_of : List Located → List Packet
 packets_of items = map (λ item. item.packet) items
 
--- The packet stands in the bits of its bytes, behind as many of them as its offset tells; the first and the last of the
+-- The packet is spelled in the bits of its bytes, behind as many of them as its offset says; the first and the last of the
 -- bytes hold bits of it.
 pub record StandsInPlace (item : Located) : Type 0 where
   pub rest : List Bool
@@ -54,7 +54,7 @@ unfoldable pub packets_in : ℕ → List Bool → List Packet
 packets_in zero bits = []
 packets_in (suc n) bits = before_those_of (read next_packet bits) (packets_in n)
 
--- the telegram with this header and so many packets, which stand in these bytes behind the header
+-- the telegram with this header and so many packets, which are spelled in these bytes behind the header
 abbrev pub received : Header → ℕ → List ℕ → Telegram
 received h count bytes = record { header = h; packets = record { items = packets_in count (drop 50 (bits_of bytes)) } }
 

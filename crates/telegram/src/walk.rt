@@ -29,7 +29,7 @@ impl<'a> Model for Packets<'a> {
 
     ghost view = { λ w. record { header = w.header; items = located_from w.bytes.now w.start (packets_in w.left w.reader) } };
 
-    // The reader stands at the next packet, and as many packets are read as are left.
+    // The reader is at the next packet, and as many packets are read as are left.
     ghost invariant = { λ w. (length w.bytes.now ≤ 104)
         × (w.start + length w.reader ≡ 8 * length w.bytes.now)
         × (length (packets_in w.left w.reader) ≡ w.left) };

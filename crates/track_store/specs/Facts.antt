@@ -20,7 +20,7 @@ abbrev pub given_by : {A : Type 0} → List (Step A) → ℤ → Option A
 given_by steps place =
     if list_any (λ step. is_none step.value) (passed place steps) then None else last_value None (passed place steps)
 
--- what is told at once: a profile from a first place on
+-- one fact: a profile from a first place on
 pub record Fact (A : Type 0) : Type 0 where
   pub start : ℤ
   pub steps : List (Step A)
@@ -30,7 +30,7 @@ abbrev pub latest : {A : Type 0} → List (Fact A) → ℤ → Option A
 latest [] place = None
 latest (fact ∷ facts) place = if int_lt place fact.start then latest facts place else given_by fact.steps place
 
--- what was told, and the forgetting mark
+-- the facts, and the forgetting mark
 pub record Told (A : Type 0) : Type 0 where
   pub mark : ℤ
   pub facts : List (Fact A)

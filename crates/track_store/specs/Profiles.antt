@@ -12,7 +12,7 @@ pub record Profile (A : Type 0) : Type 0 where
 abbrev pub profile_with : {S A : Type 0} → (S → ℤ → Option A) → S → Profile A
 profile_with value store = record { value = value store }
 
--- the value of a place stays the same up to a place ahead, that one not included; where none is told, for ever
+-- the value of a place stays the same up to a place ahead, that one not included; where there is none, for ever
 abbrev pub Lasts : {A : Type 0} → (ℤ → Option A) → ℤ → Option ℤ → Type 0
 Lasts value place None = (later : ℤ) → place ≤ℤ later → value later ≡ value place
 Lasts value place (Some next) =

@@ -6,7 +6,7 @@ use Rattle.track_store.specs.declared.profile.Step.{Step}
 use Rattle.track_store.specs.Facts.{given_by, from_mark}
 use Rattle.track_store.specs.Profiles.{Profile}
 
--- what was told at once, and the place before which it was forgotten since
+-- one fact, and the place before which it was forgotten since
 pub record Remembered (A : Type 0) : Type 0 where
   pub start : ℤ
   pub steps : List (Step A)

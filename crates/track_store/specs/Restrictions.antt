@@ -10,13 +10,13 @@ use Rattle.vars.specs.declared.restriction.TrainLengthDelay.{TrainLengthDelay}
 use Rattle.vars.specs.declared.restriction.TrainLengthDelay.TheVariants.{Applied, NotApplied}
 use Rattle.track_store.specs.declared.restriction.Restriction.{Restriction}
 
--- what was told: a restriction (packet 65), a revocation of those of a number (packet 66), a forgetting mark
+-- what bears on restrictions: a restriction (packet 65), a revocation of those of a number (packet 66), a forgetting mark
 pub data Entry : Type 0 where
   Restricted : Restriction → Entry
   Revoked : ℕ → Entry
   Forgotten : ℤ → Entry
 
--- an entry ends the restrictions that were told before it under its number; number 255 is never replaced nor revoked
+-- an entry ends the restrictions that came before it under its number; number 255 is never replaced nor revoked
 abbrev pub ends : Entry → Restriction → Bool
 ends (Restricted by) restriction = (by.number == restriction.number) && not (restriction.number == 255)
 ends (Revoked number) restriction = (number == restriction.number) && not (restriction.number == 255)
@@ -45,7 +45,7 @@ mark_of (Forgotten mark ∷ entries) = int_max mark (mark_of entries)
 abbrev pub end_of : Restriction → ℤ
 end_of restriction = restriction.start +ℤ pos restriction.length
 
--- the forgetting mark, and the restrictions that stand and aren't wholly forgotten
+-- the forgetting mark, and the restrictions in force that aren't wholly forgotten
 pub record InForce : Type 0 where
   pub mark : ℤ
   pub restrictions : List Restriction

@@ -45,12 +45,12 @@ pub trait Profile<T> {
     fn at(&self, place: Cm) -> Option<T>
         ensures { result ≡ value self.now place };
 
-    /// Up to where the value of a centimetre lasts: it stays the same up to the place that is told, which lies ahead
-    /// and isn't included; where None is told, for ever.
+    /// Up to where the value of a centimetre lasts: it stays the same up to the place that is answered, which lies ahead
+    /// and isn't included; for ever where that is None.
     fn next(&self, place: Cm) -> Option<Cm>
         ensures { Lasts (value self.now) place result };
 
-    /// What `at` and `next` tell of a centimetre, at once. Who goes from piece to piece hands in what the one before told
+    /// What `at` and `next` answer for a centimetre, at once. Who goes from piece to piece hands in what the one before gave
     /// as near, and first 0; that bears on nothing but the cost.
     fn piece(&self, place: Cm, near: usize) -> Piece<T>
         ensures value { result.value ≡ value self.now place }
@@ -64,7 +64,7 @@ pub trait Profile<T> {
     }
 }
 
-/// A profile that is told piece by piece, and forgotten behind the train (SUBSET-026, 3.7.1.1; 7.4.2, packets 21 and 27).
+/// A profile that comes piece by piece, and forgotten behind the train (SUBSET-026, 3.7.1.1; 7.4.2, packets 21 and 27).
 pub trait ProfileStore<T>: Profile<T> {
     ghost profile: { Self → profiles.Profile T };
 
@@ -72,14 +72,14 @@ pub trait ProfileStore<T>: Profile<T> {
     fn empty(alloc: Global) -> Self
         ensures { (place : ℤ) → Self.value result place ≡ None };
 
-    /// Takes what is told from a first place on, in place of all that was told there before. The last of the steps at or
+    /// Takes the values from a first place on, in place of all that were there before. The last of the steps at or
     /// below a centimetre holds there, and nothing where an end mark or no step is at or below it. Where memory is
     /// refused, nothing changes.
     fn replace_from(&mut self, start: Cm, steps: &[Step<T>]) -> Result<(), NoMemory>
         ensures ok { OnOk result ((place : ℤ) → Self.value self.new place ≡ replaced (Self.value self.old) start steps.now place) }
         ensures err { OnErr result (self.new ≡ self.old) };
 
-    /// Drops the values below a place, and no other ones. What is told there later counts.
+    /// Drops the values below a place, and no other ones. What comes there later counts.
     fn drop_behind(&mut self, place: Cm)
         ensures { (there : ℤ) → Self.value self.new there ≡ from_mark place (Self.value self.old) there };
 

@@ -73,7 +73,7 @@ impl Restrictions {
         }
     }
 
-    /// The least of a speed and of those that limit a train that may stand on this stretch, in metres per hour.
+    /// The least of a speed and of those that limit a train that may cover this stretch, in metres per hour.
     pub fn least(&self, train: &Stretch, otherwise: Mph) -> Mph
         ensures { result ≡ least_speed self.now train.now otherwise }
     {

@@ -7,7 +7,7 @@ use crate::{Piece, Same, Step};
 use units::Cm;
 
 /// A piece of a profile with one value: from its start up to the next one's start, the last one without end
-/// (SUBSET-026, 3.11; packets 21 and 27 of 7.4.2 tell profiles so).
+/// (SUBSET-026, 3.11; packets 21 and 27 of 7.4.2 give profiles so).
 #[derive(Clone, Copy)]
 pub struct Segment<T> {
     /// Where it begins.

@@ -26,6 +26,6 @@ announced_from scale place country (link ∷ links) =
     let a = announced scale place country link in
     a ∷ announced_from scale a.place a.group.country links
 
--- the first distance counts from the place of the group that tells the list, and the first country is its own
+-- the first distance counts from the place of the group of the list, and the first country is its own
 abbrev pub announcements_of : GroupIdentity → ℤ → Linking → List Announcement
 announcements_of group place p = announced_from p.scale place group.country p.links.items

@@ -71,7 +71,7 @@ abbrev pub after_column : {A : Type 0} → Item → (A → A) → Option Mode �
 after_column item deleted None told = told
 after_column item deleted (Some mode) told = if is_deleted (status_on item mode) then deleted told else told
 
--- ---- what facts tell a part, one after another, and what the groups of an event tell it
+-- ---- what facts give a part, one after another, and what the groups of an event give it
 
 -- the packets of a group that were used; only an accepted group has some
 abbrev pub facts_in : Outcome → List Fact
@@ -144,7 +144,7 @@ abbrev pub groups_of : List Entry → groups.Known
 groups_of entries = groups.known (all_heard entries)
 
 -- ---- what bears on linking: the groups that were missed; then of each group that closed what became of it, and behind
--- that the lists of links that it told (packet 5)
+-- that its lists of links (packet 5)
 
 abbrev pub after_ruling : Outcome → List linking.Entry → List linking.Entry
 after_ruling (Broken b) entries = after_broken (linking.known entries) b.group b.linked entries
@@ -173,7 +173,7 @@ links (entry ∷ entries) =
 abbrev pub links_of : List Entry → linking.Known
 links_of entries = linking.known (links entries)
 
--- ---- what bears on the national values: of each group that was accepted its country, and behind that the values that it tells
+-- ---- what bears on the national values: of each group that was accepted its country, and behind that its values
 -- (packet 3); behind all groups where the greatest front is
 
 abbrev pub after_country : Outcome → List national.Entry → List national.Entry
@@ -232,8 +232,8 @@ abbrev pub restrictions : List Entry → List track.Entry
 restrictions [] = []
 restrictions (entry ∷ entries) = after_mark entry.mark (after_messages entry.used.groups (restrictions entries))
 
--- ---- what bears on the authority: the clock; then the authorities that were told (packet 12); behind all groups where the
--- train stands
+-- ---- what bears on the authority: the clock; then the authorities (packet 12); behind all groups where the
+-- train is
 
 abbrev pub after_clock : Option ℕ → List authority.Entry → List authority.Entry
 after_clock None entries = entries
@@ -273,7 +273,7 @@ happened_of [] = nothing_happened
 happened_of (entry ∷ entries) = entry.used.happened
 
 -- ---- what bears on the mode areas. Packets are taken in rising number, equal numbers in the order of the message: an authority
--- (packet 12) deletes the areas that were told before, and then areas are told (packet 80)
+-- (packet 12) deletes the areas of before, and then new ones come (packet 80)
 
 abbrev pub after_grant : Fact → List areas.Entry → List areas.Entry
 after_grant fact entries = option_map_or (λ p. AreasCleared ∷ entries) (as_movement_authority fact.packet) entries
@@ -318,7 +318,7 @@ announced_levels (entry ∷ entries) =
 abbrev pub announced_level : List Entry → Option AnnouncedLevel
 announced_level entries = waiting (announced_levels entries)
 
--- ---- what bears on the gradient and the static speed: what was told of them (packets 21 and 27), and the forgetting mark
+-- ---- what bears on the gradient and the static speed: their packets (21 and 27), and the forgetting mark
 
 abbrev pub after_gradients : Fact → List (profiles.Fact ℤ) → List (profiles.Fact ℤ)
 after_gradients fact told = option_map_or (λ p. gradient_fact fact.place p ∷ told) (as_gradients fact.packet) told

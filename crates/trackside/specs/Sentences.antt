@@ -119,7 +119,7 @@ fix_of place free message (Some a) = made place.sums (fix_at message a.place (10
 fix_of place free message None = if free then made place.sums (fix_at message (own_place place message) 0) else None
 
 -- ---- then those packets of an accepted group are used that the mode before the event uses and that are valid in the direction in
--- which the group was passed. That is what its balises tell, or else what its announcement does
+-- which the group was passed. That is by its balises, or else by its announcement
 
 abbrev pub is_passed : ValidityDirection → Option LinkOrientation → Bool
 is_passed Both direction = true
@@ -219,14 +219,14 @@ with_groups mode entries begun happened =
 abbrev pub used_by : Mode → List Entry → inputs.Input → Used
 used_by mode entries input = with_groups mode entries (begun entries input) (happened_first entries input)
 
--- what an input tells, in a mode
+-- what an input brings, in a mode
 abbrev pub received : Mode → List Entry → inputs.Input → Entry
 received mode entries input = so_far (begun entries input) (used_by mode entries input)
 
--- ---- then the timers of the authority see where the train stands, and national values and the level that are announced come into force
+-- ---- then the timers of the authority see where the train is, and national values and the level that are announced come into force
 -- where the greatest front has reached their places
 
--- where a train of some length stands; 0 where the length isn't known
+-- where a train of some length is; 0 where the length isn't known
 abbrev pub standing : ℕ → List Entry → Span
 standing length entries = odometry.stretch (place_of entries) length
 

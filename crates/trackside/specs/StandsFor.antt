@@ -16,7 +16,7 @@ use Rattle.trackside.specs.declared.happened.Happened.{Happened}
 use Rattle.trackside.specs.Entry.{Entry, Begun, Used, so_far}
 use Rattle.trackside.specs.History.{place_of, group_of_fix, speed_of, groups_of, links_of, national_entries, restrictions, moment_of, authority_of, areas_of, announced_level, gradients_of, speeds_of, happened_of, is_stopped}
 
--- the national values that were kept as the life began, and what its events told, the newest first
+-- the national values that were kept as the life began, and what its events brought, the newest first
 pub record Life : Type 0 where
   pub kept : ValuesFor
   pub entries : List Entry
@@ -65,7 +65,7 @@ parts_of life =
       stopped = is_stopped life.entries;
     }
 
--- It stands for a life; what the two stores give is read off them so.
+-- It represents a life; what the two stores give is read off them so.
 pub record StandsForLife {G S : Type 0} (gradients_in : G → Profile ℤ) (speeds_in : S → Profile CategorySpeeds) (known : Knowledge G S) (life : Life) : Type 0 where
   pub parts_are : known.parts ≡ parts_of life
   pub gradients_are : gradients_in known.gradients ≡ gradients_of life.entries

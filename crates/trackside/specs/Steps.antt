@@ -21,7 +21,7 @@ left_by entries reading = (closed_by (groups_of entries) (moved entries reading)
 abbrev pub after_moving : List Entry → Reading → Used
 after_moving entries reading = record { groups = []; happened = happened_by entries reading }
 
--- what the parts know after a movement, but that the group being read isn't told of it yet
+-- what the parts know after a movement, but that the group being read hasn't taken it yet
 abbrev pub still_reading : Life → Reading → Known
 still_reading life reading =
     record (parts_of (grown_so_far life (moved life.entries reading) (after_moving life.entries reading))) { groups = groups_of life.entries }

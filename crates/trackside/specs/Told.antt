@@ -18,7 +18,7 @@ use Rattle.trackside.specs.Entry.{Fact}
 use Rattle.trackside.specs.History.{after_values, after_links, after_authority, after_stop, after_grant, after_areas, after_level, after_gradients, after_speeds, after_restriction, after_revocation}
 use Rattle.trackside.specs.StandsFor.{Known, Knowledge}
 
--- what was told to the parts that packets tell something, and what the others know
+-- what the parts took that packets concern, and what the others know
 pub record Told : Type 0 where
   pub others : Known
   pub kept : ValuesFor
@@ -45,14 +45,14 @@ known_of told =
       level = levels.waiting told.levels;
     }
 
--- the state is what was told
+-- the state is what was taken
 pub record IsTold {G S : Type 0} (gradients_in : G → Profile ℤ) (speeds_in : S → Profile CategorySpeeds) (known : Knowledge G S) (told : Told) : Type 0 where
   pub parts_are : known.parts ≡ known_of told
   pub mark_is : track.mark_of told.restrictions ≡ told.mark
   pub gradients_are : gradients_in known.gradients ≡ profiles.profile_of (record { mark = told.mark; facts = told.gradients })
   pub speeds_are : speeds_in known.speeds ≡ profiles.profile_of (record { mark = told.mark; facts = told.speeds })
 
--- what a packet tells in the first walk
+-- what a packet brings in the first walk
 abbrev pub after_earlier : Fact → Told → Told
 after_earlier fact told =
     record told {

@@ -1,4 +1,4 @@
-//! What the track tells the train and where the train is: the balise groups that were read, what they announce, the authority,
+//! What the track sends to the train and where the train is: the balise groups that were read, what they announce, the authority,
 //! the profiles of the track, the restrictions, the mode areas and the national values, for every list of events of one life
 //! (SUBSET-026, 3; the order of one event: this project's profile). Distances are centimetres, speeds metres per hour, moments
 //! milliseconds.

@@ -19,7 +19,7 @@ use units::{Cm, Length, Permille, Stretch};
 /// How much track behind the least rear isn't forgotten, in centimetres.
 const REMEMBERED: i64 = 100_000;
 
-// The track before this place is forgotten, where the train stands on this stretch.
+// The track before this place is forgotten, where the train covers this stretch.
 fn mark_behind(train: &Stretch) -> Cm
     requires { HasReach train.now.rear }
     ensures { result ≡ mark_behind train.now }
@@ -28,7 +28,7 @@ fn mark_behind(train: &Stretch) -> Cm
 }
 
 impl Parts {
-    // The authority's timers see where the train stands, and national values and the level come into force where the greatest front
+    // The authority's timers see where the train is, and national values and the level come into force where the greatest front
     // has reached their places.
     fn look(&mut self, train: &Stretch) -> Option<TrainLevel>
         ensures level { (life : Life) (begun : Begun) (used : Used) → self.old ≡ parts_of (grown_so_far life begun used)
@@ -51,7 +51,7 @@ impl Parts {
 }
 
 impl<G: ProfileStore<Permille> + Drop, S: ProfileStore<CategorySpeeds> + Drop> TracksideOver<G, S> {
-    /// The look at a train of some length (0 where it isn't known), once an event: the authority's timers see where it stands, and
+    /// The look at a train of some length (0 where it isn't known), once an event: the authority's timers see where it is, and
     /// national values and the level that are announced come into force where the greatest front has reached their places. Answers the
     /// level that does.
     pub fn look(&mut self, length: Length) -> Option<TrainLevel>

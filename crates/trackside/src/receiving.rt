@@ -29,7 +29,7 @@ impl Parts {
         self.stopped = false;
     }
 
-    // An input that tells nothing here.
+    // An input without effect here.
     fn pass_over(&mut self)
         ensures { (life : Life) → self.old ≡ parts_of life → self.new ≡ parts_of (grown_so_far life nothing no_groups) }
     {
@@ -76,7 +76,7 @@ impl Parts {
         })
     }
 
-    // The clock tells a moment.
+    // The clock gives a moment.
     fn tick(&mut self, moment: Ms)
         ensures { (life : Life) → self.old ≡ parts_of life
             → self.new ≡ parts_of (grown_so_far life (record nothing { clock = Some moment }) no_groups) }
@@ -128,7 +128,7 @@ impl<G: ProfileStore<Permille> + Drop, S: ProfileStore<CategorySpeeds> + Drop> T
         }
     }
 
-    /// What an input tells in a mode, and the groups do that it closes: first its own effect, then each group is judged, makes its
+    /// What an input brings in a mode, and the groups that it closes: first its own effect, then each group is judged, makes its
     /// fix, and the packets are used that the mode uses. Where memory is refused, the state is no longer of use; a quiet input is
     /// never refused any.
     pub fn receive(&mut self, alloc: Global, mode: Mode, input: &Input) -> Result<(), NoMemory>

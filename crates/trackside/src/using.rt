@@ -1,5 +1,5 @@
 //! How the packets of a group that was accepted are used. They are taken in rising number, equal numbers in the order of the
-//! message, and most kinds tell a part of their own: so two walks over the message are enough.
+//! message, and most kinds go to a part of their own: so two walks over the message are enough.
 ghost use Rattle.std.specs.Prelude.{◌≡◌, OnOk, if◌then◌else◌};
 ghost use Rattle.trackside.specs.Entry.{Fact};
 ghost use Rattle.trackside.specs.History.{after_facts};
@@ -128,7 +128,7 @@ pub fn take_all<T, W: Walk<T>>(
 }
 
 impl Parts {
-    // Takes what a packet tells one of these parts in the first walk.
+    // Takes what a packet has for one of these parts in the first walk.
     fn tell(&mut self, alloc: Global, packet: &Packet<'_>, used: &Use) -> Result<(), NoMemory>
         ensures { OnOk result ((told : AllTold) → self.old ≡ known_of told → self.new ≡ known_of (after_earlier (fact_of used.now packet.now) told)) }
     {

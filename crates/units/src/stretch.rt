@@ -5,7 +5,7 @@ ghost use Rattle.units.specs.Limits.{IsCm};
 use crate::Cm;
 use std::marker::Model;
 
-/// What a train may stand on, in centimetres: from its least rear over its least front to its greatest front.
+/// The track that a train may cover, in centimetres: from its least rear over its least front to its greatest front.
 #[derive(Clone, Copy)]
 pub struct Stretch {
     rear: Cm,

@@ -5,7 +5,7 @@ ghost use Rattle.vars.specs.declared.variable.NoValue.{NoValue};
 
 use thiserror::Error;
 
-/// Why a number stands for no value of a variable.
+/// Why a number has no value of a variable.
 #[derive(Clone, Copy, Debug, PartialEq, Eq, Error)]
 pub enum NoValue {
     /// The language keeps the number for later use.
@@ -16,9 +16,9 @@ pub enum NoValue {
     OutOfRange,
 }
 
-/// A variable of the language: a number of so many bits that stands for a value.
+/// A variable of the language: a number of so many bits, with a value.
 pub trait Variable: Sized {
-    /// How its values stand in bits.
+    /// How its values are spelled in bits.
     ghost codes: { Codes NoValue Self };
 
     ghost WIDTH: { ℕ };
@@ -26,17 +26,17 @@ pub trait Variable: Sized {
     /// The number of its bits, at most 15.
     const WIDTH: u32;
 
-    /// The value that a number of its bits stands for, or why it stands for none.
+    /// The value of a number of its bits, or why it has none.
     fn of_number(number: u64) -> Result<Self, NoValue>
         requires { number < 2 ^ (codes).width }
         ensures { result ≡ (codes).value number };
 
-    /// The number that stands for the value.
+    /// The number of the value.
     fn number(&self) -> u64
         ensures value { result ≡ (codes).number self.now }
         ensures bound { result < 2 ^ (codes).width };
 
-    /// Whether the number stands for the value. It doesn't where it is kept for another value: that of no distance, or
+    /// Whether the number is the value's own. It isn't where it is kept for another value: that of no distance, or
     /// of no length.
     fn has_own_number(&self) -> bool
         ensures { IsTrue result ↔ ((codes).value ((codes).number self.now) ≡ Ok self.now) };

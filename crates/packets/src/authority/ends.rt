@@ -1,4 +1,4 @@
-//! What an authority tells of its end, read and handed to a sink.
+//! The end of an authority, read and handed to a sink.
 use crate::authority::{DangerPoint, EndTimer, Overlap};
 use crate::element::Element;
 use crate::fault::PacketFault;

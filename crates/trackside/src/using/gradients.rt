@@ -11,7 +11,7 @@ use speed_profile::gradients;
 use track_store::ProfileStore;
 use units::{Cm, NoMemory, Permille};
 
-/// Takes a packet, where it tells gradients; no track before the forgetting mark counts.
+/// Takes a packet, where it has gradients; no track before the forgetting mark counts.
 pub fn take<G: ProfileStore<Permille>>(
     store: &mut G,
     mark: Cm,

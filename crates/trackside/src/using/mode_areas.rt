@@ -19,7 +19,7 @@ pub fn clear(areas: &mut Areas, packet: &Packet<'_>)
     }
 }
 
-/// Takes a packet, where it tells areas.
+/// Takes a packet, where it has areas.
 pub fn take(areas: &mut Areas, packet: &Packet<'_>, used: &Use)
     ensures { (entries : List Entry) → areas.old ≡ stored entries → areas.new ≡ stored (after_areas (fact_of used.now packet.now) entries) }
 {

@@ -12,7 +12,7 @@ use speed_profile::{CategorySpeeds, static_speeds};
 use track_store::ProfileStore;
 use units::{Cm, NoMemory};
 
-/// Takes a packet, where it tells static speeds; no track before the forgetting mark counts.
+/// Takes a packet, where it has static speeds; no track before the forgetting mark counts.
 pub fn take<S: ProfileStore<CategorySpeeds>>(
     store: &mut S,
     mark: Cm,

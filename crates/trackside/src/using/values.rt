@@ -9,7 +9,7 @@ use crate::using::Use;
 use national::National;
 use packets::Packet;
 
-/// Takes a packet, where it tells national values.
+/// Takes a packet, where it has national values.
 pub fn take(national: &mut National, packet: &Packet<'_>, used: &Use)
     ensures { (kept : ValuesFor) (entries : List Entry) → national.old ≡ known kept entries
         → national.new ≡ known kept (after_values (fact_of used.now packet.now) entries) }

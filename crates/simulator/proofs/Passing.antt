@@ -1,5 +1,5 @@
 -- Balises in the order of their places, and those that a way leads over.
-use Rattle.std.proofs.Common.{◌≡◌, ℕ, zero, suc, ◌+◌, ◌-◌, ◌≤◌, ◌<◌, ℤ, pos, negsuc, ◌+ℤ◌, ◌≤ℤ◌, ◌<ℤ◌, int_lt, int_le, ltb, List, [], ◌∷◌, ◌++◌, length, get_or, take, drop, Bool, true, false, not, ◌&&◌, ◌||◌, refl, sym, ap, ◌∙◌, arith}
+use Rattle.std.proofs.Common.{◌≡◌, ℕ, zero, suc, ◌-◌, ◌≤◌, ◌<◌, ℤ, pos, negsuc, ◌+ℤ◌, ◌≤ℤ◌, ◌<ℤ◌, int_lt, int_le, ltb, List, [], get_or, take, drop, Bool, true, false, not, ◌&&◌, ◌||◌, refl, sym, ◌∙◌, arith}
 use Rattle.std.specs.List.{filter, All}
 use Rattle.std.specs.List.Sorted.{IsNonDecreasingBy, IsStableByKey, IsPartitionedBy, ties}
 use Rattle.std.specs.Ordering.{int_eq, nat_cmp, is_lt}

@@ -1,5 +1,5 @@
 -- Readings, one after another.
-use Rattle.std.proofs.Common.{◌≡◌, ℕ, suc, zero, ◌+◌, pos, refl, add-one}
+use Rattle.std.proofs.Common.{◌≡◌, ℕ, ◌+◌, pos, refl, add-one}
 use Rattle.simulator.specs.Course.{Run, full_readings, accepted, reading}
 
 pub full_readings-none : (speed : ℕ) (r : Run) → full_readings 0 speed r ≡ r

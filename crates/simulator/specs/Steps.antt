@@ -1,5 +1,5 @@
 -- What a step of a scenario asks for (this project's profile). Distances are centimetres, speeds metres per hour, moments milliseconds.
-use Rattle.std.specs.Prelude.{ℕ, ◌==◌, ◌^◌, ◌-◌, ◌&&◌, ℤ, pos, int_le, List, length, codes, Bool, if◌then◌else◌, Option, Some, None, Result, Ok, Err}
+use Rattle.std.specs.Prelude.{◌==◌, ◌^◌, ◌-◌, ◌&&◌, pos, int_le, length, codes, if◌then◌else◌, Option, Some, None, Result, Ok, Err}
 use Rattle.serde_json.specs.Data.{Data}
 use Rattle.serde_json.specs.Find.{get, as_str, as_bool}
 use Rattle.events.specs.declared.input.Input.TheVariants.{Telegram, Clock, Driver}

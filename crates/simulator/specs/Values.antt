@@ -1,8 +1,8 @@
 -- Looking into a JSON value, and the first fault in order (this project's profile).
-use Rattle.std.specs.Prelude.{ℕ, ◌==◌, ◌&&◌, nat_le, ℤ, pos, negsuc, int_le, List, [], ◌∷◌, length, slice_get, is_some, Bool, true, false, if◌then◌else◌, Option, Some, None, option_map, option_and_then, Result, Ok, Err}
+use Rattle.std.specs.Prelude.{ℕ, ◌==◌, ◌&&◌, nat_le, ℤ, pos, negsuc, int_le, List, [], ◌∷◌, length, slice_get, Bool, true, false, if◌then◌else◌, Option, Some, None, option_map, option_and_then, Result, Ok, Err}
 use Rattle.serde_json.specs.Data.{Data, Items, no_items, item, Members}
 use Rattle.serde_json.specs.Events.{members_len}
-use Rattle.serde_json.specs.Find.{get, as_number, as_i64, as_str, as_array, as_object}
+use Rattle.serde_json.specs.Find.{as_number, as_i64, as_str, as_array, as_object}
 use Rattle.hex.specs.Hex.{decode_of}
 use Rattle.hex.specs.declared.error.FromHexError.{FromHexError}
 use Rattle.simulator.specs.declared.fault.ScenarioFault.{ScenarioFault}

@@ -184,7 +184,11 @@ fn acknowledged_kind(items: &[Value]) -> Result<Action, ScenarioFault>
 fn bare(action: Action, items: &[Value]) -> Result<Action, ScenarioFault>
     ensures { result ≡ bare action (map view items.now) }
 {
-    if items.len() == 1 { Ok(action) } else { Err(ScenarioFault::Shape) }
+    if items.len() == 1 {
+        Ok(action)
+    } else {
+        Err(ScenarioFault::Shape)
+    }
 }
 
 #[tactic(auto, unfolding(crate::specs::Actions::by_code))]

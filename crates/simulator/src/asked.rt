@@ -2,11 +2,11 @@
 ghost use Rattle.std.specs.Prelude.{◌≡◌, ◌⊎◌, IfOk, IfErr};
 ghost use Rattle.serde_json.specs.View.{view};
 
+use crate::ScenarioFault;
 use crate::actions::action_of;
 use crate::distance::Distance;
 use crate::telegrams::bytes_of;
 use crate::values::{has_members, list_of, whole_item, within};
-use crate::ScenarioFault;
 use events::Input;
 use serde_json::Value;
 use std::alloc::Global;

@@ -37,7 +37,12 @@ fn are_texts(items: &[Value]) -> bool
 }
 
 // Lays a balise at a place.
-fn lay_one(alloc: Global, at: u64, item: &Value, balises: &mut Vec<Balise>) -> Result<(), ScenarioFault>
+fn lay_one(
+    alloc: Global,
+    at: u64,
+    item: &Value,
+    balises: &mut Vec<Balise>,
+) -> Result<(), ScenarioFault>
     ensures ok { OnOk result (laid_one at (view item.now) balises.old.items ≡ Ok balises.new.items) }
     ensures err { IfErr result (λ fault. (fault ≡ ScenarioFault.NoMemory) ⊎ (laid_one at (view item.now) balises.old.items ≡ Err fault)) }
 {
@@ -48,7 +53,13 @@ fn lay_one(alloc: Global, at: u64, item: &Value, balises: &mut Vec<Balise>) -> R
 }
 
 // Lays balises so far apart, the first of them at a place.
-fn lay(alloc: Global, first: u64, apart: u64, items: &[Value], balises: &mut Vec<Balise>) -> Result<(), ScenarioFault>
+fn lay(
+    alloc: Global,
+    first: u64,
+    apart: u64,
+    items: &[Value],
+    balises: &mut Vec<Balise>,
+) -> Result<(), ScenarioFault>
     requires few { length items.now ≤ 8 }
     requires near { first ≤ 100_000_000 }
     requires close { apart ≤ 1_200 }
@@ -83,7 +94,11 @@ fn lay_group(alloc: Global, value: &Value, balises: &mut Vec<Balise>) -> Result<
 }
 
 /// Lays the balises of all groups, behind those before them.
-pub(crate) fn lay_all(alloc: Global, items: &[Value], balises: &mut Vec<Balise>) -> Result<(), ScenarioFault>
+pub(crate) fn lay_all(
+    alloc: Global,
+    items: &[Value],
+    balises: &mut Vec<Balise>,
+) -> Result<(), ScenarioFault>
     ensures ok { OnOk result (groups (map view items.now) balises.old.items ≡ Ok balises.new.items) }
     ensures err { IfErr result (λ fault. (fault ≡ ScenarioFault.NoMemory) ⊎ (groups (map view items.now) balises.old.items ≡ Err fault)) }
 {

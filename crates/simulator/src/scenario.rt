@@ -74,7 +74,12 @@ fn track_of(alloc: Global, items: &[Value]) -> Result<Track, ScenarioFault>
 }
 
 // Takes all steps.
-fn live(alloc: Global, track: &Track, items: &[Value], course: &mut Course) -> Result<(), ScenarioFault>
+fn live(
+    alloc: Global,
+    track: &Track,
+    items: &[Value],
+    course: &mut Course,
+) -> Result<(), ScenarioFault>
     requires here { course.old.front ≡ pos 0 }
     ensures ok { OnOk result (lived (passed track.now.balises.items) (map view items.now) (run_of course.old) ≡ Ok (run_of course.new)) }
     ensures err { IfErr result (λ fault. (fault ≡ ScenarioFault.NoMemory) ⊎ (lived (passed track.now.balises.items) (map view items.now) (run_of course.old) ≡ Err fault)) }

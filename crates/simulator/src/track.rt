@@ -28,7 +28,9 @@ impl Track {
     fn up_to(&self, place: i128) -> usize
         ensures { AreUpTo self.now.balises.items place result }
     {
-        self.balises.as_slice().partition_point(|balise| i128::from(balise.at) <= place)
+        self.balises
+            .as_slice()
+            .partition_point(|balise| i128::from(balise.at) <= place)
     }
 
     /// The balises on so many centimetres ahead of a place, in their order.

@@ -1,4 +1,4 @@
-use Rattle.std.proofs.Common.{◌≡◌, refl}
+use Rattle.std.proofs.Common.{refl}
 use Rattle.serde_json.proofs.Views.{members_len-members_view}
 use Rattle.simulator.proofs.values.has_members.Goals as goal
 

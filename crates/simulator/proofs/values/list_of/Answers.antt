@@ -1,4 +1,4 @@
-use Rattle.std.proofs.Common.{◌≡◌, refl}
+use Rattle.std.proofs.Common.{refl}
 use Rattle.simulator.proofs.Lists.{list_of-items_view}
 use Rattle.simulator.proofs.values.list_of.Goals as goal
 

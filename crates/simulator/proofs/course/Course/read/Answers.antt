@@ -1,4 +1,4 @@
-use Rattle.std.proofs.Common.{◌≡◌, sym}
+use Rattle.std.proofs.Common.{sym}
 use Rattle.simulator.proofs.Readings.{full_readings-none, full_readings-more}
 use Rattle.simulator.specs.Course.{run_of}
 use Rattle.simulator.proofs.course.Course.read.Goals as goal

@@ -1,7 +1,6 @@
-use Rattle.std.proofs.Common.{◌≡◌, ◌-◌, arith, sym, ◌∙◌, take, drop, ap, rules}
+use Rattle.std.proofs.Common.{arith, sym}
 use Rattle.std.proofs.lemmas.Int.{ints}
 use Rattle.std.proofs.lemmas.List.Elements.{All-same}
-use Rattle.simulator.specs.Passing.{passed}
 use Rattle.simulator.proofs.Passing.{rises, passed-between, all_ahead, IsAhead}
 use Rattle.simulator.proofs.track.Track.ahead.Goals as goal
 

@@ -1,4 +1,4 @@
-use Rattle.std.proofs.Common.{◌≡◌, rules, of_calls}
+use Rattle.std.proofs.Common.{rules, of_calls}
 use Rattle.std.proofs.Math.Path.{fun_ext}
 use Rattle.std.proofs.lemmas.Fn.{always_returns_same}
 use Rattle.std.proofs.lemmas.List.Sorted.{IsNonDecreasingBy-from_sort_by_key}

@@ -1,0 +1,5 @@
+pub mod Lists
+pub mod Readings
+pub mod Identity
+pub mod Sifting
+pub mod Passing

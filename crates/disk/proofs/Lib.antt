@@ -1,7 +1,9 @@
 pub mod Calls
 pub mod Copies
 pub mod Moments
+pub mod Parts
 pub mod Reaching
 pub mod RecordLemmas
 pub mod Settling
+pub mod SystemLemmas
 pub mod Widths

@@ -1,13 +1,15 @@
 -- What the fields of a disk in memory keep.
-use Rattle.std.specs.Prelude.{◌≡◌, ◌*◌, ◌≤◌, vec_len, vec_capacity, All}
-use Rattle.disk.specs.Record.{IsWithin}
+use Rattle.std.specs.Prelude.{◌≡◌, ℕ, ◌*◌, ◌<◌, ◌≤◌, vec_len, vec_capacity, slice_index_or, All}
+use Rattle.disk.specs.Record.{IsWithin, trace_of}
+use Rattle.disk.specs.declared.record.Place.TheVariants.{Start}
 use Rattle.disk.specs.declared.memory.Memory.TheInside.{Inside}
 
--- It began with whole sectors, its calls are of sectors that it has, it stays within its room, and the room was taken
--- (this project's profile).
+-- It began with whole sectors, its calls are of sectors that it has, it stays within its room, the room was taken, and where
+-- a read finds each sector is what the calls tell (this project's profile).
 pub record IsKept (m : Inside) : Type 0 where
   pub whole : vec_len m.start ≡ 512 * m.sectors
   pub recorded : All (IsWithin m.sectors (vec_len m.written)) m.calls.items
   pub calls_fit : (vec_len m.calls ≤ m.room.calls) × (m.room.calls ≤ vec_capacity m.calls)
   pub bytes_fit : (vec_len m.written ≤ m.room.bytes) × (m.room.bytes ≤ vec_capacity m.written)
+  pub placed : (vec_len m.places ≡ m.sectors) × ((s : ℕ) → s < m.sectors → slice_index_or m.places.items s Start ≡ (trace_of s m.calls.items).last)
   pub planned : m.planned_at ≤ vec_len m.calls

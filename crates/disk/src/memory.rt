@@ -1,12 +1,12 @@
 // A disk in memory, which keeps a record of its calls.
 ghost use Rattle.std.specs.Prelude.{◌≡◌, ◌≢◌, ℕ, ◌+◌, ◌-◌, ◌*◌, ◌%◌, ◌^◌, ◌<◌, ◌≤◌, ◌++◌, ◌∷◌, [], List, All, length, vec_len, vec_capacity, IsTrue, if◌then◌else◌, IfOk, OnOk, OnErr, is_err};
 ghost use Rattle.disk.specs.State.{now, contents_of, IsImage, AreSectors, Counted, Touches, Holds, AreOpen, OpenOrSame, SameOpenOutside, SameOpen, IsSynced, SameBut, sector_of, last_synced};
-ghost use Rattle.disk.specs.Record.{IsWithin, AllPlaced, trace_of};
+ghost use Rattle.disk.specs.Record.{IsWithin, IsPlaced, AllPlaced, trace_of};
 ghost use Rattle.disk.specs.Plan.{fate_of};
 ghost use Rattle.disk.specs.Choice.{chosen, settled_sector};
 
 use crate::choice::{Choice, nth};
-use crate::record::{Call, Span, Trace, bytes_in, follow};
+use crate::record::{Call, Place, Span, Trace, bytes_in, follow, place_sectors, unwritten};
 use crate::{Disk, DiskFault, SECTOR_BYTES};
 use std::alloc::{AllocError, Global};
 use std::marker::Model;
@@ -70,13 +70,16 @@ pub struct Room {
 }
 
 /// A disk in memory that can lose power. It keeps a record of its calls, from which its earlier images are read, in
-/// room that it takes when it is made. Once made, its calls take no memory, `settle` aside.
+/// room that it takes when it is made. Once made, its calls take no memory, `settle` aside. A read does not go through the
+/// record: where the bytes of each sector stand is kept beside it.
 #[derive(Drop)]
 pub struct Memory {
     sectors: u64,
     start: Vec<u8>,
     calls: Vec<Call>,
     written: Vec<u8>,
+    // Where a read finds each sector.
+    places: Vec<Place>,
     room: Room,
     plan: Plan,
     planned_at: usize,
@@ -117,6 +120,7 @@ impl Memory {
             start: vec![in alloc; 0; bytes]?,
             calls: Vec::with_capacity(alloc, room.calls)?,
             written: Vec::with_capacity(alloc, room.bytes)?,
+            places: unwritten(alloc, sectors as usize)?,
             room,
             plan: Plan::Nothing,
             planned_at: 0,
@@ -173,6 +177,7 @@ impl Memory {
             start: self.settled(alloc, choices)?,
             calls: Vec::with_capacity(alloc, self.room.calls)?,
             written: Vec::with_capacity(alloc, self.room.bytes)?,
+            places: unwritten(alloc, self.places.len())?,
             room: self.room,
             plan: Plan::Nothing,
             planned_at: 0,
@@ -247,6 +252,9 @@ impl Memory {
     {
         self.written.extend_from_slice(bytes).unwrap();
         self.calls.push(call).unwrap();
+        if let Call::Written(span) = call {
+            place_sectors(&mut self.places, span);
+        }
     }
 
     // Counts a failure.
@@ -271,7 +279,16 @@ impl Memory {
         ensures size { length result.now ≡ 512 }
         ensures bytes { result.now ≡ contents_of (memory_state self.now) sector }
     {
-        bytes_in(&self.start, &self.written, sector, self.trace(sector).last)
+        bytes_in(&self.start, &self.written, sector, self.place(sector))
+    }
+
+    // Where a read finds a sector.
+    fn place(&self, sector: u64) -> Place
+        requires { sector < self.now.sectors }
+        ensures last { result ≡ (trace_of sector self.now.calls).last }
+        ensures placed { IsPlaced (length self.now.written) result }
+    {
+        self.places[sector as usize]
     }
 
     // What a read gives of these sectors.

@@ -1,8 +1,9 @@
 // The record that a disk in memory keeps of its calls.
-ghost use Rattle.std.specs.Prelude.{◌≡◌, ℕ, ◌+◌, ◌*◌, ◌^◌, ◌<◌, ◌≤◌, length, All};
+ghost use Rattle.std.specs.Prelude.{◌≡◌, ℕ, ◌+◌, ◌*◌, ◌^◌, ◌<◌, ◌≤◌, length, vec_len, All, IfOk, unwrap_or, slice_index_or};
 ghost use Rattle.disk.specs.Record.{bytes_at, place_in, trace_next, trace_of, IsWithin, IsPlaced, AllPlaced};
 
 use crate::SECTOR_BYTES;
+use std::alloc::{AllocError, Global};
 
 /// A call of the record.
 #[derive(Clone, Copy)]
@@ -128,5 +129,27 @@ pub fn bytes_in<'a>(start: &'a [u8], written: &'a [u8], sector: u64, place: Plac
             &start[at..at + SECTOR_BYTES]
         }
         Place::Record(at) => &written[at..at + SECTOR_BYTES],
+    }
+}
+
+/// The places of so many sectors before the first call.
+pub fn unwritten(alloc: Global, sectors: usize) -> Result<Vec<Place>, AllocError>
+    ensures size { IfOk result (λ places. vec_len places ≡ sectors) }
+    ensures start { IfOk result (λ places. (s : ℕ) → s < sectors → slice_index_or places.items s Place.Start ≡ Place.Start) }
+{
+    let mut places = Vec::with_capacity(alloc, sectors)?;
+    places.resize(sectors, Place::Start)?;
+    Ok(places)
+}
+
+/// Notes where the bytes of these sectors stand.
+pub fn place_sectors(places: &mut [Place], span: Span)
+    requires within { span.first + span.sectors ≤ length places.old }
+    requires bytes { span.from + 512 * span.sectors < 2 ^ 64 }
+    ensures { (s : ℕ) → slice_index_or places.new s Place.Start ≡ unwrap_or (place_in span s) (slice_index_or places.old s Place.Start) }
+{
+    let first = span.first as usize;
+    for i in 0..span.sectors as usize {
+        places[first + i] = Place::Record(span.from + SECTOR_BYTES * i);
     }
 }

@@ -17,12 +17,16 @@
 //!     again                     a disk as that one, on which nothing was called
 //!     make 1 5 9 2              writes a block by hand: its format, its number, how many events are kept, and its records
 //!     patch 2 28:09             writes these bytes into a sector, from an offset on
+//!     list                      lists the journal, and prints the lines
+//!     list 40 room              .. to a writer that has room for so many bytes
+//!     list 40 memory            .. to one that is refused memory behind so many bytes
 //!
 //! An answer ends with how many calls of the disk were made, and, where the count of its faults went up, with that.
 #![tactic(auto)]
 
 mod batches;
 mod images;
+mod pages;
 mod rows;
 mod session;
 mod telling;

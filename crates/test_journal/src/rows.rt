@@ -1,4 +1,5 @@
 // What a row says.
+use crate::pages::Refusal;
 use blocks::Format;
 
 /// What an open sector holds after a cut.
@@ -27,6 +28,7 @@ pub enum Row<'a> {
     Again,
     Make(Format, u64, u64, u8),
     Patch(u64, &'a str),
+    List(usize, Refusal),
 }
 
 /// What a row says; None where it is none.
@@ -37,6 +39,7 @@ pub fn read_row<'a>(words: &'a [&'a str]) -> Option<Row<'a>> {
         ["slots"] => Some(Row::Slots),
         ["keep"] => Some(Row::Keep),
         ["again"] => Some(Row::Again),
+        ["list"] => Some(Row::List(usize::MAX, Refusal::Room)),
         ["disk", sectors] => Some(Row::Disk(sectors.parse().ok()?)),
         ["format", slots] => Some(Row::Format(slots.parse().ok()?)),
         ["block", number] => Some(Row::Block(number.parse().ok()?)),
@@ -51,6 +54,7 @@ fn read_longer<'a>(words: &'a [&'a str]) -> Option<Row<'a>> {
         ["settle", left @ ..] => Some(Row::Settle(left)),
         ["commit", count, lives] => Some(Row::Commit(count.parse().ok()?, lives.parse().ok()?)),
         ["commits", times, count] => Some(Row::Commits(times.parse().ok()?, count.parse().ok()?)),
+        ["list", room, refusal] => Some(Row::List(room.parse().ok()?, read_refusal(refusal)?)),
         ["patch", sector, patch] => Some(Row::Patch(sector.parse().ok()?, patch)),
         ["make", format, number, events, count] => Some(Row::Make(
             read_format(format)?,
@@ -67,6 +71,14 @@ fn read_format(word: &str) -> Option<Format> {
         "1" => Some(Format::One),
         "2" => Some(Format::Two),
         "3" => Some(Format::Three),
+        _ => None,
+    }
+}
+
+fn read_refusal(word: &str) -> Option<Refusal> {
+    match word {
+        "room" => Some(Refusal::Room),
+        "memory" => Some(Refusal::Memory),
         _ => None,
     }
 }

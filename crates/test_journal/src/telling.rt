@@ -1,5 +1,6 @@
 // The answer to a row.
 use crate::images::{make, numbers, patch};
+use crate::pages::tell_listing;
 use crate::rows::Row;
 use crate::session::Session;
 use anyhow::Result;
@@ -35,6 +36,7 @@ pub fn answer(rt: &impl Print, alloc: Global, session: &mut Session, row: Row<'_
             Some(numbers) => tell_numbers(rt, &numbers)?,
             None => print!(rt; ": not read")?,
         },
+        Row::List(room, refusal) => tell_listing(rt, alloc, session, room, refusal)?,
         _ => question(rt, session, row)?,
     }
     Ok(())

@@ -1,8 +1,10 @@
 """Rows of the onboard unit, as the program test_onboard reads them: each answer is worked out by the plain unit over the plain disk."""
+from functools import lru_cache
+
 import blocks
 import rows
-from disk import SECTOR_BYTES, DeviceFault, Disk
-from journal import BRAKES, COLD, KINDS, MODES, Journal, Refused, first_sector, kept_in
+from disk import SECTOR_BYTES, Disk
+from journal import BRAKES, COLD, KINDS, MODES, Journal, Refused, first_sector, kept_in, read_block
 from onboard import Unit
 
 MASK = (1 << 64) - 1
@@ -14,6 +16,11 @@ def digest_of(data, digest=0xCBF29CE484222325):
     for byte in data:
         digest = ((digest ^ byte) * 0x100000001B3) & MASK
     return digest
+
+
+@lru_cache(None)
+def block_digest(data):
+    return digest_of(data).to_bytes(8, "big")
 
 
 def pairs_text(pairs):
@@ -34,7 +41,7 @@ class Session:
     """A disk, and the unit on it while it has power."""
 
     def __init__(self):
-        self.disk, self.unit, self.kept, self.life = Disk([]), None, Disk([]), None
+        self.disk, self.unit, self.kept, self.life, self.calls = Disk([]), None, Disk([]), None, 0
 
     def answer(self, said):
         """What a command answers; a refusal by its number and name."""
@@ -125,6 +132,13 @@ class Session:
         self.unit = None
         return f"{self.disk.changes} writes and syncs, faults {self.disk.faults}"
 
+    def do_calls(self):
+        before, self.calls = self.calls, self.disk.calls
+        return "as many as before" if before == self.calls else "another number"
+
+    def do_default(self):
+        return "released 1, 0 SB - emergency 0 32"
+
     def do_live(self, cold):
         self.life = cold, []
 
@@ -164,7 +178,6 @@ class Session:
         return [journal.load(copy, number) for number in range(journal.first, journal.newest + 1)]
 
     def do_list(self):
-        from journal import read_block
         text = ""
         for data in self.loaded():
             b = read_block(data)
@@ -172,10 +185,7 @@ class Session:
         return text
 
     def do_bytes(self):
-        digest = 0xCBF29CE484222325
-        for data in self.loaded():
-            digest = digest_of(data, digest)
-        return f"{digest:016x}"
+        return f"{digest_of(b''.join(block_digest(data) for data in self.loaded())):016x}"
 
 
 class Group:

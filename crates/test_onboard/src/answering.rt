@@ -8,7 +8,7 @@ use crate::words::{accept_word, flush_word, open_word};
 use anyhow::Result;
 use events::Input;
 use mode_table::Cold;
-use onboard::{LiveError, Step};
+use onboard::{LiveError, Released, Step};
 use std::alloc::Global;
 
 /// Does what a command says, and writes the answer.
@@ -32,6 +32,8 @@ pub fn answer(
         }
         Command::Run => run(alloc, session, text),
         Command::Close => close(session, text),
+        Command::Calls => calls(session, text),
+        Command::Default => tell_pairs(alloc, &[Released::default()], text),
         Command::Blocks | Command::Kept(_) | Command::List | Command::Bytes => {
             show(alloc, session, command, text)
         }
@@ -182,6 +184,15 @@ fn close(session: &mut Session, text: &mut String) -> Result<()> {
         )?,
         _ => text.push_str("no power")?,
     }
+    Ok(())
+}
+
+fn calls(session: &mut Session, text: &mut String) -> Result<()> {
+    text.push_str(match session.has_as_many_calls() {
+        Some(true) => "as many as before",
+        Some(false) => "another number",
+        None => "power is on",
+    })?;
     Ok(())
 }
 

@@ -40,6 +40,11 @@ impl Device {
         self.changes
     }
 
+    /// How many calls there were, reads too.
+    pub fn calls(&self) -> u64 {
+        self.memory.clock()
+    }
+
     pub fn faults(&self) -> u64 {
         self.memory.faults()
     }

@@ -14,6 +14,12 @@ impl Digest {
         }
     }
 
+    pub fn of(bytes: &[u8]) -> Digest {
+        let mut digest = Digest::new();
+        digest.take(bytes);
+        digest
+    }
+
     pub fn take(&mut self, bytes: &[u8]) {
         for byte in bytes {
             self.bits = (self.bits ^ u64::from(*byte)).wrapping_mul(0x100_0000_01B3);

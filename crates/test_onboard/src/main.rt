@@ -17,6 +17,8 @@
 //!     clock 1000               an input, in the words of the kernel's rows
 //!     flush                    with each pair that is released: the number of the event, mode, level, brake, limit, indications
 //!     close                    hands the disk back: how many writes and syncs it had, and how many faults
+//!     calls                    whether the disk had as many calls as the one that was asked before, reads too
+//!     default                  the pair that no flush released
 //!     live unknown             the inputs and flushes behind it are a life
 //!     run                      lives it, and tells how it ended and all pairs
 //!     openings 1000 unknown    so many lives without an event
@@ -25,7 +27,7 @@
 //!     blocks                   the number of the oldest block that is retained and of the newest, and how many events there were
 //!     kept level               what the newest block keeps, as the kernel's rows ask for it
 //!     list                     a line for each record that is retained
-//!     bytes                    the digest of each block's bytes
+//!     bytes                    a digest of all bytes of the blocks that are retained
 //!     group NAME               the lines from here on are not printed, up to
 //!     end                      .. which prints how many they were, how often the answers changed from one line to the next, and
 //!                              the digest of the answers, each that is the same as the line's before it left out

@@ -29,6 +29,8 @@ pub struct Session {
     cold: Cold,
     steps: Vec<Step>,
     is_collecting: bool,
+    /// How many calls the disk had when that was asked last.
+    calls: u64,
 }
 
 fn off(station: Station) -> Option<Device> {
@@ -59,6 +61,7 @@ impl Session {
             cold: Cold::Unknown,
             steps: Vec::new(alloc),
             is_collecting: false,
+            calls: 0,
         })
     }
 
@@ -69,6 +72,7 @@ impl Session {
             cold: _,
             steps: _,
             is_collecting: _,
+            calls: _,
         } = self;
         let _device = off(station);
     }
@@ -162,6 +166,13 @@ impl Session {
     pub fn push(&mut self, step: Step) -> anyhow::Result<()> {
         self.steps.push(step)?;
         Ok(())
+    }
+
+    /// Whether the disk had as many calls as when that was asked last. None while power is on.
+    pub fn has_as_many_calls(&mut self) -> Option<bool> {
+        let calls = self.device()?.calls();
+        let before = mem::replace(&mut self.calls, calls);
+        Some(calls == before)
     }
 
     /// Lives the life that was collected.

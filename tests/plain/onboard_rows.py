@@ -222,16 +222,23 @@ class Reader:
         return []
 
     def row(self, line):
-        told, answers = [], []
+        done = []
         for part in line.split(";"):
             said, _, wanted = (text.strip() for text in part.partition("->"))
-            answer = self.session.answer(said).strip()
-            answers.append(answer)
-            told.append(said + (": " + answer if answer else ""))
+            answer = self.command(said)
+            done.append((said, answer))
             if wanted and wanted != answer:
                 self.differences.append(f"{line}: wanted {wanted}, found {answer} by the plain program")
+        return self.tell(done)
+
+    def command(self, said):
+        return self.session.answer(said).strip()
+
+    def tell(self, done):
+        """Prints a line's commands with their answers, or takes these into the group."""
+        answers = [answer for _, answer in done]
         if self.group:
             self.group.take("; ".join(answers))
         else:
-            self.printed.append("; ".join(told))
+            self.printed.append("; ".join(said + (": " + answer if answer else "") for said, answer in done))
         return answers

@@ -9,8 +9,10 @@ use std::alloc::Global;
 use std::mem;
 use units::NoMemory;
 
-/// Room for the calls of the longest life, and for the sectors that it writes.
-const CALLS: u64 = 2_048;
+/// Room for the calls of the longest life.
+const CALLS: u64 = 1_024;
+/// Room for the sectors that it writes.
+const WRITTEN: u64 = 512;
 
 /// What has the disk.
 enum Station {
@@ -47,7 +49,7 @@ pub fn blank(alloc: Global, sectors: u64) -> Result<Memory, NoMemory> {
         alloc,
         sectors,
         CALLS.saturating_add(sectors),
-        CALLS.saturating_add(sectors),
+        WRITTEN.saturating_add(sectors),
     )
 }
 

@@ -241,10 +241,10 @@ def cuts_twice(made, numbers):
         made.say(f"group cuts twice in a row, {name}")
         for number in range(counts[-1]):
             for kind in ("new", "ff"):
-                for second in range(7):
-                    for other in ("old", "new", "ff"):
-                        settle, again = " ".join(["settle"] + 5 * [kind]), " ".join(["settle"] + 5 * [other])
-                        answers = made.say(f"again; cut {number}; {LIFE}; {settle}; cut {second}; open moved; {again}; blocks; {BEHIND}")
+                for other in ("old", "new", "ff"):
+                    settle, again = " ".join(["settle"] + 5 * [kind]), " ".join(["settle"] + 5 * [other])
+                    told = made.say(f"for 0 6: again; cut {number}; {LIFE}; {settle}; cut *; open moved; {again}; blocks; {BEHIND}")
+                    for answers in told:
                         before, after = allowed(number, counts, events), int(answers[10].split()[-1])
                         assert after in before | {count + 1 for count in before}, (name, number, answers)
                         assert answers[11] == "opened", answers
@@ -259,8 +259,7 @@ def faults(made):
         _, events = changes_in(made, LIFE)
         for rest in ("", "settle; ", "settle new new new new new; ", "settle ff ff ff ff ff; "):
             made.say(f"group faults, {name}{', then ' + rest[:-2] if rest else ''}")
-            for call in range(48):
-                answers = made.say(f"again; fail-any {call}; {LIFE}; clock 9; flush; close; {rest}blocks; {BEHIND}")
+            for answers in made.say(f"for 0 47: again; fail-any *; {LIFE}; clock 9; flush; close; {rest}blocks; {BEHIND}"):
                 opened, flushed, after = answers[2], answers[5], answers[6]
                 assert opened in ("opened", "1 DeviceFault"), answers
                 assert opened != "opened" or flushed[:2] in ("re", "20"), answers
@@ -280,9 +279,8 @@ def altered(made):
     for name, sector in (("first sector", 0), ("newest head", 20), ("newest gate", 19), ("closed gate", 1), ("older head", 14),
                          ("newest records", 21)):
         made.say(f"group altered bytes, {name}")
-        for offset in range(512):
-            for mask in ("01", "ff"):
-                answers = made.say(f"again; flip {sector} {offset} {mask}; blocks; {BEHIND}")
+        for mask in ("01", "ff"):
+            for answers in made.say(f"for 0 511: again; flip {sector} * {mask}; blocks; {BEHIND}"):
                 if sector == 0:
                     assert answers[3] in ("2 NotFormatted", "3 Damaged"), answers
                 if sector in (1, 19):
@@ -291,8 +289,7 @@ def altered(made):
     made.say("# A gate that a cut left closed above a head and records that were written.")
     made.say("format 4; cut 11; open unknown; clock 5; flush; clock 6; flush; settle old; keep; blocks -> 1 to 2, events 2")
     made.say("group altered bytes, a gate that was closed over a block")
-    for offset in range(512):
-        answers = made.say(f"again; flip 19 {offset} 01; blocks; {BEHIND}")
+    for answers in made.say(f"for 0 511: again; flip 19 * 01; blocks; {BEHIND}"):
         assert answers[3] == "opened", answers
     made.say("end")
 

@@ -209,7 +209,7 @@ class Reader:
         self.session, self.group, self.printed, self.differences = Session(), None, [], []
 
     def take(self, line):
-        """The answers to the commands of a line."""
+        """The answers to the commands of a line; a list of them where it is for each number of a range."""
         if not line or line[0] == "#":
             self.printed.append(line)
         elif line.startswith("group "):
@@ -217,6 +217,10 @@ class Reader:
         elif line == "end":
             self.printed.append(self.group.text())
             self.group = None
+        elif line.startswith("for "):
+            each, _, line = line[4:].partition(":")
+            first, last = map(int, each.split())
+            return [self.row(line.replace("*", str(number))) for number in range(first, last + 1)]
         else:
             return self.row(line)
         return []

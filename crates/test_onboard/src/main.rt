@@ -28,6 +28,7 @@
 //!     kept level               what the newest block keeps, as the kernel's rows ask for it
 //!     list                     a line for each record that is retained
 //!     bytes                    a digest of all bytes of the blocks that are retained
+//!     for 0 511: flip 0 * 01; ..    the rest of the line for each number of this range, which stands in the place of `*`
 //!     group NAME               the lines from here on are not printed, up to
 //!     end                      .. which prints how many they were, how often the answers changed from one line to the next, and
 //!                              the digest of the answers, each that is the same as the line's before it left out

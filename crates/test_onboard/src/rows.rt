@@ -6,6 +6,25 @@ use crate::session::Session;
 use anyhow::Result;
 use std::alloc::Global;
 
+// The first and the last number, and the line.
+fn read_range(each: &str) -> Option<(u16, u16, &str)> {
+    let (range, line) = each.split_once(':')?;
+    let (from, to) = range.split_once(' ')?;
+    Some((from.parse().ok()?, to.parse().ok()?, line))
+}
+
+// A line with a number in the place of each `*`.
+fn with_number(alloc: Global, line: &str, number: u16) -> Result<String> {
+    let mut text = String::new(alloc);
+    for (k, part) in line.split('*').enumerate() {
+        if k > 0 {
+            write!(text, "{number}")?;
+        }
+        text.push_str(part)?;
+    }
+    Ok(text)
+}
+
 #[derive(Drop)]
 pub struct Rows {
     alloc: Global,
@@ -25,8 +44,23 @@ impl Rows {
             self.group = Some(Group::new(self.alloc, name)?);
         } else if line == "end" {
             self.end(rt)?;
+        } else if let Some(each) = line.strip_prefix("for ") {
+            self.each(rt, session, each)?;
         } else {
             self.row(rt, session, line)?;
+        }
+        Ok(())
+    }
+
+    // A line for each number of a range.
+    fn each(&mut self, rt: &impl Print, session: &mut Session, each: &str) -> Result<()> {
+        let Some((from, to, line)) = read_range(each) else {
+            println!(rt; "for {each}: no row")?;
+            return Ok(());
+        };
+        for number in from..=to {
+            let line = with_number(self.alloc, line, number)?;
+            self.row(rt, session, line.as_str())?;
         }
         Ok(())
     }

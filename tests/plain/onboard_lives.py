@@ -31,12 +31,6 @@ STARTED = (TELEGRAM, "enter-identity A", "choose-level 1", TRAIN, "start", "move
 BEHIND = "open not-moved; confirm identity; clock 9; flush; close; bytes"
 
 
-def put(block):
-    """The command that makes a block."""
-    slot = "{}"
-    return f"put {slot} {blocks.patches(blocks.data_of(block))}"
-
-
 class Made:
     """Rows as they are made, with what the plain program answers."""
 
@@ -79,8 +73,7 @@ def image(made, slots, blocks_made):
     """A disk with the last of these blocks."""
     made.say(f"format {slots}")
     for block in blocks_made[-slots:]:
-        slot = block["number"] % slots
-        made.say(put(block).format(slot))
+        made.say(f"put {block['number'] % slots} {blocks.patches(blocks.data_of(block))}")
 
 
 def old_images(made):
@@ -115,19 +108,13 @@ def old_images(made):
     made.say("clock 2; clock 3; clock 4; clock 5; clock 6; clock 7; clock 8 -> accepted; clock 9 -> 10 PendingFull; flush -> 23 WornOut")
     made.say(f"close; blocks -> {last} to {last + 1}, events {last + 1}; open unknown -> 6 WornOut; open moved -> 6 WornOut")
     made.say("# A head that is found with a count beyond its limits, or with a byte where zeros stand.")
-    for form, count in ((1, 0), (1, 17), (2, 0), (2, 9), (3, 0), (3, 9)):
-        image(made, 2, [with_count(form, count)])
-        made.say("open unknown -> 3 Damaged")
-    for form in (1, 2, 3):
-        image(made, 2, [with_count(form, 1)])
+    for form, most in ((1, 16), (2, 8), (3, 8)):
+        block = blocks.block(form, 3, 10 + most, 2, [blocks.entry(10 + k, ("clock", 5), moment=5) for k in range(most)])
+        image(made, 2, [block])
         made.say("keep; open unknown -> opened; again; flip 8 198 01; open unknown -> 3 Damaged; again; flip 8 511 80; open moved -> 3 Damaged")
-
-
-def with_count(form, count):
-    most = 16 if form == 1 else 8
-    records = [blocks.entry(10 + k, ("clock", 5), moment=5) for k in range(max(1, min(count, most)))]
-    return blocks.block(form, 1 if count == 1 else 3, 10 + len(records), 2, records, count=count) | (
-        dict(number=1, events=1, records=[blocks.entry(0, ("clock", 5), moment=5)]) if count == 1 else {})
+        for count in (0, most + 1):
+            image(made, 2, [blocks.with_(block, count=count)])
+            made.say("open unknown -> 3 Damaged")
 
 
 # ---- cuts
@@ -150,6 +137,7 @@ RINGS = (  # name, slots, what stands there
     ("3 slots, formats 1, 2 and 3", 3, lambda made: (image(made, 3, mixed()), made.say("open moved; close"))),
 )
 
+SETTLED = ("settle", "settle new new new new new", "settle ff ff ff ff ff")
 LIFE = "open not-moved; clock 7; enter-running-number 5; flush"
 
 
@@ -252,12 +240,17 @@ def cuts_twice(made, numbers):
 
 
 def faults(made):
-    """Each call of an opening and a flush fails, reads too; then the disk goes on, or power is lost."""
+    """In each call of an opening and a flush, reads too, power is lost; or it fails, and the disk goes on, or power is lost behind it."""
     for name, _, prepare in RINGS:
         prepare(made)
         made.say("keep")
         _, events = changes_in(made, LIFE)
-        for rest in ("", "settle; ", "settle new new new new new; ", "settle ff ff ff ff ff; "):
+        for settle in SETTLED:
+            made.say(f"group power lost in any call, {name}, then {settle}")
+            for answers in made.say(f"for 0 47: again; cut-any *; {LIFE}; {settle}; blocks; {BEHIND}"):
+                assert int(answers[7].split()[-1]) in events and answers[8] == "opened", answers
+            made.say("end")
+        for rest in ("", *(settle + "; " for settle in SETTLED)):
             made.say(f"group faults, {name}{', then ' + rest[:-2] if rest else ''}")
             for answers in made.say(f"for 0 47: again; fail-any *; {LIFE}; clock 9; flush; close; {rest}blocks; {BEHIND}"):
                 opened, flushed, after = answers[2], answers[5], answers[6]

@@ -4,7 +4,7 @@ from functools import lru_cache
 import blocks
 import rows
 from disk import SECTOR_BYTES, Disk
-from journal import BRAKES, COLD, KINDS, MODES, Journal, Refused, first_sector, kept_in, read_block
+from journal import BRAKES, KINDS, MODES, Journal, Refused, first_sector, kept_in, read_block
 from onboard import Unit
 
 MASK = (1 << 64) - 1
@@ -30,9 +30,8 @@ def pairs_text(pairs):
 
 def record_text(b, r):
     """A line of the listing."""
-    _, payload = blocks.payload(r["event"], b["format"])
-    kind = {number: name for number, name in KINDS.items()}[blocks.payload(r["event"], b["format"])[0]]
-    text = (f"| block {b['number']} event {r['number']} {kind} {MODE_NAMES[r['mode']]} {blocks.MODES_LEVEL[r['level']]} "
+    kind, payload = blocks.payload(r["event"], b["format"])
+    text = (f"| block {b['number']} event {r['number']} {KINDS[kind]} {MODE_NAMES[r['mode']]} {blocks.MODES_LEVEL[r['level']]} "
             f"{BRAKES[r['brake']]} {r['ind']} {payload.hex() or '-'} ")
     return text + (f"at {r['estimate']} unc {r['uncertainty']} limit {r['limit']} " if b["format"] > 1 else "")
 

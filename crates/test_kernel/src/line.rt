@@ -1,7 +1,6 @@
 // What a line says.
-use crate::events_said::event;
-use crate::keeping::Item;
 use events::Event;
+use row_words::{Item, event};
 use std::alloc::Global;
 
 /// What happens, or what is asked for.

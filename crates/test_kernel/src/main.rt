@@ -24,11 +24,8 @@
 //!                                      values, and the countries that they are of)
 #![tactic(auto)]
 
-mod actions;
 mod answers;
 mod calls;
-mod events_said;
-mod keeping;
 mod line;
 mod rows;
 mod runs;

@@ -1,9 +1,10 @@
 // One row, run in three ways side by side.
-use crate::answers::{item_text, output_text, place_text};
+use crate::answers::{item_text, place_text};
 use crate::calls::{Listing, Short, after, apply, begin, listing, short};
 use crate::line::Said;
 use anyhow::Result;
 use events::{Event, Output};
+use row_words::output_text;
 use std::alloc::Global;
 
 #[derive(Drop)]

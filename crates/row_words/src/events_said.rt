@@ -9,14 +9,22 @@ use units::{Movement, Mph, Ms};
 pub fn event(alloc: Global, word: &str, value: &str) -> Option<Event> {
     match word {
         "power-up" => Some(Event::PowerUp(cold(value)?)),
-        "hear" => Some(Event::Input(Input::Telegram(bytes(alloc, value)?))),
-        "move" => Some(Event::Input(Input::Odometer(reading(value)?))),
-        "clock" => Some(Event::Input(Input::Clock(Ms::new(value.parse().ok()?)?))),
-        _ => Some(Event::Input(Input::Driver(action(word, value)?))),
+        _ => Some(Event::Input(input(alloc, word, value)?)),
     }
 }
 
-fn cold(word: &str) -> Option<Cold> {
+/// The input of a word and what stands behind it; None where it is none.
+pub fn input(alloc: Global, word: &str, value: &str) -> Option<Input> {
+    match word {
+        "hear" => Some(Input::Telegram(bytes(alloc, value)?)),
+        "move" => Some(Input::Odometer(reading(value)?)),
+        "clock" => Some(Input::Clock(Ms::new(value.parse().ok()?)?)),
+        _ => Some(Input::Driver(action(word, value)?)),
+    }
+}
+
+/// What a word tells of movements while power was off; None where it is none.
+pub fn cold(word: &str) -> Option<Cold> {
     match word {
         "unknown" => Some(Cold::Unknown),
         "moved" => Some(Cold::Moved),

@@ -1,0 +1,11 @@
+//! Inputs, outputs and what is kept, in the words of rows: for the programs that run rows of the kernel and of the unit.
+#![tactic(auto)]
+
+mod actions;
+mod events_said;
+mod keeping;
+mod outputs;
+
+pub use events_said::{cold, event, input};
+pub use keeping::{Item, kept_text};
+pub use outputs::{brake_name, level_name, mode_name, output_text};

@@ -1,0 +1,213 @@
+// A disk, and the unit on it while it has power.
+use crate::device::Device;
+use arrayvec::ArrayVec;
+use disk::{Choice, Disk, Memory};
+use events::Input;
+use mode_table::Cold;
+use onboard::{AcceptError, FlushError, LiveError, Onboard, OpenError, Released, Step, live};
+use std::alloc::Global;
+use std::mem;
+use units::NoMemory;
+
+/// Room for the calls of the longest life.
+const CALLS: u64 = 1_024;
+/// Room for the sectors that it writes.
+const WRITTEN: u64 = 512;
+
+/// What has the disk.
+enum Station {
+    /// Nothing; only while it changes hands.
+    Gone,
+    Off(Device),
+    On(Onboard<Device>),
+}
+
+/// A disk, and the unit on it while it has power.
+pub struct Session {
+    station: Station,
+    /// What `again` goes back to.
+    kept: Memory,
+    /// The word and the steps of a life to come.
+    cold: Cold,
+    steps: Vec<Step>,
+    is_collecting: bool,
+    /// How many calls the disk had when that was asked last.
+    calls: u64,
+}
+
+fn off(station: Station) -> Option<Device> {
+    match station {
+        Station::Gone => None,
+        Station::Off(device) => Some(device),
+        Station::On(unit) => Some(unit.close()),
+    }
+}
+
+/// A disk of so many sectors.
+pub fn blank(alloc: Global, sectors: u64) -> Result<Memory, NoMemory> {
+    Memory::new(
+        alloc,
+        sectors,
+        CALLS.saturating_add(sectors),
+        WRITTEN.saturating_add(sectors),
+    )
+}
+
+impl Session {
+    pub fn new(alloc: Global) -> Result<Session, NoMemory> {
+        let first = blank(alloc, 0)?;
+        let kept = blank(alloc, 0)?;
+        Ok(Session {
+            station: Station::Off(Device::new(first)),
+            kept,
+            cold: Cold::Unknown,
+            steps: Vec::new(alloc),
+            is_collecting: false,
+            calls: 0,
+        })
+    }
+
+    pub fn end(self) {
+        let Session {
+            station,
+            kept: _,
+            cold: _,
+            steps: _,
+            is_collecting: _,
+            calls: _,
+        } = self;
+        let _device = off(station);
+    }
+
+    // The disk, without power.
+    fn take(&mut self) -> Option<Device> {
+        off(mem::replace(&mut self.station, Station::Gone))
+    }
+
+    fn set(&mut self, station: Station) {
+        let _device = off(mem::replace(&mut self.station, station));
+    }
+
+    /// Power is off, and this is the disk.
+    pub fn set_disk(&mut self, memory: Memory) {
+        self.set(Station::Off(Device::new(memory)));
+    }
+
+    /// The disk while power is off.
+    pub fn device(&mut self) -> Option<&mut Device> {
+        match &mut self.station {
+            Station::Off(device) => Some(device),
+            Station::Gone | Station::On(_) => None,
+        }
+    }
+
+    /// Power goes off. None where it was off.
+    pub fn close(&mut self) -> Option<()> {
+        match mem::replace(&mut self.station, Station::Gone) {
+            Station::On(unit) => {
+                self.set(Station::Off(unit.close()));
+                Some(())
+            }
+            Station::Off(device) => {
+                self.set(Station::Off(device));
+                None
+            }
+            Station::Gone => None,
+        }
+    }
+
+    /// What the disk holds after a cut now; power goes off.
+    pub fn settled(
+        &mut self,
+        alloc: Global,
+        choices: &[Choice],
+    ) -> Result<Option<Memory>, NoMemory> {
+        let _was_on = self.close();
+        match self.device() {
+            Some(device) => Ok(Some(device.settle(alloc, choices)?)),
+            None => Ok(None),
+        }
+    }
+
+    pub fn keep(&mut self, memory: Memory) {
+        self.kept = memory;
+    }
+
+    pub fn go_back(&mut self, alloc: Global) -> Result<(), NoMemory> {
+        let memory = self.kept.settle(alloc, &[])?;
+        self.set_disk(memory);
+        Ok(())
+    }
+
+    /// Powers up.
+    pub fn open(&mut self, alloc: Global, cold: Cold) -> Option<Result<(), OpenError>> {
+        let device = self.take()?;
+        match Onboard::open(alloc, device, cold) {
+            Ok(unit) => {
+                self.set(Station::On(unit));
+                Some(Ok(()))
+            }
+            Err((error, device)) => {
+                self.set(Station::Off(device));
+                Some(Err(error))
+            }
+        }
+    }
+
+    /// The inputs and flushes from here on are the steps of a life.
+    pub fn collect(&mut self, cold: Cold) {
+        self.cold = cold;
+        self.steps.clear();
+        self.is_collecting = true;
+    }
+
+    pub fn is_collecting(&self) -> bool {
+        self.is_collecting
+    }
+
+    pub fn push(&mut self, step: Step) -> anyhow::Result<()> {
+        self.steps.push(step)?;
+        Ok(())
+    }
+
+    /// Whether the disk had as many calls as when that was asked last. None while power is on.
+    pub fn has_as_many_calls(&mut self) -> Option<bool> {
+        let calls = self.device()?.calls();
+        let before = mem::replace(&mut self.calls, calls);
+        Some(calls == before)
+    }
+
+    /// Lives the life that was collected.
+    pub fn live(
+        &mut self,
+        alloc: Global,
+        out: &mut Vec<Released>,
+    ) -> Option<Result<(), LiveError>> {
+        let device = self.take()?;
+        let (device, done) = live(alloc, device, self.cold, &self.steps, out);
+        self.set(Station::Off(device));
+        self.is_collecting = false;
+        Some(done)
+    }
+
+    /// None where power is off.
+    pub fn accept(&mut self, alloc: Global, input: Input) -> Option<Result<(), AcceptError>> {
+        match &mut self.station {
+            Station::On(unit) => Some(unit.accept(alloc, input)),
+            Station::Gone | Station::Off(_) => None,
+        }
+    }
+
+    /// None where power is off.
+    pub fn flush(&mut self) -> Option<Result<ArrayVec<Released, 8>, FlushError>> {
+        match &mut self.station {
+            Station::On(unit) => Some(unit.flush()),
+            Station::Gone | Station::Off(_) => None,
+        }
+    }
+}
+
+/// How many sectors a disk has.
+pub fn sectors_of(memory: &Memory) -> u64 {
+    memory.sectors()
+}

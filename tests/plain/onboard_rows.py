@@ -1,0 +1,247 @@
+"""Rows of the onboard unit, as the program test_onboard reads them: each answer is worked out by the plain unit over the plain disk."""
+from functools import lru_cache
+
+import blocks
+import rows
+from disk import SECTOR_BYTES, Disk
+from journal import BRAKES, KINDS, MODES, Journal, Refused, first_sector, kept_in, read_block
+from onboard import Unit
+
+MASK = (1 << 64) - 1
+MODE_NAMES = {number: name for name, number in MODES.items()}
+
+
+def digest_of(data, digest=0xCBF29CE484222325):
+    """FNV-1a of 64 bits."""
+    for byte in data:
+        digest = ((digest ^ byte) * 0x100000001B3) & MASK
+    return digest
+
+
+@lru_cache(None)
+def block_digest(data):
+    return digest_of(data).to_bytes(8, "big")
+
+
+def pairs_text(pairs):
+    return "".join([f"released {len(pairs)}"] + [
+        f", {number} {o.mode} {o.level} {o.brake} {o.limit} {o.indications}" for number, o in pairs])
+
+
+def record_text(b, r):
+    """A line of the listing."""
+    kind, payload = blocks.payload(r["event"], b["format"])
+    text = (f"| block {b['number']} event {r['number']} {KINDS[kind]} {MODE_NAMES[r['mode']]} {blocks.MODES_LEVEL[r['level']]} "
+            f"{BRAKES[r['brake']]} {r['ind']} {payload.hex() or '-'} ")
+    return text + (f"at {r['estimate']} unc {r['uncertainty']} limit {r['limit']} " if b["format"] > 1 else "")
+
+
+class Session:
+    """A disk, and the unit on it while it has power."""
+
+    def __init__(self):
+        self.disk, self.unit, self.kept, self.life, self.calls = Disk([]), None, Disk([]), None, 0
+
+    def answer(self, said):
+        """What a command answers; a refusal by its number and name."""
+        word, _, value = said.partition(" ")
+        call = getattr(self, "do_" + word.replace("-", "_"), None)
+        try:
+            return (call(*value.split()) if call else self.accept(word, value)) or ""
+        except Refused as refused:
+            return str(refused)
+
+    # ---- disks
+
+    def set_disk(self, disk):
+        self.disk, self.unit = disk, None
+
+    def do_format(self, slots):
+        self.set_disk(Disk([first_sector(int(slots))] + [bytes(SECTOR_BYTES)] * 6 * int(slots)))
+
+    def do_less(self):
+        self.set_disk(Disk(self.disk.settled().held[:-1]))
+
+    def do_put(self, slot, *patches):
+        data = bytearray(6 * SECTOR_BYTES)
+        for offset, digits in (patch.split(":") for patch in patches):
+            part = bytes.fromhex(digits)
+            data[int(offset):int(offset) + len(part)] = part
+        self.disk.put(1 + 6 * int(slot), bytes(data))
+
+    def do_flip(self, sector, offset, mask):
+        data = bytearray(self.disk.read(int(sector)))
+        data[int(offset)] ^= int(mask, 16)
+        self.disk.put(int(sector), bytes(data))
+
+    def do_keep(self):
+        self.kept = self.disk.settled()
+
+    def do_again(self):
+        self.set_disk(self.kept.settled())
+
+    def do_cut(self, number):
+        self.disk.cut = self.disk.changes + int(number)
+
+    def do_fail(self, number):
+        self.disk.fail = self.disk.changes + int(number)
+
+    def do_cut_any(self, number):
+        self.disk.cut_any = self.disk.calls + int(number)
+
+    def do_fail_any(self, number):
+        self.disk.fail_any = self.disk.calls + int(number)
+
+    def do_settle(self, *words):
+        before = self.disk.settled().held
+        given = {"ff": b"\xff" * SECTOR_BYTES, "zeros": bytes(SECTOR_BYTES)}
+        self.set_disk(self.disk.settled([before[int(w[1:])] if w[0] == "@" else given.get(w, w) for w in words]))
+
+    # ---- the unit
+
+    def do_open(self, cold):
+        self.unit = None
+        self.unit = Unit(self.disk, cold)
+        return "opened"
+
+    def do_openings(self, times, cold):
+        for _ in range(int(times)):
+            last = self.answer(f"open {cold}")
+            self.set_disk(self.disk.settled())
+        return last
+
+    def accept(self, word, value):
+        if self.life:
+            self.life[1].append((word, value))
+            return ""
+        if self.unit is None:
+            return "no power"
+        self.unit.accept(word, value)
+        return "accepted"
+
+    def do_flush(self):
+        if self.life:
+            self.life[1].append(("flush", ""))
+            return ""
+        return "no power" if self.unit is None else pairs_text(self.unit.flush())
+
+    def do_close(self):
+        if self.unit is None:
+            return "no power"
+        self.unit = None
+        return f"{self.disk.changes} writes and syncs, faults {self.disk.faults}"
+
+    def do_calls(self):
+        before, self.calls = self.calls, self.disk.calls
+        return "as many as before" if before == self.calls else "another number"
+
+    def do_default(self):
+        return "released 1, 0 SB - emergency 0 32"
+
+    def do_live(self, cold):
+        self.life = cold, []
+
+    def do_run(self):
+        (cold, steps), self.life = self.life, None
+        pairs, end = [], "done"
+        try:
+            unit = Unit(self.disk, cold)
+        except Refused as refused:
+            return f"{refused}, {pairs_text(pairs)}"
+        for number, (word, value) in enumerate(steps):
+            try:
+                pairs += unit.flush() if word == "flush" else unit.accept(word, value) or []
+            except Refused as refused:
+                end = f"step {number} {refused}"
+                break
+        return f"{end}, {pairs_text(pairs)}"
+
+    # ---- what is on the disk
+
+    def journal(self):
+        """The journal on a copy of the disk as it is settled; power goes off."""
+        self.unit = None
+        copy = self.disk.settled()
+        return Journal(copy), copy
+
+    def do_blocks(self):
+        journal, _ = self.journal()
+        return f"{journal.first} to {journal.newest}, events {journal.found['events'] if journal.found else 0}"
+
+    def do_kept(self, item):
+        journal, _ = self.journal()
+        return rows.told(kept_in(journal.found), item) if journal.found else "no block"
+
+    def loaded(self):
+        journal, copy = self.journal()
+        return [journal.load(copy, number) for number in range(journal.first, journal.newest + 1)]
+
+    def do_list(self):
+        text = ""
+        for data in self.loaded():
+            b = read_block(data)
+            text += "".join(record_text(b, r) for r in b["records"]) if b else "| no block "
+        return text
+
+    def do_bytes(self):
+        return f"{digest_of(b''.join(block_digest(data) for data in self.loaded())):016x}"
+
+
+class Group:
+    def __init__(self, name):
+        self.name, self.lines, self.answers = name, 0, []
+
+    def take(self, answers):
+        self.lines += 1
+        if not self.answers or self.answers[-1] != answers:
+            self.answers.append(answers)
+
+    def text(self):
+        digest = digest_of("".join(answers + "\n" for answers in self.answers).encode())
+        return f"{self.name}: {self.lines} lines, {len(self.answers)} answers, digest {digest:016x}"
+
+
+class Reader:
+    """Takes rows line by line, as the program does."""
+
+    def __init__(self):
+        self.session, self.group, self.printed, self.differences = Session(), None, [], []
+
+    def take(self, line):
+        """The answers to the commands of a line; a list of them where it is for each number of a range."""
+        if not line or line[0] == "#":
+            self.printed.append(line)
+        elif line.startswith("group "):
+            self.group = Group(line[6:])
+        elif line == "end":
+            self.printed.append(self.group.text())
+            self.group = None
+        elif line.startswith("for "):
+            each, _, line = line[4:].partition(":")
+            first, last = map(int, each.split())
+            return [self.row(line.replace("*", str(number))) for number in range(first, last + 1)]
+        else:
+            return self.row(line)
+        return []
+
+    def row(self, line):
+        done = []
+        for part in line.split(";"):
+            said, _, wanted = (text.strip() for text in part.partition("->"))
+            answer = self.command(said)
+            done.append((said, answer))
+            if wanted and wanted != answer:
+                self.differences.append(f"{line}: wanted {wanted}, found {answer} by the plain program")
+        return self.tell(done)
+
+    def command(self, said):
+        return self.session.answer(said).strip()
+
+    def tell(self, done):
+        """Prints a line's commands with their answers, or takes these into the group."""
+        answers = [answer for _, answer in done]
+        if self.group:
+            self.group.take("; ".join(answers))
+        else:
+            self.printed.append("; ".join(said + (": " + answer if answer else "") for said, answer in done))
+        return answers

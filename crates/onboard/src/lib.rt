@@ -12,7 +12,8 @@ mod start;
 mod steps;
 
 pub use errors::{AcceptError, FlushError, LiveError, OpenError};
+pub use life_steps::Step;
 pub use living::{live, lives_compose, stands_by};
 pub use onboard::Onboard;
 pub use released::Released;
-pub use steps::{Step, run};
+pub use steps::run;

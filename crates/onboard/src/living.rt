@@ -11,8 +11,9 @@ ghost use Rattle.onboard.specs.Runs.{accepted_by, Lives, LivesCompose};
 use crate::errors::LiveError;
 use crate::onboard::Onboard;
 use crate::released::Released;
-use crate::steps::{Step, run};
+use crate::steps::run;
 use disk::Disk;
+use life_steps::Step;
 use mode_table::Cold;
 use std::alloc::Global;
 

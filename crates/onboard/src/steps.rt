@@ -7,7 +7,7 @@ ghost use Rattle.journal.specs.Journals.{IsOpen};
 ghost use Rattle.onboard.specs.Answers.{live_failed};
 ghost use Rattle.onboard.specs.Events.{account_of, IsAhead};
 ghost use Rattle.onboard.specs.Runs.{accepted_by, IsStepped, Took, Ran};
-ghost use Rattle.onboard.specs.declared.steps.Step.TheVariants as a_step;
+ghost use Rattle.life_steps.specs.declared.step.Step.TheVariants as a_step;
 
 use crate::errors::LiveError;
 use crate::inputs::copy_of;
@@ -15,16 +15,8 @@ use crate::onboard::Onboard;
 use crate::released::Released;
 use disk::Disk;
 use events::Input;
+use life_steps::Step;
 use std::alloc::Global;
-
-/// What happens in a life.
-#[derive(Drop)]
-pub enum Step {
-    /// An input comes.
-    Accept(Input),
-    /// What is pending is put on the disk and released.
-    Flush,
-}
 
 // Flushes, once there is room for what may be released.
 fn flush_into<D: Disk>(

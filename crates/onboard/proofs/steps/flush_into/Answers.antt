@@ -1,4 +1,4 @@
-use Rattle.onboard.specs.declared.steps.Step.TheVariants.{Flush}
+use Rattle.life_steps.specs.declared.step.Step.TheVariants.{Flush}
 use Rattle.onboard.proofs.Stepping.{quiet_step, flush_step}
 use Rattle.onboard.proofs.steps.flush_into.Goals as goal
 

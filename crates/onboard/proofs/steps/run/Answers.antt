@@ -1,6 +1,6 @@
 use Rattle.std.proofs.Common.{rules, ◌∙◌, sym, subst, ap, refl, IsTrue, take, List}
 use Rattle.std.proofs.lemmas.List.{take_all}
-use Rattle.onboard.specs.declared.steps.Step.{Step}
+use Rattle.life_steps.specs.declared.step.Step.{Step}
 use Rattle.onboard.specs.Runs.{accepted_by}
 use Rattle.onboard.proofs.Stepping.{going_first, stepped, stopped, finished}
 use Rattle.onboard.proofs.steps.run.Goals as goal

@@ -1,5 +1,5 @@
 use Rattle.std.proofs.Common.{sym, subst}
-use Rattle.onboard.specs.declared.steps.Step.{Step}
+use Rattle.life_steps.specs.declared.step.Step.{Step}
 use Rattle.onboard.specs.Runs.{IsStepped, Took}
 use Rattle.onboard.proofs.Stepping.{took_input, took_flush}
 use Rattle.onboard.proofs.steps.take.Goals as goal

@@ -1,3 +1,5 @@
+pub mod Chains
+pub mod Greatest
 pub mod Lists
 pub mod Meeting
 pub mod Numbering

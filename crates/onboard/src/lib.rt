@@ -4,15 +4,20 @@
 
 mod errors;
 mod inputs;
+mod laws;
 mod life;
 mod living;
 mod onboard;
 mod released;
+mod sink;
 mod start;
 mod steps;
 
 pub use errors::{AcceptError, FlushError, LiveError, OpenError};
-pub use living::{live, lives_compose, stands_by};
+pub use laws::{forgets_across, images_are_endless, lives_compose, releases_stay, stands_by};
+pub use life_steps::Step;
+pub use living::{live, live_into};
 pub use onboard::Onboard;
 pub use released::Released;
-pub use steps::{Step, run};
+pub use sink::ReleaseSink;
+pub use steps::{run, run_into};

@@ -1,22 +1,52 @@
 // Whole lives.
-ghost use Rattle.std.specs.Prelude.{◌≡◌, ◌∷◌, List, IsTrue, OnOk};
+ghost use Rattle.std.specs.Prelude.{◌≡◌, [], ◌∷◌, List, IsTrue, OnOk};
 ghost use Rattle.disk.specs.State.{Counted};
 ghost use Rattle.events.specs.declared.input.Event.{Event};
 ghost use Rattle.events.specs.declared.input.Event.TheVariants.{PowerUp};
 ghost use Rattle.mode_table.specs.declared.statuses.Cold.{Cold};
 ghost use Rattle.onboard.specs.Answers.{live_failed};
-ghost use Rattle.onboard.specs.Lives.{IsReady, StandsBy};
-ghost use Rattle.onboard.specs.Runs.{accepted_by, Lives, LivesCompose};
+ghost use Rattle.onboard.specs.Lives.{IsReady};
+ghost use Rattle.onboard.specs.Runs.{accepted_by, durable_by, Lives};
+ghost use Rattle.onboard.specs.declared.released.Released.{Released};
 
 use crate::errors::LiveError;
 use crate::onboard::Onboard;
 use crate::released::Released;
-use crate::steps::{Step, run};
+use crate::sink::ReleaseSink;
+use crate::steps::run_into;
 use disk::Disk;
+use life_steps::Step;
 use mode_table::Cold;
 use std::alloc::Global;
 
-/// One life: powers up, and takes the steps in order, up to the first error. It hands the disk back.
+/// One life: powers up, and takes the steps in order, up to the first error. It hands on what is released as it is released, and the disk
+/// back.
+pub fn live_into<D: Disk, S: ReleaseSink>(
+    alloc: Global,
+    disk: D,
+    cold: Cold,
+    steps: &[Step],
+    sink: &mut S,
+) -> (D, Result<(), LiveError>)
+    ensures counted { Counted (live_failed result.1) (D.state disk) (D.state result.0) }
+
+    // Where power is lost and what is released, for every list of events that the disk stands for.
+    ensures life { (d a : List Event) → IsTrue (D.state disk).honest → IsReady d a (D.state disk) →
+        (p : List Event) × (word : Cold) × (given : List Released) × S.Gave sink.old given sink.new
+        × (it : Lives d a p cold word steps.now (D.state disk) (D.state result.0) [] given)
+        × OnOk result.1 (it.after ≡ accepted_by (PowerUp word ∷ p) steps.now) × OnOk result.1 (it.before ≡ durable_by (PowerUp word ∷ p) steps.now) }
+{
+    match Onboard::open(alloc, disk, cold) {
+        Ok(unit) => {
+            let mut unit = unit;
+            let result = run_into(alloc, &mut unit, steps, sink);
+            (unit.close(), result)
+        }
+        Err((error, disk)) => (disk, Err(LiveError::Open(error))),
+    }
+}
+
+/// One life, which hands on what is released to the end of a list.
 pub fn live<D: Disk>(
     alloc: Global,
     disk: D,
@@ -29,24 +59,7 @@ pub fn live<D: Disk>(
     // Where power is lost and what is released, for every list of events that the disk stands for.
     ensures life { (d a : List Event) → IsTrue (D.state disk).honest → IsReady d a (D.state disk) →
         (p : List Event) × (word : Cold) × (it : Lives d a p cold word steps.now (D.state disk) (D.state result.0) out.old.items out.new.items)
-        × OnOk result.1 (it.after ≡ accepted_by (PowerUp word ∷ p) steps.now) }
+        × OnOk result.1 (it.after ≡ accepted_by (PowerUp word ∷ p) steps.now) × OnOk result.1 (it.before ≡ durable_by (PowerUp word ∷ p) steps.now) }
 {
-    match Onboard::open(alloc, disk, cold) {
-        Ok(unit) => {
-            let mut unit = unit;
-            let result = run(alloc, &mut unit, steps, out);
-            (unit.close(), result)
-        }
-        Err((error, disk)) => (disk, Err(LiveError::Open(error))),
-    }
+    live_into(alloc, disk, cold, steps, out)
 }
-
-/// A law: wherever a life is cut, what it leaves is ready for the next one.
-pub fn lives_compose()
-    ensures { LivesCompose }
-{}
-
-/// A law: behind each power-up the mode is Stand By, whatever was told of movements.
-pub fn stands_by()
-    ensures { StandsBy }
-{}

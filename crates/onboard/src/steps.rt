@@ -1,51 +1,45 @@
 // The steps of a life.
-ghost use Rattle.std.specs.Prelude.{◌≡◌, ◌++◌, ◌∷◌, List, IsTrue, IfOk, OnOk, OnErr};
+ghost use Rattle.std.specs.Prelude.{◌≡◌, [], ◌∷◌, List, IsTrue, OnOk, OnErr};
 ghost use Rattle.disk.specs.State.{Counted};
 ghost use Rattle.events.specs.declared.input.Event.{Event};
 ghost use Rattle.events.specs.declared.input.Event.TheVariants.{Input as an_input};
 ghost use Rattle.journal.specs.Journals.{IsOpen};
 ghost use Rattle.onboard.specs.Answers.{live_failed};
 ghost use Rattle.onboard.specs.Events.{account_of, IsAhead};
-ghost use Rattle.onboard.specs.Runs.{accepted_by, IsStepped, Took, Ran};
-ghost use Rattle.onboard.specs.declared.steps.Step.TheVariants as a_step;
+ghost use Rattle.onboard.specs.Runs.{accepted_by, durable_by, IsStepped, Took, Ran};
+ghost use Rattle.onboard.specs.declared.released.Released.{Released};
+ghost use Rattle.life_steps.specs.declared.step.Step.TheVariants as a_step;
 
 use crate::errors::LiveError;
 use crate::inputs::copy_of;
 use crate::onboard::Onboard;
 use crate::released::Released;
+use crate::sink::ReleaseSink;
 use disk::Disk;
 use events::Input;
+use life_steps::Step;
 use std::alloc::Global;
 
-/// What happens in a life.
-#[derive(Drop)]
-pub enum Step {
-    /// An input comes.
-    Accept(Input),
-    /// What is pending is put on the disk and released.
-    Flush,
-}
-
 // Flushes, once there is room for what may be released.
-fn flush_into<D: Disk>(
+fn flush_into<D: Disk, S: ReleaseSink>(
     unit: &mut Onboard<D>,
     k: usize,
-    out: &mut Vec<Released>,
+    sink: &mut S,
 ) -> Result<(), LiveError>
     ensures counted { Counted (live_failed result) (D.state unit.old.disk) (D.state unit.new.disk) }
     ensures stepped { (durable accepted : List Event) → IsTrue (D.state unit.old.disk).honest →
         IsOpen unit.old.journal (account_of durable) (D.state unit.old.disk) → IsAhead durable accepted unit.old.life →
         IsStepped a_step.Flush durable accepted (D.state unit.old.disk) (D.state unit.new.disk)
         × OnOk result (IsOpen unit.new.journal (account_of accepted) (D.state unit.new.disk) × IsAhead accepted accepted unit.new.life) }
-    ensures released { IfOk result (λ _. out.new.items ≡ out.old.items ++ unit.old.life.pairs.items) }
-    ensures nothing { OnErr result (out.new.items ≡ out.old.items) }
+    ensures released { OnOk result (S.Gave sink.old unit.old.life.pairs.items sink.new) }
+    ensures nothing { OnErr result (S.Gave sink.old [] sink.new) }
 {
-    if out.reserve(8).is_err() {
+    if sink.make_room().is_err() {
         return Err(LiveError::NoMemory(k));
     }
     match unit.flush() {
         Ok(pairs) => {
-            let _room = out.extend_from_slice(pairs.as_slice());
+            sink.give(pairs.as_slice());
             Ok(())
         }
         Err(error) => Err(LiveError::Flush(k, error)),
@@ -72,33 +66,56 @@ fn accept_one<D: Disk>(
     }
 }
 
-fn take<D: Disk>(
+fn take<D: Disk, S: ReleaseSink>(
     alloc: Global,
     unit: &mut Onboard<D>,
     k: usize,
     step: &Step,
-    out: &mut Vec<Released>,
+    sink: &mut S,
 ) -> Result<(), LiveError>
     ensures counted { Counted (live_failed result) (D.state unit.old.disk) (D.state unit.new.disk) }
     ensures stepped { (durable accepted : List Event) → IsTrue (D.state unit.old.disk).honest →
         IsOpen unit.old.journal (account_of durable) (D.state unit.old.disk) → IsAhead durable accepted unit.old.life →
         IsStepped step.now durable accepted (D.state unit.old.disk) (D.state unit.new.disk)
-        × OnOk result (Took durable accepted step.now unit.new.journal unit.new.life (D.state unit.new.disk) out.old.items out.new.items) }
-    ensures nothing { OnErr result (out.new.items ≡ out.old.items) }
+        × OnOk result ((its : List Released) × S.Gave sink.old its sink.new × Took durable accepted step.now unit.new.journal unit.new.life (D.state unit.new.disk) its) }
+    ensures nothing { OnErr result (S.Gave sink.old [] sink.new) }
 {
     match step {
         Step::Accept(input) => match accept_one(alloc, unit, k, input) {
             Ok(()) => Ok(()),
             Err(error) => Err(error),
         },
-        Step::Flush => match flush_into(unit, k, out) {
+        Step::Flush => match flush_into(unit, k, sink) {
             Ok(()) => Ok(()),
             Err(error) => Err(error),
         },
     }
 }
 
-/// Takes the steps in order, up to the first error.
+/// Takes the steps in order, up to the first error, and hands on what is released as it is released.
+pub fn run_into<D: Disk, S: ReleaseSink>(
+    alloc: Global,
+    unit: &mut Onboard<D>,
+    steps: &[Step],
+    sink: &mut S,
+) -> Result<(), LiveError>
+    ensures counted { Counted (live_failed result) (D.state unit.old.disk) (D.state unit.new.disk) }
+    ensures ran { (s : List Event) → IsTrue (D.state unit.old.disk).honest →
+        IsOpen unit.old.journal (account_of s) (D.state unit.old.disk) → IsAhead s s unit.old.life →
+        (given : List Released) × S.Gave sink.old given sink.new
+        × (it : Ran s steps.now (D.state unit.old.disk) (D.state unit.new.disk) [] given)
+        × OnOk result (it.after ≡ accepted_by s steps.now) × OnOk result (it.before ≡ durable_by s steps.now) }
+{
+    for k in 0..steps.len() {
+        match take(alloc, unit, k, &steps[k], sink) {
+            Ok(()) => {}
+            Err(error) => return Err(error),
+        }
+    }
+    Ok(())
+}
+
+/// The same into a list, at its end.
 pub fn run<D: Disk>(
     alloc: Global,
     unit: &mut Onboard<D>,
@@ -109,13 +126,7 @@ pub fn run<D: Disk>(
     ensures ran { (s : List Event) → IsTrue (D.state unit.old.disk).honest →
         IsOpen unit.old.journal (account_of s) (D.state unit.old.disk) → IsAhead s s unit.old.life →
         (it : Ran s steps.now (D.state unit.old.disk) (D.state unit.new.disk) out.old.items out.new.items)
-        × OnOk result (it.after ≡ accepted_by s steps.now) }
+        × OnOk result (it.after ≡ accepted_by s steps.now) × OnOk result (it.before ≡ durable_by s steps.now) }
 {
-    for k in 0..steps.len() {
-        match take(alloc, unit, k, &steps[k], out) {
-            Ok(()) => {}
-            Err(error) => return Err(error),
-        }
-    }
-    Ok(())
+    run_into(alloc, unit, steps, out)
 }

@@ -6,7 +6,7 @@ use Rattle.journal.specs.Journals.{IsOpen}
 use Rattle.journal.specs.JournalState.{JournalState as Journal}
 use Rattle.onboard.specs.Events.{account_of, IsAhead}
 use Rattle.onboard.specs.Runs.{IsStepped}
-use Rattle.onboard.specs.declared.steps.Step.TheVariants.{Accept}
+use Rattle.life_steps.specs.declared.step.Step.TheVariants.{Accept}
 use Rattle.onboard.proofs.Stepping.{quiet_step}
 use Rattle.onboard.proofs.steps.accept_one.Goals as goal
 

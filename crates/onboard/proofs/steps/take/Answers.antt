@@ -1,6 +1,7 @@
-use Rattle.std.proofs.Common.{sym, subst}
-use Rattle.onboard.specs.declared.steps.Step.{Step}
+use Rattle.std.proofs.Common.{List, [], sym, subst}
+use Rattle.life_steps.specs.declared.step.Step.{Step}
 use Rattle.onboard.specs.Runs.{IsStepped, Took}
+use Rattle.onboard.specs.declared.released.Released.{Released}
 use Rattle.onboard.proofs.Stepping.{took_input, took_flush}
 use Rattle.onboard.proofs.steps.take.Goals as goal
 
@@ -8,8 +9,9 @@ pub returns-in-Ok-clause-stepped : goal.returns-in-Ok-clause-stepped
 returns-in-Ok-clause-stepped g c = λ durable accepted honest opened ahead.
     let both = c.in-Ok.ensures.stepped durable accepted honest opened ahead in
     let u = c.accept_one.new.unit in
-    let T : Step → Type 0 = λ x. IsStepped x durable accepted (g.D.Disk.state c.args.unit.now.disk) (g.D.Disk.state u.disk) × Took durable accepted x u.journal u.life (g.D.Disk.state u.disk) c.args.out.now.items c.args.out.now.items in
-    subst T (sym c.in-Accept.is) (both.0, took_input durable accepted c.in-Accept.input u.journal u.life (g.D.Disk.state u.disk) c.args.out.now.items both.1.0 both.1.1)
+    let T : Step → Type 0 = λ x. IsStepped x durable accepted (g.D.Disk.state c.args.unit.now.disk) (g.D.Disk.state u.disk)
+        × ((its : List Released) × g.S.ReleaseSink.Gave c.args.sink.now its c.args.sink.now × Took durable accepted x u.journal u.life (g.D.Disk.state u.disk) its) in
+    subst T (sym c.in-Accept.is) (both.0, ([], g.met.S.ReleaseSink.none c.args.sink.now, took_input durable accepted c.in-Accept.input u.journal u.life (g.D.Disk.state u.disk) both.1.0 both.1.1))
 
 pub returns-in-Err-clause-stepped : goal.returns-in-Err-clause-stepped
 returns-in-Err-clause-stepped g c = λ durable accepted honest opened ahead.
@@ -17,12 +19,16 @@ returns-in-Err-clause-stepped g c = λ durable accepted honest opened ahead.
     let T : Step → Type 0 = λ x. IsStepped x durable accepted (g.D.Disk.state c.args.unit.now.disk) (g.D.Disk.state c.accept_one.new.unit.disk) in
     (subst T (sym c.in-Accept.is) both.0, tt)
 
+pub returns-in-Err-clause-nothing : goal.returns-in-Err-clause-nothing
+returns-in-Err-clause-nothing g c = g.met.S.ReleaseSink.none c.args.sink.now
+
 pub returns-in-Ok-flush_into-clause-stepped : goal.returns-in-Ok-flush_into-clause-stepped
 returns-in-Ok-flush_into-clause-stepped g c = λ durable accepted honest opened ahead.
     let both = c.in-Ok-flush_into.ensures.stepped durable accepted honest opened ahead in
     let u = c.flush_into.new.unit in
-    let T : Step → Type 0 = λ x. IsStepped x durable accepted (g.D.Disk.state c.args.unit.now.disk) (g.D.Disk.state u.disk) × Took durable accepted x u.journal u.life (g.D.Disk.state u.disk) c.args.out.now.items c.flush_into.new.out.items in
-    subst T (sym c.in-Flush.is) (both.0, took_flush durable accepted u.journal u.life c.args.unit.now.life.pairs.items (g.D.Disk.state u.disk) c.args.out.now.items c.flush_into.new.out.items both.1.0 both.1.1 c.in-Ok-flush_into.ensures.released ahead.pairs_are)
+    let T : Step → Type 0 = λ x. IsStepped x durable accepted (g.D.Disk.state c.args.unit.now.disk) (g.D.Disk.state u.disk)
+        × ((its : List Released) × g.S.ReleaseSink.Gave c.args.sink.now its c.flush_into.new.sink × Took durable accepted x u.journal u.life (g.D.Disk.state u.disk) its) in
+    subst T (sym c.in-Flush.is) (both.0, (c.args.unit.now.life.pairs.items, c.in-Ok-flush_into.ensures.released, took_flush durable accepted u.journal u.life c.args.unit.now.life.pairs.items (g.D.Disk.state u.disk) both.1.0 both.1.1 ahead.pairs_are))
 
 pub returns-in-Err-flush_into-clause-stepped : goal.returns-in-Err-flush_into-clause-stepped
 returns-in-Err-flush_into-clause-stepped g c = λ durable accepted honest opened ahead.

@@ -3,7 +3,8 @@ use Rattle.events.specs.declared.input.Event.{Event}
 use Rattle.journal.specs.Journals.{IsOpen}
 use Rattle.onboard.specs.Events.{account_of, IsAhead}
 use Rattle.onboard.specs.Runs.{Going}
-use Rattle.onboard.proofs.steps.run.Given as goal
+use Rattle.onboard.specs.declared.released.Released.{Released}
+use Rattle.onboard.proofs.steps.run_into.Given as goal
 
 abbrev pub invariant-loop-k : goal.invariant-loop-k
 invariant-loop-k g l = record {
@@ -11,5 +12,6 @@ invariant-loop-k g l = record {
   honest : (g.D.Disk.state l.unit.disk).honest ≡ (g.D.Disk.state l.fn.unit.disk).honest;
   faults : (g.D.Disk.state l.unit.disk).faults ≡ (g.D.Disk.state l.fn.unit.disk).faults;
   going : (s : List Event) → IsTrue (g.D.Disk.state l.fn.unit.disk).honest → IsOpen l.fn.unit.journal (account_of s) (g.D.Disk.state l.fn.unit.disk) →
-      IsAhead s s l.fn.unit.life → Going s l.steps l.k (g.D.Disk.state l.fn.unit.disk) (g.D.Disk.state l.unit.disk) l.unit.journal l.unit.life l.fn.out.items l.out.items;
+      IsAhead s s l.fn.unit.life → (given : List Released) × g.S.ReleaseSink.Gave l.fn.sink given l.sink
+      × Going s l.steps l.k (g.D.Disk.state l.fn.unit.disk) (g.D.Disk.state l.unit.disk) l.unit.journal l.unit.life given;
 }

@@ -1,0 +1,56 @@
+use Rattle.std.proofs.Common.{rules, ◌≡◌, ◌∙◌, [], ◌++◌, sym, subst, ap, refl, IsTrue, take, List}
+use Rattle.std.proofs.lemmas.List.{take_all, append-nil}
+use Rattle.life_steps.specs.declared.step.Step.{Step}
+use Rattle.onboard.specs.Runs.{accepted_by, durable_by}
+use Rattle.onboard.specs.declared.released.Released.{Released}
+use Rattle.onboard.proofs.Stepping.{going_first, stepped, stopped, finished}
+use Rattle.onboard.proofs.steps.run_into.Goals as goal
+
+pub loop-k-init : goal.loop-k-init
+loop-k-init g c = record {
+  sectors = refl;
+  honest = refl;
+  faults = refl;
+  going = λ s honest opened ahead. (
+    [],
+    g.met.S.ReleaseSink.none c.args.sink.now,
+    going_first s c.args.steps.now (g.D.Disk.state c.args.unit.now.disk) c.args.unit.now.journal c.args.unit.now.life opened ahead,
+  );
+}
+
+pub returns-in-Err-clause-ran : goal.returns-in-Err-clause-ran
+returns-in-Err-clause-ran g c = λ s honest opened ahead.
+    let so = c.loop-k.invariant.going s honest opened ahead in
+    let going = so.2 in
+    let still : IsTrue (g.D.Disk.state c.loop-k.unit.disk).honest = subst IsTrue (sym c.loop-k.invariant.honest) honest in
+    let step = c.in-Err.ensures.stepped going.durable (accepted_by s (take c.loop-k.k c.args.steps.now)) still going.opened going.ahead in
+    let G : List Released → Type 0 = λ l. g.S.ReleaseSink.Gave c.args.sink.now l c.take.new.sink in (
+      so.0,
+      subst G (append-nil so.0) (g.met.S.ReleaseSink.more c.args.sink.now c.loop-k.sink c.take.new.sink so.0 [] so.1 c.in-Err.ensures.nothing),
+      stopped s c.args.steps.now c.loop-k.k c.loop-k-test.true c.index-steps-k.result _ c.index-steps-k.is (g.D.Disk.state c.args.unit.now.disk) (g.D.Disk.state c.loop-k.unit.disk) c.loop-k.invariant.sectors c.loop-k.unit.journal c.loop-k.unit.life so.0 going (g.D.Disk.state c.take.new.unit.disk) step.0,
+      tt,
+      tt,
+    )
+
+pub loop-k-preserved : goal.loop-k-preserved
+loop-k-preserved g c = record {
+  sectors = search rules;
+  honest = search rules;
+  faults = search rules;
+  going = λ s honest opened ahead.
+      let so = c.loop-k.invariant.going s honest opened ahead in
+      let going = so.2 in
+      let still : IsTrue (g.D.Disk.state c.loop-k.unit.disk).honest = subst IsTrue (sym c.loop-k.invariant.honest) honest in
+      let step = c.in-Ok.ensures.stepped going.durable (accepted_by s (take c.loop-k.k c.args.steps.now)) still going.opened going.ahead in (
+        so.0 ++ step.1.0,
+        g.met.S.ReleaseSink.more c.args.sink.now c.loop-k.sink c.take.new.sink so.0 step.1.0 so.1 step.1.1,
+        stepped s c.args.steps.now c.loop-k.k c.loop-k-test.true c.index-steps-k.result _ c.index-steps-k.is (g.D.Disk.state c.args.unit.now.disk) (g.D.Disk.state c.loop-k.unit.disk) c.loop-k.invariant.sectors c.loop-k.unit.journal c.loop-k.unit.life so.0 going (g.D.Disk.state c.take.new.unit.disk) c.take.new.unit.journal c.take.new.unit.life step.1.0 (c.take.ensures.counted.sectors) step.0 step.1.2,
+      );
+}
+
+pub returns-clause-ran : goal.returns-clause-ran
+returns-clause-ran g c = λ s honest opened ahead.
+    let so = c.loop-k.invariant.going s honest opened ahead in
+    let end = finished s c.args.steps.now c.loop-k.k (g.D.Disk.state c.args.unit.now.disk) (g.D.Disk.state c.loop-k.unit.disk) c.loop-k.unit.journal c.loop-k.unit.life so.0 so.2 in
+    let all = take_all c.loop-k.k c.args.steps.now (search rules) in
+    (so.0, so.1, end.0, end.1 ∙ ap (λ (l : List Step). accepted_by s l) all, end.2 ∙ ap (λ (l : List Step). durable_by s l) all)

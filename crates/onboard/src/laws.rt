@@ -1,0 +1,37 @@
+// What follows from the contracts alone.
+ghost use Rattle.onboard.specs.Chains.{AnyNumberOfLives};
+ghost use Rattle.onboard.specs.Laws.{ForgetsAcross, ImagesAreEndless};
+ghost use Rattle.onboard.specs.Lives.{StandsBy};
+ghost use Rattle.onboard.specs.Runs.{LivesCompose};
+
+use kernel::power_up_forgets;
+use ring::ring_is_endless;
+
+/// A law: wherever a life is cut, what it leaves is ready for the next one.
+pub fn lives_compose()
+    ensures { LivesCompose }
+{}
+
+/// A law: whatever lives follow one another, all that was ever released stands in the list that is found last.
+pub fn releases_stay()
+    ensures { AnyNumberOfLives }
+{}
+
+/// A law: behind each power-up the mode is Stand By, whatever was told of movements.
+pub fn stands_by()
+    ensures { StandsBy }
+{}
+
+/// A law: nothing but what is kept crosses a power-up.
+pub fn forgets_across()
+    ensures { ForgetsAcross }
+{
+    power_up_forgets();
+}
+
+/// A law: each image that stands for a list has its last records, none skipped.
+pub fn images_are_endless()
+    ensures { ImagesAreEndless }
+{
+    ring_is_endless();
+}

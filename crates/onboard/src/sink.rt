@@ -1,0 +1,54 @@
+// Where releases go.
+ghost use Rattle.std.specs.Prelude.{◌≡◌, ℕ, ◌-◌, ◌≤◌, [], ◌++◌, List, length, vec_len, vec_capacity, OnOk};
+ghost use Rattle.onboard.specs.declared.released.Released.{Released};
+
+use crate::released::Released;
+use units::NoMemory;
+
+/// What takes releases as they come, as a list or a printer does.
+pub trait ReleaseSink {
+    /// From the first value to the second it was given these, in their order.
+    ghost Gave: { Self → List Released → Self → Type 0 };
+
+    /// For how many it has room.
+    ghost room: { Self → ℕ };
+
+    /// Makes room for what one flush releases, before it begins.
+    fn make_room(&mut self) -> Result<(), NoMemory>
+        ensures given { Gave self.old [] self.new }
+        ensures room { OnOk result (8 ≤ room self.new) };
+
+    /// Takes these, in their order.
+    fn give(&mut self, pairs: &[Released])
+        requires room { length pairs.now ≤ room self.old }
+        ensures given { Gave self.old pairs.now self.new };
+
+    ghost none: { (s : Self) → Gave s [] s };
+
+    ghost more: { (s t u : Self) (first rest : List Released) → Gave s first t → Gave t rest u → Gave s (first ++ rest) u };
+}
+
+/// A list takes them at its end.
+impl ReleaseSink for Vec<Released> {
+    ghost use Rattle.std.proofs.Common.{append_assoc, sym, ◌∙◌, ap};
+    ghost use Rattle.std.proofs.lemmas.List.{append-nil};
+
+    ghost Gave = { λ old pairs new. new.items ≡ old.items ++ pairs };
+
+    ghost room = { λ list. vec_capacity list - vec_len list };
+
+    ghost none = { λ s. sym (append-nil s.items) };
+
+    ghost more = { λ s t u first rest one two. two ∙ ap (λ l. l ++ rest) one ∙ append_assoc s.items first rest };
+
+    fn make_room(&mut self) -> Result<(), NoMemory> {
+        if self.reserve(8).is_err() {
+            return Err(NoMemory);
+        }
+        Ok(())
+    }
+
+    fn give(&mut self, pairs: &[Released]) {
+        let _room = self.extend_from_slice(pairs);
+    }
+}

@@ -1,5 +1,5 @@
 // From the bytes of a file to the steps of a life.
-ghost use Rattle.std.specs.Prelude.{◌≡◌, ◌⊎◌, ◌≤ℤ◌, ◌*◌, [], codes, map, pos, neg_ℤ, IfOk, IfErr, OnOk, option_map, Ok, Err};
+ghost use Rattle.std.specs.Prelude.{◌≡◌, ◌⊎◌, [], codes, map, pos, IfOk, IfErr, OnOk, Ok, Err};
 ghost use Rattle.serde_json.specs.View.{view};
 ghost use Rattle.serde_json.specs.Find.{get};
 ghost use Rattle.simulator.specs.Passing.{passed};

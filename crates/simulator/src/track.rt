@@ -1,4 +1,4 @@
-ghost use Rattle.std.specs.Prelude.{◌≡◌, ◌≤◌, ◌^◌, ◌+ℤ◌, ◌≤ℤ◌, ◌<ℤ◌, pos, neg_ℤ, IfOk, IfErr, All};
+ghost use Rattle.std.specs.Prelude.{◌≡◌, ◌^◌, ◌+ℤ◌, ◌≤ℤ◌, ◌<ℤ◌, pos, neg_ℤ, IfOk, IfErr, All};
 ghost use Rattle.std.specs.List.Sorted.{IsNonDecreasingBy};
 ghost use Rattle.simulator.specs.Passing.{passed, AreUpTo};
 
@@ -15,11 +15,10 @@ pub(crate) struct Track {
 
 impl Track {
     /// The track with these balises.
-    pub fn new(balises: Vec<Balise>) -> Result<Track, ScenarioFault>
+    pub fn new(mut balises: Vec<Balise>) -> Result<Track, ScenarioFault>
         ensures ok { IfOk result (λ track. passed track.balises.items ≡ passed balises.items) }
         ensures err { IfErr result (λ fault. fault ≡ ScenarioFault.NoMemory) }
     {
-        let mut balises = balises;
         balises.sort_by_key(|balise| balise.at)?;
         Ok(Track { balises })
     }

@@ -63,6 +63,18 @@ impl<G: ProfileStore<Permille> + Drop, S: ProfileStore<CategorySpeeds> + Drop> S
         if self.is_quiet(event) {
             return self.take_in_place(alloc, event);
         }
+        self.take_on_a_copy(alloc, event)
+    }
+
+    // One event on a copy, which takes the state's place. It stands out of line, so that a quiet event clears no room for the copy.
+    #[inline(never)]
+    fn take_on_a_copy(&mut self, alloc: Global, event: &Event) -> Result<Output, NoMemory>
+        ensures stands { OnOk result ((events : List Event) → StandsFor G.profile S.profile self.old events
+            → StandsFor G.profile S.profile self.new (event.now ∷ events)) }
+        ensures output { IfOk result (λ output. (events : List Event) → StandsFor G.profile S.profile self.old events
+            → output ≡ output_after (event.now ∷ events)) }
+        ensures refused { OnErr result (self.new ≡ self.old) }
+    {
         let (next, output) = step(alloc, self, event)?;
         *self = next;
         Ok(output)

@@ -126,7 +126,8 @@ impl<G: ProfileStore<Permille> + Drop, S: ProfileStore<CategorySpeeds> + Drop> T
         self.follow(alloc, mode, message, verdict)
     }
 
-    // A group that closed.
+    // A group that closed. It stands out of line, since few events close one.
+    #[inline(never)]
     fn close_one(&mut self, alloc: Global, mode: Mode, group: &Closed) -> Result<(), NoMemory>
         ensures { OnOk result ((life : Life) (begun : Begun) (used : Used) → StandsForLife G.profile S.profile self.old (grown_so_far life begun used)
             → StandsForLife G.profile S.profile self.new (grown_so_far life begun (after_group mode life.entries begun used group.now))) }

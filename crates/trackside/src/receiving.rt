@@ -102,7 +102,9 @@ impl<G: ProfileStore<Permille> + Drop, S: ProfileStore<CategorySpeeds> + Drop> T
         self.close(alloc, mode, &ended)
     }
 
-    // A telegram: the group that it ends closes, and behind that its own where that is whole now.
+    // A telegram: the group that it ends closes, and behind that its own where that is whole now. It stands out of line, so that other
+    // inputs clear no room for groups.
+    #[inline(never)]
     fn take(&mut self, alloc: Global, mode: Mode, telegram: Received) -> Result<(), NoMemory>
         ensures { OnOk result ((life : Life) (bytes : List ℕ) → StandsForLife G.profile S.profile self.old life → telegram_in bytes ≡ Some telegram
             → StandsForLife G.profile S.profile self.new (grown_so_far life (heard life.entries bytes)

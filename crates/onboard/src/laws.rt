@@ -1,10 +1,10 @@
 // What follows from the contracts alone.
 ghost use Rattle.onboard.specs.Chains.{AnyNumberOfLives};
-ghost use Rattle.onboard.specs.Laws.{ForgetsAcross, ImagesAreEndless};
+ghost use Rattle.onboard.specs.Laws.{ForgetsAcross, ReleasesBrake, ImagesAreEndless};
 ghost use Rattle.onboard.specs.Lives.{StandsBy};
 ghost use Rattle.onboard.specs.Runs.{LivesCompose};
 
-use kernel::power_up_forgets;
+use kernel::{brakes_until_revalidated, power_up_forgets};
 use ring::ring_is_endless;
 
 /// A law: wherever a life is cut, what it leaves is ready for the next one.
@@ -27,6 +27,13 @@ pub fn forgets_across()
     ensures { ForgetsAcross }
 {
     power_up_forgets();
+}
+
+/// A law: until the driver has revalidated, all that is released commands the emergency brake.
+pub fn releases_brake()
+    ensures { ReleasesBrake }
+{
+    brakes_until_revalidated();
 }
 
 /// A law: each image that stands for a list has its last records, none skipped.

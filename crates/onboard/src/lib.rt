@@ -14,7 +14,9 @@ mod start;
 mod steps;
 
 pub use errors::{AcceptError, FlushError, LiveError, OpenError};
-pub use laws::{forgets_across, images_are_endless, lives_compose, releases_stay, stands_by};
+pub use laws::{
+    forgets_across, images_are_endless, lives_compose, releases_brake, releases_stay, stands_by,
+};
 pub use life_steps::Step;
 pub use living::{live, live_into};
 pub use onboard::Onboard;

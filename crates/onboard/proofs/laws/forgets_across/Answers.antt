@@ -1,4 +1,4 @@
-use Rattle.std.proofs.Common.{◌≡◌, [], ◌∷◌, sym, ◌∙◌, ap}
+use Rattle.std.proofs.Common.{[], ◌∷◌, sym, ◌∙◌, ap}
 use Rattle.events.specs.declared.input.Event.TheVariants.{PowerUp}
 use Rattle.kernel.specs.Output.{output_after}
 use Rattle.onboard.specs.Runs.{accepted_by}

@@ -1,4 +1,4 @@
-use Rattle.std.proofs.Common.{◌≡◌, ℕ, sym, subst}
+use Rattle.std.proofs.Common.{ℕ, sym, subst}
 use Rattle.ring.specs.Slots.{valid_at, Stands}
 use Rattle.ring.proofs.Numbers.{same_newest}
 use Rattle.onboard.specs.Events.{account_of}

@@ -16,7 +16,7 @@ returns-in-Ok-clause-life g c = λ d a honest ready.
     let ran = c.run_into-result.ensures.ran (PowerUp up.1 ∷ up.0) still up.3 up.4 in
     let it = lives_ran d a up.0 c.args.cold up.1 c.args.steps.now (g.D.Disk.state c.args.disk) (g.D.Disk.state c.in-Ok.unit.disk) up.2 (g.D.Disk.state c.run_into-result.new.unit.disk) [] ran.0 up.5 c.in-Ok.ensures.counted.sectors ran.2 in
     let T : State → Type 0 = λ s. (x : List Event) × (w : Cold) × (given : List Released) × g.S.ReleaseSink.Gave c.args.sink.now given c.run_into-result.new.sink
-        × (x' : Lives d a x c.args.cold w c.args.steps.now (g.D.Disk.state c.args.disk) s [] given) × OnOk c.run_into-result.result (x'.after ≡ accepted_by (PowerUp w ∷ x) c.args.steps.now) × OnOk c.run_into-result.result (x'.before ≡ durable_by (PowerUp w ∷ x) c.args.steps.now) in
+    × (x' : Lives d a x c.args.cold w c.args.steps.now (g.D.Disk.state c.args.disk) s [] given) × OnOk c.run_into-result.result (x'.after ≡ accepted_by (PowerUp w ∷ x) c.args.steps.now) × OnOk c.run_into-result.result (x'.before ≡ durable_by (PowerUp w ∷ x) c.args.steps.now) in
     subst T (sym (ap g.D.Disk.state c.close.ensures)) (up.0, up.1, ran.0, ran.1, it.0, on_ok c.run_into-result.result _ _ (λ e. it.1 ∙ e) ran.3, on_ok c.run_into-result.result _ _ (λ e. it.2 ∙ e) ran.4)
 
 pub returns-in-Err-clause-life : goal.returns-in-Err-clause-life

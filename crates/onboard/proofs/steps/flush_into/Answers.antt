@@ -1,4 +1,4 @@
-use Rattle.std.proofs.Common.{◌≡◌, ◌∙◌, [], List, subst}
+use Rattle.std.proofs.Common.{◌∙◌, [], List, subst}
 use Rattle.life_steps.specs.declared.step.Step.TheVariants.{Flush}
 use Rattle.onboard.specs.declared.released.Released.{Released}
 use Rattle.onboard.proofs.Stepping.{quiet_step, flush_step}

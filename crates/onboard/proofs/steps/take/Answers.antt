@@ -10,7 +10,7 @@ returns-in-Ok-clause-stepped g c = λ durable accepted honest opened ahead.
     let both = c.in-Ok.ensures.stepped durable accepted honest opened ahead in
     let u = c.accept_one.new.unit in
     let T : Step → Type 0 = λ x. IsStepped x durable accepted (g.D.Disk.state c.args.unit.now.disk) (g.D.Disk.state u.disk)
-        × ((its : List Released) × g.S.ReleaseSink.Gave c.args.sink.now its c.args.sink.now × Took durable accepted x u.journal u.life (g.D.Disk.state u.disk) its) in
+    × ((its : List Released) × g.S.ReleaseSink.Gave c.args.sink.now its c.args.sink.now × Took durable accepted x u.journal u.life (g.D.Disk.state u.disk) its) in
     subst T (sym c.in-Accept.is) (both.0, ([], g.met.S.ReleaseSink.none c.args.sink.now, took_input durable accepted c.in-Accept.input u.journal u.life (g.D.Disk.state u.disk) both.1.0 both.1.1))
 
 pub returns-in-Err-clause-stepped : goal.returns-in-Err-clause-stepped
@@ -27,7 +27,7 @@ returns-in-Ok-flush_into-clause-stepped g c = λ durable accepted honest opened 
     let both = c.in-Ok-flush_into.ensures.stepped durable accepted honest opened ahead in
     let u = c.flush_into.new.unit in
     let T : Step → Type 0 = λ x. IsStepped x durable accepted (g.D.Disk.state c.args.unit.now.disk) (g.D.Disk.state u.disk)
-        × ((its : List Released) × g.S.ReleaseSink.Gave c.args.sink.now its c.flush_into.new.sink × Took durable accepted x u.journal u.life (g.D.Disk.state u.disk) its) in
+    × ((its : List Released) × g.S.ReleaseSink.Gave c.args.sink.now its c.flush_into.new.sink × Took durable accepted x u.journal u.life (g.D.Disk.state u.disk) its) in
     subst T (sym c.in-Flush.is) (both.0, (c.args.unit.now.life.pairs.items, c.in-Ok-flush_into.ensures.released, took_flush durable accepted u.journal u.life c.args.unit.now.life.pairs.items (g.D.Disk.state u.disk) both.1.0 both.1.1 ahead.pairs_are))
 
 pub returns-in-Err-flush_into-clause-stepped : goal.returns-in-Err-flush_into-clause-stepped

@@ -1,5 +1,5 @@
 -- What a life does and tells (this project's profile).
-use Rattle.std.specs.Prelude.{◌≡◌, ℕ, List, [], ◌∷◌, ◌++◌, Bool, true, false, Option, Result, OnOk, IfOk, Unit}
+use Rattle.std.specs.Prelude.{◌≡◌, ℕ, List, [], ◌∷◌, ◌++◌, Bool, true, false, Option, Result, OnOk, IfOk}
 use Rattle.std.specs.Io.KnownBytes.{Appends}
 use Rattle.disk.specs.State.{State}
 use Rattle.events.specs.declared.input.Event.{Event}
@@ -26,11 +26,11 @@ is_device Device = true
 
 -- A life on a disk whose images each stood for d or for a. Where all writes succeeded, just the report of what was released came behind the
 -- text, and the status is that of the end.
-pub record Session {T E : Type 0} (d a : List Event) (cold : Cold) (steps : List Step) (old new : State) (before after : Option (List ℕ)) (answer : Result Status E) : Type 0 where
+pub record Session {E : Type 0} (d a : List Event) (cold : Cold) (steps : List Step) (old new : State) (before after : Option (List ℕ)) (answer : Result Status E) : Type 0 where
   pub p : List Event
   pub word : Cold
   pub given : List Released
-  pub ended : Result T LiveError
+  pub ended : Result (Unit {0}) LiveError
   pub life : Lives d a p cold word steps old new [] given
   pub whole : OnOk ended (life.after ≡ accepted_by (PowerUp word ∷ p) steps)
   pub told : IfOk answer (λ status. (status ≡ status_of ended) × Appends before after (report_of given ended))

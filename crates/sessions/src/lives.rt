@@ -15,28 +15,29 @@ use std::alloc::Global;
 use std::io;
 use std::io::Write;
 
-/// One life on a disk: a line for each output, written as it is released, and a last one where the life stopped. It hands the disk back, and
-/// answers the status that the program ends with; the error is that of a write.
+/// One life on a disk: a line for each output, written as it is released, and a last one where the life stopped. It hands the disk and the
+/// writer back, and answers the status that the program ends with; the error is that of a write.
 pub fn run_life<D: Disk, W: Write>(
     alloc: Global,
     disk: D,
     cold: Cold,
     steps: &[Step],
-    out: &mut W,
-) -> (D, io::Result<Status>)
+    out: W,
+) -> (D, W, io::Result<Status>)
     // The status is that of a device exactly where the device failed.
-    ensures counted { IfOk result.1 (λ status. Counted (is_device status) (D.state disk) (D.state result.0)) }
+    ensures counted { IfOk result.2 (λ status. Counted (is_device status) (D.state disk) (D.state result.0)) }
 
     ensures session { (d a : List Event) → IsTrue (D.state disk).honest → IsReady d a (D.state disk) →
-        Session d a cold steps.now (D.state disk) (D.state result.0) (W.contents out.old) (W.contents out.new) result.1 }
+        Session d a cold steps.now (D.state disk) (D.state result.0) (W.contents out) (W.contents result.1) result.2 }
 {
-    let mut printer = Printer {
-        out: &mut *out,
-        told: Ok(()),
-    };
+    let mut printer = Printer { out, told: Ok(()) };
     let (disk, ended) = live_into(alloc, disk, cold, steps, &mut printer);
-    match printer.told {
-        Ok(()) => (disk, tell_end(ended, out)),
-        Err(error) => (disk, Err(error)),
+    let Printer { mut out, told } = printer;
+    match told {
+        Ok(()) => {
+            let status = tell_end(ended, &mut out);
+            (disk, out, status)
+        }
+        Err(error) => (disk, out, Err(error)),
     }
 }

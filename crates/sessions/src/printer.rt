@@ -27,25 +27,24 @@ fn print<W: Write>(pairs: &[Released], out: &mut W) -> io::Result<()>
 
 /// Prints a line for each release as it comes, and hands the text on at once. After a write that failed it prints nothing more, and has room
 /// for no more: so a life stops before its next flush, and nothing is released that can't be told.
-#[derive(Drop)]
-pub(crate) struct Printer<'a, W> {
-    pub out: &'a mut W,
+pub(crate) struct Printer<W> {
+    pub out: W,
     /// What became of the writes so far.
     pub told: io::Result<()>,
 }
 
-impl<'a, W: Write> ReleaseSink for Printer<'a, W> {
+impl<W: Write> ReleaseSink for Printer<W> {
     ghost use Rattle.std.specs.Prelude.{is_ok};
     ghost use Rattle.sessions.specs.Lines.{Printed};
     ghost use Rattle.sessions.specs.Printing.{printed_none, printed_more};
 
-    ghost Gave = { λ old pairs new. Printed (is_ok old.told) (W.contents old.out.now) pairs (is_ok new.told) (W.contents new.out.now) };
+    ghost Gave = { λ old pairs new. Printed (is_ok old.told) (W.contents old.out) pairs (is_ok new.told) (W.contents new.out) };
 
     ghost room = { λ _. 8 };
 
-    ghost none = { λ s. printed_none (is_ok s.told) (W.contents s.out.now) };
+    ghost none = { λ s. printed_none (is_ok s.told) (W.contents s.out) };
 
-    ghost more = { λ s t u first rest. printed_more (is_ok s.told) (is_ok t.told) (is_ok u.told) (W.contents s.out.now) (W.contents t.out.now) (W.contents u.out.now) first rest };
+    ghost more = { λ s t u first rest. printed_more (is_ok s.told) (is_ok t.told) (is_ok u.told) (W.contents s.out) (W.contents t.out) (W.contents u.out) first rest };
 
     fn make_room(&mut self) -> Result<(), NoMemory> {
         if self.told.is_err() {
@@ -56,7 +55,7 @@ impl<'a, W: Write> ReleaseSink for Printer<'a, W> {
 
     fn give(&mut self, pairs: &[Released]) {
         if self.told.is_ok() {
-            self.told = print(pairs, self.out);
+            self.told = print(pairs, &mut self.out);
         }
     }
 }

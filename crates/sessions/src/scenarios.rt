@@ -31,6 +31,6 @@ pub fn run_scenario<R: Files<File = File> + AllocGlobal, W: Write>(
     let Ok(disk) = FileDisk::open(rt, image) else {
         return tell(out, "device", Status::Device);
     };
-    let (_, status) = run_life(rt.alloc(), disk, cold, steps.as_slice(), out);
+    let (_, _, status) = run_life(rt.alloc(), disk, cold, steps.as_slice(), out);
     status
 }

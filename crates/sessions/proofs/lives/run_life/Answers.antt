@@ -13,8 +13,8 @@ returns-in-Ok-clause-session g c d a honest ready =
       ended = c.live_into-disk.result.1;
       life = it.4;
       whole = it.5;
-      told = told_whole c.tell_end.result c.live_into-disk.result.1 _ _ _ it.2
-          (all_printed _ _ c.in-Ok.is _ _ _ it.2 it.3) c.tell_end.ensures.status c.tell_end.ensures.line;
+      told = told_whole c.tell_end-status.result c.live_into-disk.result.1 _ _ _ it.2
+          (all_printed _ _ c.in-Ok.is _ _ _ it.2 it.3) c.tell_end-status.ensures.status c.tell_end-status.ensures.line;
     }
 
 pub returns-in-Err-clause-session : goal.returns-in-Err-clause-session

@@ -1,7 +1,9 @@
-use crate::program::etcs_main;
-use crate::status::{Status, tell};
+use crate::program::{etcs_main, status_of};
+use exit_status::{Status, tell};
 use std::alloc::{AllocError, Global};
-use std::rt::Env;
+use std::fs::File;
+use std::io::{BufWriter, Write};
+use std::rt::{Env, Files};
 use std::{env, io};
 
 fn words_of<R: Env + AllocGlobal>(rt: &R) -> io::Result<Vec<String>> {
@@ -20,19 +22,29 @@ fn borrowed(alloc: Global, words: &[String]) -> Result<Vec<&str>, AllocError> {
     Ok(all)
 }
 
-/// Does what the words of the process behind the program's name ask, over standard output, and answers the exit status.
-pub fn run<R: Env + Print + AllocGlobal>(rt: &R) -> u8 {
-    let mut out = io::writer(rt);
+fn run_into<R: Env + Files<File = File> + AllocGlobal, W: Write>(rt: &R, out: &mut W) -> u8 {
     let words = match words_of(rt) {
         Ok(words) => words,
         Err(error) if error.kind() == io::ErrorKind::OutOfMemory => {
-            return tell(&mut out, "refused memory", Status::Refused);
+            return status_of(tell(out, "refused memory", Status::Refused));
         }
         // A word that is no text is no word of the program.
-        Err(_) => return tell(&mut out, "usage", Status::Usage),
+        Err(_) => return status_of(tell(out, "usage", Status::Usage)),
     };
     match borrowed(rt.alloc(), words.as_slice()) {
-        Ok(all) => etcs_main(rt.alloc(), all.as_slice(), &mut out),
-        Err(_) => tell(&mut out, "refused memory", Status::Refused),
+        Ok(all) => etcs_main(rt, all.as_slice(), out),
+        Err(_) => status_of(tell(out, "refused memory", Status::Refused)),
+    }
+}
+
+/// Does what the words of the process behind the program's name ask, over standard output, and answers the exit status.
+pub fn run<R: Env + Files<File = File> + Print + AllocGlobal>(rt: &R) -> u8 {
+    let Ok(mut out) = BufWriter::new(rt.alloc(), io::writer(rt)) else {
+        return status_of(tell(&mut io::writer(rt), "refused memory", Status::Refused));
+    };
+    let status = run_into(rt, &mut out);
+    match out.flush() {
+        Ok(()) => status,
+        Err(_) => Status::Refused as u8,
     }
 }

@@ -1,4 +1,4 @@
-//! The program `etcs`: shows the telegrams of balises.
+//! The program `etcs`: shows the telegrams of balises, makes images, runs scenarios on them, and lists their journals.
 #![tactic(auto)]
 
 use std::process::ExitCode;

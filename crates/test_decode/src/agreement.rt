@@ -1,12 +1,12 @@
-use commands::etcs_main;
+use crate::telling::decoded;
 use std::alloc::{AllocError, Global};
 use telegram::{decode, encode, packets};
 
-/// What the program writes of the telegram in bytes, and its status.
+/// What is told of the telegram in bytes, and the status.
 fn told(alloc: Global, bytes: &[u8]) -> Result<(Vec<u8>, u8), AllocError> {
     let text = hex::encode(alloc, bytes)?;
     let mut out = Vec::new(alloc);
-    let status = etcs_main(alloc, &["decode", text.as_str()], &mut out);
+    let status = decoded(alloc, text.as_str(), &mut out);
     Ok((out, status))
 }
 

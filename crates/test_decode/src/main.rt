@@ -1,4 +1,4 @@
-//! Runs the rows of its input on the program and on what it reads telegrams by, and writes each with what comes of it.
+//! Runs the rows of its input on what the program shows of telegrams and reads them by, and writes each with what comes of it.
 #![tactic(auto)]
 
 mod agreement;
@@ -6,10 +6,10 @@ mod copies;
 mod mutations;
 mod numbers;
 mod packet;
-mod program;
 mod rows;
 mod spelled;
 mod spelling;
+mod telling;
 
 use rows::answer;
 use std::io;

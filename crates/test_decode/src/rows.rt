@@ -2,16 +2,16 @@ use crate::copies::{again, bits, long};
 use crate::mutations::mutated;
 use crate::numbers::numbers;
 use crate::packet::{packet, places, sizes};
-use crate::program::{program, short};
 use crate::spelling::spelling;
+use crate::telling::{decode, short};
 use std::alloc::Global;
 use std::io;
 use std::io::Write;
 
 /// What comes of a row's first word and the others. Nothing comes of one that is none of these, as in a comment.
 ///
-/// - `etcs WORDS`: what the program writes, and its status.
-/// - `short N WORDS`: its status where N bytes of its text are taken and no more.
+/// - `decode HEX`: what is told of a telegram, and the status.
+/// - `short N HEX`: the status where N bytes of that text are taken and no more.
 /// - `numbers AT WIDTH HEX`: how a telegram is answered with each number of so many bits put over those from a bit on.
 /// - `again HEX`: the digits of a telegram that was read and written.
 /// - `packet HEX`: what the lists of a packet hold, and the digits of a packet that was read and written.
@@ -26,7 +26,7 @@ use std::io::Write;
 ///   many of them all ways of reading agree.
 fn done(alloc: Global, word: &str, others: &[&str], out: &mut Vec<u8>) -> io::Result<()> {
     match word {
-        "etcs" => program(alloc, others, out),
+        "decode" => decode(alloc, others, out),
         "short" => short(alloc, others, out),
         "numbers" => numbers(alloc, others, out),
         "again" => again(alloc, others, out),

@@ -1,12 +1,23 @@
 use crate::spelled::number_of;
-use commands::etcs_main;
+use decoding::decode_text;
 use std::alloc::Global;
 use std::io;
 use std::io::Write;
 
-/// What the program writes on these words, and its status.
-pub fn program(alloc: Global, words: &[&str], out: &mut Vec<u8>) -> io::Result<()> {
-    let status = etcs_main(alloc, words, out);
+/// Tells what hex digits carry, and answers the number of the status.
+pub fn decoded<W: Write>(alloc: Global, text: &str, out: &mut W) -> u8 {
+    match decode_text(alloc, text, out) {
+        Ok(status) => status as u8,
+        Err(_) => 1,
+    }
+}
+
+/// What is told of hex digits, and its status.
+pub fn decode(alloc: Global, words: &[&str], out: &mut Vec<u8>) -> io::Result<()> {
+    let [text] = words else {
+        return Ok(());
+    };
+    let status = decoded(alloc, text, out);
     writeln!(out, "status {status}")
 }
 
@@ -31,12 +42,12 @@ impl Write for Narrow {
     }
 }
 
-/// The status of the program where so many bytes of its text are taken.
+/// The status where so many bytes of the text are taken.
 pub fn short(alloc: Global, words: &[&str], out: &mut Vec<u8>) -> io::Result<()> {
-    let [room, words @ ..] = words else {
+    let [room, text] = words else {
         return Ok(());
     };
     let room = number_of(room) as usize;
-    let status = etcs_main(alloc, words, &mut Narrow { room });
+    let status = decoded(alloc, text, &mut Narrow { room });
     writeln!(out, "status {status}")
 }

@@ -1,5 +1,5 @@
 use crate::report::print_telegram;
-use crate::status::{Status, tell};
+use exit_status::{Status, tell};
 use hex::FromHexError;
 use std::alloc::Global;
 use std::io;
@@ -21,13 +21,10 @@ fn show<W: Write>(bytes: &[u8], out: &mut W) -> io::Result<Status> {
     }
 }
 
-/// Tells the telegram that hex digits carry, or why they carry none.
-pub fn decode_text<W: Write>(alloc: Global, text: &str, out: &mut W) -> u8 {
+/// Tells the telegram that hex digits carry, or why they carry none. The error is that of a write.
+pub fn decode_text<W: Write>(alloc: Global, text: &str, out: &mut W) -> io::Result<Status> {
     match hex::decode(alloc, text) {
-        Ok(bytes) => match show(bytes.as_slice(), out) {
-            Ok(status) => status as u8,
-            Err(_) => Status::Refused as u8,
-        },
+        Ok(bytes) => show(bytes.as_slice(), out),
         Err(FromHexError::OutOfMemory) => tell(out, "refused memory", Status::Refused),
         Err(_) => tell(out, "refused hex", Status::Refused),
     }

@@ -1,0 +1,31 @@
+use Rattle.std.proofs.Common.{◌≡◌}
+use Rattle.sessions.specs.Sessions.{Session}
+use Rattle.sessions.proofs.Telling.{all_printed, told_whole}
+use Rattle.sessions.proofs.lives.run_life.Goals as goal
+
+pub returns-in-Ok-clause-session : goal.returns-in-Ok-clause-session
+returns-in-Ok-clause-session g c d a honest ready =
+    let it = c.live_into-disk.ensures.life d a honest ready in
+    record {
+      p = it.0;
+      word = it.1;
+      given = it.2;
+      ended = c.live_into-disk.result.1;
+      life = it.4;
+      whole = it.5;
+      told = told_whole c.tell_end-status.result c.live_into-disk.result.1 _ _ _ it.2
+          (all_printed _ _ c.in-Ok.is _ _ _ it.2 it.3) c.tell_end-status.ensures.status c.tell_end-status.ensures.line;
+    }
+
+pub returns-in-Err-clause-session : goal.returns-in-Err-clause-session
+returns-in-Err-clause-session g c d a honest ready =
+    let it = c.live_into-disk.ensures.life d a honest ready in
+    record {
+      p = it.0;
+      word = it.1;
+      given = it.2;
+      ended = c.live_into-disk.result.1;
+      life = it.4;
+      whole = it.5;
+      told = tt;
+    }

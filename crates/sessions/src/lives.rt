@@ -1,0 +1,43 @@
+// A life, as the program tells it.
+ghost use Rattle.std.specs.Prelude.{◌≡◌, List, IsTrue, IfOk};
+ghost use Rattle.disk.specs.State.{Counted};
+ghost use Rattle.events.specs.declared.input.Event.{Event};
+ghost use Rattle.onboard.specs.Lives.{IsReady};
+ghost use Rattle.sessions.specs.Sessions.{is_device, Session};
+
+use crate::printer::Printer;
+use crate::stops::tell_end;
+use disk::Disk;
+use exit_status::Status;
+use mode_table::Cold;
+use onboard::{Step, live_into};
+use std::alloc::Global;
+use std::io;
+use std::io::Write;
+
+/// One life on a disk: a line for each output, written as it is released, and a last one where the life stopped. It hands the disk and the
+/// writer back, and answers the status that the program ends with; the error is that of a write.
+pub fn run_life<D: Disk, W: Write>(
+    alloc: Global,
+    disk: D,
+    cold: Cold,
+    steps: &[Step],
+    out: W,
+) -> (D, W, io::Result<Status>)
+    // The status is that of a device exactly where the device failed.
+    ensures counted { IfOk result.2 (λ status. Counted (is_device status) (D.state disk) (D.state result.0)) }
+
+    ensures session { (d a : List Event) → IsTrue (D.state disk).honest → IsReady d a (D.state disk) →
+        Session d a cold steps.now (D.state disk) (D.state result.0) (W.contents out) (W.contents result.1) result.2 }
+{
+    let mut printer = Printer { out, told: Ok(()) };
+    let (disk, ended) = live_into(alloc, disk, cold, steps, &mut printer);
+    let Printer { mut out, told } = printer;
+    match told {
+        Ok(()) => {
+            let status = tell_end(ended, &mut out);
+            (disk, out, status)
+        }
+        Err(error) => (disk, out, Err(error)),
+    }
+}

@@ -1,0 +1,61 @@
+// A printer of releases.
+ghost use Rattle.std.specs.Prelude.{OnOk};
+ghost use Rattle.std.specs.Io.KnownBytes.{Appends};
+ghost use Rattle.sessions.specs.Lines.{lines_of};
+
+use onboard::{ReleaseSink, Released};
+use output_lines::write_line;
+use std::io;
+use std::io::Write;
+use units::NoMemory;
+
+fn write_lines<W: Write>(pairs: &[Released], out: &mut W) -> io::Result<()>
+    ensures { OnOk result (Appends (W.contents out.old) (W.contents out.new) (lines_of pairs.now)) }
+{
+    for pair in pairs {
+        write_line(pair.event(), &pair.output(), out)?;
+    }
+    Ok(())
+}
+
+fn print<W: Write>(pairs: &[Released], out: &mut W) -> io::Result<()>
+    ensures { OnOk result (Appends (W.contents out.old) (W.contents out.new) (lines_of pairs.now)) }
+{
+    write_lines(pairs, out)?;
+    out.flush()
+}
+
+/// Prints a line for each release as it comes, and hands the text on at once. After a write that failed it prints nothing more, and has room
+/// for no more: so a life stops before its next flush, and nothing is released that can't be told.
+pub(crate) struct Printer<W> {
+    pub out: W,
+    /// What became of the writes so far.
+    pub told: io::Result<()>,
+}
+
+impl<W: Write> ReleaseSink for Printer<W> {
+    ghost use Rattle.std.specs.Prelude.{is_ok};
+    ghost use Rattle.sessions.specs.Lines.{Printed};
+    ghost use Rattle.sessions.specs.Printing.{printed_none, printed_more};
+
+    ghost Gave = { λ old pairs new. Printed (is_ok old.told) (W.contents old.out) pairs (is_ok new.told) (W.contents new.out) };
+
+    ghost room = { λ _. 8 };
+
+    ghost none = { λ s. printed_none (is_ok s.told) (W.contents s.out) };
+
+    ghost more = { λ s t u first rest. printed_more (is_ok s.told) (is_ok t.told) (is_ok u.told) (W.contents s.out) (W.contents t.out) (W.contents u.out) first rest };
+
+    fn make_room(&mut self) -> Result<(), NoMemory> {
+        if self.told.is_err() {
+            return Err(NoMemory);
+        }
+        Ok(())
+    }
+
+    fn give(&mut self, pairs: &[Released]) {
+        if self.told.is_ok() {
+            self.told = print(pairs, &mut self.out);
+        }
+    }
+}

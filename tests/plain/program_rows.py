@@ -1,0 +1,226 @@
+#!/usr/bin/env python3
+"""Runs the rows of the program: files NAME.row, whose lines are commands of `etcs` with what it is to print and its exit status.
+
+    tests/plain/program_rows.py PROGRAM [FILE ..]     runs them by this program
+    tests/plain/program_rows.py --check [FILE ..]     works out by the plain program what they want
+
+A file has cases, each in a folder of its own that is empty at its start, but for the scenarios (*.json) beside the file:
+
+    # a comment
+    case NAME                a further case; behind it may stand `by hand`, then the plain program doesn't know the answers
+    file NAME TEXT           makes a file with this text; <<N TEXT>> in it is the text N times
+    bytes NAME HEX           makes a file of these bytes
+    put NAME OFFSET HEX      writes bytes into a file
+    size NAME N              cuts a file off, or lengthens it
+    folder NAME              makes a folder
+    only-read NAME           takes the right to write a file
+    keep NAME                remembers a file
+    same NAME                the file is as it was then
+    none NAME                there is no such file
+    $ WORDS                  runs the program; the lines below, up to one with `= STATUS`, are what it is to print
+    full $ WORDS             the same, but nothing can be written
+    closed $ WORDS           the same, but nobody reads
+
+Words are split as by a shell. Where files are named none, those of tests/programs and examples are taken.
+"""
+import json
+import os
+import re
+import shlex
+import shutil
+import subprocess
+import sys
+import tempfile
+from collections import namedtuple
+from pathlib import Path
+
+from named import written
+from program import Image
+
+TOP = Path(__file__).resolve().parents[2]
+NOBODY = 65534
+
+Line = namedtuple("Line", "number word rest output status")
+# The name of a telegram in a comment and its bytes, and below them its fields.
+NAMED = re.compile(r"^#     (\S.*): ([0-9A-F]+)\n((?:#       .*\n)+)", re.M)
+RUNS = {"$": "", "full": "full", "closed": "closed"}
+
+
+class Case:
+    def __init__(self, path, name, by_hand):
+        self.path, self.name, self.by_hand, self.lines = path, name, by_hand, []
+
+
+def read(path):
+    """The cases of a file."""
+    cases, lines = [Case(path, path.stem, False)], iter(enumerate(path.read_text().splitlines(), 1))
+    for number, line in lines:
+        word, _, rest = line.partition(" ")
+        if not word or word.startswith("#"):
+            continue
+        if word == "case":
+            name, by_hand, _ = rest.partition(" by hand")
+            cases.append(Case(path, name, bool(by_hand)))
+            continue
+        output, status = [], None
+        if word in RUNS:
+            rest = rest.removeprefix("$ ") if RUNS[word] else rest
+            for _, line in lines:
+                if re.fullmatch(r"= \d+", line):
+                    status = int(line[2:])
+                    break
+                output.append(line)
+        cases[-1].lines.append(Line(number, word, rest, output, status))
+    return [case for case in cases if case.lines]
+
+
+def text_of(rest):
+    return re.sub(r"<<(\d+) (.*?)>>", lambda m: m[2] * int(m[1]), rest)
+
+
+# ---- by the program
+
+class Room:
+    """A folder in which a case runs, as a user without rights where this one has all."""
+
+    def __init__(self, program, case):
+        self.program, self.kept = program, {}
+        self.top = Path(tempfile.mkdtemp(prefix="etcs-rows-", dir="/dev/shm" if os.access("/dev/shm", os.W_OK) else None))
+        self.user = {"user": NOBODY, "group": NOBODY, "extra_groups": []} if os.geteuid() == 0 else {}
+        for scenario in case.path.parent.glob("*.json"):
+            shutil.copy(scenario, self.top)
+        self.hand_over()
+
+    def hand_over(self):
+        if self.user:
+            for path in (self.top, *self.top.iterdir()):
+                os.chown(path, NOBODY, NOBODY)
+
+    def close(self):
+        shutil.rmtree(self.top)
+
+    def run(self, line):
+        call = {"cwd": self.top, "stdin": subprocess.DEVNULL, "stderr": subprocess.PIPE, "timeout": 60, **self.user}
+        words = [self.program, *shlex.split(line.rest)]
+        if line.word == "full":
+            with open("/dev/full", "wb") as full:
+                ran = subprocess.run(words, stdout=full, **call)
+            output = b""
+        elif line.word == "closed":
+            reading, writing = os.pipe()
+            os.close(reading)
+            ran = subprocess.run(words, stdout=writing, **call)
+            os.close(writing)
+            output = b""
+        else:
+            ran = subprocess.run(words, stdout=subprocess.PIPE, **call)
+            output = ran.stdout
+        return output, ran.stderr, ran.returncode
+
+    def does(self, line):
+        """What a line has done otherwise than it is to do, or None."""
+        name, _, rest = line.rest.partition(" ")
+        path = self.top / name
+        if line.word in RUNS:
+            output, error, status = self.run(line)
+            wanted = "".join(text + "\n" for text in line.output).encode()
+            if (output, error, status) != (wanted, b"", line.status):
+                return f"printed\n{output.decode(errors='replace')}{error.decode(errors='replace')}= {status}"
+        elif line.word == "file":
+            path.write_text(text_of(rest))
+        elif line.word == "bytes":
+            path.write_bytes(bytes.fromhex(rest))
+        elif line.word == "put":
+            offset, digits = rest.split()
+            with open(path, "r+b") as file:
+                file.seek(int(offset))
+                file.write(bytes.fromhex(digits))
+        elif line.word == "size":
+            os.truncate(path, int(rest))
+        elif line.word == "folder":
+            path.mkdir()
+        elif line.word == "only-read":
+            path.chmod(0o444)
+        elif line.word == "keep":
+            self.kept[name] = path.read_bytes()
+        elif line.word == "same":
+            return None if path.read_bytes() == self.kept[name] else "the file is another one"
+        elif line.word == "none":
+            return "there is such a file" if path.exists() else None
+        else:
+            return "no such word"
+        self.hand_over()
+        return None
+
+
+def run_by(program, cases):
+    found, runs = 0, 0
+    with tempfile.TemporaryDirectory(prefix="etcs-") as place:
+        os.chmod(place, 0o755)
+        copy = shutil.copy(program, place)
+        for case in cases:
+            room = Room(copy, case)
+            for line in case.lines:
+                runs += line.word in RUNS
+                if told := room.does(line):
+                    found += 1
+                    print(f"{case.path.name}, case {case.name}, line {line.number}: {line.word} {line.rest[:200]}: {told}")
+            room.close()
+    print(f"{len(cases)} cases, {runs} runs of the program, {found} differences")
+    return 1 if found else 0
+
+
+# ---- by the plain program
+
+def worked_out(case):
+    """What the plain program prints at each run of a case."""
+    images, texts = {}, {path.name: path.read_text() for path in case.path.parent.glob("*.json")}
+    for line in case.lines:
+        if line.word == "file":
+            name, _, text = line.rest.partition(" ")
+            texts[name] = text_of(text)
+        if line.word != "$":
+            continue
+        word, *words = shlex.split(line.rest)
+        if word == "format":
+            images[words[0]] = Image(int(words[1]))
+            yield line, [f"formatted {words[1]} blocks {512 * (1 + 6 * int(words[1]))} bytes"], 0
+        elif word == "run":
+            yield line, *images[words[1]].run(json.loads(texts[words[0]]))
+        elif word == "journal":
+            yield line, images[words[0]].listing(), 0
+
+
+def misnamed(path):
+    """The telegrams in the comments of a file whose fields spell other bytes."""
+    for name, digits, fields in NAMED.findall(path.read_text()):
+        if written(fields.replace("#", " ")) != digits:
+            yield f"{path.name}: the fields of {name} spell {written(fields.replace('#', ' '))}"
+
+
+def check(paths, cases):
+    found, runs = 0, 0
+    for difference in (told for path in paths for told in misnamed(path)):
+        found += 1
+        print(difference)
+    for case in cases:
+        if case.by_hand:
+            continue
+        for line, output, status in worked_out(case):
+            runs += 1
+            if (output, status) != (line.output, line.status):
+                found += 1
+                print(f"{case.path.name}, case {case.name}, line {line.number}: the plain program prints", *output, f"= {status}", sep="\n")
+    print(f"{runs} runs worked out by the plain program, {found} differences")
+    return 1 if found else 0
+
+
+def main(words):
+    program, *paths = words
+    paths = [Path(path) for path in paths] or sorted([*TOP.glob("tests/programs/*.row"), *TOP.glob("examples/*/*.row")])
+    cases = [case for path in paths for case in read(path)]
+    return check(paths, cases) if program == "--check" else run_by(program, cases)
+
+
+if __name__ == "__main__":
+    sys.exit(main(sys.argv[1:]))

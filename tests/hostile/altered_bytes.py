@@ -7,7 +7,7 @@ import sys
 import tempfile
 from pathlib import Path
 
-from program import SECTOR, SLOT, STAFF_RESPONSIBLE, Failures, formatted, ran
+from built import SECTOR, SLOT, STAFF_RESPONSIBLE, Failures, formatted, ran
 
 SLOTS = 4
 NOT_FORMATTED, DAMAGED = (1, "refused 31 NotFormatted\n"), (1, "refused 32 Damaged\n")

@@ -10,7 +10,7 @@ import sys
 import tempfile
 from pathlib import Path
 
-from program import ENTRIES, FULL_SUPERVISION, SECTOR, STAFF_RESPONSIBLE, Failures, built, formatted, ran
+from built import ENTRIES, FULL_SUPERVISION, SECTOR, STAFF_RESPONSIBLE, Failures, built, formatted, ran
 from refused_memory import found
 
 NEXT = {"groups": [], "steps": [{"driver": [5, 1]}]}

@@ -9,16 +9,19 @@ import sys
 import tempfile
 from pathlib import Path
 
-from program import Failures, formatted, ran
+from built import Failures, formatted, ran
 import decoded
 import pools
-import scenario as plain
-from life import Life
+import program
 from named import HEADER, WIDTH, written
 from random_lists import Numbers, event
 
 TELEGRAMS = tuple(map(written, (*pools.RESTRICTIONS, *pools.GROUPS, *pools.TRACK, *pools.SUPERVISION)))
 SLOTS = 64
+LIVES = 10  # so many on one image
+
+CODES = {"enter-identity": 1, "enter-running-number": 2, "enter-train-data": 3, "choose-level": 4, "confirm": 5, "acknowledge": 10,
+         **{word: code for code, word in program.ALONE.items()}}
 
 
 def headed(numbers):
@@ -64,15 +67,14 @@ def telegrams(count, numbers, failures):
 class Made:
     """A scenario as it is made: each step is chosen by what the plain program knows behind the ones before."""
 
-    CODES = {name: code for code, name in plain.ACTIONS.items()}
-
-    def __init__(self, numbers, kept):
+    def __init__(self, numbers, image):
         places = sorted(1 + numbers.below(40_000) for _ in range(numbers.below(5)))
         self.groups = [{"at": place, "spacing": 1 + numbers.below(1_200),
                         "balises": [numbers.one_of(TELEGRAMS) for _ in range(1 + numbers.below(2))]} for place in places]
-        self.track, self.front, self.steps = plain.balises(self.groups), 0, []
+        self.laid, self.front, self.steps = program.balises(self.groups), 0, []
         self.cold = numbers.below(3)
-        self.life = Life(kept, plain.COLD[self.cold])
+        self.life = image.begun(program.WORDS[self.cold])
+        image.lives.pop()  # it is lived when it is run
         for _ in range(numbers.below(30)):
             if numbers.below(5) == 0:
                 self.drive(numbers.below(30_000) - 2_000, numbers.one_of((0, 3_000, 20_000, 80_000)))
@@ -83,8 +85,8 @@ class Made:
 
     def drive(self, way, speed):
         self.steps.append({"drive": [way, speed]})
-        for word, value in plain.driven(self.track, self.front, way, speed):
-            self.life.take(word, value)
+        for kind, *values in program.drive(self.laid, self.front, way, speed):
+            self.life.take(*program.event_of(kind, *values)[1:3])
         self.front += way
 
     def say(self, word, value):
@@ -97,12 +99,12 @@ class Made:
         elif word == "clock":
             self.steps.append({"clock": int(value)})
         else:
-            self.steps.append({"driver": [self.CODES[word], *self.values(word, value)]})
+            self.steps.append({"driver": [CODES[word], *self.values(word, value)]})
 
     @staticmethod
     def values(word, value):
         if word in ("confirm", "acknowledge"):
-            names = plain.ITEMS if word == "confirm" else plain.KINDS
+            names = program.ITEMS if word == "confirm" else program.KINDS
             return [next(code for code, name in names.items() if name == value)]
         if word == "enter-identity":
             return [value]
@@ -136,30 +138,28 @@ def scenarios(count, numbers, folder, failures):
     """Lives one behind the other on one image, made anew now and then; a changed text of each is judged too."""
     image, path = folder / "image", folder / "scenario"
     for number in range(count):
-        if number % 10 == 0:
+        if number % LIVES == 0:
             formatted(image, SLOTS)
-            kept, blocks = plain.Kept(), []
-        told = Made(numbers, kept).scenario()
+            plain = program.Image(SLOTS)
+        told = Made(numbers, plain).scenario()
         text = json.dumps(told)
-        changed = cut_text(text, numbers)
-        path.write_text(changed)
-        status, said = ran(["run", path, folder / "none"])
-        is_fault = (status, said) == (1, "refused 1 NotJson\n")
-        failures.unless(is_fault != has_value(changed), f"scenario {number}, changed: {said!r}")
-        failures.unless(is_fault or status == 3 and said == "device\n" or status == 1 and said.startswith("refused "),
-                        f"scenario {number}, changed: {status} {said!r}")
+        judge(f"scenario {number}, changed", cut_text(text, numbers), path, folder, failures)
         path.write_text(text)
-        run = plain.Run(told, kept)
-        found = ran(["run", path, image])
-        wanted = (1 if run.stopped else 0, "".join(line + "\n" for line in run.lines))
+        lines, status = plain.run(told)
+        found, wanted = ran(["run", path, image]), (status, "".join(line + "\n" for line in lines))
         failures.unless(found == wanted, f"scenario {number}: {text}\n  printed {found}\n  wanted  {wanted}")
-        blocks += run.blocks
-        kept = run.kept
-        first = max(1, len(blocks) - SLOTS + 1)
-        lines = [line for at, block in enumerate(blocks, 1) if at >= first for line in plain.listed(at, block)]
-        listing = ran(["journal", image])
-        lacking = [line for line in listing[1].splitlines() if line not in lines] + [line for line in lines if line not in listing[1]]
-        failures.unless(listing[0] == 0 and not lacking, f"scenario {number}: the journal differs in {lacking[:2]}")
+        listing = "".join(line + "\n" for line in plain.listing())
+        failures.unless(ran(["journal", image]) == (0, listing), f"scenario {number}: the journal is another one")
+
+
+def judge(name, text, path, folder, failures):
+    """A text that is no value is told so; one that is a scenario asks for an image that isn't there, or has another fault."""
+    path.write_text(text)
+    status, said = ran(["run", path, folder / "none"])
+    is_fault = (status, said) == (1, "refused 1 NotJson\n")
+    failures.unless(is_fault != has_value(text), f"{name}: {said!r}")
+    failures.unless(is_fault or (status, said) == (3, "device\n") or status == 1 and said.startswith("refused "),
+                    f"{name}: {status} {said!r}")
 
 
 def main(words):

@@ -11,7 +11,7 @@ import sys
 import tempfile
 from pathlib import Path
 
-from program import AUTHORITY, FULL_SUPERVISION, RESTRICTION, STAFF_RESPONSIBLE, Failures, built, formatted, ran
+from built import AUTHORITY, FULL_SUPERVISION, RESTRICTION, STAFF_RESPONSIBLE, Failures, built, formatted, ran
 
 # What a run without memory says: words, decoding, a scenario, an opening, a step, a listing.
 SAYS = ("refused memory", "refused 5 NoMemory", "stopped 4 NoMemory", "stopped 12 NoMemory", "refused 34 NoMemory")

@@ -3,6 +3,7 @@ pub mod Greatest
 pub mod Lists
 pub mod Meeting
 pub mod Numbering
+pub mod Onward
 pub mod Opening
 pub mod Pending
 pub mod Stepping

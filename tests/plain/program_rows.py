@@ -162,7 +162,11 @@ def run_by(program, cases):
             room = Room(copy, case)
             for line in case.lines:
                 runs += line.word in RUNS
-                if told := room.does(line):
+                try:
+                    told = room.does(line)
+                except OSError as error:
+                    told = str(error)
+                if told:
                     found += 1
                     print(f"{case.path.name}, case {case.name}, line {line.number}: {line.word} {line.rest[:200]}: {told}")
             room.close()

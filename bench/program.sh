@@ -1,0 +1,40 @@
+#!/bin/bash
+# Seconds and peak memory of `etcs run` on a scenario of so many steps (100,000), and of `etcs journal` on an image that is full with as many
+# blocks.
+#
+#     bench/program.sh [STEPS]
+top=$(cd "$(dirname "$0")/.." && pwd) || exit 1
+program=$top/crates/etcs/out/etcs
+[ -x "$program" ] || { echo "there is no program $program: rt ci or ./etcs --prove makes it"; exit 1; }
+room=$(mktemp -d) || exit 1
+trap 'rm -rf "$room"' EXIT
+exec python3 - "$program" "$room" "${1:-100000}" <<'P'
+import json, os, subprocess, sys, time
+
+program, room, count = sys.argv[1], sys.argv[2], int(sys.argv[3])
+os.chdir(room)
+
+
+def measured(*words):
+    start = time.monotonic()
+    with open("out", "wb") as out:
+        ran = subprocess.Popen([program, *words], stdout=out)
+        _, status, used = os.wait4(ran.pid, 0)
+    lines = sum(1 for _ in open("out"))
+    print(f"etcs {' '.join(words)}: status {os.waitstatus_to_exitcode(status)}, {lines} lines, {time.monotonic() - start:.1f} s, "
+          f"{used.ru_maxrss // 1024} MB at most")
+
+
+def scenario(name, steps):
+    with open(name, "w") as file:
+        json.dump({"groups": [], "steps": steps}, file)
+
+
+clocks = [{"clock": moment} for moment in range(count)]
+scenario("eights", clocks)
+scenario("ones", [step for clock in clocks for step in (clock, {"flush": True})])
+measured("format", "image", str(count))
+measured("run", "eights", "image")
+measured("run", "ones", "image")
+measured("journal", "image")
+P

@@ -247,12 +247,12 @@ def faults(made):
         _, events = changes_in(made, LIFE)
         for settle in SETTLED:
             made.say(f"group power lost in any call, {name}, then {settle}")
-            for answers in made.say(f"for 0 47: again; cut-any *; {LIFE}; {settle}; blocks; {BEHIND}"):
+            for answers in made.say(f"for 0 79: again; cut-any *; {LIFE}; {settle}; blocks; {BEHIND}"):
                 assert int(answers[7].split()[-1]) in events and answers[8] == "opened", answers
             made.say("end")
         for rest in ("", *(settle + "; " for settle in SETTLED)):
             made.say(f"group faults, {name}{', then ' + rest[:-2] if rest else ''}")
-            for answers in made.say(f"for 0 47: again; fail-any *; {LIFE}; clock 9; flush; close; {rest}blocks; {BEHIND}"):
+            for answers in made.say(f"for 0 79: again; fail-any *; {LIFE}; clock 9; flush; close; {rest}blocks; {BEHIND}"):
                 opened, flushed, after = answers[2], answers[5], answers[6]
                 assert opened in ("opened", "1 DeviceFault"), answers
                 assert opened != "opened" or flushed[:2] in ("re", "20"), answers

@@ -11,8 +11,9 @@ python3 refused_memory.py ../../examples/*/scenario.json >"$said/1" 2>&1 & memor
 python3 cut_files.py >"$said/2" 2>&1 & cuts=$!
 python3 altered_bytes.py >"$said/3" 2>&1 & bytes=$!
 python3 random_inputs.py "$@" >"$said/4" 2>&1 & inputs=$!
+python3 refused_calls.py >"$said/5" 2>&1 & calls=$!
 status=0
-for it in $memory $cuts $bytes $inputs; do
+for it in $memory $cuts $bytes $inputs $calls; do
     wait "$it" || status=1
 done
 cat "$said"/*

@@ -2,7 +2,8 @@
 """Refuses memory to the calls of the unit and of the kernel, by the programs that run their rows: each request in turn, until a run meets
 no refusal. Where `accept` is refused memory it says so and changes nothing: the same input is handed in once more behind it, and then all
 answers are those of an undisturbed run. A `live` that is refused memory names the step, and has released what its earlier flushes released;
-an opening behind it finds all of that. A program that is refused memory for its own text ends with what it printed so far.
+an opening behind it finds all of that. A program that is refused memory for its own text ends with what it printed so far, or says that it
+has no such row.
 """
 import os
 import re
@@ -49,13 +50,13 @@ def unit(row, lines, refuse, said, failures):
             failures.unless((status, answers) == (0, undisturbed), f"{row}: with all memory {answers}")
             break
         other = [k for k, (one, wanted) in enumerate(zip(answers, undisturbed)) if one != wanted]
-        if not other:
+        if not other or answers[other[0]] == f"{lines[other[0]]}: no row":
             ended += 1
-            failures.unless(is_beginning(answers, undisturbed), f"{row}, request {at}: {answers[-1:]}")
+            failures.unless(other or is_beginning(answers, undisturbed), f"{row}, request {at}: {answers[-1:]}")
             continue
         accepted += 1
         k = other[0]
-        failures.unless(answers[k] == f"{lines[k]} -> 12 NoMemory", f"{row}, request {at}: {answers[k]}")
+        failures.unless(answers[k] == f"{lines[k]}: 12 NoMemory", f"{row}, request {at}: {answers[k]}")
         twice = lines[:k + 1] + lines[k:]
         _, answers, _ = ran("test_onboard", twice, refuse, said, at)
         failures.unless(answers[k].endswith("12 NoMemory") and answers[:k] + answers[k + 1:] == undisturbed,
@@ -75,11 +76,13 @@ def life(lines, refuse, said, failures):
         if not refused:
             failures.unless((status, answers) == (0, undisturbed), f"a life: with all memory {answers}")
             break
+        if any(answer.endswith(": no row") for answer in answers):
+            continue
         if len(answers) <= run or answers[run] == undisturbed[run]:
             failures.unless(is_beginning(answers[:run + 1], undisturbed), f"a life, request {at}: {answers[-1:]}")
             continue
         stopped += 1
-        said_so = re.fullmatch(r"run -> step (\d+) (12 )?NoMemory, released (\d+)((?:, .*)?)", answers[run])
+        said_so = re.fullmatch(r"run: step (\d+) (12 )?NoMemory, released (\d+)((?:, .*)?)", answers[run])
         failures.unless(said_so, f"a life, request {at}: {answers[run]}")
         pairs = said_so.group(4).split(", ")[1:] if said_so else []
         failures.unless(is_beginning(pairs, told), f"a life, request {at}: {answers[run]}")

@@ -101,6 +101,8 @@ def kernel(lines, refuse, said, failures):
         if not refused:
             failures.unless((status, answers) == (0, undisturbed), f"the kernel: with all memory {answers}")
             break
+        if any(answer.endswith("what is that?") for answer in answers):
+            continue
         failures.unless(status != 0 and is_beginning(answers, undisturbed), f"the kernel, request {at}: {status} {answers[-2:]}")
     print(f"the kernel: {at - 1} requests refused")
 

@@ -2,10 +2,10 @@ use Rattle.std.proofs.Common.{◌≡◌, ◌+◌, ◌/◌, ◌%◌, ◌<◌, ◌
 use Rattle.std.proofs.lemmas.Grind.{common_steps}
 use Rattle.disk.specs.State.{AreOpen}
 use Rattle.disk.specs.Files.{bytes_of, whole_disk, overwritten, WritesOnly}
-use Rattle.test_files.specs.declared.moment.Moment.{Moment}
-use Rattle.test_files.specs.Honest.{state_of}
-use Rattle.test_files.proofs.Going.{write_only, write_opens, write_holds}
-use Rattle.test_files.proofs.honest.HonestFileRawFile.write_at.Goals as goal
+use Rattle.test_disk.specs.declared.moment.Moment.{Moment}
+use Rattle.test_disk.specs.Honest.{state_of}
+use Rattle.test_disk.proofs.Going.{write_only, write_opens, write_holds}
+use Rattle.test_disk.proofs.honest.HonestFileRawFile.write_at.Goals as goal
 
 pub returns-clause-only : goal.returns-clause-only
 returns-clause-only c = λ honest within.

@@ -1,10 +1,10 @@
 use Rattle.std.proofs.Common.{◌≡◌, ◌<◌, List, length, sym, subst, rules}
 use Rattle.disk.specs.State.{Touches, IsSynced}
 use Rattle.disk.specs.Files.{bytes_of, whole_disk}
-use Rattle.test_files.specs.declared.moment.Moment.{Moment}
-use Rattle.test_files.specs.Honest.{state_of}
-use Rattle.test_files.proofs.Going.{sync_bytes, sync_settles, sync_only}
-use Rattle.test_files.proofs.honest.HonestFileRawFile.sync.Goals as goal
+use Rattle.test_disk.specs.declared.moment.Moment.{Moment}
+use Rattle.test_disk.specs.Honest.{state_of}
+use Rattle.test_disk.proofs.Going.{sync_bytes, sync_settles, sync_only}
+use Rattle.test_disk.proofs.honest.HonestFileRawFile.sync.Goals as goal
 
 pub returns-clause-moments : goal.returns-clause-moments
 returns-clause-moments c = λ honest.

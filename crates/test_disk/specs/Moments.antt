@@ -2,8 +2,8 @@
 use Rattle.std.specs.Prelude.{ℕ, ◌+◌, ◌*◌, ◌&&◌, nat_lt, Bool, List}
 use Rattle.std.specs.List.{list_any}
 use Rattle.disk.specs.Files.{FileMoment}
-use Rattle.test_files.specs.declared.moment.Part.{Part}
-use Rattle.test_files.specs.declared.moment.Moment.{Moment}
+use Rattle.test_disk.specs.declared.moment.Part.{Part}
+use Rattle.test_disk.specs.declared.moment.Moment.{Moment}
 
 -- one of these bytes is in sector s (this project's profile)
 abbrev pub is_in : ℕ → Part → Bool

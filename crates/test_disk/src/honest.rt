@@ -16,7 +16,7 @@ pub struct HonestFile {
 }
 
 impl HonestFile {
-    ghost use Rattle.test_files.specs.Honest.{honest_state};
+    ghost use Rattle.test_disk.specs.Honest.{honest_state};
 
     /// An empty file, whose calls read or write so many bytes at most.
     pub fn new(alloc: Global, most: usize) -> Result<HonestFile, AllocError>
@@ -28,6 +28,16 @@ impl HonestFile {
             alloc,
             moments,
             most,
+        })
+    }
+
+    /// Whether one of the bytes that were written since the last sync is in a sector.
+    pub fn is_open(&self, sector: u64) -> bool {
+        let first = sector.saturating_mul(512);
+        let behind = first.saturating_add(512);
+        self.now().parts.iter().any(|part| {
+            let offset = part.offset as u64;
+            offset < behind && first < offset.saturating_add(part.count as u64)
         })
     }
 
@@ -51,7 +61,7 @@ impl HonestFile {
 }
 
 impl RawFile for HonestFile {
-    ghost use Rattle.test_files.specs.Honest.{honest_state};
+    ghost use Rattle.test_disk.specs.Honest.{honest_state};
 
     ghost state = { honest_state };
 

@@ -1,9 +1,9 @@
 -- An honest file in memory.
 use Rattle.std.specs.Prelude.{◌-◌, true, false, [], List, length, Option, Some, None, slice_get}
 use Rattle.disk.specs.Files.{FileMoment, FileState}
-use Rattle.test_files.specs.declared.moment.Moment.{Moment}
-use Rattle.test_files.specs.declared.honest.HonestFile.{HonestFile}
-use Rattle.test_files.specs.Moments.{moment_of}
+use Rattle.test_disk.specs.declared.moment.Moment.{Moment}
+use Rattle.test_disk.specs.declared.honest.HonestFile.{HonestFile}
+use Rattle.test_disk.specs.Moments.{moment_of}
 
 -- a moment, an empty file where there is none (this project's profile)
 abbrev pub seen : Option Moment → FileMoment

@@ -1,0 +1,26 @@
+// What a row is answered by, and the numbers of a row.
+#[derive(Clone, Copy)]
+pub enum Answer {
+    Word(&'static str),
+    Number(u64),
+}
+
+impl Answer {
+    pub fn yes_or_no(yes: bool) -> Answer {
+        Answer::Word(if yes { "yes" } else { "no" })
+    }
+
+    /// Of a call that fails at `Err`.
+    pub fn of<E: Drop>(done: Result<(), E>) -> Answer {
+        Answer::Word(if done.is_ok() { "done" } else { "fault" })
+    }
+}
+
+/// The number that a word spells.
+pub fn number(words: &[&str], at: usize) -> Option<u64> {
+    words.get(at)?.parse::<u64>().ok()
+}
+
+pub fn byte(words: &[&str], at: usize) -> Option<u8> {
+    words.get(at)?.parse::<u8>().ok()
+}

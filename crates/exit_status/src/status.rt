@@ -1,11 +1,12 @@
-/// How the program ends.
+/// How the program ends; its number is the exit status of the process (this project's profile).
 #[derive(Clone, Copy)]
 pub enum Status {
+    /// All was done and written.
     Done = 0,
-    /// The input was refused, or what was to be told could not be written.
+    /// The input was refused, or the answer could not be written.
     Refused = 1,
     /// The words are none of the program's.
     Usage = 2,
-    /// A file could not be opened, made or read, or failed later.
+    /// A file could not be opened, made or read, or the device failed later.
     Device = 3,
 }

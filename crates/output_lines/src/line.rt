@@ -1,3 +1,4 @@
+// The line of an output.
 ghost use Rattle.std.specs.Prelude.{OnOk};
 ghost use Rattle.std.specs.Io.KnownBytes.{Appends};
 ghost use Rattle.output_lines.specs.Line.{front_of, back_of, line_of};
@@ -28,7 +29,8 @@ fn write_back<W: Write>(output: &Output, out: &mut W) -> io::Result<()>
     writeln!(out, " brake {brake} limit {limit} ind {shown}")
 }
 
-/// Writes the line of an event's output: `event N mode M level L brake B limit V ind I`, the limit in metres per hour.
+/// Writes the line of an event's output: `event N mode M level L brake B limit V ind I`, the limit in metres per hour, the indications as the
+/// sum of their bits. The error is that of a write.
 pub fn write_line<W: Write>(number: u64, output: &Output, out: &mut W) -> io::Result<()>
     ensures { OnOk result (Appends (W.contents out.old) (W.contents out.new) (line_of number output.now)) }
 {

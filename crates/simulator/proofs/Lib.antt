@@ -1,5 +1,2 @@
-pub mod Lists
-pub mod Readings
-pub mod Identity
-pub mod Sifting
-pub mod Passing
+pub mod TextAnswers
+pub mod ValueFaults

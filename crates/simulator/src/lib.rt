@@ -1,18 +1,10 @@
-//! The simulator: what the steps of a scenario, told in JSON, mean for the onboard unit (this project's profile). Distances are
-//! centimetres, speeds metres per hour, moments milliseconds.
+//! The simulator: what the text of a scenario means for the onboard unit (this project's profile). Distances are centimetres, speeds metres
+//! per hour, moments milliseconds.
 #![tactic(auto)]
 
-mod actions;
-mod asked;
-mod balise;
-mod course;
-mod distance;
-mod fault;
-mod groups;
-mod scenario;
-mod telegrams;
-mod track;
-mod values;
+mod laws;
+mod reading;
 
-pub use fault::ScenarioFault;
-pub use scenario::{Scenario, events_of};
+pub use laws::{not_json_alone, one_answer, tells_or_fails};
+pub use reading::{Scenario, events_of};
+pub use scenario_values::ScenarioFault;

@@ -1,0 +1,4 @@
+pub mod Course
+pub mod Limits
+pub mod Numbers
+pub mod Passing

@@ -1,0 +1,26 @@
+ghost use Rattle.std.specs.Prelude.{◌≡◌};
+
+use events::{Input, TelegramBytes};
+
+/// A balise that lies on the track.
+#[derive(Drop)]
+pub struct Balise {
+    /// Where it lies, in centimetres ahead of where the front of the train starts.
+    pub at: u64,
+    /// The telegram that it sends.
+    pub bytes: TelegramBytes,
+}
+
+impl Balise {
+    ghost use Rattle.events.specs.declared.input.Input.TheVariants.{Telegram};
+
+    // What comes in when its telegram is read.
+    pub(crate) fn input(&self) -> Input
+        ensures { result ≡ Telegram self.now.bytes }
+    {
+        match TelegramBytes::new(self.bytes.as_slice()) {
+            Some(copy) => Input::Telegram(copy),
+            None => unreachable!(),
+        }
+    }
+}

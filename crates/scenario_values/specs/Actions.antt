@@ -1,0 +1,135 @@
+-- The driver's actions in a scenario: a list of a code and its values (this project's profile).
+-- A length is centimetres, a speed metres per hour, a deceleration cm/s^2, a reaction time milliseconds.
+use Rattle.std.specs.Prelude.{ℕ, ◌==◌, ◌&&◌, nat_le, ℤ, pos, List, length, Bool, if◌then◌else◌, Result, Ok, Err}
+use Rattle.std.specs.List.{list_all}
+use Rattle.std.specs.Ordering.{int_eq}
+use Rattle.serde_json.specs.Data.{Data}
+use Rattle.mode_table.specs.declared.level.TrainLevel.{TrainLevel}
+use Rattle.mode_table.specs.declared.level.TrainLevel.TheVariants.{Level0, Level1}
+use Rattle.braking.specs.declared.brakes.Brakes.{Brakes}
+use Rattle.driver.specs.declared.action.Action.{Action}
+use Rattle.driver.specs.declared.action.Action.TheVariants.{EnterIdentity, EnterRunningNumber, EnterTrainData, ChooseLevel, Confirm, Start, ChooseShunting, LeaveShunting, Override, Acknowledge, CloseDesk}
+use Rattle.driver.specs.declared.action.Confirmed.{Confirmed}
+use Rattle.driver.specs.declared.action.Confirmed.TheVariants as an_item
+use Rattle.driver.specs.declared.action.Acknowledged.{Acknowledged}
+use Rattle.driver.specs.declared.action.Acknowledged.TheVariants as a_kind
+use Rattle.scenario_values.specs.Values.{◌>>=◌, given, whole_item, text_item, within}
+use Rattle.scenario_values.specs.declared.fault.ScenarioFault.{ScenarioFault}
+use Rattle.scenario_values.specs.declared.fault.ScenarioFault.TheVariants.{Shape, OutOfRange}
+
+-- 1 to 16 printable characters
+abbrev pub is_identity : List ℕ → Bool
+is_identity text = nat_le 1 (length text) && nat_le (length text) 16 && list_all (λ byte. nat_le 0x20 byte && nat_le byte 0x7E) text
+
+abbrev pub level : ℤ → Result TrainLevel ScenarioFault
+level z = if int_eq z (pos 0) then Ok Level0 else if int_eq z (pos 1) then Ok Level1 else Err OutOfRange
+
+abbrev pub confirmed : ℤ → Result Confirmed ScenarioFault
+confirmed z =
+    if int_eq z (pos 1) then Ok an_item.Identity
+    else if int_eq z (pos 2) then Ok an_item.RunningNumber
+    else if int_eq z (pos 3) then Ok an_item.TrainData
+    else if int_eq z (pos 4) then Ok an_item.Level
+    else Err OutOfRange
+
+abbrev pub acknowledged : ℤ → Result Acknowledged ScenarioFault
+acknowledged z =
+    if int_eq z (pos 1) then Ok a_kind.Trip
+    else if int_eq z (pos 2) then Ok a_kind.OnSight
+    else if int_eq z (pos 3) then Ok a_kind.Shunting
+    else if int_eq z (pos 4) then Ok a_kind.Level0
+    else Err OutOfRange
+
+-- ---- actions with values behind their code
+
+abbrev pub identity : List ℕ → Result Action ScenarioFault
+identity text = if is_identity text then Ok (EnterIdentity text) else Err OutOfRange
+
+abbrev pub entered_identity : List Data → Result Action ScenarioFault
+entered_identity ds = do
+  _ ← given (length ds == 2) Shape
+  text ← text_item ds 1
+  identity text
+
+-- one whole number
+abbrev pub lone_value : List Data → Result ℤ ScenarioFault
+lone_value ds = do
+  _ ← given (length ds == 2) Shape
+  whole_item ds 1
+
+abbrev pub entered_number : List Data → Result Action ScenarioFault
+entered_number ds = do
+  z ← lone_value ds
+  number ← within 0 99_999_999 z
+  Ok (EnterRunningNumber number)
+
+-- a train of such a length, greatest speed, deceleration, reaction time and category
+abbrev pub brakes : ℤ → ℤ → Result Brakes ScenarioFault
+brakes rate time = do
+  deceleration ← within 1 300 rate
+  reaction ← within 0 10_000 time
+  Ok (record { deceleration = deceleration; reaction = reaction })
+
+abbrev pub train : ℤ → ℤ → ℤ → ℤ → ℤ → Result Action ScenarioFault
+train cm mph rate time kind = do
+  length ← within 1 409_500 cm
+  maximum ← within 1 600_000 mph
+  brakes ← brakes rate time
+  category ← within 0 15 kind
+  Ok (EnterTrainData (record { length = length; maximum = maximum; category = category; brakes = brakes }))
+
+abbrev pub entered_train : List Data → Result Action ScenarioFault
+entered_train ds = do
+  _ ← given (length ds == 6) Shape
+  cm ← whole_item ds 1
+  mph ← whole_item ds 2
+  rate ← whole_item ds 3
+  time ← whole_item ds 4
+  kind ← whole_item ds 5
+  train cm mph rate time kind
+
+abbrev pub chosen_level : List Data → Result Action ScenarioFault
+chosen_level ds = do
+  z ← lone_value ds
+  level ← level z
+  Ok (ChooseLevel level)
+
+abbrev pub confirmed_item : List Data → Result Action ScenarioFault
+confirmed_item ds = do
+  z ← lone_value ds
+  item ← confirmed z
+  Ok (Confirm item)
+
+abbrev pub acknowledged_kind : List Data → Result Action ScenarioFault
+acknowledged_kind ds = do
+  z ← lone_value ds
+  kind ← acknowledged z
+  Ok (Acknowledge kind)
+
+-- an action without values
+abbrev pub bare : Action → List Data → Result Action ScenarioFault
+bare action ds = do
+  _ ← given (length ds == 1) Shape
+  Ok action
+
+-- ---- all of them, by their codes
+
+unfoldable pub by_code : ℤ → List Data → Result Action ScenarioFault
+by_code code ds =
+    if int_eq code (pos 1) then entered_identity ds
+    else if int_eq code (pos 2) then entered_number ds
+    else if int_eq code (pos 3) then entered_train ds
+    else if int_eq code (pos 4) then chosen_level ds
+    else if int_eq code (pos 5) then confirmed_item ds
+    else if int_eq code (pos 6) then bare Start ds
+    else if int_eq code (pos 7) then bare ChooseShunting ds
+    else if int_eq code (pos 8) then bare LeaveShunting ds
+    else if int_eq code (pos 9) then bare Override ds
+    else if int_eq code (pos 10) then acknowledged_kind ds
+    else if int_eq code (pos 11) then bare CloseDesk ds
+    else Err Shape
+
+abbrev pub action : List Data → Result Action ScenarioFault
+action ds = do
+  code ← whole_item ds 0
+  by_code code ds

@@ -1,0 +1,5 @@
+pub mod Values
+pub mod Groups
+pub mod Actions
+pub mod Steps
+pub mod Lives

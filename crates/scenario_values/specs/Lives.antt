@@ -1,0 +1,61 @@
+-- The life that the JSON value of a scenario asks for, or its first fault (this project's profile).
+use Rattle.std.specs.Prelude.{ℕ, ◌&&◌, ℤ, pos, List, [], ◌∷◌, codes, is_some, Bool, if◌then◌else◌, Option, Some, None, Result, Ok, Err}
+use Rattle.std.specs.Ordering.{int_eq}
+use Rattle.serde_json.specs.Data.{Data}
+use Rattle.serde_json.specs.Find.{get}
+use Rattle.mode_table.specs.declared.statuses.Cold.{Cold}
+use Rattle.mode_table.specs.declared.statuses.Cold.TheVariants.{Unknown, Moved, NotMoved}
+use Rattle.life_steps.specs.declared.step.Step.{Step}
+use Rattle.course.specs.Passing.{passed}
+use Rattle.course.specs.Course.{Run, start, taken, ended}
+use Rattle.course.specs.declared.balise.Balise.{Balise}
+use Rattle.scenario_values.specs.Values.{◌>>=◌, shaped, given, has_members, list_in, whole}
+use Rattle.scenario_values.specs.Groups.{groups}
+use Rattle.scenario_values.specs.Steps.{asked}
+use Rattle.scenario_values.specs.declared.fault.ScenarioFault.{ScenarioFault}
+use Rattle.scenario_values.specs.declared.fault.ScenarioFault.TheVariants.{Shape, OutOfRange}
+
+-- the steps in order, up to the first fault
+abbrev pub lived : (ℤ → ℕ → List Balise) → List Data → Run → Result Run ScenarioFault
+lived ahead [] r = Ok r
+lived ahead (d ∷ ds) r = do
+  step ← asked d
+  lived ahead ds (taken ahead step r)
+
+abbrev pub steps_in : (ℤ → ℕ → List Balise) → List Data → Result (List Step) ScenarioFault
+steps_in ahead ds = do
+  run ← lived ahead ds start
+  Ok (ended run).steps
+
+-- the keys groups and steps, and no other one but cold
+abbrev pub has_keys : Data → Bool
+has_keys d = has_members (if is_some (get (codes "cold") d) then 3 else 2) d && is_some (get (codes "groups") d) && is_some (get (codes "steps") d)
+
+-- whether the train was moved without power
+abbrev pub cold_word : ℤ → Result Cold ScenarioFault
+cold_word z =
+    if int_eq z (pos 0) then Ok Unknown
+    else if int_eq z (pos 1) then Ok Moved
+    else if int_eq z (pos 2) then Ok NotMoved
+    else Err OutOfRange
+
+abbrev pub cold_of : Option Data → Result Cold ScenarioFault
+cold_of None = Ok Unknown
+cold_of (Some v) = shaped (whole v) >>= cold_word
+
+-- the items of a list that stands at a key
+abbrev pub items_at : List ℕ → Data → Result (List Data) ScenarioFault
+items_at key d = do
+  v ← shaped (get key d)
+  shaped (list_in v)
+
+-- the word and the steps of a life, or the first fault
+abbrev pub life_in : Data → Result (Cold × List Step) ScenarioFault
+life_in d = do
+  _ ← given (has_keys d) Shape
+  cold ← cold_of (get (codes "cold") d)
+  laid ← items_at (codes "groups") d
+  balises ← groups laid []
+  items ← items_at (codes "steps") d
+  steps ← steps_in (passed balises) items
+  Ok (cold, steps)

@@ -1,0 +1,50 @@
+use std::alloc::{AllocError, AllocFailed};
+use units::NoMemory;
+
+/// Why a scenario is refused (this project's profile).
+#[derive(Clone, Copy)]
+pub enum ScenarioFault {
+    /// The bytes are no JSON value.
+    NotJson,
+    /// A key is missing or one too many, a value has the wrong kind, or a list the wrong count.
+    Shape,
+    /// A number or the length of a text is outside its limits.
+    OutOfRange,
+    /// The text of a telegram isn't hexadecimal digits, two a byte.
+    BadHex,
+    /// Memory was refused.
+    NoMemory,
+}
+
+impl From<AllocError> for ScenarioFault {
+    ghost use Rattle.std.specs.Prelude.{◌≡◌};
+    ghost use Rattle.scenario_values.specs.declared.fault.ScenarioFault.TheVariants.{NoMemory};
+
+    ghost from_gives = { λ _ fault. fault ≡ NoMemory };
+
+    fn from(_: AllocError) -> Self {
+        ScenarioFault::NoMemory
+    }
+}
+
+impl<T: Drop> From<AllocFailed<T>> for ScenarioFault {
+    ghost use Rattle.std.specs.Prelude.{◌≡◌};
+    ghost use Rattle.scenario_values.specs.declared.fault.ScenarioFault.TheVariants.{NoMemory};
+
+    ghost from_gives = { λ _ fault. fault ≡ NoMemory };
+
+    fn from(_: AllocFailed<T>) -> Self {
+        ScenarioFault::NoMemory
+    }
+}
+
+impl From<NoMemory> for ScenarioFault {
+    ghost use Rattle.std.specs.Prelude.{◌≡◌};
+    ghost use Rattle.scenario_values.specs.declared.fault.ScenarioFault.TheVariants as a_fault;
+
+    ghost from_gives = { λ _ fault. fault ≡ a_fault.NoMemory };
+
+    fn from(_: NoMemory) -> Self {
+        ScenarioFault::NoMemory
+    }
+}

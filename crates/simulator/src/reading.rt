@@ -1,0 +1,31 @@
+// From the bytes of a file to the steps of a life.
+ghost use Rattle.std.specs.Prelude.{◌≡◌, ◌⊎◌, IfOk, IfErr};
+ghost use Rattle.simulator.specs.Scenarios.{Tells, FaultOf};
+
+use life_steps::Step;
+use mode_table::Cold;
+use scenario_values::{ScenarioFault, life_of};
+use serde_json::Value;
+use std::alloc::Global;
+
+/// A scenario: the bytes of its file.
+#[derive(Drop)]
+pub struct Scenario {
+    /// The bytes, of a JSON value in UTF-8.
+    pub bytes: Vec<u8>,
+}
+
+/// What the train knows of movements without power, and the steps of the life that the scenario asks for; or its first fault. The
+/// faults come in this order: NotJson; the keys of the object; the value of `cold`; the groups; the steps; in each item its shape, and
+/// then its numbers and texts. NoMemory may come in the place of any of them.
+pub fn events_of(alloc: Global, scenario: &Scenario) -> Result<(Cold, Vec<Step>), ScenarioFault>
+    ensures ok { IfOk result (λ life. Tells scenario.now.bytes.items life.0 life.1.items) }
+    ensures err { IfErr result (λ fault. (fault ≡ ScenarioFault.NoMemory) ⊎ FaultOf scenario.now.bytes.items fault) }
+{
+    let value = match Value::from_slice(alloc, scenario.bytes.as_slice()) {
+        Ok(value) => value,
+        Err(error) if error.is_memory() => return Err(ScenarioFault::NoMemory),
+        Err(_) => return Err(ScenarioFault::NotJson),
+    };
+    life_of(alloc, &value)
+}

@@ -1,9 +1,10 @@
 #!/bin/sh
 # Prints the instructions of a commit of eight records over a disk in memory: by crates/journal, called by crates/test_journal, and by plain
-# Rust that makes the same calls (bench/plain_journal.rs); then how much of that the disk's reads take, which follow the whole record of its
-# calls. What callgrind counts within the commits for 24 of them less what it counts for 12, by 12: all on slots that are used again. Then
-# the answer to an opening of so many slots without blocks, with its calls, and its seconds. Builds what it needs first; what the builds have
-# to say goes to standard error.
+# Rust that makes the same calls (bench/plain_journal.rs); then how much of that the disk's reads take. What callgrind counts within the
+# commits for 24 of them less what it counts for 12, by 12: all on slots that are used again. Then the answer of Journal::open on so many
+# slots without blocks, with its calls, and its seconds beside those of making the disk alone. Then the blocks that are put into a new
+# image a second, with the syncs of each: by `etcs run`, a moment of the clock and a flush each, and by plain Rust. The program must be
+# there (./etcs --prove). Builds all else first; what the builds have to say goes to standard error.
 #
 #     bench/journal.sh [SLOTS..]
 set -e
@@ -40,9 +41,29 @@ row 'commit' "$(proved 'test_journal::session::Session::commit' 12)" "$(proved '
 row 'commit, the disk reads' "$(proved 'disk::memory::MemoryDisk::read' 12)" "$(proved 'disk::memory::MemoryDisk::read' 24)"
 row 'plain Rust' "$(collected '*plain_journal::commit*' ./plain_journal 12)" "$(collected '*plain_journal::commit*' ./plain_journal 24)"
 row 'plain Rust, the disk reads' "$(collected '*Memory*read*' ./plain_journal 12)" "$(collected '*Memory*read*' ./plain_journal 24)"
-for count in $slots; do
-    printf 'disk %d\npatch 0 0:455443534a52553100000002%08x\nopen\n' $((1 + 6 * count)) "$count" >rows
+# milliseconds COMMAND ..: how long it takes
+milliseconds() {
     start=$(date +%s%N)
-    answer=$("$program" <rows | tail -n 1)
-    printf '%s, %d ms\n' "$answer" $((($(date +%s%N) - start) / 1000000))
+    "$@" >answers
+    echo $((($(date +%s%N) - start) / 1000000))
+}
+
+for count in $slots; do
+    printf 'disk %d\npatch 0 0:455443534a52553100000002%08x\n' $((1 + 6 * count)) "$count" >rows
+    made=$(milliseconds "$program" <rows)
+    echo open >>rows
+    all=$(milliseconds "$program" <rows)
+    printf '%d slots: %s, %d ms, of which %d make the disk\n' "$count" "$(tail -n 1 answers)" "$all" "$made"
 done
+
+blocks=2000
+etcs=$top/crates/etcs/out/etcs
+if [ -x "$etcs" ]; then
+    python3 -c "import json
+steps = [step for moment in range($blocks) for step in ({'clock': moment}, {'flush': True})]
+json.dump({'groups': [], 'steps': steps}, open('scenario', 'w'))"
+    "$etcs" format image $((2 * blocks)) >&2
+    printf 'etcs run: %d blocks, %d ms\n' $((blocks + 1)) "$(milliseconds "$etcs" run scenario image)"
+fi
+printf 'plain Rust: %d blocks, %d ms\n' "$blocks" "$(milliseconds ./plain_journal "$blocks" image $((2 * blocks)))"
+rm -f image scenario

@@ -1,9 +1,9 @@
 -- Bits that are written behind those of whole bytes, in a word that is moved to the bytes once it holds four.
 use Rattle.std.proofs.Common.{◌≡◌, ℕ, zero, suc, ◌+◌, ◌-◌, ◌*◌, ◌/◌, ◌%◌, ◌^◌, ◌<◌, ◌≤◌, Bool, true, false, nat_eq, List, [], ◌∷◌, ◌++◌, length, take, drop, replicate, refl, sym, ap, ◌∙◌, arith, append_assoc, length-append, length-take}
-use Rattle.std.proofs.Math.Nat.{mul-le-mul_right, one-le-pow, pow-le-pow_right, pow-suc}
+use Rattle.std.proofs.Math.Nat.{add-mul-mod_self_right, mod-lt, mul-le-mul_right, one-le-pow, pow-suc}
 use Rattle.std.proofs.Math.Seq.{take-add, take-append-add}
 use Rattle.std.proofs.lemmas.List.{append-nil, take_at, drop_at, drop-drop, take-append-drop, take-replicate}
-use Rattle.std.proofs.lemmas.Nat.{pow-add, shl_whole}
+use Rattle.std.proofs.lemmas.Nat.{div-add-mod', pow-add, pow_pos, shl_whole}
 use Rattle.std.proofs.lemmas.Nat.Bits.{bit_at-zero, bit_at_lowest, bit_at_cat_high}
 use Rattle.std.specs.Int.{bit_at, from_bool, bytes_high_first}
 use Rattle.bits.specs.Bits.{bit_of, bits_of, number_bits, number}
@@ -30,24 +30,37 @@ word_bytes w lt =
 
 -- ---- a word
 
+-- what a shift keeps of a word
+spread : (a b c d : ℕ) → (a * b + c) * d ≡ c * d + a * (b * d)
+spread a b c d = grind arith
+
+kept : (n m word : ℕ) → m + n ≡ 64 → word * 2 ^ n % 2 ^ 64 ≡ word % 2 ^ m * 2 ^ n
+kept n m word e =
+    let high : ℕ = word / 2 ^ m in
+    let low : ℕ = word % 2 ^ m in
+    let all : 2 ^ m * 2 ^ n ≡ 2 ^ 64 = sym (pow-add 2 m n) ∙ ap (λ (k : ℕ). 2 ^ k) e in
+    let parts : word * 2 ^ n ≡ low * 2 ^ n + high * 2 ^ 64 =
+    ap (λ (x : ℕ). x * 2 ^ n) (sym (div-add-mod' word (2 ^ m))) ∙ spread high (2 ^ m) low (2 ^ n) ∙ ap (λ (x : ℕ). low * 2 ^ n + high * x) all in
+    ap (λ (x : ℕ). x % 2 ^ 64) parts ∙ add-mul-mod_self_right (low * 2 ^ n) high (2 ^ 64) ∙ shl_whole low m n 64 (mod-lt word (pow_pos m)) (omega (arith, e))
+
 -- n more bits behind those that a word holds
 pub joined : (front old : List Bool) (held n word v : ℕ) → held ≤ 32 → n ≤ 32 → v < 2 ^ n → front ++ number_bits held word ≡ old
-    → front ++ number_bits (held + n) (word % 2 ^ 32 * 2 ^ n % 2 ^ 64 + v) ≡ old ++ number_bits n v
+    → front ++ number_bits (held + n) (word * 2 ^ n % 2 ^ 64 + v) ≡ old ++ number_bits n v
 joined front old held n word v few le lt was =
-    let whole : word % 2 ^ 32 * 2 ^ n % 2 ^ 64 ≡ word % 2 ^ 32 * 2 ^ n = shl_whole (word % 2 ^ 32) 32 n 64 (omega arith) (omega arith) in
-    ap (λ (x : ℕ). front ++ number_bits (held + n) (x + v)) whole ∙ ap (λ (t : List Bool). front ++ t) (number_bits-join held n 32 word v few lt)
+    ap (λ (x : ℕ). front ++ number_bits (held + n) (x + v)) (kept n (64 - n) word (omega arith)) ∙ ap (λ (t : List Bool). front ++ t) (number_bits-join held n (64 - n) word v (omega arith) lt)
     ∙ sym (append_assoc front (number_bits held word) (number_bits n v)) ∙ ap (λ (t : List Bool). t ++ number_bits n v) was
 
-cat_fits : (a p v : ℕ) → a < 2 ^ 32 → p ≤ 2 ^ 32 → v < p → a * p + v < 2 ^ 64
-cat_fits a p v la lp lv =
-    let above : (a + 1) * p ≤ 2 ^ 32 * p = mul-le-mul_right p (omega arith) in
-    omega (arith, above)
+cat_fits : (a p q v : ℕ) → a < q → v < p → q * p ≡ 2 ^ 64 → a * p + v < 2 ^ 64
+cat_fits a p q v la lv e =
+    let above : (a + 1) * p ≤ q * p = mul-le-mul_right p (omega arith) in
+    omega (arith, above, e)
 
-pub joined_fits : (n word v : ℕ) → n ≤ 32 → v < 2 ^ n → word % 2 ^ 32 * 2 ^ n % 2 ^ 64 + v < 2 ^ 64
+pub joined_fits : (n word v : ℕ) → n ≤ 32 → v < 2 ^ n → word * 2 ^ n % 2 ^ 64 + v < 2 ^ 64
 joined_fits n word v le lt =
-    let whole : word % 2 ^ 32 * 2 ^ n % 2 ^ 64 ≡ word % 2 ^ 32 * 2 ^ n = shl_whole (word % 2 ^ 32) 32 n 64 (omega arith) (omega arith) in
-    let lt64 : word % 2 ^ 32 * 2 ^ n + v < 2 ^ 64 = cat_fits (word % 2 ^ 32) (2 ^ n) v (omega arith) (pow-le-pow_right (omega arith) le) lt in
-    omega (arith, whole, lt64)
+    let m : ℕ = 64 - n in
+    let e : m + n ≡ 64 = omega arith in
+    let all : 2 ^ m * 2 ^ n ≡ 2 ^ 64 = sym (pow-add 2 m n) ∙ ap (λ (k : ℕ). 2 ^ k) e in
+    omega (arith, kept n m word e, cat_fits (word % 2 ^ m) (2 ^ n) (2 ^ m) v (mod-lt word (pow_pos m)) lt all)
 
 low_word : (n w : ℕ) → n ≤ 32 → number_bits n (w % 2 ^ 32) ≡ number_bits n w
 low_word n w le =

@@ -118,8 +118,8 @@ impl<const N: usize> BitWriter<N> {
         ensures value { self.new ≡ self.old ++ number_bits n v }
         ensures len { length self.new ≡ length self.old + n }
     {
-        // Fewer than 32 bits are held, so a word has room for 32 more.
-        self.word = ((self.word % 0x1_0000_0000) << n) + v;
+        // Fewer than 32 bits are held, so a word has room for 32 more. What is shifted out isn't held.
+        self.word = (self.word << n) + v;
         self.held += n;
         if self.held >= 32 {
             self.held -= 32;

@@ -1,6 +1,7 @@
 ghost use Rattle.std.specs.Prelude.{◌≡◌, ◌↔◌, ◌==◌, ◌+◌, ◌++◌, List, Bool, Ok, Err, IfOk, OnErr};
 ghost use Rattle.bits.specs.Layout.{Begins, Gives, Refuses, Spells, kind, read, read_run};
-ghost use Rattle.packets.specs.Packets.{as_packet, as_other, skipped, body_of, packet, packet_of};
+ghost use Rattle.packets.specs.Layouts.{skipped};
+ghost use Rattle.packets.specs.Packets.{as_packet, as_other, body_of, packet, packet_of};
 ghost use Rattle.packets.specs.declared.fault.PacketFault.{PacketFault};
 ghost use Rattle.packets.specs.declared.packet.Packet.{Packet};
 ghost use Rattle.packets.specs.declared.packet.Packet.TheVariants as packets;
@@ -22,7 +23,7 @@ fn run<'a>(reader: &mut BitReader<'a>, bits: u32) -> Result<Run<'a>, PacketFault
 }
 
 /// Reads a packet that is skipped, behind its number, into the place of another packet; answers its L_PACKET.
-#[tactic(auto, unfolding(packets::specs::Packets::skipped_telling))]
+#[tactic(auto, unfolding(packets::specs::Layouts::skipped_telling))]
 fn read_other<'a>(
     reader: &mut BitReader<'a>,
     number: PacketNumber,

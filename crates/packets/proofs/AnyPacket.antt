@@ -8,13 +8,16 @@ use Rattle.bits.proofs.Numbers.{length-number_bits, number-of_bits}
 use Rattle.bits.proofs.WritingLaws.{glue, glue_none, field_bits, number_below}
 use Rattle.vars.proofs.Numbers.{plain_back}
 use Rattle.packets.specs.Parts.{telling}
-use Rattle.packets.specs.Packets.{national_values_telling, linking_telling, movement_authority_telling, gradients_telling, static_speeds_telling, level_transition_telling, speed_restriction_telling, restriction_revocation_telling, mode_profile_telling, skipped_telling, length_of, number_of, packet_taken, as_packet, as_national_values, as_linking, as_movement_authority, as_gradients, as_static_speeds, as_level_transition, as_speed_restriction, as_revocation, as_mode_profile, as_other, body_of, packet_of, packet}
+use Rattle.packets.specs.Layouts.{national_values_telling, linking_telling, movement_authority_telling, gradients_telling, static_speeds_telling, level_transition_telling, speed_restriction_telling, restriction_revocation_telling, mode_profile_telling, skipped_telling}
+use Rattle.packets.specs.Packets.{length_of, number_of, packet_taken, as_packet, as_national_values, as_linking, as_movement_authority, as_gradients, as_static_speeds, as_level_transition, as_speed_restriction, as_revocation, as_mode_profile, as_other, body_of, packet_of, packet}
 use Rattle.packets.specs.Spelling.{IsSkipped, PacketFits}
 use Rattle.packets.specs.declared.fault.PacketFault.{PacketFault}
 use Rattle.packets.specs.declared.packet.Packet.{Packet}
 use Rattle.packets.specs.declared.packet.Packet.TheVariants as packets
 use Rattle.packets.proofs.StaticSteps.{speeds_size}
-use Rattle.packets.proofs.Told.{Tells, told, spelled_so, told-national_values, told-linking, told-movement_authority, told-gradients, told-static_speeds, told-level_transition, told-speed_restriction, told-restriction_revocation, told-mode_profile, told-skipped}
+use Rattle.packets.proofs.Told.{Tells, told, spelled_so}
+use Rattle.packets.proofs.ToldOthers.{told-level_transition, told-speed_restriction, told-restriction_revocation, told-mode_profile, told-skipped}
+use Rattle.packets.proofs.ToldPackets.{told-national_values, told-linking, told-movement_authority, told-gradients, told-static_speeds}
 
 -- what a spelling of a packet behind its number is
 record Whole (n : ℕ) (q : ℕ × Packet) (bits : List Bool) : Type 0 where

@@ -3,4 +3,8 @@ pub mod FirstFits
 pub mod PacketShown
 pub mod StaticFitting
 pub mod StaticSteps
-pub mod Told
+mod Told
+mod ToldElements
+mod ToldOthers
+mod ToldPackets
+mod ToldSteps

@@ -2,7 +2,8 @@
 use Rattle.std.proofs.Common.{◌≡◌, ℕ}
 use Rattle.bits.specs.Writing.{Shown, each_field}
 use Rattle.bits.proofs.Shown.{taken-shown}
-use Rattle.packets.specs.Packets.{national_values_telling, linking_telling, movement_authority_telling, gradients_telling, static_speeds_telling, level_transition_telling, speed_restriction_telling, restriction_revocation_telling, mode_profile_telling, skipped_telling, packet_taken, packet_shown}
+use Rattle.packets.specs.Layouts.{national_values_telling, linking_telling, movement_authority_telling, gradients_telling, static_speeds_telling, level_transition_telling, speed_restriction_telling, restriction_revocation_telling, mode_profile_telling, skipped_telling}
+use Rattle.packets.specs.Packets.{packet_taken, packet_shown}
 use Rattle.packets.specs.declared.packet.Packet.{Packet}
 use Rattle.packets.specs.declared.packet.Packet.TheVariants as packets
 

@@ -9,7 +9,8 @@ use Rattle.bits.specs.Layout.{folded}
 use Rattle.bits.specs.Writing.{value}
 use Rattle.bits.proofs.Fitting.{each_take, each_drop}
 use Rattle.vars.proofs.Numbers.{n_iter_has, l_packet_has}
-use Rattle.packets.specs.Packets.{difference, step_at, differences_to, static_step, static_speeds_telling}
+use Rattle.packets.specs.Elements.{difference}
+use Rattle.packets.specs.Layouts.{step_at, differences_to, static_step, static_speeds_telling}
 use Rattle.packets.specs.StaticSteps.{StepFits, SpeedsFit}
 use Rattle.packets.specs.declared.static_speeds.Difference.{Difference}
 use Rattle.packets.specs.declared.static_speeds.StaticSpeeds.{StaticSpeeds}
@@ -114,6 +115,6 @@ speeds_fit p t small h =
     let g : Fits (folded static_step (length p.steps.items - 1) (after_step p start)) p × (value (folded static_step (length p.steps.items - 1) (after_step p start)) p ≡ Some p) =
     subst (λ (n : ℕ). Fits (folded static_step n (after_step p start)) p × (value (folded static_step n (after_step p start)) p ≡ Some p)) others f in
     let counted_small : HasNumber _ (length p.steps.items - 1) = n_iter_has (length p.steps.items - 1) (omega (arith, h.3)) in (
-      (h.0, (l_packet_has t small, (h.1, (one_step_fits p start split.0 split.1 b h.4 h.6, (counted_small, (g.0, subst (λ (o : Option StaticSpeeds). IfSome o (λ all. Unit {0})) (sym g.1) tt)))))),
+      ((h.0, (l_packet_has t small, (h.1, tt))), (one_step_fits p start split.0 split.1 b h.4 h.6, (counted_small, (g.0, subst (λ (o : Option StaticSpeeds). IfSome o (λ all. Unit {0})) (sym g.1) tt)))),
       ap (λ (o : Option StaticSpeeds). option_and_then (λ all. Some (t, all)) o) g.1,
     )

@@ -10,8 +10,10 @@ use Rattle.bits.specs.Writing.{Shown, named, value, taken, size, with_bits, appe
 use Rattle.bits.specs.declared.name.VariableName.TheVariants as names
 use Rattle.bits.proofs.Numbers.{length-number_bits}
 use Rattle.bits.proofs.WritingLaws.{length-appended, length-each}
-use Rattle.vars.specs.Variables.{direction_number, scale_number, static_number, delay_number}
-use Rattle.packets.specs.Packets.{difference, no_step, step_at, differences_to, static_step, static_speeds_telling}
+use Rattle.vars.specs.Values.{direction_number, scale_number, static_number, delay_number}
+use Rattle.packets.specs.Elements.{difference}
+use Rattle.packets.specs.Layouts.{no_step, step_at, differences_to, static_step, static_speeds_telling}
+use Rattle.packets.specs.Parts.{head_taken}
 use Rattle.packets.specs.StaticSteps.{step_taken, steps_taken, step_size, steps_size, profile_taken, profile_size}
 use Rattle.packets.specs.declared.static_speeds.Difference.{Difference}
 use Rattle.packets.specs.declared.static_speeds.StaticSpeeds.{StaticSpeeds}
@@ -115,9 +117,6 @@ steps_folded t p (x ∷ xs) s left e behind =
 abbrev pub no_steps_yet : StaticSpeeds → StaticSpeeds
 no_steps_yet p = record { direction = p.direction; scale = p.scale; steps = record { items = [] }; differences = record { items = [] } }
 
-abbrev head_taken : {S : Type 0} → (S → Shown → S) → StaticSpeeds → ℕ → S → S
-head_taken t p told s = t (t (t s (named names.QDir 2 (direction_number p.direction))) (named names.LPacket 13 told)) (named names.QScale 2 (scale_number p.scale))
-
 -- what is told last takes no field
 all_told : {A S : Type 0} (o : Option A) (s : S) → option_map_or (λ x. s) o s ≡ s
 all_told None s = refl
@@ -126,7 +125,7 @@ all_told (Some x) s = refl
 -- the first step and the other steps
 first_taken : {S : Type 0} (t : S → Shown → S) (p : StaticSpeeds) (told : ℕ) (s : S)
     → taken t (static_speeds_telling (λ _. told)) p s
-    ≡ taken t (folded static_step (length p.steps.items - 1) (after_step p (no_steps_yet p))) p (t (taken t (static_step (no_steps_yet p)) p (head_taken t p told s)) (named names.NIter 5 (length p.steps.items - 1)))
+    ≡ taken t (folded static_step (length p.steps.items - 1) (after_step p (no_steps_yet p))) p (t (taken t (static_step (no_steps_yet p)) p (head_taken t p.direction told p.scale s)) (named names.NIter 5 (length p.steps.items - 1)))
 unfolding static_speeds_telling static_step
 first_taken t p told s = all_told (value (folded static_step (length p.steps.items - 1) (after_step p (no_steps_yet p))) p) _
 
@@ -135,9 +134,9 @@ counted_first [] = refl
 counted_first (x ∷ xs) = omega arith
 
 pub speeds_taken : {S : Type 0} (t : S → Shown → S) (p : StaticSpeeds) (told : ℕ) (s : S)
-    → taken t (static_speeds_telling (λ _. told)) p s ≡ profile_taken t p.steps.items p.differences.items (head_taken t p told s)
+    → taken t (static_speeds_telling (λ _. told)) p s ≡ profile_taken t p.steps.items p.differences.items (head_taken t p.direction told p.scale s)
 speeds_taken t p told s =
-    let start : _ = head_taken t p told s in
+    let start : _ = head_taken t p.direction told p.scale s in
     let count : counted (take 1 p.steps.items) ≡ (step_at 0 p).differences = counted_first p.steps.items in
     let one : taken t (static_step (no_steps_yet p)) p start ≡ step_taken t (step_at 0 p) (take (step_at 0 p).differences p.differences.items) start =
     one_step t p (no_steps_yet p) start ∙ ap (λ (n : ℕ). step_taken t (step_at 0 p) (take n p.differences.items) start) count in
@@ -188,7 +187,7 @@ long_steps (x ∷ xs) ds front =
 
 pub speeds_size : (p : StaticSpeeds) → size (static_speeds_telling (λ _. 0)) p ≡ 17 + profile_size p.steps.items p.differences.items
 speeds_size p =
-    let start : List Bool = head_taken with_bits p 0 [] in
+    let start : List Bool = head_taken with_bits p.direction 0 p.scale [] in
     let first : List Bool = step_taken with_bits (step_at 0 p) (take (step_at 0 p).differences p.differences.items) start in
     let n : ℕ = length p.steps.items - 1 in
     omega (

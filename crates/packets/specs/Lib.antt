@@ -1,4 +1,6 @@
+pub mod Elements
 pub mod Faults
+pub mod Layouts
 pub mod Packets
 pub mod Parts
 pub mod Spelling

@@ -2,7 +2,7 @@
 use Rattle.std.specs.Prelude.{◌≢◌, ℕ}
 use Rattle.bits.specs.Fitting.{HasNumber, Fits}
 use Rattle.vars.specs.Variables.{nid_packet, untested_direction}
-use Rattle.packets.specs.Packets.{national_values_telling, linking_telling, movement_authority_telling, gradients_telling, level_transition_telling, speed_restriction_telling, restriction_revocation_telling, mode_profile_telling}
+use Rattle.packets.specs.Layouts.{national_values_telling, linking_telling, movement_authority_telling, gradients_telling, level_transition_telling, speed_restriction_telling, restriction_revocation_telling, mode_profile_telling}
 use Rattle.packets.specs.StaticSteps.{SpeedsFit}
 use Rattle.packets.specs.declared.packet.Packet.{Packet}
 use Rattle.packets.specs.declared.packet.Packet.TheVariants as packets

@@ -6,8 +6,10 @@ use Rattle.bits.specs.Fitting.{HasNumber, Fits}
 use Rattle.bits.specs.Sums.{total}
 use Rattle.bits.specs.Writing.{Shown, named, each_taken, value, taken, size}
 use Rattle.bits.specs.declared.name.VariableName.TheVariants as names
-use Rattle.vars.specs.Variables.{q_dir, q_scale, distance, v_static, static_number, q_front, delay_number, n_iter}
-use Rattle.packets.specs.Packets.{difference, no_step}
+use Rattle.vars.specs.Values.{static_number, delay_number}
+use Rattle.vars.specs.Variables.{q_dir, q_scale, distance, v_static, q_front, n_iter}
+use Rattle.packets.specs.Elements.{difference}
+use Rattle.packets.specs.Layouts.{no_step}
 use Rattle.packets.specs.declared.static_speeds.Difference.{Difference}
 use Rattle.packets.specs.declared.static_speeds.StaticSpeeds.{StaticSpeeds}
 use Rattle.packets.specs.declared.static_speeds.StaticStep.{StaticStep}

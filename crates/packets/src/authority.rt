@@ -2,20 +2,22 @@ ghost use Rattle.std.specs.Prelude.{◌≡◌, ◌+◌, ◌<◌, ◌≤◌, ◌^
 ghost use Rattle.bits.specs.Fitting.{Fits};
 ghost use Rattle.bits.specs.Layout.{Gives, kind, read};
 ghost use Rattle.bits.specs.Writing.{size, taken};
-ghost use Rattle.packets.specs.Packets.{as_packet, as_movement_authority, movement_authority, movement_authority_telling};
+ghost use Rattle.packets.specs.Layouts.{movement_authority, movement_authority_telling};
+ghost use Rattle.packets.specs.Packets.{as_packet, as_movement_authority};
 ghost use Rattle.packets.specs.declared.packet.Packet.TheVariants as packets;
 
 mod ends;
 mod sections;
 
-use crate::authority::sections::{end_section_fits, read_end_section, section_fields};
-use crate::element::{Element, read_list, read_qualified};
+use crate::authority::ends::read_end;
+use crate::element::{Element, read_list};
 use crate::fault::PacketFault;
-use crate::fitting::{all_fit, qualified_fits};
+use crate::fitting::all_fit;
+use crate::heads::{head_fits, put_head, read_head};
 use crate::packet::Packet;
 use crate::reading::field;
 use crate::sink::{FieldSink, put};
-use crate::walk::{all, bits_of_all, qualified, qualified_bits};
+use crate::walk::{all, bits_of_all};
 use arrayvec::ArrayVec;
 use bits::{BitReader, VariableName};
 use vars::{
@@ -150,26 +152,21 @@ pub struct MovementAuthority {
 }
 
 /// Reads packet 12 behind its number, into the place of another packet; answers its L_PACKET.
-#[tactic(auto, unfolding(crate::specs::Packets::movement_authority_telling))]
+#[tactic(auto, unfolding(crate::specs::Layouts::movement_authority_telling))]
 pub fn read_movement_authority<'a>(
     reader: &mut BitReader<'a>,
     out: &mut Packet<'a>,
 ) -> Result<PacketLength, PacketFault>
     ensures { Gives (λ told. (told, out.new)) result reader.new (read (kind (as_packet packets.MovementAuthority) as_movement_authority movement_authority) reader.old) }
 {
-    let direction = field(reader)?;
-    let told: PacketLength = field(reader)?;
-    let scale = field(reader)?;
+    let (direction, told, scale) = read_head(reader)?;
     let speed = field(reader)?;
     let end_speed = field(reader)?;
     let end_time = field(reader)?;
     let count: Iterations = field(reader)?;
     let mut sections: ArrayVec<Section, 31> = ArrayVec::new();
     read_list(reader, &mut sections, count.count())?;
-    let end_section = read_end_section(reader)?;
-    let end_timer = read_qualified(reader)?;
-    let danger_point = read_qualified(reader)?;
-    let overlap = read_qualified(reader)?;
+    let end = read_end(reader)?;
     *out = Packet::MovementAuthority(MovementAuthority {
         direction,
         scale,
@@ -177,63 +174,50 @@ pub fn read_movement_authority<'a>(
         end_speed,
         end_time,
         sections,
-        end_section,
-        end_timer,
-        danger_point,
-        overlap,
+        end_section: end.end_section,
+        end_timer: end.end_timer,
+        danger_point: end.danger_point,
+        overlap: end.overlap,
     });
     Ok(told)
 }
 
 impl MovementAuthority {
     /// The number of bits, those of NID_PACKET included.
-    #[tactic(auto, unfolding(crate::specs::Packets::movement_authority_telling, crate::specs::Packets::section))]
+    #[tactic(auto, unfolding(crate::specs::Layouts::movement_authority_telling, crate::specs::Layouts::authority_end))]
     pub(crate) fn bits(&self) -> u64
         ensures value { result ≡ 8 + size (movement_authority_telling (λ _. 0)) self.now }
         ensures bound { result < 2 ^ 13 }
     {
-        54 + bits_of_all(self.sections.as_slice())
-            + self.end_section.bits()
-            + qualified_bits(&self.end_timer)
-            + qualified_bits(&self.danger_point)
-            + qualified_bits(&self.overlap)
+        54 + bits_of_all(self.sections.as_slice()) + self.end_bits()
     }
 
     /// Whether it is as its layout wants it, but for its L_PACKET.
-    #[tactic(auto, unfolding(crate::specs::Packets::movement_authority_telling), using(vars::proofs::Numbers::l_packet_has, vars::proofs::Numbers::n_iter_has))]
+    #[tactic(auto, unfolding(crate::specs::Layouts::movement_authority_telling, crate::specs::Layouts::authority_end), using(vars::proofs::Numbers::n_iter_has))]
     pub(crate) fn fits(&self) -> bool
         ensures { IsTrue result ↔ Fits (movement_authority_telling (λ _. 0)) self.now }
     {
-        has_number(&self.direction)
-            && has_number(&self.scale)
+        head_fits(&self.direction, &self.scale)
             && has_number(&self.speed)
             && has_number(&self.end_speed)
             && has_number(&self.end_time)
             && all_fit(self.sections.as_slice())
-            && end_section_fits(&self.end_section)
-            && qualified_fits(&self.end_timer)
-            && qualified_fits(&self.danger_point)
-            && qualified_fits(&self.overlap)
+            && self.end_fits()
     }
 
     /// Hands the fields behind NID_PACKET to a sink, with its L_PACKET.
-    #[tactic(auto, unfolding(crate::specs::Packets::movement_authority_telling))]
+    #[tactic(auto, unfolding(crate::specs::Layouts::movement_authority_telling, crate::specs::Layouts::authority_end))]
     pub(crate) fn fields<S: FieldSink>(&self, told: u64, sink: &mut S) -> Result<(), S::Error>
         requires told { told < 2 ^ 13 }
         requires room { S.held sink.old + size (movement_authority_telling (λ _. 0)) self.now ≤ S.most }
         ensures { OnOk result (S.seen sink.new ≡ taken S.took (movement_authority_telling (λ _. told)) self.now (S.seen sink.old)) }
     {
-        put(sink, VariableName::QDir, &self.direction)?;
-        sink.field(VariableName::LPacket, 13, told)?;
-        put(sink, VariableName::QScale, &self.scale)?;
+        put_head(sink, &self.direction, told, &self.scale)?;
         put(sink, VariableName::VMain, &self.speed)?;
         put(sink, VariableName::VLoa, &self.end_speed)?;
         put(sink, VariableName::TLoa, &self.end_time)?;
         sink.field(VariableName::NIter, 5, self.sections.len() as u64)?;
         all(&self.sections, sink)?;
-        section_fields(&self.end_section, VariableName::LEndsection, sink)?;
-        qualified(sink, VariableName::QEndtimer, &self.end_timer)?;
-        qualified(sink, VariableName::QDangerpoint, &self.danger_point)?;
-        qualified(sink, VariableName::QOverlap, &self.overlap)
+        self.end_fields(sink)
     }
 }

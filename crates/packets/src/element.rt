@@ -1,9 +1,9 @@
-ghost use Rattle.std.specs.Prelude.{◌≡◌, ◌+◌, ◌*◌, ◌<◌, ◌≤◌, ◌^◌, ◌↔◌, ℕ, length, IsTrue, OnOk};
+ghost use Rattle.std.specs.Prelude.{◌≡◌, ◌+◌, ◌*◌, ◌<◌, ◌≤◌, ◌^◌, ◌↔◌, ℕ, [], length, IsTrue, OnOk};
 ghost use Rattle.bits.specs.Fitting.{Spellable};
 ghost use Rattle.bits.specs.Layout.{Gives, Layout, part, read, read_more};
 ghost use Rattle.bits.specs.Sums.{total};
 ghost use Rattle.bits.specs.Writing.{taken, each_taken, size};
-ghost use Rattle.packets.specs.Parts.{read_qualified as qualified_read};
+ghost use Rattle.packets.specs.Parts.{read_from_first as from_first_read, read_qualified as qualified_read};
 ghost use Rattle.packets.specs.declared.fault.PacketFault.{PacketFault};
 
 use crate::fault::PacketFault;
@@ -11,6 +11,7 @@ use crate::reading::field;
 use crate::sink::FieldSink;
 use arrayvec::ArrayVec;
 use bits::BitReader;
+use vars::Iterations;
 
 /// A part of a packet that has a layout of its own: an element of a list, or what a qualifier says is there.
 pub(crate) trait Element: Copy + Default {
@@ -52,6 +53,20 @@ pub(crate) fn read_list<T: Element, const N: usize>(
         list.push(element);
     }
     Ok(())
+}
+
+/// Reads a list of at least one element: the first, N_ITER and the others.
+#[inline(always)]
+pub(crate) fn read_from_first<T: Element>(
+    reader: &mut BitReader<'_>,
+    list: &mut ArrayVec<T, 32>,
+) -> Result<(), PacketFault>
+    requires { list.old.items ≡ [] }
+    ensures { Gives (λ _. list.new.items) result reader.new (from_first_read T.layout reader.old) }
+{
+    read_list(reader, list, 1)?;
+    let more: Iterations = field(reader)?;
+    read_list(reader, list, more.count())
 }
 
 /// Reads a part where it is given.

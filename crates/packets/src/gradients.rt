@@ -2,12 +2,14 @@ ghost use Rattle.std.specs.Prelude.{◌≡◌, ◌+◌, ◌<◌, ◌≤◌, ◌^
 ghost use Rattle.bits.specs.Fitting.{Fits};
 ghost use Rattle.bits.specs.Layout.{Gives, kind, read};
 ghost use Rattle.bits.specs.Writing.{size, taken};
-ghost use Rattle.packets.specs.Packets.{as_packet, as_gradients, gradients as gradients_layout, gradients_telling};
+ghost use Rattle.packets.specs.Layouts.{gradients as gradients_layout, gradients_telling};
+ghost use Rattle.packets.specs.Packets.{as_packet, as_gradients};
 ghost use Rattle.packets.specs.declared.packet.Packet.TheVariants as packets;
 
-use crate::element::{Element, read_list};
+use crate::element::{Element, read_from_first};
 use crate::fault::PacketFault;
 use crate::fitting::from_first_fits;
+use crate::heads::{head_fits, put_head, read_head};
 use crate::packet::Packet;
 use crate::reading::field;
 use crate::sink::{FieldSink, put};
@@ -15,8 +17,8 @@ use crate::walk::{from_first, from_first_bits};
 use arrayvec::ArrayVec;
 use bits::{BitReader, VariableName};
 use vars::{
-    Distance, GradientDirection, Iterations, PacketLength, Scale, Steepness, ValidityDirection,
-    Variable, has_number,
+    Distance, GradientDirection, PacketLength, Scale, Steepness, ValidityDirection, Variable,
+    has_number,
 };
 
 /// A gradient from a place on.
@@ -42,11 +44,11 @@ impl Default for Gradient {
 }
 
 impl Element for Gradient {
-    ghost use Rattle.packets.specs.Packets.{gradient};
+    ghost use Rattle.packets.specs.Elements.{gradient};
 
     ghost layout = { gradient };
 
-    #[tactic(auto, unfolding(crate::specs::Packets::gradient))]
+    #[tactic(auto, unfolding(crate::specs::Elements::gradient))]
     fn read(reader: &mut BitReader<'_>) -> Result<Gradient, PacketFault> {
         let distance = field(reader)?;
         let direction = field(reader)?;
@@ -58,19 +60,19 @@ impl Element for Gradient {
         })
     }
 
-    #[tactic(auto, unfolding(crate::specs::Packets::gradient))]
+    #[tactic(auto, unfolding(crate::specs::Elements::gradient))]
     fn fields<S: FieldSink>(&self, sink: &mut S) -> Result<(), S::Error> {
         put(sink, VariableName::DGradient, &self.distance)?;
         put(sink, VariableName::QGdir, &self.direction)?;
         put(sink, VariableName::GA, &self.steepness)
     }
 
-    #[tactic(auto, unfolding(crate::specs::Packets::gradient))]
+    #[tactic(auto, unfolding(crate::specs::Elements::gradient))]
     fn bits(&self) -> u64 {
         24
     }
 
-    #[tactic(auto, unfolding(crate::specs::Packets::gradient))]
+    #[tactic(auto, unfolding(crate::specs::Elements::gradient))]
     fn fits(&self) -> bool {
         has_number(&self.distance) && has_number(&self.direction) && has_number(&self.steepness)
     }
@@ -88,20 +90,16 @@ pub struct Gradients {
 }
 
 /// Reads packet 21 behind its number, into the place of another packet; answers its L_PACKET.
-#[tactic(auto, unfolding(crate::specs::Packets::gradients_telling))]
+#[tactic(auto, unfolding(crate::specs::Layouts::gradients_telling))]
 pub fn read_gradients<'a>(
     reader: &mut BitReader<'a>,
     out: &mut Packet<'a>,
 ) -> Result<PacketLength, PacketFault>
     ensures { Gives (λ told. (told, out.new)) result reader.new (read (kind (as_packet packets.Gradients) as_gradients gradients_layout) reader.old) }
 {
-    let direction = field(reader)?;
-    let told: PacketLength = field(reader)?;
-    let scale = field(reader)?;
+    let (direction, told, scale) = read_head(reader)?;
     let mut gradients: ArrayVec<Gradient, 32> = ArrayVec::new();
-    read_list(reader, &mut gradients, 1)?;
-    let more: Iterations = field(reader)?;
-    read_list(reader, &mut gradients, more.count())?;
+    read_from_first(reader, &mut gradients)?;
     *out = Packet::Gradients(Gradients {
         direction,
         scale,
@@ -112,7 +110,7 @@ pub fn read_gradients<'a>(
 
 impl Gradients {
     /// The number of bits, those of NID_PACKET included.
-    #[tactic(auto, unfolding(crate::specs::Packets::gradients_telling))]
+    #[tactic(auto, unfolding(crate::specs::Layouts::gradients_telling))]
     pub(crate) fn bits(&self) -> u64
         ensures value { result ≡ 8 + size (gradients_telling (λ _. 0)) self.now }
         ensures bound { result < 2 ^ 13 }
@@ -121,25 +119,21 @@ impl Gradients {
     }
 
     /// Whether it is as its layout wants it, but for its L_PACKET.
-    #[tactic(auto, unfolding(crate::specs::Packets::gradients_telling), using(vars::proofs::Numbers::l_packet_has))]
+    #[tactic(auto, unfolding(crate::specs::Layouts::gradients_telling))]
     pub(crate) fn fits(&self) -> bool
         ensures { IsTrue result ↔ Fits (gradients_telling (λ _. 0)) self.now }
     {
-        has_number(&self.direction)
-            && has_number(&self.scale)
-            && from_first_fits(self.gradients.as_slice())
+        head_fits(&self.direction, &self.scale) && from_first_fits(self.gradients.as_slice())
     }
 
     /// Hands the fields behind NID_PACKET to a sink, with its L_PACKET.
-    #[tactic(auto, unfolding(crate::specs::Packets::gradients_telling))]
+    #[tactic(auto, unfolding(crate::specs::Layouts::gradients_telling))]
     pub(crate) fn fields<S: FieldSink>(&self, told: u64, sink: &mut S) -> Result<(), S::Error>
         requires told { told < 2 ^ 13 }
         requires room { S.held sink.old + size (gradients_telling (λ _. 0)) self.now ≤ S.most }
         ensures { OnOk result (S.seen sink.new ≡ taken S.took (gradients_telling (λ _. told)) self.now (S.seen sink.old)) }
     {
-        put(sink, VariableName::QDir, &self.direction)?;
-        sink.field(VariableName::LPacket, 13, told)?;
-        put(sink, VariableName::QScale, &self.scale)?;
+        put_head(sink, &self.direction, told, &self.scale)?;
         from_first(self.gradients.as_slice(), sink)
     }
 }

@@ -2,12 +2,15 @@ ghost use Rattle.std.specs.Prelude.{◌≡◌, ◌+◌, ◌<◌, ◌≤◌, ◌^
 ghost use Rattle.bits.specs.Fitting.{Fits};
 ghost use Rattle.bits.specs.Layout.{Gives, kind, read};
 ghost use Rattle.bits.specs.Writing.{size, taken};
-ghost use Rattle.packets.specs.Packets.{as_packet, as_level_transition, level_transition, has_stm as has_stm_of, level_transition_telling};
+ghost use Rattle.packets.specs.Elements.{has_stm as has_stm_of};
+ghost use Rattle.packets.specs.Layouts.{level_transition, level_transition_telling};
+ghost use Rattle.packets.specs.Packets.{as_packet, as_level_transition};
 ghost use Rattle.packets.specs.declared.packet.Packet.TheVariants as packets;
 
-use crate::element::{Element, read_list, read_part};
+use crate::element::{Element, read_from_first, read_part};
 use crate::fault::PacketFault;
 use crate::fitting::{from_first_fits, part_fits};
+use crate::heads::{head_fits, put_head, read_head};
 use crate::packet::Packet;
 use crate::reading::field;
 use crate::sink::{FieldSink, put};
@@ -15,8 +18,8 @@ use crate::walk::{from_first, from_first_bits};
 use arrayvec::ArrayVec;
 use bits::{BitReader, VariableName};
 use vars::{
-    Distance, Iterations, Level, PacketLength, Scale, StartPlace, StmIdentity, ValidityDirection,
-    Variable, has_number,
+    Distance, Level, PacketLength, Scale, StartPlace, StmIdentity, ValidityDirection, Variable,
+    has_number,
 };
 
 /// Whether a level has a specific transmission module.
@@ -30,26 +33,26 @@ fn has_stm(level: Level) -> bool
 }
 
 impl Element for StmIdentity {
-    ghost use Rattle.packets.specs.Packets.{stm_identity};
+    ghost use Rattle.packets.specs.Elements.{stm_identity};
 
     ghost layout = { stm_identity };
 
-    #[tactic(auto, unfolding(crate::specs::Packets::stm_identity))]
+    #[tactic(auto, unfolding(crate::specs::Elements::stm_identity))]
     fn read(reader: &mut BitReader<'_>) -> Result<StmIdentity, PacketFault> {
         field(reader)
     }
 
-    #[tactic(auto, unfolding(crate::specs::Packets::stm_identity))]
+    #[tactic(auto, unfolding(crate::specs::Elements::stm_identity))]
     fn fields<S: FieldSink>(&self, sink: &mut S) -> Result<(), S::Error> {
         put(sink, VariableName::NidStm, self)
     }
 
-    #[tactic(auto, unfolding(crate::specs::Packets::stm_identity))]
+    #[tactic(auto, unfolding(crate::specs::Elements::stm_identity))]
     fn bits(&self) -> u64 {
         8
     }
 
-    #[tactic(auto, unfolding(crate::specs::Packets::stm_identity))]
+    #[tactic(auto, unfolding(crate::specs::Elements::stm_identity))]
     fn fits(&self) -> bool {
         has_number(self)
     }
@@ -78,11 +81,11 @@ impl Default for LevelOrder {
 }
 
 impl Element for LevelOrder {
-    ghost use Rattle.packets.specs.Packets.{level_order};
+    ghost use Rattle.packets.specs.Elements.{level_order};
 
     ghost layout = { level_order };
 
-    #[tactic(auto, unfolding(crate::specs::Packets::level_order))]
+    #[tactic(auto, unfolding(crate::specs::Elements::level_order))]
     fn read(reader: &mut BitReader<'_>) -> Result<LevelOrder, PacketFault> {
         let level: Level = field(reader)?;
         let stm = read_part(reader, has_stm(level))?;
@@ -94,7 +97,7 @@ impl Element for LevelOrder {
         })
     }
 
-    #[tactic(auto, unfolding(crate::specs::Packets::level_order))]
+    #[tactic(auto, unfolding(crate::specs::Elements::level_order))]
     fn fields<S: FieldSink>(&self, sink: &mut S) -> Result<(), S::Error> {
         put(sink, VariableName::MLeveltr, &self.level)?;
         if let Some(stm) = &self.stm {
@@ -103,7 +106,7 @@ impl Element for LevelOrder {
         put(sink, VariableName::LAckleveltr, &self.acknowledgement)
     }
 
-    #[tactic(auto, unfolding(crate::specs::Packets::level_order, crate::specs::Packets::stm_identity))]
+    #[tactic(auto, unfolding(crate::specs::Elements::level_order, crate::specs::Elements::stm_identity))]
     fn bits(&self) -> u64 {
         match &self.stm {
             Some(_) => 26,
@@ -111,7 +114,7 @@ impl Element for LevelOrder {
         }
     }
 
-    #[tactic(auto, unfolding(crate::specs::Packets::level_order))]
+    #[tactic(auto, unfolding(crate::specs::Elements::level_order))]
     fn fits(&self) -> bool {
         has_number(&self.level)
             && part_fits(has_stm(self.level), &self.stm)
@@ -133,21 +136,17 @@ pub struct LevelTransition {
 }
 
 /// Reads packet 41 behind its number, into the place of another packet; answers its L_PACKET.
-#[tactic(auto, unfolding(crate::specs::Packets::level_transition_telling))]
+#[tactic(auto, unfolding(crate::specs::Layouts::level_transition_telling))]
 pub fn read_level_transition<'a>(
     reader: &mut BitReader<'a>,
     out: &mut Packet<'a>,
 ) -> Result<PacketLength, PacketFault>
     ensures { Gives (λ told. (told, out.new)) result reader.new (read (kind (as_packet packets.LevelTransition) as_level_transition level_transition) reader.old) }
 {
-    let direction = field(reader)?;
-    let told: PacketLength = field(reader)?;
-    let scale = field(reader)?;
+    let (direction, told, scale) = read_head(reader)?;
     let start = field(reader)?;
     let mut orders: ArrayVec<LevelOrder, 32> = ArrayVec::new();
-    read_list(reader, &mut orders, 1)?;
-    let more: Iterations = field(reader)?;
-    read_list(reader, &mut orders, more.count())?;
+    read_from_first(reader, &mut orders)?;
     *out = Packet::LevelTransition(LevelTransition {
         direction,
         scale,
@@ -159,7 +158,7 @@ pub fn read_level_transition<'a>(
 
 impl LevelTransition {
     /// The number of bits, those of NID_PACKET included.
-    #[tactic(auto, unfolding(crate::specs::Packets::level_transition_telling))]
+    #[tactic(auto, unfolding(crate::specs::Layouts::level_transition_telling))]
     pub(crate) fn bits(&self) -> u64
         ensures value { result ≡ 8 + size (level_transition_telling (λ _. 0)) self.now }
         ensures bound { result < 2 ^ 13 }
@@ -168,26 +167,23 @@ impl LevelTransition {
     }
 
     /// Whether it is as its layout wants it, but for its L_PACKET.
-    #[tactic(auto, unfolding(crate::specs::Packets::level_transition_telling), using(vars::proofs::Numbers::l_packet_has))]
+    #[tactic(auto, unfolding(crate::specs::Layouts::level_transition_telling))]
     pub(crate) fn fits(&self) -> bool
         ensures { IsTrue result ↔ Fits (level_transition_telling (λ _. 0)) self.now }
     {
-        has_number(&self.direction)
-            && has_number(&self.scale)
+        head_fits(&self.direction, &self.scale)
             && has_number(&self.start)
             && from_first_fits(self.orders.as_slice())
     }
 
     /// Hands the fields behind NID_PACKET to a sink, with its L_PACKET.
-    #[tactic(auto, unfolding(crate::specs::Packets::level_transition_telling))]
+    #[tactic(auto, unfolding(crate::specs::Layouts::level_transition_telling))]
     pub(crate) fn fields<S: FieldSink>(&self, told: u64, sink: &mut S) -> Result<(), S::Error>
         requires told { told < 2 ^ 13 }
         requires room { S.held sink.old + size (level_transition_telling (λ _. 0)) self.now ≤ S.most }
         ensures { OnOk result (S.seen sink.new ≡ taken S.took (level_transition_telling (λ _. told)) self.now (S.seen sink.old)) }
     {
-        put(sink, VariableName::QDir, &self.direction)?;
-        sink.field(VariableName::LPacket, 13, told)?;
-        put(sink, VariableName::QScale, &self.scale)?;
+        put_head(sink, &self.direction, told, &self.scale)?;
         put(sink, VariableName::DLeveltr, &self.start)?;
         from_first(self.orders.as_slice(), sink)
     }

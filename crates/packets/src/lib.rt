@@ -6,6 +6,7 @@ mod element;
 mod fault;
 mod fitting;
 mod gradients;
+mod heads;
 mod laws;
 mod level_transition;
 mod linking;

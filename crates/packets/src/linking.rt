@@ -2,12 +2,14 @@ ghost use Rattle.std.specs.Prelude.{◌≡◌, ◌+◌, ◌<◌, ◌≤◌, ◌^
 ghost use Rattle.bits.specs.Fitting.{Fits};
 ghost use Rattle.bits.specs.Layout.{Gives, kind, read};
 ghost use Rattle.bits.specs.Writing.{size, taken};
-ghost use Rattle.packets.specs.Packets.{as_packet, as_linking, linking as linking_layout, linking_telling};
+ghost use Rattle.packets.specs.Layouts.{linking as linking_layout, linking_telling};
+ghost use Rattle.packets.specs.Packets.{as_packet, as_linking};
 ghost use Rattle.packets.specs.declared.packet.Packet.TheVariants as packets;
 
-use crate::element::{Element, read_list, read_qualified};
+use crate::element::{Element, read_from_first, read_qualified};
 use crate::fault::PacketFault;
 use crate::fitting::{from_first_fits, qualified_fits};
+use crate::heads::{head_fits, put_head, read_head};
 use crate::packet::Packet;
 use crate::reading::field;
 use crate::sink::{FieldSink, put};
@@ -15,8 +17,8 @@ use crate::walk::{from_first, from_first_bits, qualified};
 use arrayvec::ArrayVec;
 use bits::{BitReader, VariableName};
 use vars::{
-    Country, Distance, GroupNumber, Iterations, LinkOrientation, LinkReaction, LocationAccuracy,
-    PacketLength, Scale, ValidityDirection, Variable, has_number,
+    Country, Distance, GroupNumber, LinkOrientation, LinkReaction, LocationAccuracy, PacketLength,
+    Scale, ValidityDirection, Variable, has_number,
 };
 
 /// A group that packet 5 announces.
@@ -51,11 +53,11 @@ impl Default for Link {
 }
 
 impl Element for Link {
-    ghost use Rattle.packets.specs.Packets.{link};
+    ghost use Rattle.packets.specs.Elements.{link};
 
     ghost layout = { link };
 
-    #[tactic(auto, unfolding(crate::specs::Packets::link))]
+    #[tactic(auto, unfolding(crate::specs::Elements::link))]
     fn read(reader: &mut BitReader<'_>) -> Result<Link, PacketFault> {
         let distance = field(reader)?;
         let country = read_qualified(reader)?;
@@ -73,7 +75,7 @@ impl Element for Link {
         })
     }
 
-    #[tactic(auto, unfolding(crate::specs::Packets::link))]
+    #[tactic(auto, unfolding(crate::specs::Elements::link))]
     fn fields<S: FieldSink>(&self, sink: &mut S) -> Result<(), S::Error> {
         put(sink, VariableName::DLink, &self.distance)?;
         qualified(sink, VariableName::QNewcountry, &self.country)?;
@@ -83,7 +85,7 @@ impl Element for Link {
         put(sink, VariableName::QLocacc, &self.accuracy)
     }
 
-    #[tactic(auto, unfolding(crate::specs::Packets::link, crate::specs::Packets::country))]
+    #[tactic(auto, unfolding(crate::specs::Elements::link, crate::specs::Elements::country))]
     fn bits(&self) -> u64 {
         match &self.country {
             Some(_) => 49,
@@ -91,7 +93,7 @@ impl Element for Link {
         }
     }
 
-    #[tactic(auto, unfolding(crate::specs::Packets::link))]
+    #[tactic(auto, unfolding(crate::specs::Elements::link))]
     fn fits(&self) -> bool {
         has_number(&self.distance)
             && qualified_fits(&self.country)
@@ -114,20 +116,16 @@ pub struct Linking {
 }
 
 /// Reads packet 5 behind its number, into the place of another packet; answers its L_PACKET.
-#[tactic(auto, unfolding(crate::specs::Packets::linking_telling))]
+#[tactic(auto, unfolding(crate::specs::Layouts::linking_telling))]
 pub fn read_linking<'a>(
     reader: &mut BitReader<'a>,
     out: &mut Packet<'a>,
 ) -> Result<PacketLength, PacketFault>
     ensures { Gives (λ told. (told, out.new)) result reader.new (read (kind (as_packet packets.Linking) as_linking linking_layout) reader.old) }
 {
-    let direction = field(reader)?;
-    let told: PacketLength = field(reader)?;
-    let scale = field(reader)?;
+    let (direction, told, scale) = read_head(reader)?;
     let mut links: ArrayVec<Link, 32> = ArrayVec::new();
-    read_list(reader, &mut links, 1)?;
-    let more: Iterations = field(reader)?;
-    read_list(reader, &mut links, more.count())?;
+    read_from_first(reader, &mut links)?;
     *out = Packet::Linking(Linking {
         direction,
         scale,
@@ -138,7 +136,7 @@ pub fn read_linking<'a>(
 
 impl Linking {
     /// The number of bits, those of NID_PACKET included.
-    #[tactic(auto, unfolding(crate::specs::Packets::linking_telling))]
+    #[tactic(auto, unfolding(crate::specs::Layouts::linking_telling))]
     pub(crate) fn bits(&self) -> u64
         ensures value { result ≡ 8 + size (linking_telling (λ _. 0)) self.now }
         ensures bound { result < 2 ^ 13 }
@@ -147,25 +145,21 @@ impl Linking {
     }
 
     /// Whether it is as its layout wants it, but for its L_PACKET.
-    #[tactic(auto, unfolding(crate::specs::Packets::linking_telling), using(vars::proofs::Numbers::l_packet_has))]
+    #[tactic(auto, unfolding(crate::specs::Layouts::linking_telling))]
     pub(crate) fn fits(&self) -> bool
         ensures { IsTrue result ↔ Fits (linking_telling (λ _. 0)) self.now }
     {
-        has_number(&self.direction)
-            && has_number(&self.scale)
-            && from_first_fits(self.links.as_slice())
+        head_fits(&self.direction, &self.scale) && from_first_fits(self.links.as_slice())
     }
 
     /// Hands the fields behind NID_PACKET to a sink, with its L_PACKET.
-    #[tactic(auto, unfolding(crate::specs::Packets::linking_telling))]
+    #[tactic(auto, unfolding(crate::specs::Layouts::linking_telling))]
     pub(crate) fn fields<S: FieldSink>(&self, told: u64, sink: &mut S) -> Result<(), S::Error>
         requires told { told < 2 ^ 13 }
         requires room { S.held sink.old + size (linking_telling (λ _. 0)) self.now ≤ S.most }
         ensures { OnOk result (S.seen sink.new ≡ taken S.took (linking_telling (λ _. told)) self.now (S.seen sink.old)) }
     {
-        put(sink, VariableName::QDir, &self.direction)?;
-        sink.field(VariableName::LPacket, 13, told)?;
-        put(sink, VariableName::QScale, &self.scale)?;
+        put_head(sink, &self.direction, told, &self.scale)?;
         from_first(self.links.as_slice(), sink)
     }
 }

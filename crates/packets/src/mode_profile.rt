@@ -2,12 +2,14 @@ ghost use Rattle.std.specs.Prelude.{◌≡◌, ◌+◌, ◌<◌, ◌≤◌, ◌^
 ghost use Rattle.bits.specs.Fitting.{Fits};
 ghost use Rattle.bits.specs.Layout.{Gives, kind, read};
 ghost use Rattle.bits.specs.Writing.{size, taken};
-ghost use Rattle.packets.specs.Packets.{as_packet, as_mode_profile, mode_profile, mode_profile_telling};
+ghost use Rattle.packets.specs.Layouts.{mode_profile, mode_profile_telling};
+ghost use Rattle.packets.specs.Packets.{as_packet, as_mode_profile};
 ghost use Rattle.packets.specs.declared.packet.Packet.TheVariants as packets;
 
-use crate::element::{Element, read_list};
+use crate::element::{Element, read_from_first};
 use crate::fault::PacketFault;
 use crate::fitting::from_first_fits;
+use crate::heads::{head_fits, put_head, read_head};
 use crate::packet::Packet;
 use crate::reading::field;
 use crate::sink::{FieldSink, put};
@@ -15,8 +17,8 @@ use crate::walk::{from_first, from_first_bits};
 use arrayvec::ArrayVec;
 use bits::{BitReader, VariableName};
 use vars::{
-    AreaMode, AreaSpeed, Distance, Iterations, OpenLength, PacketLength, Scale, ValidityDirection,
-    Variable, has_number,
+    AreaMode, AreaSpeed, Distance, OpenLength, PacketLength, Scale, ValidityDirection, Variable,
+    has_number,
 };
 
 /// An area in which a mode is asked for.
@@ -48,11 +50,11 @@ impl Default for ModeArea {
 }
 
 impl Element for ModeArea {
-    ghost use Rattle.packets.specs.Packets.{mode_area};
+    ghost use Rattle.packets.specs.Elements.{mode_area};
 
     ghost layout = { mode_area };
 
-    #[tactic(auto, unfolding(crate::specs::Packets::mode_area))]
+    #[tactic(auto, unfolding(crate::specs::Elements::mode_area))]
     fn read(reader: &mut BitReader<'_>) -> Result<ModeArea, PacketFault> {
         let distance = field(reader)?;
         let mode = field(reader)?;
@@ -68,7 +70,7 @@ impl Element for ModeArea {
         })
     }
 
-    #[tactic(auto, unfolding(crate::specs::Packets::mode_area))]
+    #[tactic(auto, unfolding(crate::specs::Elements::mode_area))]
     fn fields<S: FieldSink>(&self, sink: &mut S) -> Result<(), S::Error> {
         put(sink, VariableName::DMamode, &self.distance)?;
         put(sink, VariableName::MMamode, &self.mode)?;
@@ -77,12 +79,12 @@ impl Element for ModeArea {
         put(sink, VariableName::LAckmamode, &self.acknowledgement)
     }
 
-    #[tactic(auto, unfolding(crate::specs::Packets::mode_area))]
+    #[tactic(auto, unfolding(crate::specs::Elements::mode_area))]
     fn bits(&self) -> u64 {
         54
     }
 
-    #[tactic(auto, unfolding(crate::specs::Packets::mode_area))]
+    #[tactic(auto, unfolding(crate::specs::Elements::mode_area))]
     fn fits(&self) -> bool {
         has_number(&self.distance)
             && has_number(&self.mode)
@@ -104,20 +106,16 @@ pub struct ModeProfile {
 }
 
 /// Reads packet 80 behind its number, into the place of another packet; answers its L_PACKET.
-#[tactic(auto, unfolding(crate::specs::Packets::mode_profile_telling))]
+#[tactic(auto, unfolding(crate::specs::Layouts::mode_profile_telling))]
 pub fn read_mode_profile<'a>(
     reader: &mut BitReader<'a>,
     out: &mut Packet<'a>,
 ) -> Result<PacketLength, PacketFault>
     ensures { Gives (λ told. (told, out.new)) result reader.new (read (kind (as_packet packets.ModeProfile) as_mode_profile mode_profile) reader.old) }
 {
-    let direction = field(reader)?;
-    let told: PacketLength = field(reader)?;
-    let scale = field(reader)?;
+    let (direction, told, scale) = read_head(reader)?;
     let mut areas: ArrayVec<ModeArea, 32> = ArrayVec::new();
-    read_list(reader, &mut areas, 1)?;
-    let more: Iterations = field(reader)?;
-    read_list(reader, &mut areas, more.count())?;
+    read_from_first(reader, &mut areas)?;
     *out = Packet::ModeProfile(ModeProfile {
         direction,
         scale,
@@ -128,7 +126,7 @@ pub fn read_mode_profile<'a>(
 
 impl ModeProfile {
     /// The number of bits, those of NID_PACKET included.
-    #[tactic(auto, unfolding(crate::specs::Packets::mode_profile_telling))]
+    #[tactic(auto, unfolding(crate::specs::Layouts::mode_profile_telling))]
     pub(crate) fn bits(&self) -> u64
         ensures value { result ≡ 8 + size (mode_profile_telling (λ _. 0)) self.now }
         ensures bound { result < 2 ^ 13 }
@@ -137,25 +135,21 @@ impl ModeProfile {
     }
 
     /// Whether it is as its layout wants it, but for its L_PACKET.
-    #[tactic(auto, unfolding(crate::specs::Packets::mode_profile_telling), using(vars::proofs::Numbers::l_packet_has))]
+    #[tactic(auto, unfolding(crate::specs::Layouts::mode_profile_telling))]
     pub(crate) fn fits(&self) -> bool
         ensures { IsTrue result ↔ Fits (mode_profile_telling (λ _. 0)) self.now }
     {
-        has_number(&self.direction)
-            && has_number(&self.scale)
-            && from_first_fits(self.areas.as_slice())
+        head_fits(&self.direction, &self.scale) && from_first_fits(self.areas.as_slice())
     }
 
     /// Hands the fields behind NID_PACKET to a sink, with its L_PACKET.
-    #[tactic(auto, unfolding(crate::specs::Packets::mode_profile_telling))]
+    #[tactic(auto, unfolding(crate::specs::Layouts::mode_profile_telling))]
     pub(crate) fn fields<S: FieldSink>(&self, told: u64, sink: &mut S) -> Result<(), S::Error>
         requires told { told < 2 ^ 13 }
         requires room { S.held sink.old + size (mode_profile_telling (λ _. 0)) self.now ≤ S.most }
         ensures { OnOk result (S.seen sink.new ≡ taken S.took (mode_profile_telling (λ _. told)) self.now (S.seen sink.old)) }
     {
-        put(sink, VariableName::QDir, &self.direction)?;
-        sink.field(VariableName::LPacket, 13, told)?;
-        put(sink, VariableName::QScale, &self.scale)?;
+        put_head(sink, &self.direction, told, &self.scale)?;
         from_first(self.areas.as_slice(), sink)
     }
 }

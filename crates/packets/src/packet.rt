@@ -2,7 +2,8 @@ ghost use Rattle.std.specs.Prelude.{◌≡◌, ◌↔◌, ◌+◌, ◌<◌, ◌�
 ghost use Rattle.bits.specs.Fitting.{HasNumber};
 ghost use Rattle.bits.specs.Layout.{Spells};
 ghost use Rattle.bits.specs.Writing.{size, taken};
-ghost use Rattle.packets.specs.Packets.{length_of, packet_taken, skipped_telling};
+ghost use Rattle.packets.specs.Layouts.{skipped_telling};
+ghost use Rattle.packets.specs.Packets.{length_of, packet_taken};
 ghost use Rattle.packets.specs.Spelling.{IsSkipped, PacketFits};
 ghost use Rattle.vars.specs.Variables.{nid_packet, untested_direction};
 
@@ -86,7 +87,7 @@ impl<'a> Other<'a> {
     }
 
     /// The number of bits, those of NID_PACKET included.
-    #[tactic(auto, unfolding(crate::specs::Packets::skipped_telling))]
+    #[tactic(auto, unfolding(crate::specs::Layouts::skipped_telling))]
     fn bits(&self) -> u64
         ensures value { result ≡ 8 + size (skipped_telling self.now.number (λ _. 0)) self.now }
         ensures bound { result < 2 ^ 33 }
@@ -95,7 +96,7 @@ impl<'a> Other<'a> {
     }
 
     /// Hands the fields behind NID_PACKET to a sink, with its L_PACKET.
-    #[tactic(auto, unfolding(crate::specs::Packets::skipped_telling))]
+    #[tactic(auto, unfolding(crate::specs::Layouts::skipped_telling))]
     fn fields<S: FieldSink>(&self, told: u64, sink: &mut S) -> Result<(), S::Error>
         requires told { told < 2 ^ 13 }
         requires room { S.held sink.old + size (skipped_telling self.now.number (λ _. 0)) self.now ≤ S.most }

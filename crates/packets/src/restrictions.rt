@@ -2,10 +2,12 @@ ghost use Rattle.std.specs.Prelude.{◌≡◌, ◌+◌, ◌<◌, ◌≤◌, ◌^
 ghost use Rattle.bits.specs.Fitting.{Fits};
 ghost use Rattle.bits.specs.Layout.{Gives, kind, read};
 ghost use Rattle.bits.specs.Writing.{size, taken};
-ghost use Rattle.packets.specs.Packets.{as_packet, as_speed_restriction, as_revocation, speed_restriction, restriction_revocation, speed_restriction_telling, restriction_revocation_telling};
+ghost use Rattle.packets.specs.Layouts.{speed_restriction, restriction_revocation, speed_restriction_telling, restriction_revocation_telling};
+ghost use Rattle.packets.specs.Packets.{as_packet, as_speed_restriction, as_revocation};
 ghost use Rattle.packets.specs.declared.packet.Packet.TheVariants as packets;
 
 use crate::fault::PacketFault;
+use crate::heads::{head_fits, put_head, read_head};
 use crate::packet::Packet;
 use crate::reading::field;
 use crate::sink::{FieldSink, put};
@@ -44,16 +46,14 @@ pub struct RestrictionRevocation {
 }
 
 /// Reads packet 65 behind its number, into the place of another packet; answers its L_PACKET.
-#[tactic(auto, unfolding(crate::specs::Packets::speed_restriction_telling))]
+#[tactic(auto, unfolding(crate::specs::Layouts::speed_restriction_telling))]
 pub fn read_restriction<'a>(
     reader: &mut BitReader<'a>,
     out: &mut Packet<'a>,
 ) -> Result<PacketLength, PacketFault>
     ensures { Gives (λ told. (told, out.new)) result reader.new (read (kind (as_packet packets.SpeedRestriction) as_speed_restriction speed_restriction) reader.old) }
 {
-    let direction = field(reader)?;
-    let told: PacketLength = field(reader)?;
-    let scale = field(reader)?;
+    let (direction, told, scale) = read_head(reader)?;
     let number = field(reader)?;
     let start = field(reader)?;
     let length = field(reader)?;
@@ -72,7 +72,7 @@ pub fn read_restriction<'a>(
 }
 
 /// Reads packet 66 behind its number, into the place of another packet; answers its L_PACKET.
-#[tactic(auto, unfolding(crate::specs::Packets::restriction_revocation_telling))]
+#[tactic(auto, unfolding(crate::specs::Layouts::restriction_revocation_telling))]
 pub fn read_revocation<'a>(
     reader: &mut BitReader<'a>,
     out: &mut Packet<'a>,
@@ -88,7 +88,7 @@ pub fn read_revocation<'a>(
 
 impl SpeedRestriction {
     /// The number of bits, those of NID_PACKET included.
-    #[tactic(auto, unfolding(crate::specs::Packets::speed_restriction_telling))]
+    #[tactic(auto, unfolding(crate::specs::Layouts::speed_restriction_telling))]
     pub(crate) fn bits(&self) -> u64
         ensures value { result ≡ 8 + size (speed_restriction_telling (λ _. 0)) self.now }
         ensures bound { result < 2 ^ 13 }
@@ -97,12 +97,11 @@ impl SpeedRestriction {
     }
 
     /// Whether it is as its layout wants it, but for its L_PACKET.
-    #[tactic(auto, unfolding(crate::specs::Packets::speed_restriction_telling), using(vars::proofs::Numbers::l_packet_has))]
+    #[tactic(auto, unfolding(crate::specs::Layouts::speed_restriction_telling))]
     pub(crate) fn fits(&self) -> bool
         ensures { IsTrue result ↔ Fits (speed_restriction_telling (λ _. 0)) self.now }
     {
-        has_number(&self.direction)
-            && has_number(&self.scale)
+        head_fits(&self.direction, &self.scale)
             && has_number(&self.number)
             && has_number(&self.start)
             && has_number(&self.length)
@@ -111,15 +110,13 @@ impl SpeedRestriction {
     }
 
     /// Hands the fields behind NID_PACKET to a sink, with its L_PACKET.
-    #[tactic(auto, unfolding(crate::specs::Packets::speed_restriction_telling))]
+    #[tactic(auto, unfolding(crate::specs::Layouts::speed_restriction_telling))]
     pub(crate) fn fields<S: FieldSink>(&self, told: u64, sink: &mut S) -> Result<(), S::Error>
         requires told { told < 2 ^ 13 }
         requires room { S.held sink.old + size (speed_restriction_telling (λ _. 0)) self.now ≤ S.most }
         ensures { OnOk result (S.seen sink.new ≡ taken S.took (speed_restriction_telling (λ _. told)) self.now (S.seen sink.old)) }
     {
-        put(sink, VariableName::QDir, &self.direction)?;
-        sink.field(VariableName::LPacket, 13, told)?;
-        put(sink, VariableName::QScale, &self.scale)?;
+        put_head(sink, &self.direction, told, &self.scale)?;
         put(sink, VariableName::NidTsr, &self.number)?;
         put(sink, VariableName::DTsr, &self.start)?;
         put(sink, VariableName::LTsr, &self.length)?;
@@ -130,7 +127,7 @@ impl SpeedRestriction {
 
 impl RestrictionRevocation {
     /// The number of bits, those of NID_PACKET included.
-    #[tactic(auto, unfolding(crate::specs::Packets::restriction_revocation_telling))]
+    #[tactic(auto, unfolding(crate::specs::Layouts::restriction_revocation_telling))]
     pub(crate) fn bits(&self) -> u64
         ensures value { result ≡ 8 + size (restriction_revocation_telling (λ _. 0)) self.now }
         ensures bound { result < 2 ^ 13 }
@@ -139,7 +136,7 @@ impl RestrictionRevocation {
     }
 
     /// Whether it is as its layout wants it, but for its L_PACKET.
-    #[tactic(auto, unfolding(crate::specs::Packets::restriction_revocation_telling), using(vars::proofs::Numbers::l_packet_has))]
+    #[tactic(auto, unfolding(crate::specs::Layouts::restriction_revocation_telling), using(vars::proofs::Numbers::l_packet_has))]
     pub(crate) fn fits(&self) -> bool
         ensures { IsTrue result ↔ Fits (restriction_revocation_telling (λ _. 0)) self.now }
     {
@@ -147,7 +144,7 @@ impl RestrictionRevocation {
     }
 
     /// Hands the fields behind NID_PACKET to a sink, with its L_PACKET.
-    #[tactic(auto, unfolding(crate::specs::Packets::restriction_revocation_telling))]
+    #[tactic(auto, unfolding(crate::specs::Layouts::restriction_revocation_telling))]
     pub(crate) fn fields<S: FieldSink>(&self, told: u64, sink: &mut S) -> Result<(), S::Error>
         requires told { told < 2 ^ 13 }
         requires room { S.held sink.old + size (restriction_revocation_telling (λ _. 0)) self.now ≤ S.most }

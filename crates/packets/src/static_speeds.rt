@@ -1,7 +1,7 @@
 ghost use Rattle.std.specs.Prelude.{◌≡◌, ◌+◌, ◌≤◌, ◌<◌, ◌^◌, length, min, OnOk, ◌↔◌, IsTrue};
 ghost use Rattle.bits.specs.Sums.{total};
 ghost use Rattle.bits.specs.Writing.{size, taken};
-ghost use Rattle.packets.specs.Packets.{static_speeds_telling};
+ghost use Rattle.packets.specs.Layouts.{static_speeds_telling};
 ghost use Rattle.packets.specs.StaticSteps.{StepFits, SpeedsFit};
 ghost use Rattle.std.specs.List.{AllByRecursion as Each};
 
@@ -11,6 +11,7 @@ mod reading;
 use crate::element::Element;
 use crate::fault::PacketFault;
 use crate::fitting::all_fit;
+use crate::heads::put_head;
 use crate::reading::field;
 use crate::sink::{FieldSink, put};
 use crate::static_speeds::handing::profile_fields;
@@ -42,29 +43,29 @@ impl Default for Difference {
 }
 
 impl Element for Difference {
-    ghost use Rattle.packets.specs.Packets.{difference};
+    ghost use Rattle.packets.specs.Elements.{difference};
 
     ghost layout = { difference };
 
-    #[tactic(auto, unfolding(crate::specs::Packets::difference))]
+    #[tactic(auto, unfolding(crate::specs::Elements::difference))]
     fn read(reader: &mut BitReader<'_>) -> Result<Difference, PacketFault> {
         let category = field(reader)?;
         let speed = field(reader)?;
         Ok(Difference { category, speed })
     }
 
-    #[tactic(auto, unfolding(crate::specs::Packets::difference))]
+    #[tactic(auto, unfolding(crate::specs::Elements::difference))]
     fn fields<S: FieldSink>(&self, sink: &mut S) -> Result<(), S::Error> {
         put(sink, VariableName::NcDiff, &self.category)?;
         put(sink, VariableName::VDiff, &self.speed)
     }
 
-    #[tactic(auto, unfolding(crate::specs::Packets::difference))]
+    #[tactic(auto, unfolding(crate::specs::Elements::difference))]
     fn bits(&self) -> u64 {
         11
     }
 
-    #[tactic(auto, unfolding(crate::specs::Packets::difference))]
+    #[tactic(auto, unfolding(crate::specs::Elements::difference))]
     fn fits(&self) -> bool {
         has_number(&self.category) && has_number(&self.speed)
     }
@@ -85,7 +86,7 @@ pub struct StaticStep {
 
 /// Fills room that isn't in use.
 impl Default for StaticStep {
-    ghost use Rattle.packets.specs.Packets.{no_step};
+    ghost use Rattle.packets.specs.Layouts.{no_step};
 
     ghost is_default = { λ s. s ≡ no_step };
 
@@ -198,9 +199,7 @@ impl StaticSpeeds {
         requires room { S.held sink.old + size (static_speeds_telling (λ _. 0)) self.now ≤ S.most }
         ensures { OnOk result (S.seen sink.new ≡ taken S.took (static_speeds_telling (λ _. told)) self.now (S.seen sink.old)) }
     {
-        put(sink, VariableName::QDir, &self.direction)?;
-        sink.field(VariableName::LPacket, 13, told)?;
-        put(sink, VariableName::QScale, &self.scale)?;
+        put_head(sink, &self.direction, told, &self.scale)?;
         profile_fields(self.steps.as_slice(), self.differences.as_slice(), sink)?;
         Ok(())
     }

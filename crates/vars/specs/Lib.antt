@@ -1,2 +1,3 @@
 pub mod Meanings
+pub mod Values
 pub mod Variables

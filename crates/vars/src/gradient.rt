@@ -25,7 +25,7 @@ impl Variable for GradientDirection {
 
     const WIDTH: u32 = 1;
 
-    #[tactic(auto, unfolding(crate::specs::Variables::gradient_direction_of))]
+    #[tactic(auto, unfolding(crate::specs::Values::gradient_direction_of))]
     fn of_number(number: u64) -> Result<GradientDirection, NoValue> {
         match number {
             0 => Ok(GradientDirection::Downhill),
@@ -40,7 +40,7 @@ impl Variable for GradientDirection {
         }
     }
 
-    #[tactic(auto, using(crate::proofs::Numbers::q_gdir_own))]
+    #[tactic(auto, using(crate::proofs::OwnNumbers::q_gdir_own))]
     fn has_own_number(&self) -> bool {
         true
     }

@@ -71,7 +71,7 @@ impl Variable for Duplicate {
 
     const WIDTH: u32 = 2;
 
-    #[tactic(auto, unfolding(crate::specs::Variables::duplicate_of))]
+    #[tactic(auto, unfolding(crate::specs::Values::duplicate_of))]
     fn of_number(number: u64) -> Result<Duplicate, NoValue> {
         match number {
             0 => Ok(Duplicate::NoDuplicate),
@@ -89,7 +89,7 @@ impl Variable for Duplicate {
         }
     }
 
-    #[tactic(auto, using(crate::proofs::Numbers::m_dup_own))]
+    #[tactic(auto, using(crate::proofs::OwnNumbers::m_dup_own))]
     fn has_own_number(&self) -> bool {
         true
     }

@@ -27,7 +27,7 @@ impl Variable for Level {
 
     const WIDTH: u32 = 3;
 
-    #[tactic(auto, unfolding(crate::specs::Variables::level_of))]
+    #[tactic(auto, unfolding(crate::specs::Values::level_of))]
     fn of_number(number: u64) -> Result<Level, NoValue> {
         match number {
             0 => Ok(Level::Level0),
@@ -49,7 +49,7 @@ impl Variable for Level {
         }
     }
 
-    #[tactic(auto, using(crate::proofs::Numbers::m_leveltr_own))]
+    #[tactic(auto, using(crate::proofs::OwnNumbers::m_leveltr_own))]
     fn has_own_number(&self) -> bool {
         true
     }
@@ -125,7 +125,7 @@ impl Variable for AreaMode {
 
     const WIDTH: u32 = 2;
 
-    #[tactic(auto, unfolding(crate::specs::Variables::area_mode_of))]
+    #[tactic(auto, unfolding(crate::specs::Values::area_mode_of))]
     fn of_number(number: u64) -> Result<AreaMode, NoValue> {
         match number {
             0 => Ok(AreaMode::OnSight),
@@ -141,7 +141,7 @@ impl Variable for AreaMode {
         }
     }
 
-    #[tactic(auto, using(crate::proofs::Numbers::m_mamode_own))]
+    #[tactic(auto, using(crate::proofs::OwnNumbers::m_mamode_own))]
     fn has_own_number(&self) -> bool {
         true
     }

@@ -24,7 +24,7 @@ impl Variable for LinkOrientation {
 
     const WIDTH: u32 = 1;
 
-    #[tactic(auto, unfolding(crate::specs::Variables::orientation_of))]
+    #[tactic(auto, unfolding(crate::specs::Values::orientation_of))]
     fn of_number(number: u64) -> Result<LinkOrientation, NoValue> {
         match number {
             0 => Ok(LinkOrientation::Reverse),
@@ -39,7 +39,7 @@ impl Variable for LinkOrientation {
         }
     }
 
-    #[tactic(auto, using(crate::proofs::Numbers::q_linkorientation_own))]
+    #[tactic(auto, using(crate::proofs::OwnNumbers::q_linkorientation_own))]
     fn has_own_number(&self) -> bool {
         true
     }
@@ -71,7 +71,7 @@ impl Variable for LinkReaction {
 
     const WIDTH: u32 = 2;
 
-    #[tactic(auto, unfolding(crate::specs::Variables::reaction_of))]
+    #[tactic(auto, unfolding(crate::specs::Values::reaction_of))]
     fn of_number(number: u64) -> Result<LinkReaction, NoValue> {
         match number {
             0 => Ok(LinkReaction::Trip),
@@ -89,7 +89,7 @@ impl Variable for LinkReaction {
         }
     }
 
-    #[tactic(auto, using(crate::proofs::Numbers::q_linkreaction_own))]
+    #[tactic(auto, using(crate::proofs::OwnNumbers::q_linkreaction_own))]
     fn has_own_number(&self) -> bool {
         true
     }

@@ -80,7 +80,7 @@ impl Variable for ValidityDirection {
 
     const WIDTH: u32 = 2;
 
-    #[tactic(auto, unfolding(crate::specs::Variables::direction_of))]
+    #[tactic(auto, unfolding(crate::specs::Values::direction_of))]
     fn of_number(number: u64) -> Result<ValidityDirection, NoValue> {
         match number {
             0 => Ok(ValidityDirection::Reverse),
@@ -98,7 +98,7 @@ impl Variable for ValidityDirection {
         }
     }
 
-    #[tactic(auto, using(crate::proofs::Numbers::q_dir_own))]
+    #[tactic(auto, using(crate::proofs::OwnNumbers::q_dir_own))]
     fn has_own_number(&self) -> bool {
         true
     }

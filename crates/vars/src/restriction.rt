@@ -92,7 +92,7 @@ impl Variable for TrainLengthDelay {
         }
     }
 
-    #[tactic(auto, using(crate::proofs::Numbers::q_front_own))]
+    #[tactic(auto, using(crate::proofs::OwnNumbers::q_front_own))]
     fn has_own_number(&self) -> bool {
         true
     }

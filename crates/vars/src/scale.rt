@@ -38,7 +38,7 @@ impl Variable for Scale {
 
     const WIDTH: u32 = 2;
 
-    #[tactic(auto, unfolding(crate::specs::Variables::scale_of))]
+    #[tactic(auto, unfolding(crate::specs::Values::scale_of))]
     fn of_number(number: u64) -> Result<Scale, NoValue> {
         match number {
             0 => Ok(Scale::TenCentimetres),
@@ -56,7 +56,7 @@ impl Variable for Scale {
         }
     }
 
-    #[tactic(auto, using(crate::proofs::Numbers::q_scale_own))]
+    #[tactic(auto, using(crate::proofs::OwnNumbers::q_scale_own))]
     fn has_own_number(&self) -> bool {
         true
     }

@@ -21,7 +21,7 @@ impl Variable for StartPlace {
 
     const WIDTH: u32 = 15;
 
-    #[tactic(auto, unfolding(crate::specs::Variables::start_place_of))]
+    #[tactic(auto, unfolding(crate::specs::Values::start_place_of))]
     fn of_number(number: u64) -> Result<StartPlace, NoValue> {
         match number {
             32767 => Ok(StartPlace::Now),
@@ -39,7 +39,7 @@ impl Variable for StartPlace {
         }
     }
 
-    #[tactic(auto, using(crate::proofs::Numbers::start_place_own), unfolding(crate::specs::Variables::start_place_of))]
+    #[tactic(auto, using(crate::proofs::OwnNumbers::start_place_own), unfolding(crate::specs::Values::start_place_of))]
     fn has_own_number(&self) -> bool {
         match self {
             StartPlace::At(value) => value.number() != 32767,
@@ -72,7 +72,7 @@ impl Variable for OpenLength {
 
     const WIDTH: u32 = 15;
 
-    #[tactic(auto, unfolding(crate::specs::Variables::open_length_of))]
+    #[tactic(auto, unfolding(crate::specs::Values::open_length_of))]
     fn of_number(number: u64) -> Result<OpenLength, NoValue> {
         match number {
             32767 => Ok(OpenLength::NoEnd),
@@ -90,7 +90,7 @@ impl Variable for OpenLength {
         }
     }
 
-    #[tactic(auto, using(crate::proofs::Numbers::open_length_own), unfolding(crate::specs::Variables::open_length_of))]
+    #[tactic(auto, using(crate::proofs::OwnNumbers::open_length_own), unfolding(crate::specs::Values::open_length_of))]
     fn has_own_number(&self) -> bool {
         match self {
             OpenLength::Length(value) => value.number() != 32767,

@@ -23,7 +23,7 @@ impl Variable for ReleaseSpeed {
 
     const WIDTH: u32 = 7;
 
-    #[tactic(auto, unfolding(crate::specs::Variables::release_of))]
+    #[tactic(auto, unfolding(crate::specs::Values::release_of))]
     fn of_number(number: u64) -> Result<ReleaseSpeed, NoValue> {
         match number {
             126 => Ok(ReleaseSpeed::Onboard),
@@ -43,7 +43,7 @@ impl Variable for ReleaseSpeed {
         }
     }
 
-    #[tactic(auto, using(crate::proofs::Numbers::v_release_own), unfolding(crate::specs::Variables::release_of))]
+    #[tactic(auto, using(crate::proofs::OwnNumbers::v_release_own), unfolding(crate::specs::Values::release_of))]
     fn has_own_number(&self) -> bool {
         match self {
             ReleaseSpeed::Speed(value) => value.has_own_number(),
@@ -76,7 +76,7 @@ impl Variable for StaticSpeed {
 
     const WIDTH: u32 = 7;
 
-    #[tactic(auto, unfolding(crate::specs::Variables::static_of))]
+    #[tactic(auto, unfolding(crate::specs::Values::static_of))]
     fn of_number(number: u64) -> Result<StaticSpeed, NoValue> {
         match number {
             127 => Ok(StaticSpeed::End),
@@ -94,7 +94,7 @@ impl Variable for StaticSpeed {
         }
     }
 
-    #[tactic(auto, using(crate::proofs::Numbers::v_static_own), unfolding(crate::specs::Variables::static_of))]
+    #[tactic(auto, using(crate::proofs::OwnNumbers::v_static_own), unfolding(crate::specs::Values::static_of))]
     fn has_own_number(&self) -> bool {
         match self {
             StaticSpeed::Speed(value) => value.has_own_number(),
@@ -127,7 +127,7 @@ impl Variable for AreaSpeed {
 
     const WIDTH: u32 = 7;
 
-    #[tactic(auto, unfolding(crate::specs::Variables::area_speed_of))]
+    #[tactic(auto, unfolding(crate::specs::Values::area_speed_of))]
     fn of_number(number: u64) -> Result<AreaSpeed, NoValue> {
         match number {
             127 => Ok(AreaSpeed::National),
@@ -145,7 +145,7 @@ impl Variable for AreaSpeed {
         }
     }
 
-    #[tactic(auto, using(crate::proofs::Numbers::v_mamode_own), unfolding(crate::specs::Variables::area_speed_of))]
+    #[tactic(auto, using(crate::proofs::OwnNumbers::v_mamode_own), unfolding(crate::specs::Values::area_speed_of))]
     fn has_own_number(&self) -> bool {
         match self {
             AreaSpeed::Speed(value) => value.has_own_number(),

@@ -81,19 +81,6 @@ impl Model for OverrideTime {
     ghost inverse = { λ n. record { seconds = n } };
 }
 
-impl OverrideTime {
-    /// How long it lasts; None where it has no end.
-    pub fn limit(self) -> Option<Ms>
-        ensures found { IsSome result ↔ (self ≢ 255) }
-        ensures value { IfSome result (λ t. t ≡ 1_000 * self) }
-    {
-        if self.seconds == 255 {
-            return None;
-        }
-        Ms::new(1_000 * u64::from(self.seconds))
-    }
-}
-
 impl Variable for OverrideTime {
     ghost use Rattle.std.specs.Prelude.{refl};
     ghost use Rattle.std.proofs.Common.{arith};

@@ -3,7 +3,7 @@ ghost use Rattle.std.specs.Prelude.{◌≡◌, ◌+◌, ◌≤◌, OnOk, ◌↔�
 ghost use Rattle.bits.specs.Fitting.{Spellable};
 ghost use Rattle.bits.specs.Layout.{Gives, read};
 ghost use Rattle.bits.specs.Writing.{size, taken};
-ghost use Rattle.packets.specs.Packets.{section as section_layout};
+ghost use Rattle.packets.specs.Elements.{section as section_layout};
 ghost use Rattle.bits.specs.declared.name.VariableName.TheVariants as names;
 
 use crate::authority::{Section, SectionTimer};
@@ -17,40 +17,40 @@ use bits::{BitReader, VariableName};
 use vars::has_number;
 
 impl Element for SectionTimer {
-    ghost use Rattle.packets.specs.Packets.{section_timer};
+    ghost use Rattle.packets.specs.Elements.{section_timer};
 
     ghost layout = { section_timer };
 
-    #[tactic(auto, unfolding(crate::specs::Packets::section_timer))]
+    #[tactic(auto, unfolding(crate::specs::Elements::section_timer))]
     fn read(reader: &mut BitReader<'_>) -> Result<SectionTimer, PacketFault> {
         let time = field(reader)?;
         let stop = field(reader)?;
         Ok(SectionTimer { time, stop })
     }
 
-    #[tactic(auto, unfolding(crate::specs::Packets::section_timer))]
+    #[tactic(auto, unfolding(crate::specs::Elements::section_timer))]
     fn fields<S: FieldSink>(&self, sink: &mut S) -> Result<(), S::Error> {
         put(sink, VariableName::TSectiontimer, &self.time)?;
         put(sink, VariableName::DSectiontimerstoploc, &self.stop)
     }
 
-    #[tactic(auto, unfolding(crate::specs::Packets::section_timer))]
+    #[tactic(auto, unfolding(crate::specs::Elements::section_timer))]
     fn bits(&self) -> u64 {
         25
     }
 
-    #[tactic(auto, unfolding(crate::specs::Packets::section_timer))]
+    #[tactic(auto, unfolding(crate::specs::Elements::section_timer))]
     fn fits(&self) -> bool {
         has_number(&self.time) && has_number(&self.stop)
     }
 }
 
 impl Element for Section {
-    ghost use Rattle.packets.specs.Packets.{section};
+    ghost use Rattle.packets.specs.Elements.{section};
 
     ghost layout = { section names.LSection };
 
-    #[tactic(auto, unfolding(crate::specs::Packets::section))]
+    #[tactic(auto, unfolding(crate::specs::Elements::section))]
     fn read(reader: &mut BitReader<'_>) -> Result<Section, PacketFault> {
         let length = field(reader)?;
         let timer = read_qualified(reader)?;
@@ -61,7 +61,7 @@ impl Element for Section {
         section_fields(self, VariableName::LSection, sink)
     }
 
-    #[tactic(auto, unfolding(crate::specs::Packets::section, crate::specs::Packets::section_timer))]
+    #[tactic(auto, unfolding(crate::specs::Elements::section, crate::specs::Elements::section_timer))]
     fn bits(&self) -> u64 {
         match &self.timer {
             Some(_) => 41,
@@ -69,14 +69,14 @@ impl Element for Section {
         }
     }
 
-    #[tactic(auto, unfolding(crate::specs::Packets::section))]
+    #[tactic(auto, unfolding(crate::specs::Elements::section))]
     fn fits(&self) -> bool {
         has_number(&self.length) && qualified_fits(&self.timer)
     }
 }
 
 /// Reads the end section.
-#[tactic(auto, unfolding(crate::specs::Packets::section))]
+#[tactic(auto, unfolding(crate::specs::Elements::section))]
 pub(crate) fn read_end_section(reader: &mut BitReader<'_>) -> Result<Section, PacketFault>
     ensures { Gives (λ x. x) result reader.new (read (section_layout names.LEndsection) reader.old) }
 {
@@ -84,7 +84,7 @@ pub(crate) fn read_end_section(reader: &mut BitReader<'_>) -> Result<Section, Pa
 }
 
 /// Whether an end section is as its layout wants it.
-#[tactic(auto, unfolding(crate::specs::Packets::section))]
+#[tactic(auto, unfolding(crate::specs::Elements::section))]
 pub(crate) fn end_section_fits(section: &Section) -> bool
     ensures { IsTrue result ↔ Spellable (section_layout names.LEndsection) section.now }
 {
@@ -92,7 +92,7 @@ pub(crate) fn end_section_fits(section: &Section) -> bool
 }
 
 /// Hands a section to a sink, under the name of its length.
-#[tactic(auto, unfolding(crate::specs::Packets::section))]
+#[tactic(auto, unfolding(crate::specs::Elements::section))]
 pub(crate) fn section_fields<S: FieldSink>(
     section: &Section,
     name: VariableName,

@@ -1,11 +1,13 @@
 //! A static speed profile is read.
 ghost use Rattle.std.specs.Prelude.{◌≡◌, ◌+◌, ◌≤◌, ◌<◌, length, OnOk};
 ghost use Rattle.bits.specs.Layout.{Gives, folded, kind, read};
-ghost use Rattle.packets.specs.Packets.{as_packet, as_static_speeds, static_step, static_speeds};
+ghost use Rattle.packets.specs.Layouts.{static_step, static_speeds};
+ghost use Rattle.packets.specs.Packets.{as_packet, as_static_speeds};
 ghost use Rattle.packets.specs.declared.packet.Packet.TheVariants as packets;
 
 use crate::element::read_list;
 use crate::fault::PacketFault;
+use crate::heads::read_head;
 use crate::packet::Packet;
 use crate::reading::field;
 use crate::static_speeds::{StaticSpeeds, StaticStep};
@@ -13,7 +15,7 @@ use arrayvec::ArrayVec;
 use bits::BitReader;
 use vars::{Iterations, PacketLength};
 
-#[tactic(auto, unfolding(crate::specs::Packets::static_step))]
+#[tactic(auto, unfolding(crate::specs::Layouts::static_step))]
 fn read_step(reader: &mut BitReader<'_>, speeds: &mut StaticSpeeds) -> Result<(), PacketFault>
     requires few { length speeds.old.steps.items < 32 }
     requires room { length speeds.old.differences.items ≤ 70 }
@@ -54,16 +56,14 @@ fn read_steps(
 }
 
 /// Reads packet 27 behind its number, into the place of another packet; answers its L_PACKET.
-#[tactic(auto, unfolding(crate::specs::Packets::static_speeds_telling))]
+#[tactic(auto, unfolding(crate::specs::Layouts::static_speeds_telling))]
 pub fn read_static_speeds<'a>(
     reader: &mut BitReader<'a>,
     out: &mut Packet<'a>,
 ) -> Result<PacketLength, PacketFault>
     ensures { Gives (λ told. (told, out.new)) result reader.new (read (kind (as_packet packets.StaticSpeeds) as_static_speeds static_speeds) reader.old) }
 {
-    let direction = field(reader)?;
-    let told: PacketLength = field(reader)?;
-    let scale = field(reader)?;
+    let (direction, told, scale) = read_head(reader)?;
     let mut speeds = StaticSpeeds {
         direction,
         scale,

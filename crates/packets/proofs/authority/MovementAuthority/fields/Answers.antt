@@ -1,7 +1,7 @@
-use Rattle.packets.specs.Packets.{movement_authority_telling}
+use Rattle.packets.specs.Layouts.{authority_end, movement_authority_telling}
 use Rattle.packets.proofs.authority.MovementAuthority.fields.Goals as goal
 
 pub returns : goal.returns
-unfolding movement_authority_telling
+unfolding movement_authority_telling authority_end
 returns g c =
-    rw (← c.in_ok-put.ensures.value, ← c.in_ok-field.ensures.value, ← c.in_ok-put-2.ensures.value, ← c.in_ok-put-3.ensures.value, ← c.in_ok-put-4.ensures.value, ← c.in_ok-put-5.ensures.value, ← c.len.ensures.value, ← c.in_ok-field-2.ensures.value, ← c.in_ok-all.ensures.value, ← c.in_ok-section_fields.ensures.value, ← c.in_ok-qualified.ensures.value, ← c.in_ok-qualified-2.ensures.value) c.qualified-3.ensures.value
+    rw (← c.in_ok-put_head.ensures.value, ← c.in_ok-put.ensures.value, ← c.in_ok-put-2.ensures.value, ← c.in_ok-put-3.ensures.value, ← c.len.ensures.value, ← c.in_ok-field.ensures.value, ← c.in_ok-all.ensures.value) c.end_fields.ensures

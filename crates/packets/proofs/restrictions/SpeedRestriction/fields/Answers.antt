@@ -1,7 +1,7 @@
-use Rattle.packets.specs.Packets.{speed_restriction_telling}
+use Rattle.packets.specs.Layouts.{speed_restriction_telling}
 use Rattle.packets.proofs.restrictions.SpeedRestriction.fields.Goals as goal
 
 pub returns : goal.returns
 unfolding speed_restriction_telling
 returns g c =
-    rw (← c.in_ok-put.ensures.value, ← c.in_ok-field.ensures.value, ← c.in_ok-put-2.ensures.value, ← c.in_ok-put-3.ensures.value, ← c.in_ok-put-4.ensures.value, ← c.in_ok-put-5.ensures.value, ← c.in_ok-put-6.ensures.value) c.put-7.ensures.value
+    rw (← c.in_ok-put_head.ensures.value, ← c.in_ok-put.ensures.value, ← c.in_ok-put-2.ensures.value, ← c.in_ok-put-3.ensures.value, ← c.in_ok-put-4.ensures.value) c.put-5.ensures.value

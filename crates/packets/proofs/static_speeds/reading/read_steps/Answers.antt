@@ -1,7 +1,7 @@
 use Rattle.std.proofs.Common.{arith}
 use Rattle.std.proofs.lemmas.Result.{err_from_is_err_and}
 use Rattle.bits.proofs.Lists.{folded_step, folded_ends, folded_done}
-use Rattle.packets.specs.Packets.{static_step}
+use Rattle.packets.specs.Layouts.{static_step}
 use Rattle.packets.proofs.static_speeds.reading.read_steps.Goals as goal
 
 pub returns-in_err-read_step : goal.returns-in_err-read_step

@@ -1,6 +1,6 @@
 use Rattle.std.proofs.Common.{◌≡◌, ◌+◌, ◌-◌, ◌≤◌, length}
 use Rattle.bits.specs.Layout.{read, folded}
-use Rattle.packets.specs.Packets.{static_step}
+use Rattle.packets.specs.Layouts.{static_step}
 use Rattle.packets.proofs.static_speeds.reading.read_steps.Given as goal
 
 abbrev pub invariant-loop-i : goal.invariant-loop-i

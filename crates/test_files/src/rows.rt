@@ -1,6 +1,7 @@
 // Rows of a disk over a file in memory.
 use crate::HonestFile;
-use disk::{Disk, FileDisk};
+use disk::Disk;
+use file_disk::FileDisk;
 use std::test::Fail;
 
 // A file whose calls do 100 bytes at most is filled with zeros, and holds whole sectors that are written.

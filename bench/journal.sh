@@ -38,7 +38,7 @@ row() {
 }
 
 row 'commit' "$(proved 'test_journal::session::Session::commit' 12)" "$(proved 'test_journal::session::Session::commit' 24)"
-row 'commit, the disk reads' "$(proved 'disk::memory::MemoryDisk::read' 12)" "$(proved 'disk::memory::MemoryDisk::read' 24)"
+row 'commit, the disk reads' "$(proved 'disk::memory::calls::MemoryDisk::read' 12)" "$(proved 'disk::memory::calls::MemoryDisk::read' 24)"
 row 'plain Rust' "$(collected '*plain_journal::commit*' ./plain_journal 12)" "$(collected '*plain_journal::commit*' ./plain_journal 24)"
 row 'plain Rust, the disk reads' "$(collected '*Memory*read*' ./plain_journal 12)" "$(collected '*Memory*read*' ./plain_journal 24)"
 # milliseconds COMMAND ..: how long it takes

@@ -1,10 +1,9 @@
 pub mod Calls
 pub mod Copies
 pub mod Moments
-pub mod Parts
 pub mod Places
 pub mod Reaching
 pub mod RecordLemmas
+pub mod Sectors
 pub mod Settling
-pub mod SystemLemmas
 pub mod Widths

@@ -13,7 +13,8 @@ use Rattle.disk.specs.declared.record.Call.{Call}
 use Rattle.disk.specs.declared.record.Place.{Place}
 use Rattle.disk.proofs.RecordLemmas.{placed}
 use Rattle.disk.proofs.Settling.{synced_is}
-use Rattle.disk.proofs.Widths.{past_end, sector_past, sector_whole, width_at}
+use Rattle.disk.proofs.Sectors.{sector_past, sector_whole}
+use Rattle.disk.proofs.Widths.{past_end, width_at}
 
 one_if : Bool → List ℕ → List Choice
 one_if b bytes = if b then Given bytes ∷ [] else []

@@ -12,7 +12,8 @@ use Rattle.disk.specs.declared.record.Call.TheVariants.{Quiet, Synced, Written, 
 use Rattle.disk.specs.declared.record.Place.{Place}
 use Rattle.disk.specs.declared.record.Trace.{Trace}
 use Rattle.disk.proofs.RecordLemmas.{trace_more}
-use Rattle.disk.proofs.Widths.{past_end, sector_past}
+use Rattle.disk.proofs.Sectors.{sector_past}
+use Rattle.disk.proofs.Widths.{past_end}
 
 -- a sector that is not open holds what was last synced
 record IsKept (t : Trace) : Type 0 where
@@ -149,7 +150,3 @@ settled_all after sectors content size each none s = ⊎_elim
     (λ (lt : s < sectors). each s lt)
     (λ (ge : sectors ≤ s). sector_past after sectors s size ge ∙ sym (none s ge))
     (cases_lt s sectors)
-
-pub zeros_at : (bytes : List ℕ) (sectors s : ℕ) → bytes ≡ replicate (512 * sectors) 0 → s < sectors → sector_of bytes s ≡ replicate 512 0
-zeros_at bytes sectors s is below =
-    ap (λ (l : List ℕ). sector_of l s) is ∙ ap (λ (l : List ℕ). take 512 l) (drop-replicate (512 * s) (512 * sectors) 0) ∙ take-replicate 512 (512 * sectors - 512 * s) 0 (omega arith)

@@ -4,10 +4,9 @@ use Rattle.std.specs.Prelude.{fold, All}
 use Rattle.std.specs.List.{AllByRecursion}
 use Rattle.std.proofs.lemmas.List.Elements.{recursion_from_All, All-weaker}
 use Rattle.std.proofs.lemmas.List.{length-take-le}
-use Rattle.std.proofs.Math.ListN.{drop_of_length-le}
 use Rattle.std.proofs.lemmas.Bool.{cases_lt}
 use Rattle.std.proofs.lemmas.Bool.Decides.{nat_tests}
-use Rattle.disk.specs.State.{Outside, sector_of}
+use Rattle.disk.specs.State.{Outside}
 use Rattle.disk.specs.Record.{bytes_at, place_in, trace_written, trace_torn, trace_next, trace_start, trace_of, IsWithin, IsPlaced}
 use Rattle.disk.specs.declared.record.Call.{Call}
 use Rattle.disk.specs.declared.record.Call.TheVariants.{Quiet, Synced, Written, Torn}
@@ -16,6 +15,7 @@ use Rattle.disk.specs.declared.record.Place.{Place}
 use Rattle.disk.specs.declared.record.Place.TheVariants.{Start, Record}
 use Rattle.disk.specs.declared.record.Trace.{Trace}
 use Rattle.disk.proofs.RecordLemmas.{placed}
+use Rattle.disk.proofs.Sectors.{sector_whole}
 
 -- a sector that is none of a span has no place in it
 pub place_none : (span : Span) (s : ℕ) → Outside span.first (512 * span.sectors) s → place_in span s ≡ None
@@ -63,14 +63,6 @@ untouched sectors written s calls within past =
 -- past the end nothing is written and nothing is open
 pub past_end : (sectors written s : ℕ) (calls : List Call) → All (IsWithin sectors written) calls → sectors ≤ s → ((trace_of s calls).last ≡ Start) × ((trace_of s calls).is_open ≡ false)
 past_end sectors written s calls within past = let so = untouched sectors written s calls within past in (so.last, so.is_open)
-
--- so many bytes have no sector past their end
-pub sector_past : (bytes : List ℕ) (sectors s : ℕ) → length bytes ≡ 512 * sectors → sectors ≤ s → sector_of bytes s ≡ []
-sector_past bytes sectors s size past = ap (λ (l : List ℕ). take 512 l) (drop_of_length-le bytes (omega arith)) ∙ refl
-
--- and whole ones before it
-pub sector_whole : (bytes : List ℕ) (sectors s : ℕ) → length bytes ≡ 512 * sectors → s < sectors → length (sector_of bytes s) ≡ 512
-sector_whole bytes sectors s size below = length-take-le 512 (drop (512 * s) bytes) (omega (arith, length-drop (512 * s) bytes))
 
 -- what stands at a place is a whole sector
 pub width_at : (sectors : ℕ) (start written : List ℕ) (s : ℕ) (p : Place) → length start ≡ 512 * sectors → s < sectors → IsPlaced (length written) p → length (bytes_at start written s p) ≡ 512

@@ -1,9 +1,7 @@
 pub mod Choice
-pub mod Files
 pub mod Kept
 pub mod Liar
 pub mod Memory
 pub mod Plan
 pub mod Record
 pub mod State
-pub mod SystemFile

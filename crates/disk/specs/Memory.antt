@@ -1,4 +1,4 @@
--- What contracts see of a disk in memory.
+-- What contracts see of a disk in memory. Sectors are numbered from 0; room is counted in calls and bytes.
 use Rattle.std.specs.Prelude.{◌≡◌, ℕ, ◌+◌, ◌-◌, ◌*◌, ◌%◌, ◌^◌, ◌<◌, ◌≤◌, ◌&&◌, ◌++◌, ◌∷◌, [], nat_le, nat_lt, Bool, true, false, if◌then◌else◌, List, length, replicate, All, Result, is_err}
 use Rattle.disk.specs.State.{State, now, contents_of, IsImage, IsSynced}
 use Rattle.disk.specs.Record.{bytes_at, trace_of, state_of, IsWithin}
@@ -6,9 +6,9 @@ use Rattle.disk.specs.Plan.{fate_of, fails, takes}
 use Rattle.disk.specs.Choice.{settled_sector, IsChoice, HoldsBytes}
 use Rattle.disk.specs.declared.DiskFault.{DiskFault}
 use Rattle.disk.specs.declared.choice.Choice.{Choice}
-use Rattle.disk.specs.declared.memory.Plan.{Plan}
-use Rattle.disk.specs.declared.memory.Plan.TheVariants.{Nothing}
-use Rattle.disk.specs.declared.memory.Fate.{Fate}
+use Rattle.disk.specs.declared.plan.Plan.{Plan}
+use Rattle.disk.specs.declared.plan.Plan.TheVariants.{Nothing}
+use Rattle.disk.specs.declared.plan.Fate.{Fate}
 use Rattle.disk.specs.declared.memory.Room.{Room}
 use Rattle.disk.specs.declared.record.Call.{Call}
 
@@ -76,11 +76,6 @@ pub record IsFresh (m : Recording) : Type 0 where
   pub plan : plan_of m ≡ Nothing
   pub since : calls_since m ≡ 0
   pub used : bytes_used m ≡ 0
-
--- all sectors of a disk of so many hold zeros, and there are no others (this project's profile)
-pub record HoldsZeros (sectors : ℕ) (contents : ℕ → List ℕ) : Type 0 where
-  pub zeros : (s : ℕ) → s < sectors → contents s ≡ replicate 512 0
-  pub others : (s : ℕ) → sectors ≤ s → contents s ≡ []
 
 -- What a call does that hands in so many bytes. It answers DiskFault exactly beyond the room and where the plan says
 -- so. Beyond the room it changes nothing else than the count of failures, and the clock stands still; else the clock

@@ -1,9 +1,9 @@
 -- What is to go wrong with a disk in memory.
 use Rattle.std.specs.Prelude.{ℕ, ◌==◌, nat_lt, Bool, true, false, if◌then◌else◌}
-use Rattle.disk.specs.declared.memory.Plan.{Plan}
-use Rattle.disk.specs.declared.memory.Plan.TheVariants.{Nothing, Fail, Cut}
-use Rattle.disk.specs.declared.memory.Fate.{Fate}
-use Rattle.disk.specs.declared.memory.Fate.TheVariants.{Runs, Fails, Dead}
+use Rattle.disk.specs.declared.plan.Plan.{Plan}
+use Rattle.disk.specs.declared.plan.Plan.TheVariants.{Nothing, Fail, Cut}
+use Rattle.disk.specs.declared.plan.Fate.{Fate}
+use Rattle.disk.specs.declared.plan.Fate.TheVariants.{Runs, Fails, Dead}
 
 -- What becomes of the call of this number, counted from 0 since the plan was made: the one that is to fail fails,
 -- and after a cut there is no power (this project's profile).

@@ -1,6 +1,6 @@
 -- What a disk holds, and what a loss of power may leave of it. This is this project's profile of a storage
 -- device: sectors of 512 bytes, numbered from 0.
-use Rattle.std.specs.Prelude.{◌≡◌, ◌⊎◌, ℕ, suc, zero, ◌+◌, ◌*◌, ◌%◌, ◌^◌, ◌<◌, ◌≤◌, Bool, true, false, if◌then◌else◌, List, length, take, drop}
+use Rattle.std.specs.Prelude.{◌≡◌, ◌⊎◌, ℕ, suc, zero, ◌+◌, ◌*◌, ◌%◌, ◌^◌, ◌<◌, ◌≤◌, Bool, true, false, if◌then◌else◌, List, [], length, take, drop, replicate}
 
 -- contents, sector by sector (this project's profile)
 abbrev pub Image : Type 0
@@ -107,6 +107,11 @@ pub record AtEachMoment (old new : State) (P : (ℕ → List ℕ) → Type 0) : 
   pub later : old.clock ≤ new.clock
   pub kept : (k : ℕ) → k ≤ old.clock → new.at k ≡ old.at k
   pub each : (k : ℕ) → old.clock ≤ k → k ≤ new.clock → (c : ℕ → List ℕ) → IsImage (new.at k) c → P c
+
+-- all sectors of a disk of so many hold zeros, and there are no others (this project's profile)
+pub record HoldsZeros (sectors : ℕ) (contents : ℕ → List ℕ) : Type 0 where
+  pub zeros : (s : ℕ) → s < sectors → contents s ≡ replicate 512 0
+  pub others : (s : ℕ) → sectors ≤ s → contents s ≡ []
 
 -- the contents are the same but for these sectors, and each sector is whole (this project's profile)
 pub record SameBut (first bytes : ℕ) (old new : ℕ → List ℕ) : Type 0 where

@@ -11,6 +11,7 @@ pub enum Choice {
     Old,
     /// Its bytes as last handed in to a write, also to one that failed.
     New,
+    /// These bytes.
     Given([u8; SECTOR_BYTES]),
 }
 

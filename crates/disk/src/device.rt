@@ -4,7 +4,7 @@ ghost use Rattle.disk.specs.State.{State, contents_of, AreSectors, Counted, Touc
 
 use crate::{DiskFault, SECTOR_BYTES};
 
-/// A device of sectors of 512 bytes that may lose power at any moment.
+/// A device of sectors of 512 bytes that may lose power at any moment (this project's profile). Sectors are numbered from 0.
 ///
 /// Until a sync succeeds, every sector written since the last one that succeeded is open: after a cut it may hold
 /// any bytes. All other sectors keep theirs. What a disk is to do is promised of an honest one; that its number of
@@ -48,7 +48,7 @@ pub trait Disk {
         ensures others_open { IsTrue (state self.old).honest → SameOpenOutside first (length bytes.now) (state self.old) (state self.new) }
         ensures written { IsTrue (state self.old).honest → OnOk result (Holds (contents_of (state self.new)) first bytes.now) };
 
-    /// Settles all that was written: at Ok no sector is open. One that fails settles nothing.
+    /// Settles all that was written: at Ok no sector is open. At DiskFault nothing was settled.
     fn sync(&mut self) -> Result<(), DiskFault>
         ensures counted { Counted (is_err result) (state self.old) (state self.new) }
         ensures moments { IsTrue (state self.old).honest → Touches 0 0 (state self.old) (state self.new) }

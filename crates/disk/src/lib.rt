@@ -1,4 +1,4 @@
-//! Sectors of 512 bytes, and what a loss of power may leave of them.
+//! Sectors of 512 bytes, and what a loss of power may leave of them (this project's profile).
 //!
 //! `Disk` is the model of a device, `put` a write that is on the medium when it returns, `Memory` a disk in memory that
 //! can lose power at any call, and `Liar` a disk that does not keep to the model.
@@ -8,24 +8,24 @@ mod choice;
 mod device;
 mod durable;
 mod faults;
-mod files;
 mod laws;
 mod liar;
 mod memory;
+mod plan;
 mod record;
 
 pub use choice::Choice;
 pub use device::Disk;
 pub use durable::put;
-pub use files::{FileDisk, RawFile};
 pub use laws::settling_gives_each_image;
 pub use liar::Liar;
-pub use memory::{Fate, Memory, Plan, Room};
+pub use memory::{Memory, Room};
+pub use plan::{Fate, Plan};
 pub use record::{Call, Span};
 
-/// The bytes of a sector.
+/// How many bytes a sector has.
 pub const SECTOR_BYTES: usize = 512;
 
 /// The device failed in this call.
-#[derive(Clone, Copy, Debug, PartialEq, Eq)]
+#[derive(Clone, Copy, Debug)]
 pub struct DiskFault;

@@ -18,23 +18,27 @@ pub enum Call {
     Torn(Span),
 }
 
-/// What a write was handed: so many sectors from `first` on, whose bytes begin at `from` among the written ones.
+/// What a write was handed.
 #[derive(Clone, Copy)]
 pub struct Span {
+    /// The number of its first sector.
     pub first: u64,
+    /// How many sectors.
     pub sectors: u64,
+    /// Where its bytes begin among all that were handed in.
     pub from: usize,
 }
 
-/// Where the bytes of a sector stand: among those that the disk began with, or from an offset among the written
-/// ones.
+/// Where the bytes of a sector are.
 #[derive(Clone, Copy)]
 pub enum Place {
+    /// Among those that the disk began with.
     Start,
+    /// From this offset on among those that were handed in.
     Record(usize),
 }
 
-/// What the record tells of one sector.
+/// What the record says of one sector.
 #[derive(Clone, Copy)]
 pub struct Trace {
     /// What a read gives.
@@ -48,7 +52,7 @@ pub struct Trace {
 }
 
 impl Span {
-    // Where the bytes of a sector stand, if it is one of these.
+    // Where the bytes of a sector are, if it is one of these.
     fn place_of(self, sector: u64) -> Option<Place>
         requires { self.from + 512 * self.sectors < 2 ^ 64 }
         ensures { result ≡ place_in self sector }
@@ -70,7 +74,7 @@ impl Trace {
         is_open: false,
     };
 
-    // What is told of a sector after one more call.
+    // What the record says of a sector after one more call.
     fn after(self, call: Call, sector: u64, sectors: u64, written: usize) -> Trace
         requires { IsWithin sectors written call }
         ensures { result ≡ trace_next sector self call }
@@ -116,7 +120,7 @@ pub fn follow(calls: &[Call], sector: u64, sectors: u64, written: usize) -> Trac
     trace
 }
 
-/// The bytes of a sector that stand at this place.
+/// The bytes of a sector at this place.
 pub fn bytes_in<'a>(start: &'a [u8], written: &'a [u8], sector: u64, place: Place) -> &'a [u8]
     requires within { 512 * sector + 512 ≤ length start.now }
     requires placed { IsPlaced (length written.now) place }
@@ -142,7 +146,7 @@ pub fn unwritten(alloc: Global, sectors: usize) -> Result<Vec<Place>, AllocError
     Ok(places)
 }
 
-/// Notes where the bytes of these sectors stand.
+/// Notes where the bytes of these sectors are.
 pub fn place_sectors(places: &mut [Place], span: Span)
     requires within { span.first + span.sectors ≤ length places.old }
     requires bytes { span.from + 512 * span.sectors < 2 ^ 64 }

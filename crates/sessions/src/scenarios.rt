@@ -1,8 +1,8 @@
 // Scenarios in files.
 use crate::lives::run_life;
 use crate::refusals::refuse_scenario;
-use disk::FileDisk;
 use exit_status::{Status, tell};
+use file_disk::FileDisk;
 use simulator::{Scenario, ScenarioFault, events_of};
 use std::fs::File;
 use std::io::Write;

@@ -8,8 +8,8 @@ use Rattle.std.proofs.lemmas.List.Folds.{list_any-append}
 use Rattle.std.proofs.lemmas.Option.{slice_get-get_or}
 use Rattle.std.proofs.Math.Seq.{drop-append-add}
 use Rattle.disk.specs.State.{now, Outside, SameOutside, Touches, AreOpen, IsSynced, sector_of}
-use Rattle.disk.specs.Files.{FileMoment, FileState, bytes_of, medium_of, whole_disk, overwritten, WritesOnly}
-use Rattle.disk.proofs.Parts.{length-overwritten}
+use Rattle.file_disk.specs.Files.{FileMoment, FileState, bytes_of, medium_of, whole_disk, overwritten, WritesOnly}
+use Rattle.file_disk.proofs.Parts.{length-overwritten}
 use Rattle.test_disk.specs.declared.moment.Part.{Part}
 use Rattle.test_disk.specs.declared.moment.Moment.{Moment}
 use Rattle.test_disk.specs.Moments.{is_in, is_open_in, moment_of}

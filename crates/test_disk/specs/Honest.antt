@@ -1,6 +1,6 @@
 -- An honest file in memory.
 use Rattle.std.specs.Prelude.{◌-◌, true, false, [], List, length, Option, Some, None, slice_get}
-use Rattle.disk.specs.Files.{FileMoment, FileState}
+use Rattle.file_disk.specs.Files.{FileMoment, FileState}
 use Rattle.test_disk.specs.declared.moment.Moment.{Moment}
 use Rattle.test_disk.specs.declared.honest.HonestFile.{HonestFile}
 use Rattle.test_disk.specs.Moments.{moment_of}

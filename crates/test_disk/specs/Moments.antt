@@ -1,7 +1,7 @@
 -- A file in memory at a moment.
 use Rattle.std.specs.Prelude.{ℕ, ◌+◌, ◌*◌, ◌&&◌, nat_lt, Bool, List}
 use Rattle.std.specs.List.{list_any}
-use Rattle.disk.specs.Files.{FileMoment}
+use Rattle.file_disk.specs.Files.{FileMoment}
 use Rattle.test_disk.specs.declared.moment.Part.{Part}
 use Rattle.test_disk.specs.declared.moment.Moment.{Moment}
 

@@ -2,7 +2,7 @@
 use crate::answer::{Answer, byte, number};
 use crate::calls;
 use crate::honest::HonestFile;
-use disk::{FileDisk, RawFile};
+use file_disk::{FileDisk, RawFile};
 use std::alloc::Global;
 
 #[derive(Drop)]

@@ -1,9 +1,10 @@
 // An honest file in memory.
 ghost use Rattle.std.specs.Prelude.{◌≡◌, ◌-◌, ◌<◌, [], ◌∷◌, ◌++◌, length, vec_len, IfOk, OnOk, OnErr, Some, slice_get};
-ghost use Rattle.disk.specs.Files.{bytes_of};
+ghost use Rattle.file_disk.specs.Files.{bytes_of};
 
 use crate::moment::Moment;
-use disk::{DiskFault, RawFile};
+use disk::DiskFault;
+use file_disk::RawFile;
 use std::alloc::{AllocError, Global};
 
 /// A file in memory that keeps each of its moments. A call reads or writes so many bytes at most.

@@ -1,6 +1,6 @@
 // A file in memory at a moment.
 ghost use Rattle.std.specs.Prelude.{◌≡◌, ◌+◌, ◌≤◌, ◌++◌, ◌∷◌, [], length, vec_len, IfOk};
-ghost use Rattle.disk.specs.Files.{overwritten, resized};
+ghost use Rattle.file_disk.specs.Files.{overwritten, resized};
 
 use std::alloc::{AllocError, Global};
 

@@ -1,7 +1,7 @@
 use Rattle.std.proofs.Common.{rules, ◌≡◌, ◌*◌, length, replicate, ◌∙◌, ap}
 use Rattle.std.proofs.lemmas.List.{length-replicate}
-use Rattle.disk.proofs.Settling.{fresh_contents, zeros_at}
-use Rattle.disk.proofs.Widths.{sector_past}
+use Rattle.disk.proofs.Sectors.{sector_past, zeros_at}
+use Rattle.disk.proofs.Settling.{fresh_contents}
 use Rattle.disk.proofs.memory.Memory.new.Goals as goal
 
 pub returns-clause-zeros : goal.returns-clause-zeros

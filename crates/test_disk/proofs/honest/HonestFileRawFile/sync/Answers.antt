@@ -1,6 +1,6 @@
 use Rattle.std.proofs.Common.{◌≡◌, ◌<◌, List, length, sym, subst, rules}
 use Rattle.disk.specs.State.{Touches, IsSynced}
-use Rattle.disk.specs.Files.{bytes_of, whole_disk}
+use Rattle.file_disk.specs.Files.{bytes_of, whole_disk}
 use Rattle.test_disk.specs.declared.moment.Moment.{Moment}
 use Rattle.test_disk.specs.Honest.{state_of}
 use Rattle.test_disk.proofs.Going.{sync_bytes, sync_settles, sync_only}

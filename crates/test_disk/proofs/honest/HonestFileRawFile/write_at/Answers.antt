@@ -1,7 +1,7 @@
 use Rattle.std.proofs.Common.{◌≡◌, ◌+◌, ◌/◌, ◌%◌, ◌<◌, ◌≤◌, ◌∷◌, [], ◌++◌, ℕ, List, length, take, sym, subst, arith, rules}
 use Rattle.std.proofs.lemmas.Grind.{common_steps}
 use Rattle.disk.specs.State.{AreOpen}
-use Rattle.disk.specs.Files.{bytes_of, whole_disk, overwritten, WritesOnly}
+use Rattle.file_disk.specs.Files.{bytes_of, whole_disk, overwritten, WritesOnly}
 use Rattle.test_disk.specs.declared.moment.Moment.{Moment}
 use Rattle.test_disk.specs.Honest.{state_of}
 use Rattle.test_disk.proofs.Going.{write_only, write_opens, write_holds}

@@ -1,5 +1,0 @@
-use Rattle.disk.proofs.SystemLemmas.{never_shown}
-use Rattle.disk.proofs.files.system.FileRawFile.length.Goals as goal
-
-pub returns-in-Ok : goal.returns-in-Ok
-returns-in-Ok c = λ honest. absurd (never_shown c.args.self.now honest)

@@ -1,5 +1,0 @@
-use Rattle.disk.proofs.SystemLemmas.{never_shown}
-use Rattle.disk.proofs.files.system.FileRawFile.read_at.Goals as goal
-
-pub returns-in-Ok-clause-bytes : goal.returns-in-Ok-clause-bytes
-returns-in-Ok-clause-bytes c = λ honest. absurd (never_shown c.args.self.now honest)

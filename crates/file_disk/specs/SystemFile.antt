@@ -1,0 +1,18 @@
+-- A file of the operating system.
+use Rattle.std.specs.Prelude.{◌≡◌, Bool, false, [], refl}
+use Rattle.std.specs.declared.fs.File.{File}
+use Rattle.file_disk.specs.Files.{FileState}
+
+-- Whether it keeps to the model. No call of the system shows that, so nothing is promised by it: it is told false
+-- (this project's profile).
+pub keeps_to_model : File → Bool
+keeps_to_model file = false
+
+-- so what holds of an honest file is said of none of the system's
+pub not_shown : (file : File) → keeps_to_model file ≡ false
+unfolding keeps_to_model
+not_shown file = refl
+
+-- what contracts see of it (this project's profile)
+abbrev pub system_state : File → FileState
+system_state file = record { honest = keeps_to_model file; clock = 0; at = λ _. record { bytes = []; is_open = λ _. false } }

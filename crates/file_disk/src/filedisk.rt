@@ -1,0 +1,152 @@
+// A disk over a file.
+ghost use Rattle.std.specs.Prelude.{◌≡◌, ◌+◌, ◌*◌, ◌/◌, ◌%◌, ◌^◌, ◌<◌, ◌≤◌, length, IsTrue, IsErr, IfOk, is_err, if◌then◌else◌};
+ghost use Rattle.disk.specs.State.{contents_of, IsSynced, HoldsZeros};
+ghost use Rattle.file_disk.specs.Files.{bytes_of, disk_over, whole_disk};
+
+use crate::RawFile;
+use crate::whole::{read_all, write_all};
+use disk::{Disk, DiskFault, SECTOR_BYTES};
+use std::fs::{File, OpenOptions};
+use std::io::ErrorKind;
+use std::rt::Files;
+
+// A file has fewer than 2^63 bytes.
+const MOST_SECTORS: u64 = (1 << 54) - 1;
+
+/// A disk over the whole sectors of a file, 512 bytes each (this project's profile). Bytes behind the last of them are left
+/// alone.
+///
+/// Of a file of the operating system only safety, the number of sectors and the count of faults are promised, since no call
+/// shows what it keeps. Over an honest file the disk is honest.
+#[derive(Drop)]
+pub struct FileDisk<F: RawFile = File> {
+    file: F,
+    sectors: u64,
+    faults: u64,
+    ghost few: { sectors < 2 ^ 55 },
+    ghost sized: { IsTrue (F.state file).honest → 512 * sectors ≤ length (bytes_of (F.state file)) },
+}
+
+impl FileDisk {
+    /// Makes the file, or empties the one that is there, and fills it with so many sectors of zeros. DiskFault where it
+    /// can't be made, and before the file is touched where no file has so many bytes. The zeros are a hole in the file, and
+    /// take no time: that the device has no room left shows at a write.
+    pub fn create<R: Files<File = File>>(
+        rt: &R,
+        path: &str,
+        sectors: u64,
+    ) -> Result<FileDisk, DiskFault>
+        ensures sectors { IfOk result (λ disk. (⟦<FileDisk<File> as Disk>⟧.state disk).sectors ≡ sectors) }
+        ensures faults { IfOk result (λ disk. (⟦<FileDisk<File> as Disk>⟧.state disk).faults ≡ 0) }
+        ensures too_many { 2 ^ 54 ≤ sectors → IsErr result }
+    {
+        if sectors > MOST_SECTORS {
+            return Err(DiskFault);
+        }
+        let mut options = OpenOptions::new();
+        options.read(true).write(true).create(true);
+        match options.open(rt, path) {
+            Ok(file) => FileDisk::fill(file, sectors),
+            Err(_) => Err(DiskFault),
+        }
+    }
+
+    /// Opens the file; its sectors are its whole 512-byte parts. DiskFault where it can't be opened. A file that may only be
+    /// read opens too, and answers DiskFault to each write.
+    pub fn open<R: Files<File = File>>(rt: &R, path: &str) -> Result<FileDisk, DiskFault>
+        ensures faults { IfOk result (λ disk. (⟦<FileDisk<File> as Disk>⟧.state disk).faults ≡ 0) }
+    {
+        FileDisk::over(open_file(rt, path)?)
+    }
+}
+
+// Opens a file to read and to write, and where that is not allowed, to read.
+fn open_file<R: Files<File = File>>(rt: &R, path: &str) -> Result<File, DiskFault> {
+    let mut options = OpenOptions::new();
+    options.read(true).write(true);
+    let error = match options.open(rt, path) {
+        Ok(file) => return Ok(file),
+        Err(error) => error,
+    };
+    match error.kind() {
+        ErrorKind::PermissionDenied | ErrorKind::ReadOnlyFilesystem => {
+            File::open(rt, path).map_err(|_| DiskFault)
+        }
+        _ => Err(DiskFault),
+    }
+}
+
+impl<F: RawFile + Drop> FileDisk<F> {
+    /// A disk over the whole sectors of a file, with no fault counted. DiskFault where its length can't be read.
+    pub fn over(file: F) -> Result<FileDisk<F>, DiskFault>
+        ensures faults { IfOk result (λ disk. (⟦<FileDisk<F> as Disk>⟧.state disk).faults ≡ 0) }
+        ensures honest { IfOk result (λ disk. (⟦<FileDisk<F> as Disk>⟧.state disk).honest ≡ (F.state file).honest) }
+        ensures whole { IsTrue (F.state file).honest → IfOk result (λ disk. ⟦<FileDisk<F> as Disk>⟧.state disk ≡ whole_disk (F.state file)) }
+    {
+        let sectors = file.length()? / SECTOR_BYTES as u64;
+        Ok(FileDisk {
+            file,
+            sectors,
+            faults: 0,
+        })
+    }
+
+    /// Empties a file, fills it with so many sectors of zeros, and syncs it. DiskFault where one of these fails: then the file
+    /// may hold any bytes. The caller owes fewer than 2^54 sectors.
+    pub fn fill(file: F, sectors: u64) -> Result<FileDisk<F>, DiskFault>
+        requires { sectors < 2 ^ 54 }
+        ensures sectors { IfOk result (λ disk. (⟦<FileDisk<F> as Disk>⟧.state disk).sectors ≡ sectors) }
+        ensures faults { IfOk result (λ disk. (⟦<FileDisk<F> as Disk>⟧.state disk).faults ≡ 0) }
+        ensures honest { IfOk result (λ disk. (⟦<FileDisk<F> as Disk>⟧.state disk).honest ≡ (F.state file).honest) }
+        ensures zeros { IsTrue (F.state file).honest → IfOk result (λ disk. HoldsZeros sectors (contents_of (⟦<FileDisk<F> as Disk>⟧.state disk))) }
+        ensures synced { IsTrue (F.state file).honest → IfOk result (λ disk. IsSynced (⟦<FileDisk<F> as Disk>⟧.state disk)) }
+    {
+        let mut file = file;
+        file.set_length(0)?;
+        file.set_length(sectors * SECTOR_BYTES as u64)?;
+        file.sync()?;
+        Ok(FileDisk {
+            file,
+            sectors,
+            faults: 0,
+        })
+    }
+}
+
+impl<F: RawFile> FileDisk<F> {
+    // Hands an answer on, and counts its fault.
+    fn counted(&mut self, answer: Result<(), DiskFault>) -> Result<(), DiskFault>
+        ensures answer { result ≡ answer }
+        ensures faults { self.new.faults ≡ (if is_err answer then (self.old.faults + 1) % 2 ^ 64 else self.old.faults) }
+        ensures file { self.new.file ≡ self.old.file }
+        ensures sectors { self.new.sectors ≡ self.old.sectors }
+    {
+        if answer.is_err() {
+            self.faults = self.faults.wrapping_add(1);
+        }
+        answer
+    }
+}
+
+impl<F: RawFile> Disk for FileDisk<F> {
+    ghost state = { λ disk. disk_over disk.sectors disk.faults (F.state disk.file) };
+
+    fn sectors(&self) -> u64 {
+        self.sectors
+    }
+
+    fn read(&mut self, first: u64, bytes: &mut [u8]) -> Result<(), DiskFault> {
+        let answer = read_all(&self.file, first, bytes);
+        self.counted(answer)
+    }
+
+    fn write(&mut self, first: u64, bytes: &[u8]) -> Result<(), DiskFault> {
+        let answer = write_all(&mut self.file, first, bytes);
+        self.counted(answer)
+    }
+
+    fn sync(&mut self) -> Result<(), DiskFault> {
+        let answer = self.file.sync();
+        self.counted(answer)
+    }
+}

@@ -1,0 +1,10 @@
+//! A disk over a file: `FileDisk` meets the model of a device over each file that has the five calls of `RawFile`.
+#![tactic(auto)]
+
+mod filedisk;
+mod raw;
+mod system;
+mod whole;
+
+pub use filedisk::FileDisk;
+pub use raw::RawFile;

@@ -1,0 +1,51 @@
+// A file of the operating system.
+ghost use Rattle.file_disk.specs.SystemFile.{system_state};
+
+use crate::RawFile;
+use disk::DiskFault;
+use std::fs::File;
+use std::io::ErrorKind;
+use std::os::unix::fs::FileExt;
+
+impl RawFile for File {
+    ghost state = { system_state };
+
+    fn length(&self) -> Result<u64, DiskFault> {
+        match self.metadata() {
+            Ok(metadata) => Ok(metadata.len()),
+            Err(_) => Err(DiskFault),
+        }
+    }
+
+    fn set_length(&mut self, size: u64) -> Result<(), DiskFault> {
+        self.set_len(size).map_err(|_| DiskFault)
+    }
+
+    fn read_at(&self, offset: u64, bytes: &mut [u8]) -> Result<usize, DiskFault> {
+        // Again where a signal comes between.
+        for _ in 0..u64::MAX {
+            match FileExt::read_at(self, bytes, offset) {
+                Ok(count) => return Ok(count),
+                Err(error) if error.kind() == ErrorKind::Interrupted => {}
+                Err(_) => return Err(DiskFault),
+            }
+        }
+        Err(DiskFault)
+    }
+
+    fn write_at(&mut self, offset: u64, bytes: &[u8]) -> Result<usize, DiskFault> {
+        // Again where a signal comes between.
+        for _ in 0..u64::MAX {
+            match FileExt::write_at(self, bytes, offset) {
+                Ok(count) => return Ok(count),
+                Err(error) if error.kind() == ErrorKind::Interrupted => {}
+                Err(_) => return Err(DiskFault),
+            }
+        }
+        Err(DiskFault)
+    }
+
+    fn sync(&mut self) -> Result<(), DiskFault> {
+        self.sync_all().map_err(|_| DiskFault)
+    }
+}

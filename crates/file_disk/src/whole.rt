@@ -1,0 +1,48 @@
+// Calls on whole sectors of a file.
+ghost use Rattle.std.specs.Prelude.{◌≡◌, ◌+◌, ◌*◌, ◌^◌, ◌<◌, ◌≤◌, length, take, drop, IsTrue, OnOk};
+ghost use Rattle.disk.specs.State.{AreOpen};
+ghost use Rattle.file_disk.specs.Files.{bytes_of, whole_disk, overwritten, WritesOnly};
+
+use crate::RawFile;
+use disk::{DiskFault, SECTOR_BYTES};
+
+/// Reads from a sector on until all bytes are read. DiskFault also where the file ends before.
+pub fn read_all<F: RawFile>(file: &F, first: u64, bytes: &mut [u8]) -> Result<(), DiskFault>
+    requires { 512 * first + length bytes.old < 2 ^ 64 }
+    ensures { IsTrue (F.state file.now).honest →
+        OnOk result (bytes.new ≡ take (length bytes.old) (drop (512 * first) (bytes_of (F.state file.now)))) }
+{
+    let offset = first * SECTOR_BYTES as u64;
+    let mut done: usize = 0;
+    while done < bytes.len() {
+        let count = file.read_at(offset + done as u64, &mut bytes[done..])?;
+        if count == 0 {
+            return Err(DiskFault);
+        }
+        done += count;
+    }
+    Ok(())
+}
+
+/// Writes from a sector on until all bytes are written. It stops at the first DiskFault.
+pub fn write_all<F: RawFile>(file: &mut F, first: u64, bytes: &[u8]) -> Result<(), DiskFault>
+    requires { 512 * first + length bytes.now < 2 ^ 64 }
+    ensures honest { (F.state file.new).honest ≡ (F.state file.old).honest }
+    ensures only { IsTrue (F.state file.old).honest → 512 * first + length bytes.now ≤ length (bytes_of (F.state file.old)) →
+        WritesOnly first (length bytes.now) (F.state file.old) (F.state file.new) }
+    ensures written { IsTrue (F.state file.old).honest → 512 * first + length bytes.now ≤ length (bytes_of (F.state file.old)) →
+        OnOk result (bytes_of (F.state file.new) ≡ overwritten (bytes_of (F.state file.old)) (512 * first) bytes.now) }
+    ensures opened { IsTrue (F.state file.old).honest → 512 * first + length bytes.now ≤ length (bytes_of (F.state file.old)) →
+        OnOk result (AreOpen (whole_disk (F.state file.new)) first (length bytes.now)) }
+{
+    let offset = first * SECTOR_BYTES as u64;
+    let mut done: usize = 0;
+    while done < bytes.len() {
+        let count = file.write_at(offset + done as u64, &bytes[done..])?;
+        if count == 0 {
+            return Err(DiskFault);
+        }
+        done += count;
+    }
+    Ok(())
+}

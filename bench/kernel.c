@@ -1,15 +1,17 @@
-/* Runs the kernel over so many readings of the odometer, or the permitted speed so many times, and prints the sum of
- * the results, so that every result is used.
+/* Runs the kernel over so many events of a kind, or the permitted speed so many times, and prints the sum of the
+ * results, so that every result is used.
  *
- * The track: 30 km with an authority to its end; a static speed and a gradient for each kilometre; ten temporary
- * restrictions, one every 3 km. All is told at the start, by groups of one balise each. */
+ * The track: so many kilometres with an authority to their end; a static speed and a gradient for each; and, where it
+ * has 30 km, ten temporary restrictions, one every 3 km, if they are asked for (r). The train gets it at the start, by groups of
+ * one balise each. With 0 km there is none. */
 #include <stdint.h>
 #include <stdio.h>
 #include <stdlib.h>
 #include <string.h>
 
-/* TELEGRAM: the room of a telegram, in bytes. STRETCHES: those of one gradient before the stop. */
-enum { TELEGRAM = 104, TELEGRAMS = 5, SEGMENTS = 30, RESTRICTIONS = 10, STRETCHES = 32 };
+/* TELEGRAM: the room of a telegram, in bytes. AT_ONCE: static speeds in one telegram. WHOLE: kilometres told by a telegram that
+ * is a whole group. STRETCHES: those of one gradient before the stop. */
+enum { TELEGRAM = 104, TELEGRAMS = 5, LONGEST = 30, AT_ONCE = 15, RESTRICTIONS = 10, WHOLE = 5, STRETCHES = 32 };
 
 /* What the permitted speed is asked for, as crates/bench_kernel has it. */
 struct stop {
@@ -19,8 +21,17 @@ struct stop {
     uint16_t reaction;
 };
 
+/* The events that are counted, as crates/bench_kernel has them. */
+enum kind { READING, CLOCK, ACTION, REPEAT, GROUP };
+struct counted {
+    int64_t movement;
+    uint32_t kind;
+    uint32_t number;
+};
+
 /* The exports of crates/bench_kernel. Each answers a sum, or all ones where it could not run. */
-uint64_t bench_limits(const uint8_t *telegrams, size_t len, int64_t movement, uint32_t readings);
+uint64_t bench_limits(const uint8_t *before, size_t before_len, const uint8_t *telegrams, size_t len,
+                      const struct counted *counted);
 uint64_t bench_permitted(const int16_t *gradients, size_t len, const struct stop *stop, uint32_t runs);
 uint64_t bench_next_mode(uint32_t runs);
 uint64_t bench_status_on(uint32_t runs);
@@ -70,26 +81,26 @@ static void put_packet(struct writer *out, uint32_t number, uint32_t bits) {
     put(out, 2, 2); /* Q_SCALE */
 }
 
-/* Packet 12: up to 160 km/h, one section of 30 km, no timers, no danger point, no overlap. */
-static void put_authority(struct writer *out) {
+/* Packet 12: up to 160 km/h, one section of so many kilometres, no timers, no danger point, no overlap. */
+static void put_authority(struct writer *out, uint32_t kilometres) {
     put_packet(out, 12, 25 + 7 + 7 + 10 + 5 + 15 + 4);
-    put(out, 32, 7);              /* V_MAIN */
-    put(out, 0, 7);               /* V_LOA */
-    put(out, 1023, 10);           /* T_LOA: no limit */
-    put(out, 0, 5);               /* N_ITER */
-    put(out, 100 * SEGMENTS, 15); /* L_ENDSECTION */
-    put(out, 0, 4);               /* Q_SECTIONTIMER, Q_ENDTIMER, Q_DANGERPOINT, Q_OVERLAP */
+    put(out, 32, 7);               /* V_MAIN */
+    put(out, 0, 7);                /* V_LOA */
+    put(out, 1023, 10);            /* T_LOA: no limit */
+    put(out, 0, 5);                /* N_ITER */
+    put(out, 100 * kilometres, 15); /* L_ENDSECTION */
+    put(out, 0, 4);                /* Q_SECTIONTIMER, Q_ENDTIMER, Q_DANGERPOINT, Q_OVERLAP */
 }
 
-/* Packet 21: a gradient for each kilometre, uphill and downhill in turn. */
-static void put_gradients(struct writer *out) {
-    put_packet(out, 21, 25 + 24 + 5 + 24 * (SEGMENTS - 1));
-    for (uint32_t i = 0; i < SEGMENTS; i++) {
+/* Packet 21: a gradient for each of so many kilometres, uphill and downhill in turn. */
+static void put_gradients(struct writer *out, uint32_t kilometres) {
+    put_packet(out, 21, 25 + 24 + 5 + 24 * (kilometres - 1));
+    for (uint32_t i = 0; i < kilometres; i++) {
         put(out, i > 0 ? 100 : 0, 15); /* D_GRADIENT */
         put(out, i % 2, 1);            /* Q_GDIR */
         put(out, i % 12, 8);           /* G_A */
         if (i == 0) {
-            put(out, SEGMENTS - 1, 5); /* N_ITER */
+            put(out, kilometres - 1, 5); /* N_ITER */
         }
     }
 }
@@ -121,19 +132,49 @@ static void put_restrictions(struct writer *out) {
     }
 }
 
-static void tell_track(uint8_t *telegrams) {
-    for (uint32_t i = 0; i < TELEGRAMS; i++) {
+/* The telegrams of a track; answers how many they are. */
+static uint32_t tell_track(uint8_t *telegrams, uint32_t kilometres, int restricted) {
+    uint32_t number = kilometres == 0 ? 0 : restricted ? TELEGRAMS : TELEGRAMS - 1;
+    uint32_t first = kilometres < AT_ONCE ? kilometres : AT_ONCE;
+    for (uint32_t i = 0; i < number; i++) {
         struct writer out = {telegrams + TELEGRAM * i, 0};
         put_header(&out, 2 + i);
         switch (i) {
-        case 0: put_authority(&out); break;
-        case 1: put_gradients(&out); break;
-        case 2: put_speeds(&out, 0, SEGMENTS / 2); break;
-        case 3: put_speeds(&out, SEGMENTS / 2, SEGMENTS / 2); break;
+        case 0: put_authority(&out, kilometres); break;
+        case 1: put_gradients(&out, kilometres); break;
+        case 2: put_speeds(&out, 0, first); break;
+        case 3:
+            if (first < kilometres) {
+                put_speeds(&out, first, kilometres - first);
+            }
+            break;
         default: put_restrictions(&out); break;
         }
         put_end(&out);
     }
+    return number;
+}
+
+/* Telegrams of a group each, with packets 12, 21 and 27. */
+static void tell_groups(uint8_t *telegrams, uint32_t number) {
+    for (uint32_t i = 0; i < number; i++) {
+        struct writer out = {telegrams + TELEGRAM * i, 0};
+        put_header(&out, 100 + i);
+        put_authority(&out, WHOLE);
+        put_gradients(&out, WHOLE);
+        put_speeds(&out, 0, WHOLE);
+        put_end(&out);
+    }
+}
+
+/* The events of a kind, on a track of so many kilometres. A telegram is a repeat where it is the only one, and a whole group
+ * where it takes turns with another one. */
+static uint64_t limits(uint32_t kilometres, int restricted, const struct counted *counted) {
+    uint8_t before[TELEGRAM * TELEGRAMS] = {0}, telegrams[TELEGRAM * 2] = {0};
+    uint32_t number = tell_track(before, kilometres, restricted);
+    uint32_t turns = counted->kind == REPEAT ? 1 : 2;
+    tell_groups(telegrams, turns);
+    return bench_limits(before, TELEGRAM * number, telegrams, TELEGRAM * turns, counted);
 }
 
 /* A stop 20 km ahead, on stretches whose gradients are one per mille apart in turn. */
@@ -146,20 +187,35 @@ static uint64_t permitted(int16_t gradient, uint32_t runs) {
     return bench_permitted(gradients, STRETCHES, &stop, runs);
 }
 
+/* The kind of a name; exits where there is none. */
+static uint32_t kind_of(const char *name) {
+    static const char *const names[] = {"reading", "clock", "action", "repeat", "group"};
+    for (uint32_t i = 0; i < sizeof names / sizeof *names; i++) {
+        if (strcmp(name, names[i]) == 0) {
+            return i;
+        }
+    }
+    fprintf(stderr, "no kind: %s\n", name);
+    exit(2);
+}
+
 int main(int argc, char **argv) {
-    if (argc == 4) {
-        long number = strtol(argv[2], NULL, 10);
-        uint32_t count = (uint32_t)strtoul(argv[3], NULL, 10);
-        if (strcmp(argv[1], "limits") == 0) {
-            uint8_t telegrams[TELEGRAM * TELEGRAMS] = {0};
-            tell_track(telegrams);
-            printf("%llu\n", (unsigned long long)bench_limits(telegrams, sizeof telegrams, number, count));
-            return 0;
+    if (argc == 6 && strcmp(argv[1], "limits") == 0) {
+        char *end;
+        uint32_t kilometres = (uint32_t)strtoul(argv[2], &end, 10);
+        struct counted counted = {strtol(argv[4], NULL, 10), kind_of(argv[3]), (uint32_t)strtoul(argv[5], NULL, 10)};
+        if (kilometres > LONGEST) {
+            fprintf(stderr, "at most %d km\n", LONGEST);
+            return 2;
         }
-        if (strcmp(argv[1], "permitted") == 0) {
-            printf("%llu\n", (unsigned long long)permitted((int16_t)number, count));
-            return 0;
-        }
+        printf("%llu\n", (unsigned long long)limits(kilometres, *end == 'r', &counted));
+        return 0;
+    }
+    if (argc == 4 && strcmp(argv[1], "permitted") == 0) {
+        long gradient = strtol(argv[2], NULL, 10);
+        uint32_t runs = (uint32_t)strtoul(argv[3], NULL, 10);
+        printf("%llu\n", (unsigned long long)permitted((int16_t)gradient, runs));
+        return 0;
     }
     if (argc == 3) {
         uint32_t runs = (uint32_t)strtoul(argv[2], NULL, 10);
@@ -172,6 +228,7 @@ int main(int argc, char **argv) {
             return 0;
         }
     }
-    fprintf(stderr, "usage: kernel limits MOVEMENT READINGS | kernel permitted GRADIENT RUNS | kernel CALL RUNS\n");
+    fprintf(stderr, "usage: kernel limits KILOMETRES[r] KIND MOVEMENT NUMBER\n"
+                    "       kernel permitted GRADIENT RUNS | kernel CALL RUNS\n");
     return 2;
 }

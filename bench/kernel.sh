@@ -1,15 +1,15 @@
 #!/bin/sh
-# Prints the instructions of the kernel per reading of the odometer, and of the permitted speed per call: what callgrind
+# Prints the instructions of the kernel per event, and of the permitted speed per call: what callgrind
 # counts within the call for twice as many less what it counts for so many, by so many. So what is told at the start
-# falls out, and the harness and the making of the inputs don't count. Builds what it needs first; what the builds have
-# to say goes to standard error.
+# falls out, and the harness and the making of the inputs don't count. Then how often some functions were called in so many events.
+# Builds what it needs first; what the builds have to say goes to standard error.
 #
-#     bench/kernel.sh [READINGS [CALLS]]
+#     bench/kernel.sh [EVENTS [CALLS]]
 set -e
 top=$(cd "$(dirname "$0")/.." && pwd)
 out=$top/bench/out
-readings=${1:-100000}
-calls=${2:-1000}
+events=${1:-5000}
+calls=${2:-200}
 # What the library calls to take memory is in the toolchain's C library.
 memory=$(dirname "$(rt doc)")/c/liblibc_c.a
 
@@ -18,13 +18,13 @@ mkdir -p "$out"
 gcc -O2 -Wall -Wextra "$top/bench/kernel.c" "$top/crates/bench_kernel/out/libbench_kernel.a" "$memory" \
     -o "$out/kernel" >&2
 
-# counted FUNCTION CALL NUMBER COUNT: the instructions within the function, with all that it calls. The profile of the
-# last run of a call and a number stays in bench/out/callgrind.CALL.NUMBER.
+# counted FUNCTION WORD..: the instructions within the function, with all that it calls, where the harness is called with these words.
+# The profile of the run stays in bench/out/callgrind.
 cd "$out"
 counted() {
     within=$1
     shift
-    if ! env -i PATH="$PATH" valgrind --tool=callgrind --callgrind-out-file="callgrind.$1.$2" --dump-instr=yes \
+    if ! env -i PATH="$PATH" valgrind --tool=callgrind --callgrind-out-file=callgrind --dump-instr=yes \
         --collect-atstart=no --toggle-collect="$within" ./kernel "$@" >counted 2>&1; then
         cat counted >&2
         return 1
@@ -32,25 +32,57 @@ counted() {
     sed -n 's/^==[0-9]*== Collected : //p' counted
 }
 
-# row TITLE FUNCTION CALL NUMBER COUNT
+# row TITLE FUNCTION COUNT WORD..: for so many, one of them
 row() {
     title=$1
-    shift
-    few=$(counted "$1" "$2" "$3" "$4")
-    many=$(counted "$1" "$2" "$3" $((2 * $4)))
-    printf '%-50s %10d\n' "$title" $(((many - few + $4 / 2) / $4))
+    within=$2
+    count=$3
+    shift 3
+    few=$(counted "$within" "$@" "$count")
+    many=$(counted "$within" "$@" $((2 * count)))
+    printf '%-60s %10d\n' "$title" $(((many - few + count / 2) / count))
 }
 
-# each TITLE FUNCTION CALL COUNT: one call after another, of so many inputs in turn
+# each TITLE FUNCTION COUNT CALL: one call after another, of so many inputs in turn
 each() {
-    all=$(counted "$2" "$3" "$4")
-    printf '%-50s %10d\n' "$1" $(((all + $4 / 2) / $4))
+    all=$(counted "$2" "$4" "$3")
+    printf '%-60s %10d\n' "$1" $(((all + $3 / 2) / $3))
 }
 
-row 'a reading of 1 cm' '*output_after*' limits 1 "$readings"
-row 'a reading of 10 cm' '*output_after*' limits 10 "$readings"
-row 'permitted, the limit fits' '*permitted_from*' permitted 0 "$calls"
-row 'permitted, sought' '*permitted_from*' permitted -67 "$calls"
-each 'next_mode' '*mode_after*' next_mode 147456
-each 'status_on' '*fate_of*' status_on 153
-each 'accepts' '*is_accepted*' accepts 16128
+# called TITLE PATTERN COUNT WORD..: how often functions of such a name were called in so many events
+called() {
+    title=$1
+    name=$2
+    shift 2
+    count=$1
+    shift
+    counted '*output_after*' "$@" "$count" >/dev/null
+    awk -v name="$name" -v title="$title" '
+        /^c?fn=/ { match($0, /\([0-9]+\)/); id = substr($0, RSTART, RLENGTH)
+                   rest = substr($0, RSTART + RLENGTH + 1); if (rest != "") names[id] = rest }
+        /^cfn=/ { callee = id }
+        /^calls=/ { split(substr($0, 7), part, " "); number[callee] += part[1] }
+        END { for (id in number) if (names[id] ~ name) all += number[id]; printf "%-60s %10d\n", title, all }' callgrind
+}
+
+# on TITLE TRACK KIND MOVEMENT: one event of a kind on a track
+on() {
+    row "$1" '*output_after*' "$events" limits "$2" "$3" "$4"
+}
+on 'a reading of 1 cm' 30r reading 1
+on 'a reading of 10 cm' 30r reading 10
+on 'a reading of 1 cm in Staff Responsible' 0 reading 1
+on 'a reading of 1 cm, 5 targets ahead' 5 reading 1
+on 'a reading of 1 cm, 30 targets ahead' 30 reading 1
+on 'a moment of the clock' 30 clock 0
+on 'an action of the driver' 0 action 0
+on 'a telegram that is a repeat' 30 repeat 0
+on 'a telegram that is a whole group' 30 group 0
+row 'a reading of 0 cm behind 1,000 others' '*output_after*' 1000 limits 5 reading 0
+row 'a reading of 0 cm behind 100,000 others' '*output_after*' 100000 limits 5 reading 0
+called "memory taken in $events readings" '^rattle_(re)?alloc' "$events" limits 30r reading 1
+row 'permitted, the limit fits' '*permitted_from*' "$calls" permitted 0
+row 'permitted, sought' '*permitted_from*' "$calls" permitted -67
+each 'next_mode' '*mode_after*' 147456 next_mode
+each 'status_on' '*fate_of*' 153 status_on
+each 'accepts' '*is_accepted*' 16128 accepts

@@ -1,10 +1,10 @@
 use events::Input;
 
-/// What happens in a life.
+/// What happens in a life (this project's profile).
 #[derive(Drop)]
 pub enum Step {
-    /// An input comes.
+    /// The unit is handed an input.
     Accept(Input),
-    /// What is pending is put on the disk and released.
+    /// What is pending is put on the disk, in one block, and then released.
     Flush,
 }

@@ -6,5 +6,6 @@ pub mod Numbering
 pub mod Onward
 pub mod Opening
 pub mod Pending
+pub mod RunEnds
 pub mod Stepping
 pub mod WholeLives

@@ -1,6 +1,6 @@
-// Errors.
+// Why calls are refused.
 
-/// Why no life began.
+/// Why no life began (this project's profile).
 #[derive(Clone, Copy, Debug, PartialEq, Eq)]
 pub enum OpenError {
     /// The device failed in this call.
@@ -11,35 +11,35 @@ pub enum OpenError {
     Damaged,
     /// Memory was refused; nothing was written.
     NoMemory,
-    /// There is no number for another block.
+    /// The block of the greatest number has the last number, 2^40; nothing was written.
     WornOut,
 }
 
-/// Why an input wasn't accepted.
+/// Why an input wasn't accepted (this project's profile).
 #[derive(Clone, Copy, Debug, PartialEq, Eq)]
 pub enum AcceptError {
     /// The device failed in a flush; open again.
     Failed,
-    /// As many events are pending as one block holds; flush first.
+    /// Eight events are pending, as many as one block holds; flush first.
     PendingFull,
-    /// The moment lies before the last one of this life.
+    /// Its moment lies before the last one of this life, in milliseconds.
     ClockBack,
     /// Memory was refused.
     NoMemory,
 }
 
-/// Why nothing was released.
+/// Why nothing was released (this project's profile).
 #[derive(Clone, Copy, Debug, PartialEq, Eq)]
 pub enum FlushError {
     /// The device failed in an earlier flush; open again.
     Failed,
-    /// There is no number for another block.
+    /// The block of the greatest number has the last number, 2^40; nothing was written.
     WornOut,
     /// The device failed in this call: whether the pending events are on the disk isn't known, until it is opened again.
     DeviceFault,
 }
 
-/// Why a life ended before its last step, with the number of the step, from 0 on.
+/// Why a life ended before its last step, with the number of the step, from 0 on (this project's profile).
 #[derive(Clone, Copy, Debug, PartialEq, Eq)]
 pub enum LiveError {
     /// It didn't begin.
@@ -48,6 +48,6 @@ pub enum LiveError {
     Accept(usize, AcceptError),
     /// A flush released nothing.
     Flush(usize, FlushError),
-    /// There was no memory for what a flush releases, so that it didn't begin.
+    /// There was no room for the eight outputs that a flush may release, so that it didn't begin.
     NoMemory(usize),
 }

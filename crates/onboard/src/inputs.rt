@@ -1,4 +1,4 @@
-// Inputs.
+// Copies of inputs.
 ghost use Rattle.std.specs.Prelude.{◌≡◌};
 
 use events::{Input, TelegramBytes};

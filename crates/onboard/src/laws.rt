@@ -1,4 +1,4 @@
-// What follows from the contracts alone.
+// What follows from the contracts alone (this project's profile).
 ghost use Rattle.onboard.specs.Chains.{AnyNumberOfLives};
 ghost use Rattle.onboard.specs.Laws.{ForgetsAcross, ReleasesBrake, ImagesAreEndless};
 ghost use Rattle.onboard.specs.Lives.{StandsBy};
@@ -17,7 +17,7 @@ pub fn releases_stay()
     ensures { AnyNumberOfLives }
 {}
 
-/// A law: behind each power-up the mode is Stand By, whatever was told of movements.
+/// A law: behind each power-up the mode is Stand By, whatever the word says of movements.
 pub fn stands_by()
     ensures { StandsBy }
 {}
@@ -36,7 +36,7 @@ pub fn releases_brake()
     brakes_until_revalidated();
 }
 
-/// A law: each image that stands for a list has its last records, none skipped.
+/// A law: each image that represents a list has its last records, none skipped.
 pub fn images_are_endless()
     ensures { ImagesAreEndless }
 {

@@ -2,7 +2,9 @@
 //! power-up finds them again.
 #![tactic(auto)]
 
+mod accepting;
 mod errors;
+mod flushing;
 mod inputs;
 mod laws;
 mod life;

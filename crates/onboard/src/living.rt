@@ -1,10 +1,10 @@
 // Whole lives.
-ghost use Rattle.std.specs.Prelude.{◌≡◌, [], ◌∷◌, List, IsTrue, OnOk};
+ghost use Rattle.std.specs.Prelude.{◌≡◌, ◌-◌, ◌<◌, [], ◌∷◌, List, IsTrue, IfErr, OnOk, vec_len, vec_capacity};
 ghost use Rattle.disk.specs.State.{Counted};
 ghost use Rattle.events.specs.declared.input.Event.{Event};
 ghost use Rattle.events.specs.declared.input.Event.TheVariants.{PowerUp};
 ghost use Rattle.mode_table.specs.declared.statuses.Cold.{Cold};
-ghost use Rattle.onboard.specs.Answers.{live_failed};
+ghost use Rattle.onboard.specs.Answers.{live_failed, is_full};
 ghost use Rattle.onboard.specs.Lives.{IsReady};
 ghost use Rattle.onboard.specs.Runs.{accepted_by, durable_by, Lives};
 ghost use Rattle.onboard.specs.declared.released.Released.{Released};
@@ -19,8 +19,8 @@ use life_steps::Step;
 use mode_table::Cold;
 use std::alloc::Global;
 
-/// One life: powers up, and takes the steps in order, up to the first error. It hands on what is released as it is released, and the disk
-/// back.
+/// One life: powers up, and takes the steps in order, up to the first error, whose step it names (this project's profile). It hands on what
+/// is released as it is released, and the disk back.
 pub fn live_into<D: Disk, S: ReleaseSink>(
     alloc: Global,
     disk: D,
@@ -30,7 +30,10 @@ pub fn live_into<D: Disk, S: ReleaseSink>(
 ) -> (D, Result<(), LiveError>)
     ensures counted { Counted (live_failed result.1) (D.state disk) (D.state result.0) }
 
-    // Where power is lost and what is released, for every list of events that the disk stands for.
+    // NoMemory comes only where the sink has no room for what a flush may release.
+    ensures full { IfErr result.1 (λ e. IsTrue (is_full e) → S.room sink.new < 8) }
+
+    // Where power is lost and what is released, for every list of events that the disk represents.
     ensures life { (d a : List Event) → IsTrue (D.state disk).honest → IsReady d a (D.state disk) →
         (p : List Event) × (word : Cold) × (given : List Released) × S.Gave sink.old given sink.new
         × (it : Lives d a p cold word steps.now (D.state disk) (D.state result.0) [] given)
@@ -56,7 +59,10 @@ pub fn live<D: Disk>(
 ) -> (D, Result<(), LiveError>)
     ensures counted { Counted (live_failed result.1) (D.state disk) (D.state result.0) }
 
-    // Where power is lost and what is released, for every list of events that the disk stands for.
+    // NoMemory comes only where the list has no room for what a flush may release.
+    ensures full { IfErr result.1 (λ e. IsTrue (is_full e) → vec_capacity out.new - vec_len out.new < 8) }
+
+    // Where power is lost and what is released, for every list of events that the disk represents.
     ensures life { (d a : List Event) → IsTrue (D.state disk).honest → IsReady d a (D.state disk) →
         (p : List Event) × (word : Cold) × (it : Lives d a p cold word steps.now (D.state disk) (D.state result.0) out.old.items out.new.items)
         × OnOk result.1 (it.after ≡ accepted_by (PowerUp word ∷ p) steps.now) × OnOk result.1 (it.before ≡ durable_by (PowerUp word ∷ p) steps.now) }

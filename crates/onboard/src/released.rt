@@ -3,18 +3,29 @@ ghost use Rattle.std.specs.Prelude.{◌≡◌};
 
 use events::{Brake, Indications, Output};
 use mode_table::Mode;
+use std::marker::Model;
 use units::Mph;
 
-/// An output that may reach the train, with the number of its event. Beside the default, which commands the emergency brake, only
-/// `Onboard::flush` makes one.
+/// An output that may reach the train, with the number of its event (this project's profile). Beside the default, which commands the
+/// emergency brake, only `Onboard::flush` makes one.
 #[derive(Clone, Copy)]
 pub struct Released {
-    pub(crate) number: u64,
-    pub(crate) output: Output,
+    number: u64,
+    output: Output,
+}
+
+impl Model for Released {
+    ghost use Rattle.onboard.specs.Releases.{Release};
+
+    ghost Value = { Release };
+
+    ghost view = { λ r. record { number = r.number; output = r.output } };
+
+    ghost inverse = { λ r. record { number = r.number; output = r.output } };
 }
 
 impl Released {
-    // Of an event that is on the disk.
+    /// Of an event that is on the disk.
     pub(crate) fn of(number: u64, output: Output) -> Released
         ensures { result ≡ record { number = number; output = output } }
     {

@@ -1,22 +1,23 @@
 // Where releases go.
-ghost use Rattle.std.specs.Prelude.{◌≡◌, ℕ, ◌-◌, ◌≤◌, [], ◌++◌, List, length, vec_len, vec_capacity, OnOk};
+ghost use Rattle.std.specs.Prelude.{◌≡◌, ℕ, ◌-◌, ◌<◌, ◌≤◌, [], ◌++◌, List, length, vec_len, vec_capacity, OnOk, OnErr};
 ghost use Rattle.onboard.specs.declared.released.Released.{Released};
 
 use crate::released::Released;
 use units::NoMemory;
 
-/// What takes releases as they come, as a list or a printer does.
+/// What takes releases as they come, as a list or a printer does (this project's profile).
 pub trait ReleaseSink {
-    /// From the first value to the second it was given these, in their order.
+    /// From the first value to the second it was given these releases, in their order.
     ghost Gave: { Self → List Released → Self → Type 0 };
 
-    /// For how many it has room.
+    /// For how many releases it has room.
     ghost room: { Self → ℕ };
 
-    /// Makes room for what one flush releases, before it begins.
+    /// Makes room for the eight releases of a flush, before it begins.
     fn make_room(&mut self) -> Result<(), NoMemory>
         ensures given { Gave self.old [] self.new }
-        ensures room { OnOk result (8 ≤ room self.new) };
+        ensures room { OnOk result (8 ≤ room self.new) }
+        ensures full { OnErr result (room self.new < 8) };
 
     /// Takes these, in their order.
     fn give(&mut self, pairs: &[Released])

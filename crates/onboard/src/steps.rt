@@ -1,10 +1,10 @@
 // The steps of a life.
-ghost use Rattle.std.specs.Prelude.{◌≡◌, [], ◌∷◌, List, IsTrue, OnOk, OnErr};
+ghost use Rattle.std.specs.Prelude.{◌≡◌, false, ◌-◌, ◌<◌, [], ◌∷◌, List, IsTrue, IfErr, OnOk, OnErr, vec_len, vec_capacity};
 ghost use Rattle.disk.specs.State.{Counted};
 ghost use Rattle.events.specs.declared.input.Event.{Event};
 ghost use Rattle.events.specs.declared.input.Event.TheVariants.{Input as an_input};
 ghost use Rattle.journal.specs.Journals.{IsOpen};
-ghost use Rattle.onboard.specs.Answers.{live_failed};
+ghost use Rattle.onboard.specs.Answers.{live_failed, is_full};
 ghost use Rattle.onboard.specs.Events.{account_of, IsAhead};
 ghost use Rattle.onboard.specs.Runs.{accepted_by, durable_by, IsStepped, Took, Ran};
 ghost use Rattle.onboard.specs.declared.released.Released.{Released};
@@ -31,8 +31,9 @@ fn flush_into<D: Disk, S: ReleaseSink>(
         IsOpen unit.old.journal (account_of durable) (D.state unit.old.disk) → IsAhead durable accepted unit.old.life →
         IsStepped a_step.Flush durable accepted (D.state unit.old.disk) (D.state unit.new.disk)
         × OnOk result (IsOpen unit.new.journal (account_of accepted) (D.state unit.new.disk) × IsAhead accepted accepted unit.new.life) }
-    ensures released { OnOk result (S.Gave sink.old unit.old.life.pairs.items sink.new) }
+    ensures released { OnOk result (S.Gave sink.old unit.old.life.pairs sink.new) }
     ensures nothing { OnErr result (S.Gave sink.old [] sink.new) }
+    ensures full { IfErr result (λ e. IsTrue (is_full e) → S.room sink.new < 8) }
 {
     if sink.make_room().is_err() {
         return Err(LiveError::NoMemory(k));
@@ -59,6 +60,7 @@ fn accept_one<D: Disk>(
         IsStepped (a_step.Accept input.now) durable accepted (D.state unit.old.disk) (D.state unit.new.disk)
         × OnOk result (IsOpen unit.new.journal (account_of durable) (D.state unit.new.disk)
         × IsAhead durable (an_input input.now ∷ accepted) unit.new.life) }
+    ensures roomy { IfErr result (λ e. is_full e ≡ false) }
 {
     match unit.accept(alloc, copy_of(input)) {
         Ok(()) => Ok(()),
@@ -79,6 +81,7 @@ fn take<D: Disk, S: ReleaseSink>(
         IsStepped step.now durable accepted (D.state unit.old.disk) (D.state unit.new.disk)
         × OnOk result ((its : List Released) × S.Gave sink.old its sink.new × Took durable accepted step.now unit.new.journal unit.new.life (D.state unit.new.disk) its) }
     ensures nothing { OnErr result (S.Gave sink.old [] sink.new) }
+    ensures full { IfErr result (λ e. IsTrue (is_full e) → S.room sink.new < 8) }
 {
     match step {
         Step::Accept(input) => match accept_one(alloc, unit, k, input) {
@@ -100,6 +103,7 @@ pub fn run_into<D: Disk, S: ReleaseSink>(
     sink: &mut S,
 ) -> Result<(), LiveError>
     ensures counted { Counted (live_failed result) (D.state unit.old.disk) (D.state unit.new.disk) }
+    ensures full { IfErr result (λ e. IsTrue (is_full e) → S.room sink.new < 8) }
     ensures ran { (s : List Event) → IsTrue (D.state unit.old.disk).honest →
         IsOpen unit.old.journal (account_of s) (D.state unit.old.disk) → IsAhead s s unit.old.life →
         (given : List Released) × S.Gave sink.old given sink.new
@@ -123,6 +127,7 @@ pub fn run<D: Disk>(
     out: &mut Vec<Released>,
 ) -> Result<(), LiveError>
     ensures counted { Counted (live_failed result) (D.state unit.old.disk) (D.state unit.new.disk) }
+    ensures full { IfErr result (λ e. IsTrue (is_full e) → vec_capacity out.new - vec_len out.new < 8) }
     ensures ran { (s : List Event) → IsTrue (D.state unit.old.disk).honest →
         IsOpen unit.old.journal (account_of s) (D.state unit.old.disk) → IsAhead s s unit.old.life →
         (it : Ran s steps.now (D.state unit.old.disk) (D.state unit.new.disk) out.old.items out.new.items)

@@ -24,4 +24,4 @@ pub returns-in-Ok-clause-released : goal.returns-in-Ok-clause-released
 returns-in-Ok-clause-released g c =
     let G : List Released → Type 0 = λ l. g.S.ReleaseSink.Gave c.make_room.new.self l c.give.new.self in
     let gave = subst G (c.as_slice.ensures.value ∙ c.in-Ok.ensures.released) c.give.ensures.given in
-    g.met.S.ReleaseSink.more c.args.sink.now c.make_room.new.self c.give.new.self [] c.args.unit.now.life.pairs.items c.make_room.ensures.given gave
+    g.met.S.ReleaseSink.more c.args.sink.now c.make_room.new.self c.give.new.self [] c.args.unit.now.life.pairs c.make_room.ensures.given gave

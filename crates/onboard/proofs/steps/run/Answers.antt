@@ -1,5 +1,5 @@
 use Rattle.std.proofs.Common.{◌∙◌}
-use Rattle.onboard.proofs.Onward.{ran_onto}
+use Rattle.onboard.proofs.RunEnds.{ran_onto}
 use Rattle.onboard.proofs.WholeLives.{on_ok}
 use Rattle.onboard.proofs.steps.run.Goals as goal
 

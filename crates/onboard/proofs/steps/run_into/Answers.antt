@@ -3,7 +3,8 @@ use Rattle.std.proofs.lemmas.List.{take_all, append-nil}
 use Rattle.life_steps.specs.declared.step.Step.{Step}
 use Rattle.onboard.specs.Runs.{accepted_by, durable_by}
 use Rattle.onboard.specs.declared.released.Released.{Released}
-use Rattle.onboard.proofs.Onward.{going_first, stepped, stopped, finished}
+use Rattle.onboard.proofs.Onward.{stepped, stopped}
+use Rattle.onboard.proofs.RunEnds.{going_first, finished}
 use Rattle.onboard.proofs.steps.run_into.Goals as goal
 
 pub loop-k-init : goal.loop-k-init

@@ -28,7 +28,7 @@ returns-in-Ok-flush_into-clause-stepped g c = λ durable accepted honest opened 
     let u = c.flush_into.new.unit in
     let T : Step → Type 0 = λ x. IsStepped x durable accepted (g.D.Disk.state c.args.unit.now.disk) (g.D.Disk.state u.disk)
     × ((its : List Released) × g.S.ReleaseSink.Gave c.args.sink.now its c.flush_into.new.sink × Took durable accepted x u.journal u.life (g.D.Disk.state u.disk) its) in
-    subst T (sym c.in-Flush.is) (both.0, (c.args.unit.now.life.pairs.items, c.in-Ok-flush_into.ensures.released, took_flush durable accepted u.journal u.life c.args.unit.now.life.pairs.items (g.D.Disk.state u.disk) both.1.0 both.1.1 ahead.pairs_are))
+    subst T (sym c.in-Flush.is) (both.0, (c.args.unit.now.life.pairs, c.in-Ok-flush_into.ensures.released, took_flush durable accepted u.journal u.life c.args.unit.now.life.pairs (g.D.Disk.state u.disk) both.1.0 both.1.1 ahead.pairs_are))
 
 pub returns-in-Err-flush_into-clause-stepped : goal.returns-in-Err-flush_into-clause-stepped
 returns-in-Err-flush_into-clause-stepped g c = λ durable accepted honest opened ahead.

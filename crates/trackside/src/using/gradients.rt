@@ -12,12 +12,7 @@ use track_store::ProfileStore;
 use units::{Cm, Permille};
 
 /// Takes a packet, where it has gradients; no track before the forgetting mark counts. There is room for one replacement.
-pub fn take<G: ProfileStore<Permille>>(
-    store: &mut G,
-    mark: Cm,
-    packet: &Packet<'_>,
-    used: &Use,
-)
+pub fn take<G: ProfileStore<Permille>>(store: &mut G, mark: Cm, packet: &Packet<'_>, used: &Use)
     requires { 1 ≤ G.room store.old }
     ensures profile { (told : Told ℤ) → told.mark ≡ mark → profile_with G.value store.old ≡ profile_of told
         → profile_with G.value store.new ≡ profile_of (record told { facts = after_gradients (fact_of used.now packet.now) told.facts }) }

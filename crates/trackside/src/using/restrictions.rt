@@ -29,7 +29,8 @@ pub fn take(restrictions: &mut Restrictions, packet: &Packet<'_>, used: &Use)
         → restrictions.new.track ≡ in_force (after_restriction (fact_of used.now packet.now) entries) }
     ensures room { restrictions.old.room ≤ restrictions.new.room + 1 }
 {
-    if let Packet::SpeedRestriction(packet) = packet {
-        restrictions.add_reserved(restriction_of(packet, used.place));
-    }
+    let Packet::SpeedRestriction(packet) = packet else {
+        return;
+    };
+    restrictions.add_reserved(restriction_of(packet, used.place));
 }

@@ -153,7 +153,7 @@ pub struct Earlier;
 impl<G: ProfileStore<Permille> + Drop, S: ProfileStore<CategorySpeeds> + Drop> Walk<
     TracksideOver<G, S>,
 > for Earlier {
-    ghost use Rattle.trackside.proofs.Rooms.{one_less};
+    ghost use Rattle.std.proofs.Common.{arith};
 
     ghost Told = { AllTold };
 
@@ -163,7 +163,7 @@ impl<G: ProfileStore<Permille> + Drop, S: ProfileStore<CategorySpeeds> + Drop> W
 
     ghost after = { after_earlier };
 
-    ghost less = { λ left behind state room. one_less left behind (room_in G.room S.room state) room };
+    ghost less = { λ left behind state room. omega arith };
 
     fn take(state: &mut TracksideOver<G, S>, packet: &Packet<'_>, used: &Use) {
         let mark = state.restrictions.mark();

@@ -1,4 +1,4 @@
-use Rattle.std.proofs.Common.{◌≡◌, ℕ, ◌+◌, List, ◌∷◌, length, ap, sym, subst, ◌∙◌}
+use Rattle.std.proofs.Common.{◌≡◌, ℕ, ◌+◌, List, ◌∷◌, length, ap, sym, subst, add-one, ◌∙◌}
 use Rattle.packets.specs.declared.packet.Packet.{Packet}
 use Rattle.trackside.specs.History.{after_facts}
 use Rattle.trackside.specs.Steps.{facts}
@@ -8,12 +8,12 @@ use Rattle.trackside.proofs.using.take_all.Goals as goal
 -- one packet more is still to come
 pub take_one-requires : goal.take_one-requires
 take_one-requires g c =
-    let one : length c.loop-item.item-iterator ≡ length c.next.new.self + 1 = ap length c.in-Some.ensures.steps in
+    let one : length c.loop-item.item-iterator ≡ length c.next.new.self + 1 = rw add-one (ap length c.in-Some.ensures.steps) in
     (length c.next.new.self, subst (λ (n : ℕ). g.W.Walk.HasRoom n 0 c.loop-item.state) one (c.loop-item.invariant.1 0 c.requires))
 
 pub loop-item-preserved : goal.loop-item-preserved
 loop-item-preserved g c =
-    let one : length c.loop-item.item-iterator ≡ length c.next.new.self + 1 = ap length c.in-Some.ensures.steps in (
+    let one : length c.loop-item.item-iterator ≡ length c.next.new.self + 1 = rw add-one (ap length c.in-Some.ensures.steps) in (
       λ told s. (let before = c.loop-item.invariant.0 told s in
           let used = c.args.used.now in
           let rest = c.next.new.self in

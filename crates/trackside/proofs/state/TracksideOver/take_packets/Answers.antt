@@ -42,5 +42,7 @@ returns-clause-room g c =
     let room = room_in g.G.ProfileStore.room g.S.ProfileStore.room c.args.self.now in
     let inside : count ≤ room = c.requires in
     let split : count + (room - count) ≤ room = omega arith in
-    let left = c.take_all-2.ensures.room (room - count) (c.take_all.ensures.room (room - count) split) in
+    let first : room - count ≤ room_in g.G.ProfileStore.room g.S.ProfileStore.room c.take_all.new.state =
+    omega (arith, c.take_all.ensures.room (room - count) split) in
+    let left = c.take_all-2.ensures.room (room - count) first in
     omega arith

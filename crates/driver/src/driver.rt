@@ -118,7 +118,8 @@ impl Driver {
         self.level = Datum::Valid(level);
     }
 
-    /// A mode is entered.
+    /// A mode is entered: what the status table (SUBSET-026, 4.10) says of each item becomes so, and entering Trip makes a trip
+    /// outstanding.
     pub fn turn(&mut self, mode: Mode)
         ensures { (kept : KeptData) → (entries : List Entry) → self.old ≡ known kept entries
             → self.new ≡ known kept (Turned mode ∷ entries) }
@@ -137,14 +138,14 @@ impl Driver {
         }
     }
 
-    /// The train data.
+    /// The train data, with their status.
     pub fn train_data(&self) -> Datum<TrainData>
         ensures { result ≡ self.now.train_data }
     {
         self.train_data
     }
 
-    /// The level.
+    /// The level, with its status.
     pub fn level(&self) -> Datum<TrainLevel>
         ensures { result ≡ self.now.level }
     {

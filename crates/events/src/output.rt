@@ -4,7 +4,7 @@ ghost use Rattle.events.specs.Indications.{number_of};
 use mode_table::{Mode, TrainLevel};
 use units::Mph;
 
-/// What the brakes are commanded to do.
+/// What the brakes are commanded to do (SUBSET-026, 3.14).
 #[derive(Clone, Copy)]
 pub enum Brake {
     /// Nothing.
@@ -15,7 +15,7 @@ pub enum Brake {
     Emergency,
 }
 
-/// What the driver is shown beside mode, level and limit.
+/// What the driver is shown beside mode, level and limit (this project's profile).
 #[derive(Clone, Copy)]
 pub struct Indications {
     /// An acknowledgement of On Sight is asked for or owed.
@@ -58,7 +58,7 @@ pub struct Output {
     pub level: Option<TrainLevel>,
     /// What the brakes are commanded to do.
     pub brake: Brake,
-    /// The speed that the train may run, in metres per hour.
+    /// The speed that the train may run, in metres per hour (SUBSET-026, 3.13).
     pub limit: Mph,
     /// What the driver is shown.
     pub indications: Indications,

@@ -48,7 +48,7 @@ impl Position {
         self.group
     }
 
-    /// How far behind the group the estimated front lies; negative where it lies before it.
+    /// How far behind the group the estimated front lies, in centimetres; negative where it lies before it.
     pub fn distance(&self) -> Cm
         ensures value { result ≡ self.now.distance }
         ensures limits { IsOffset result }

@@ -17,6 +17,7 @@ use crate::sight::{Sight, backward_by, reading_of, stands};
 use crate::state::StateOver;
 use events::{Event, Input};
 use mode_limits::limit;
+use mode_table::Cold;
 use speed_profile::CategorySpeeds;
 use std::alloc::Global;
 use supervision::SupervisionOver;
@@ -68,6 +69,15 @@ impl<G: ProfileStore<Permille> + Drop, S: ProfileStore<CategorySpeeds> + Drop> S
         Ok(())
     }
 
+    // A power-up. It stands out of line, so that an input clears no room for the new life.
+    #[inline(never)]
+    fn begin_again(&mut self, alloc: Global, cold: Cold)
+        ensures { (events : List Event) → StandsFor G.profile S.profile self.old events
+            → StandsFor G.profile S.profile self.new (event.PowerUp cold ∷ events) }
+    {
+        *self = StateOver::begin(alloc, self.kept(), cold);
+    }
+
     /// All that an event does. Where memory is refused, nothing changes; a quiet event is never refused any.
     pub(crate) fn take(&mut self, alloc: Global, event: &Event) -> Result<(), NoMemory>
         ensures quiet { is_quiet_event self.old event.now ≡ true → IsOk result }
@@ -77,7 +87,7 @@ impl<G: ProfileStore<Permille> + Drop, S: ProfileStore<CategorySpeeds> + Drop> S
     {
         match event {
             Event::PowerUp(cold) => {
-                *self = StateOver::begin(alloc, self.kept(), *cold);
+                self.begin_again(alloc, *cold);
                 Ok(())
             }
             Event::Input(input) => self.receive(input),

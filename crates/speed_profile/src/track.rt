@@ -5,11 +5,11 @@ use track_store::Restrictions;
 /// The speeds along the track.
 #[derive(Clone, Copy)]
 pub struct Track<'a, S> {
-    /// The static speeds.
+    /// The static speeds (packet 27), in metres per hour.
     pub speeds: &'a S,
-    /// The temporary speed restrictions.
+    /// The temporary speed restrictions (packet 65).
     pub restrictions: &'a Restrictions,
-    /// The mode areas.
+    /// The mode areas (packet 80).
     pub areas: &'a Areas,
     /// The national speeds of now, for the areas without a speed of their own.
     pub national: NationalSpeeds,

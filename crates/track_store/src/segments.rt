@@ -1,4 +1,4 @@
-ghost use Rattle.std.specs.Prelude.{◌≡◌, ℕ, get_or, IsTrue, ◌+◌, ◌<◌, ◌≤◌, ℤ, ◌≤ℤ◌, ◌<ℤ◌, false, if◌then◌else◌, int_lt, is_none, Some, ◌||◌, ◌↔◌, None, length, vec_len, vec_capacity};
+ghost use Rattle.std.specs.Prelude.{◌≡◌, ℕ, IsTrue, IfSome, ◌+◌, ◌<◌, ◌≤◌, ℤ, false, if◌then◌else◌, int_lt, is_none, Some, ◌||◌, ◌↔◌, None, length, vec_len, vec_capacity};
 ghost use Rattle.std.specs.List.{list_any};
 ghost use Rattle.track_store.specs.Facts.{from_mark, passed, replaced};
 ghost use Rattle.track_store.specs.Segments.{value_of_segments, value_behind, next_among, IsRising, IsStarted, IsKept, IsKeptBehind, is_first_passed, first_cut, is_reached};
@@ -24,41 +24,28 @@ fn started<T: Copy>(segments: &[Segment<T>], place: Cm) -> usize
     segments.partition_point(|segment| segment.start <= place)
 }
 
-// Whether so many segments start at or below a place, the last of them and so all.
-fn are_passed<T: Copy>(segments: &[Segment<T>], place: Cm, count: usize) -> bool
+// The piece of the segment at an index, if a place lies in that one.
+fn piece_in<T: Copy>(segments: &[Segment<T>], place: Cm, index: usize) -> Option<Piece<T>>
     requires { IsRising segments.now }
-    ensures { IsTrue result → (count ≤ length segments.now)
-        × ((k : ℕ) (d : Segment T) → k < count → (get_or segments.now k d).start ≤ℤ place) }
+    ensures { IfSome result (λ piece. (piece.value ≡ value_of_segments segments.now place) × (piece.next ≡ next_among place segments.now)) }
 {
-    let Some(last) = count.checked_sub(1) else {
-        return true;
-    };
-    match segments.get(last) {
-        Some(segment) => segment.start <= place,
-        None => false,
+    let segment = segments.get(index)?;
+    if place < segment.start {
+        return None;
     }
-}
-
-// Whether all segments behind so many start ahead of a place: the first of them does.
-fn are_ahead<T: Copy>(segments: &[Segment<T>], place: Cm, count: usize) -> bool
-    requires { IsRising segments.now }
-    ensures { IsTrue result → (k : ℕ) (d : Segment T) → count ≤ k → k < length segments.now → place <ℤ (get_or segments.now k d).start }
-{
-    match segments.get(count) {
-        Some(segment) => place < segment.start,
-        None => true,
-    }
-}
-
-// The same as `started`; it tries a number first.
-fn started_near<T: Copy>(segments: &[Segment<T>], place: Cm, near: usize) -> usize
-    requires { IsRising segments.now }
-    ensures { IsStarted place segments.now result }
-{
-    if are_passed(segments, place, near) && are_ahead(segments, place, near) {
-        near
-    } else {
-        started(segments, place)
+    let near = index + 1;
+    match segments.get(near) {
+        Some(behind) if place < behind.start => Some(Piece {
+            value: segment.value,
+            next: Some(behind.start),
+            near,
+        }),
+        Some(_) => None,
+        None => Some(Piece {
+            value: segment.value,
+            next: None,
+            near,
+        }),
     }
 }
 
@@ -94,17 +81,20 @@ pub(crate) fn next_start<T: Copy>(segments: &[Segment<T>], place: Cm) -> Option<
     start_behind(segments, started(segments, place))
 }
 
-/// Both.
+/// Both. It tries the segment at an index first, and searches only where the place lies in another one.
 pub(crate) fn piece_at<T: Copy>(segments: &[Segment<T>], place: Cm, near: usize) -> Piece<T>
     requires { IsRising segments.now }
     ensures value { result.value ≡ value_of_segments segments.now place }
     ensures next { result.next ≡ next_among place segments.now }
 {
-    let count = started_near(segments, place, near);
+    if let Some(piece) = piece_in(segments, place, near) {
+        return piece;
+    }
+    let count = started(segments, place);
     Piece {
         value: last_value(segments, count),
         next: start_behind(segments, count),
-        near: count.saturating_add(1),
+        near: count,
     }
 }
 

@@ -36,7 +36,7 @@ impl<T: Copy> Blank<T> {
         ensures { result ≡ record { start = start; steps = steps.now; mark = start } }
     {
         let mut own = self.steps;
-        let _ = own.extend_from_slice(steps);
+        own.extend_from_slice(steps).unwrap();
         Fact::of(start, own)
     }
 }

@@ -83,7 +83,7 @@ impl<T: Copy> ProfileStore<T> for FactStore<T> {
         let fact = Fact::new(*self.facts.allocator(), start, steps)?;
         self.facts.reserve(1)?;
         self.room = 0;
-        let _ = self.facts.insert(0, fact);
+        self.facts.insert(0, fact).unwrap();
         Ok(())
     }
 
@@ -106,7 +106,7 @@ impl<T: Copy> ProfileStore<T> for FactStore<T> {
     fn replace_reserved(&mut self, start: Cm, steps: &[Step<T>]) {
         self.room -= 1;
         if let Some(blank) = self.blanks.pop() {
-            let _ = self.facts.insert(0, blank.fill(start, steps));
+            self.facts.insert(0, blank.fill(start, steps)).unwrap();
         }
     }
 

@@ -1,4 +1,4 @@
-use Rattle.std.proofs.Common.{◌≡◌, ◌≤◌, Option, ap, sym, subst, ◌∙◌}
+use Rattle.std.proofs.Common.{◌≡◌, ◌≤◌, Option, ap, sym, subst}
 use Rattle.balise_groups.specs.Groups as groups
 use Rattle.balise_groups.specs.Rooms.{packets_in, packets_of_closed}
 use Rattle.balise_groups.specs.declared.message.Closed.{Closed}

@@ -1,5 +1,4 @@
 use Rattle.std.proofs.Common.{List, ◌∷◌, Option, subst, ap, ◌∙◌}
-use Rattle.odometry.specs.Place as odometry
 use Rattle.odometry.specs.declared.fix.Fix.{Fix}
 use Rattle.trackside.specs.Entry.{Entry, Fact, so_far, added}
 use Rattle.trackside.specs.Entry.Outcome.{Accepted}

@@ -1,4 +1,4 @@
-use Rattle.std.proofs.Common.{◌≡◌, ℕ, ◌+◌, ◌-◌, ◌≤◌, ◌∷◌, [], length, ap, subst, ◌∙◌, arith}
+use Rattle.std.proofs.Common.{◌+◌, ◌-◌, ◌≤◌, ◌∷◌, [], length, ap, subst, ◌∙◌, arith}
 use Rattle.trackside.specs.Entry.{Entry, so_far, added}
 use Rattle.trackside.specs.Entry.Outcome.{Accepted}
 use Rattle.trackside.specs.History.{links, national_entries, authorities, is_stopped, all_areas, announced_levels, restrictions, mark_of, gradients, speeds}

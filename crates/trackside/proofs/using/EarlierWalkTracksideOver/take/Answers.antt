@@ -1,7 +1,7 @@
 use Rattle.std.proofs.Common.{◌≡◌, ap, sym, subst, ◌∙◌}
 use Rattle.track_store.specs.Restrictions.{InForce}
 use Rattle.trackside.specs.Steps.{fact_of}
-use Rattle.trackside.specs.Told.{Told, IsTold}
+use Rattle.trackside.specs.Told.{IsTold}
 use Rattle.trackside.proofs.Marking.{restriction_unmarked}
 use Rattle.trackside.proofs.using.EarlierWalkTracksideOver.take.Goals as goal
 

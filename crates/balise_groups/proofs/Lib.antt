@@ -5,3 +5,4 @@ pub mod OneName
 pub mod Places
 pub mod Relation
 pub mod Standing
+pub mod Rooms

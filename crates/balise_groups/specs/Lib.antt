@@ -4,3 +4,4 @@ pub mod Laws
 pub mod Places
 pub mod Relation
 pub mod Telling
+pub mod Rooms

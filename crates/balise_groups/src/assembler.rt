@@ -1,7 +1,8 @@
-ghost use Rattle.std.specs.Prelude.{◌≡◌, ℕ, List, [], ◌∷◌, None, is_none, false};
+ghost use Rattle.std.specs.Prelude.{◌≡◌, ◌≤◌, ◌^◌, ℕ, List, [], ◌∷◌, None, is_none, false};
 ghost use Rattle.balise_groups.specs.Closing.{close_of};
 ghost use Rattle.balise_groups.specs.Groups.{Entry, Groups, Known, seen_at, is_close, is_left, goes_on, ended, ended_if_whole, joined_by, close_if_whole, with_reading, known_of, known, taken_by, ended_by};
 ghost use Rattle.balise_groups.specs.Groups.Entry.{Read, Went};
+ghost use Rattle.balise_groups.specs.Rooms.{packets_in};
 
 use crate::message::Closed;
 use crate::reading::Reading;
@@ -138,6 +139,15 @@ impl Assembler {
         ensures { result ≡ is_none self.now.current }
     {
         self.current.is_none()
+    }
+
+    /// How many packets the telegrams of the group being read have; no group that closes by a movement has more, and by a
+    /// telegram no more than those and its own.
+    pub fn packets(&self) -> usize
+        ensures number { result ≡ packets_in self.now.readings }
+        ensures few { result ≤ 2 ^ 35 }
+    {
+        self.readings.packets()
     }
 
     /// Takes the path of the life after a movement, and answers the group that is left by it. The caller owes each movement.

@@ -1,5 +1,5 @@
 //! What an event does.
-ghost use Rattle.std.specs.Prelude.{◌≡◌, true, List, ◌∷◌, IsOk, OnOk};
+ghost use Rattle.std.specs.Prelude.{◌≡◌, true, List, ◌∷◌, IsOk, OnOk, OnErr};
 ghost use Rattle.events.specs.declared.input.Event.{Event};
 ghost use Rattle.events.specs.declared.input.Event.TheVariants as event;
 ghost use Rattle.kernel.specs.Brake.{sight_at};
@@ -54,14 +54,15 @@ fn sight_of<G: ProfileStore<Permille> + Drop, S: ProfileStore<CategorySpeeds> + 
 }
 
 impl<G: ProfileStore<Permille> + Drop, S: ProfileStore<CategorySpeeds> + Drop> StateOver<G, S> {
-    // All that an input does. Where memory is refused, the state is no longer of use.
-    fn receive(&mut self, alloc: Global, input: &Input) -> Result<(), NoMemory>
+    // All that an input does. Where memory is refused, nothing changes.
+    fn receive(&mut self, input: &Input) -> Result<(), NoMemory>
         ensures quiet { is_quiet self.old.supervision.track.parts input.now ≡ true → IsOk result }
         ensures life { OnOk result ((life : Life) → StandsForLife G.profile S.profile self.old life
             → StandsForLife G.profile S.profile self.new (grown life (entry_of life input.now))) }
         ensures counts { OnOk result (self.new.counts ≡ counted self.old.counts (event.Input input.now)) }
+        ensures err { OnErr result (self.new ≡ self.old) }
     {
-        self.supervision.receive(alloc, input)?;
+        self.supervision.receive(input)?;
         let sight = sight_of(&self.supervision, input);
         self.parts.note(&sight);
         self.counts = self.counts.received();
@@ -77,18 +78,19 @@ impl<G: ProfileStore<Permille> + Drop, S: ProfileStore<CategorySpeeds> + Drop> S
         *self = StateOver::begin(alloc, self.kept(), cold);
     }
 
-    /// All that an event does. Where memory is refused, the state is no longer of use; a quiet event is never refused any.
+    /// All that an event does. Where memory is refused, nothing changes; a quiet event is never refused any.
     pub(crate) fn take(&mut self, alloc: Global, event: &Event) -> Result<(), NoMemory>
         ensures quiet { is_quiet_event self.old event.now ≡ true → IsOk result }
         ensures stands { OnOk result ((events : List Event) → StandsFor G.profile S.profile self.old events
             → StandsFor G.profile S.profile self.new (event.now ∷ events)) }
+        ensures err { OnErr result (self.new ≡ self.old) }
     {
         match event {
             Event::PowerUp(cold) => {
                 self.begin_again(alloc, *cold);
                 Ok(())
             }
-            Event::Input(input) => self.receive(alloc, input),
+            Event::Input(input) => self.receive(input),
         }
     }
 }

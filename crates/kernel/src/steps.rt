@@ -1,7 +1,6 @@
-ghost use Rattle.std.specs.Prelude.{◌≡◌, true, List, ◌∷◌, IsOk, IfOk, OnOk, OnErr};
+ghost use Rattle.std.specs.Prelude.{◌≡◌, List, ◌∷◌, IfOk, OnOk, OnErr};
 ghost use Rattle.events.specs.declared.input.Event.{Event};
 ghost use Rattle.kernel.specs.Output.{output_after};
-ghost use Rattle.kernel.specs.Quiet.{is_quiet_event};
 ghost use Rattle.kernel.specs.StandsFor.{StandsFor};
 
 use crate::state::StateOver;
@@ -30,29 +29,8 @@ pub fn step<G: ProfileStore<Permille> + Drop, S: ProfileStore<CategorySpeeds> + 
 }
 
 impl<G: ProfileStore<Permille> + Drop, S: ProfileStore<CategorySpeeds> + Drop> StateOver<G, S> {
-    // Whether an event takes no memory.
-    fn is_quiet(&self, event: &Event) -> bool
-        ensures { result ≡ is_quiet_event self.now event.now }
-    {
-        match event {
-            Event::PowerUp(_) => true,
-            Event::Input(input) => self.supervision.track().is_quiet(input),
-        }
-    }
-
-    // One event in place. Where memory is refused, the state is no longer of use; a quiet event is never refused any.
-    fn take_in_place(&mut self, alloc: Global, event: &Event) -> Result<Output, NoMemory>
-        ensures quiet { is_quiet_event self.old event.now ≡ true → IsOk result }
-        ensures stands { OnOk result ((events : List Event) → StandsFor G.profile S.profile self.old events
-            → StandsFor G.profile S.profile self.new (event.now ∷ events)) }
-        ensures output { IfOk result (λ output. (events : List Event) → StandsFor G.profile S.profile self.old events
-            → output ≡ output_after (event.now ∷ events)) }
-    {
-        self.take(alloc, event)?;
-        Ok(self.output())
-    }
-
-    /// The same in place; NoMemory where memory is refused, and then nothing changes. Only where a group may close is the state copied.
+    /// The same in place; NoMemory where memory is refused, and then nothing changes. Room is made first for all that the event can add,
+    /// so that nothing is copied. An event by which no group can close takes no memory.
     pub fn apply(&mut self, alloc: Global, event: &Event) -> Result<Output, NoMemory>
         ensures stands { OnOk result ((events : List Event) → StandsFor G.profile S.profile self.old events
             → StandsFor G.profile S.profile self.new (event.now ∷ events)) }
@@ -60,23 +38,7 @@ impl<G: ProfileStore<Permille> + Drop, S: ProfileStore<CategorySpeeds> + Drop> S
             → output ≡ output_after (event.now ∷ events)) }
         ensures refused { OnErr result (self.new ≡ self.old) }
     {
-        if self.is_quiet(event) {
-            return self.take_in_place(alloc, event);
-        }
-        self.take_on_a_copy(alloc, event)
-    }
-
-    // One event on a copy, which takes the state's place. It stands out of line, so that a quiet event clears no room for the copy.
-    #[inline(never)]
-    fn take_on_a_copy(&mut self, alloc: Global, event: &Event) -> Result<Output, NoMemory>
-        ensures stands { OnOk result ((events : List Event) → StandsFor G.profile S.profile self.old events
-            → StandsFor G.profile S.profile self.new (event.now ∷ events)) }
-        ensures output { IfOk result (λ output. (events : List Event) → StandsFor G.profile S.profile self.old events
-            → output ≡ output_after (event.now ∷ events)) }
-        ensures refused { OnErr result (self.new ≡ self.old) }
-    {
-        let (next, output) = step(alloc, self, event)?;
-        *self = next;
-        Ok(output)
+        self.take(alloc, event)?;
+        Ok(self.output())
     }
 }

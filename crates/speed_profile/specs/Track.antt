@@ -17,4 +17,4 @@ pub record TrackSpeeds : Type 0 where
 -- that of a track whose static speeds are read so
 abbrev pub speeds_along : {S : Type 0} → (S → ℤ → Option CategorySpeeds) → Track S → TrackSpeeds
 speeds_along value track =
-    record { static = value track.speeds.now; restrictions = track.restrictions.now; areas = track.areas.now; national = track.national }
+    record { static = value track.speeds.now; restrictions = track.restrictions.now.track; areas = track.areas.now; national = track.national }

@@ -1,5 +1,5 @@
 //! What an input does, sentence by sentence in the order of one event.
-ghost use Rattle.std.specs.Prelude.{◌≡◌, true, IsOk, OnOk, Option, Some};
+ghost use Rattle.std.specs.Prelude.{◌≡◌, true, IsOk, OnOk, OnErr, Option, Some};
 ghost use Rattle.mode_table.specs.declared.level.TrainLevel.{TrainLevel as Level};
 ghost use Rattle.mode_table.specs.declared.mode.Mode.{Mode};
 ghost use Rattle.units.specs.Stretches.{Span};
@@ -16,7 +16,6 @@ ghost use Rattle.supervision.specs.StandsFor.{StandsForLife};
 use crate::state::SupervisionOver;
 use events::Input;
 use speed_profile::CategorySpeeds;
-use std::alloc::Global;
 use track_store::ProfileStore;
 use units::{NoMemory, Permille};
 
@@ -25,14 +24,15 @@ impl<G: ProfileStore<Permille> + Drop, S: ProfileStore<CategorySpeeds> + Drop> S
     S,
 > {
     // What the input itself brings, and the groups that it closes.
-    fn begin(&mut self, alloc: Global, input: &Input) -> Result<(), NoMemory>
+    fn begin(&mut self, input: &Input) -> Result<(), NoMemory>
         ensures quiet { is_quiet self.old.track.parts input.now ≡ true → IsOk result }
         ensures stands { OnOk result ((life : Life) → StandsForLife G.profile S.profile self.old life
             → StandsForLife G.profile S.profile self.new (grown life (begun (told life input.now) (deed_of life input.now)))) }
+        ensures err { OnErr result (self.new ≡ self.old) }
     {
         let deed = self.deed(input);
         let mode = self.mode();
-        self.track.receive(alloc, mode, input)?;
+        self.track.receive(mode, input)?;
         self.parts.note(&deed);
         Ok(())
     }
@@ -46,13 +46,14 @@ impl<G: ProfileStore<Permille> + Drop, S: ProfileStore<CategorySpeeds> + Drop> S
         self.track.forget(self.parts.length());
     }
 
-    /// All that an input does. Where memory is refused, the state is no longer of use; a quiet input is never refused any.
-    pub fn receive(&mut self, alloc: Global, input: &Input) -> Result<(), NoMemory>
+    /// All that an input does. Where memory is refused, nothing changes; a quiet input is never refused any.
+    pub fn receive(&mut self, input: &Input) -> Result<(), NoMemory>
         ensures quiet { is_quiet self.old.track.parts input.now ≡ true → IsOk result }
         ensures stands { OnOk result ((life : Life) → StandsForLife G.profile S.profile self.old life
             → StandsForLife G.profile S.profile self.new (grown life (entry_of life input.now))) }
+        ensures err { OnErr result (self.new ≡ self.old) }
     {
-        self.begin(alloc, input)?;
+        self.begin(input)?;
         let seen = self.see();
         self.turn(&seen);
         self.forget();

@@ -1,6 +1,6 @@
 -- A profile as a list of facts, each with what of it was forgotten since (this project's profile). The newest comes
 -- first. Places are centimetres.
-use Rattle.std.specs.Prelude.{ℤ, int_lt, Option, None, if◌then◌else◌, List, [], ◌∷◌}
+use Rattle.std.specs.Prelude.{ℕ, ℤ, int_lt, Option, None, if◌then◌else◌, List, [], ◌∷◌}
 use Rattle.std.specs.Int.{int_max}
 use Rattle.track_store.specs.declared.profile.Step.{Step}
 use Rattle.track_store.specs.Facts.{given_by, from_mark}
@@ -22,5 +22,16 @@ value_remembered [] place = None
 value_remembered (fact ∷ facts) place =
     if int_lt place fact.start then value_remembered facts place else from_mark fact.mark (given_by fact.steps) place
 
-abbrev pub profile_remembered : {A : Type 0} → List (Remembered A) → Profile A
-profile_remembered facts = record { value = value_remembered facts }
+-- facts, and for how many more of them there is room
+pub record Listed (A : Type 0) : Type 0 where
+  pub facts : List (Remembered A)
+  pub room : ℕ
+
+abbrev pub value_listed : {A : Type 0} → Listed A → ℤ → Option A
+value_listed listed = value_remembered listed.facts
+
+abbrev pub profile_listed : {A : Type 0} → Listed A → Profile A
+profile_listed listed = record { value = value_listed listed }
+
+abbrev pub with_room : {A : Type 0} → ℕ → Listed A → Listed A
+with_room room listed = record listed { room = room }

@@ -50,6 +50,11 @@ pub record InForce : Type 0 where
   pub mark : ℤ
   pub restrictions : List Restriction
 
+-- .. and for how many more restrictions there is room
+pub record Held : Type 0 where
+  pub track : InForce
+  pub room : ℕ
+
 abbrev pub reaches_past : ℤ → Restriction → Bool
 reaches_past mark restriction = int_lt mark (end_of restriction)
 

@@ -16,8 +16,19 @@ value_among otherwise (segment ∷ segments) place =
 abbrev pub value_of_segments : {A : Type 0} → List (Segment A) → ℤ → Option A
 value_of_segments segments = value_among None segments
 
-abbrev pub profile_kept : {A : Type 0} → List (Segment A) → Profile A
-profile_kept segments = record { value = value_of_segments segments }
+-- segments, and for how many replacements there is room
+pub record Segmented (A : Type 0) : Type 0 where
+  pub segments : List (Segment A)
+  pub room : ℕ
+
+abbrev pub value_kept : {A : Type 0} → Segmented A → ℤ → Option A
+value_kept kept = value_of_segments kept.segments
+
+abbrev pub profile_kept : {A : Type 0} → Segmented A → Profile A
+profile_kept kept = record { value = value_kept kept }
+
+abbrev pub with_room : {A : Type 0} → ℕ → Segmented A → Segmented A
+with_room room kept = record kept { room = room }
 
 -- segments that start behind a place, each behind the one before it
 abbrev pub IsRisingFrom : {A : Type 0} → ℤ → List (Segment A) → Type 0

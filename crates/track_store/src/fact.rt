@@ -30,11 +30,18 @@ impl<T: Copy> Fact<T> {
     pub fn new(alloc: Global, start: Cm, steps: &[Step<T>]) -> Result<Self, NoMemory>
         ensures { IfOk result (λ fact. fact ≡ record { start = start; steps = steps.now; mark = start }) }
     {
-        Ok(Fact {
+        Ok(Fact::of(start, Vec::from_slice(alloc, steps)?))
+    }
+
+    /// The same of steps of its own.
+    pub fn of(start: Cm, steps: Vec<Step<T>>) -> Self
+        ensures { result ≡ record { start = start; steps = steps.items; mark = start } }
+    {
+        Fact {
             start,
-            steps: Vec::from_slice(alloc, steps)?,
+            steps,
             mark: start,
-        })
+        }
     }
 
     /// The first place.

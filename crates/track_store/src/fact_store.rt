@@ -1,6 +1,6 @@
-ghost use Rattle.std.specs.Prelude.{ℤ, List, Option};
-ghost use Rattle.track_store.specs.Remembered.{value_remembered};
+ghost use Rattle.std.specs.Prelude.{◌≤◌, ℤ, Option, OnOk, vec_len};
 
+use crate::blank::Blank;
 use crate::fact::Fact;
 use crate::{Profile, ProfileStore, Step};
 use std::alloc::Global;
@@ -12,21 +12,26 @@ use units::{Cm, NoMemory};
 pub struct FactStore<T> {
     // The newest first.
     facts: Vec<Fact<T>>,
+    // For how many facts more there is room: the list has it, and for each a blank is there.
+    room: usize,
+    blanks: Vec<Blank<T>>,
 }
 
 impl<T> Model for FactStore<T> {
-    ghost use Rattle.std.specs.Prelude.{List};
-    ghost use Rattle.track_store.specs.Remembered.{Remembered};
+    ghost use Rattle.std.specs.Prelude.{◌+◌, ◌≤◌, vec_len, vec_capacity};
+    ghost use Rattle.track_store.specs.Remembered.{Listed};
 
-    ghost Value = { List (Remembered T) };
+    ghost Value = { Listed T };
 
-    ghost view = { λ s. s.facts.items };
+    ghost view = { λ s. record { facts = s.facts.items; room = s.room } };
+
+    ghost invariant = { λ s. (vec_len s.facts + s.room ≤ vec_capacity s.facts) × (s.room ≤ vec_len s.blanks) };
 }
 
 impl<T: Copy> Profile<T> for FactStore<T> {
-    ghost use Rattle.track_store.specs.Remembered.{value_remembered};
+    ghost use Rattle.track_store.specs.Remembered.{value_listed};
 
-    ghost value = { value_remembered };
+    ghost value = { value_listed };
 
     fn at(&self, place: Cm) -> Option<T> {
         for fact in &self.facts {
@@ -48,22 +53,61 @@ impl<T: Copy> Profile<T> for FactStore<T> {
 
 impl<T: Copy> ProfileStore<T> for FactStore<T> {
     ghost use Rattle.std.specs.Prelude.{refl};
-    ghost use Rattle.track_store.specs.Remembered.{profile_remembered};
+    ghost use Rattle.track_store.specs.Remembered.{profile_listed, with_room};
 
-    ghost profile = { profile_remembered };
+    ghost profile = { profile_listed };
+
+    ghost room = { λ listed. listed.room };
+
+    ghost with_room = { with_room };
 
     ghost profile_is = { λ _. refl };
+
+    ghost same_profile = { λ _ _. refl };
+
+    ghost room_is = { λ _ _. refl };
+
+    ghost room_again = { λ _ _ _. refl };
+
+    ghost own_room = { λ _. refl };
 
     fn empty(alloc: Global) -> Self {
         FactStore {
             facts: Vec::new(alloc),
+            room: 0,
+            blanks: Vec::new(alloc),
         }
     }
 
     fn replace_from(&mut self, start: Cm, steps: &[Step<T>]) -> Result<(), NoMemory> {
         let fact = Fact::new(*self.facts.allocator(), start, steps)?;
-        self.facts.insert(0, fact)?;
+        self.facts.reserve(1)?;
+        self.room = 0;
+        self.facts.insert(0, fact).unwrap();
         Ok(())
+    }
+
+    fn room(&self) -> usize {
+        self.room
+    }
+
+    fn make_room(&mut self, replacements: usize) -> Result<(), NoMemory> {
+        let room = replacements.max(self.room);
+        self.facts.reserve(room)?;
+        add_blanks(&mut self.blanks, *self.facts.allocator(), room)?;
+        self.room = room;
+        Ok(())
+    }
+
+    fn limit_room(&mut self, replacements: usize) {
+        self.room = replacements;
+    }
+
+    fn replace_reserved(&mut self, start: Cm, steps: &[Step<T>]) {
+        self.room -= 1;
+        if let Some(blank) = self.blanks.pop() {
+            self.facts.insert(0, blank.fill(start, steps)).unwrap();
+        }
     }
 
     fn drop_behind(&mut self, place: Cm) {
@@ -77,10 +121,31 @@ impl<T: Copy> ProfileStore<T> for FactStore<T> {
     }
 
     fn copy(&self, alloc: Global) -> Result<Self, NoMemory> {
-        let mut facts = Vec::with_capacity(alloc, self.facts.len())?;
+        let mut facts = Vec::with_capacity(alloc, self.facts.len() + self.room)?;
         for fact in &self.facts {
             facts.push(fact.copy(alloc)?)?;
         }
-        Ok(FactStore { facts })
+        let mut blanks = Vec::new(alloc);
+        add_blanks(&mut blanks, alloc, self.room)?;
+        Ok(FactStore {
+            facts,
+            room: self.room,
+            blanks,
+        })
     }
+}
+
+// Makes blanks until there are so many.
+fn add_blanks<T: Copy>(
+    blanks: &mut Vec<Blank<T>>,
+    alloc: Global,
+    count: usize,
+) -> Result<(), NoMemory>
+    ensures ok { OnOk result (count ≤ vec_len blanks.new) }
+    ensures len { vec_len blanks.old ≤ vec_len blanks.new }
+{
+    while blanks.len() < count {
+        blanks.push(Blank::new(alloc)?)?;
+    }
+    Ok(())
 }

@@ -2,6 +2,7 @@
 //! along it (3.7.1.1, 3.11).
 #![tactic(auto)]
 
+mod blank;
 mod fact;
 mod fact_store;
 mod knowing;
@@ -15,7 +16,7 @@ mod stretches;
 
 pub use fact_store::FactStore;
 pub use knowing::{is_known, is_known_over, is_known_throughout};
-pub use profile::{Piece, Profile, ProfileStore, Step};
+pub use profile::{MOST_STEPS, Piece, Profile, ProfileStore, Step};
 pub use restriction::Restriction;
 pub use restrictions::Restrictions;
 pub use same::Same;

@@ -1,10 +1,13 @@
-ghost use Rattle.std.specs.Prelude.{◌≡◌, ℤ, Option, None, OnOk, OnErr, IfOk};
+ghost use Rattle.std.specs.Prelude.{◌≡◌, ◌≤◌, ◌+◌, ℕ, ℤ, max, length, Option, None, OnOk, OnErr, IfOk};
 ghost use Rattle.track_store.specs.Profiles as profiles;
 ghost use Rattle.track_store.specs.Profiles.{Lasts, profile_with};
 ghost use Rattle.track_store.specs.Facts.{from_mark, replaced};
 
 use std::alloc::Global;
 use units::{Cm, NoMemory};
+
+/// The most steps that a packet of a profile has (SUBSET-026, 7.4.2, packets 21 and 27).
+pub const MOST_STEPS: usize = 32;
 
 /// A step of a profile: from its place on, the value holds up to the next step's place.
 #[derive(Clone, Copy)]
@@ -68,6 +71,10 @@ pub trait Profile<T> {
 pub trait ProfileStore<T>: Profile<T> {
     ghost profile: { Self → profiles.Profile T };
 
+    ghost room: { Self → ℕ };
+
+    ghost with_room: { ℕ → Self → Self };
+
     /// No value anywhere. Takes no memory.
     fn empty(alloc: Global) -> Self
         ensures { (place : ℤ) → Self.value result place ≡ None };
@@ -79,17 +86,47 @@ pub trait ProfileStore<T>: Profile<T> {
         ensures ok { OnOk result ((place : ℤ) → Self.value self.new place ≡ replaced (Self.value self.old) start steps.now place) }
         ensures err { OnErr result (self.new ≡ self.old) };
 
+    /// For how many replacements, of at most `MOST_STEPS` steps each, there is room.
+    fn room(&self) -> usize
+        ensures { result ≡ room self.now };
+
+    /// Makes room for so many replacements, unless there is room for more. Where memory is refused, nothing changes.
+    fn make_room(&mut self, replacements: usize) -> Result<(), NoMemory>
+        ensures ok { OnOk result (self.new ≡ with_room (max replacements (room self.old)) self.old) }
+        ensures err { OnErr result (self.new ≡ self.old) };
+
+    /// Gives back room: what is left is for so many replacements.
+    fn limit_room(&mut self, replacements: usize)
+        requires { replacements ≤ room self.old }
+        ensures { self.new ≡ with_room replacements self.old };
+
+    /// What `replace_from` does, in the room that was made: it takes no memory.
+    fn replace_reserved(&mut self, start: Cm, steps: &[Step<T>])
+        requires steps { length steps.now ≤ MOST_STEPS }
+        requires room { 1 ≤ room self.old }
+        ensures value { (place : ℤ) → Self.value self.new place ≡ replaced (Self.value self.old) start steps.now place }
+        ensures room { room self.old ≤ room self.new + 1 };
+
     /// Drops the values below a place, and no other ones. What comes there later counts.
     fn drop_behind(&mut self, place: Cm)
-        ensures { (there : ℤ) → Self.value self.new there ≡ from_mark place (Self.value self.old) there };
+        ensures value { (there : ℤ) → Self.value self.new there ≡ from_mark place (Self.value self.old) there }
+        ensures room { room self.new ≡ room self.old };
 
     /// Drops all values.
     fn clear(&mut self)
         ensures { (place : ℤ) → Self.value self.new place ≡ None };
 
-    /// An equal value: an equal profile.
+    /// An equal value: an equal profile, with room for as many replacements.
     fn copy(&self, alloc: Global) -> Result<Self, NoMemory>
         ensures { IfOk result (λ copy. copy ≡ self.now) };
 
     ghost profile_is: { (store : Self) → profile store ≡ profile_with Self.value store };
+
+    ghost same_profile: { (count : ℕ) (store : Self) → profile (with_room count store) ≡ profile store };
+
+    ghost room_is: { (count : ℕ) (store : Self) → room (with_room count store) ≡ count };
+
+    ghost room_again: { (one other : ℕ) (store : Self) → with_room one (with_room other store) ≡ with_room one store };
+
+    ghost own_room: { (store : Self) → with_room (room store) store ≡ store };
 }

@@ -1,4 +1,4 @@
-ghost use Rattle.std.specs.Prelude.{◌≡◌, ◌≤◌, List, [], ◌∷◌, filter, not, min, if◌then◌else◌, OnOk, OnErr, IfOk, vec_len, vec_capacity};
+ghost use Rattle.std.specs.Prelude.{◌≡◌, ◌≤◌, ◌+◌, List, [], ◌∷◌, filter, not, min, max, if◌then◌else◌, OnOk, OnErr, IfOk, vec_len, vec_capacity};
 ghost use Rattle.track_store.specs.Restrictions.{Entry, ends, in_force, least_speed, reaches_past};
 ghost use Rattle.track_store.specs.Restrictions.Entry.{Restricted, Revoked, Forgotten};
 ghost use Rattle.track_store.specs.Meeting.{meets};
@@ -18,54 +18,99 @@ pub struct Restrictions {
     mark: Cm,
     // The newest last. Each has track at or ahead of the mark.
     items: Vec<Restriction>,
+    // For how many restrictions more the list has room.
+    room: usize,
 }
 
 impl Model for Restrictions {
-    ghost use Rattle.track_store.specs.Restrictions.{InForce};
+    ghost use Rattle.std.specs.Prelude.{◌+◌, ◌≤◌, vec_len, vec_capacity};
+    ghost use Rattle.track_store.specs.Restrictions.{Held};
 
-    ghost Value = { InForce };
+    ghost Value = { Held };
 
-    ghost view = { λ r. record { mark = r.mark; restrictions = r.items.items } };
+    ghost view = { λ r. record { track = record { mark = r.mark; restrictions = r.items.items }; room = r.room } };
+
+    ghost invariant = { λ r. vec_len r.items + r.room ≤ vec_capacity r.items };
 }
 
 impl Restrictions {
     /// No restriction, and nothing forgotten. Takes no memory.
     pub fn new(alloc: Global) -> Self
-        ensures { result ≡ in_force [] }
+        ensures { result ≡ record { track = in_force []; room = 0 } }
     {
         Restrictions {
             mark: Cm::MIN,
             items: Vec::new(alloc),
+            room: 0,
         }
+    }
+
+    /// For how many restrictions more there is room.
+    pub fn room(&self) -> usize
+        ensures { result ≡ self.now.room }
+    {
+        self.room
+    }
+
+    /// Makes room for so many restrictions more, unless there is room for more than those. Where memory is refused, nothing changes.
+    pub fn make_room(&mut self, restrictions: usize) -> Result<(), NoMemory>
+        ensures ok { OnOk result (self.new ≡ record self.old { room = max restrictions self.old.room }) }
+        ensures err { OnErr result (self.new ≡ self.old) }
+    {
+        let room = restrictions.max(self.room);
+        self.items.reserve(room)?;
+        self.room = room;
+        Ok(())
+    }
+
+    /// Gives back room: what is left is for so many restrictions.
+    pub fn limit_room(&mut self, restrictions: usize)
+        requires { restrictions ≤ self.old.room }
+        ensures { self.new ≡ record self.old { room = restrictions } }
+    {
+        self.room = restrictions;
     }
 
     /// Takes a restriction, in place of the one of its number (but for 255). The list holds the allocator that it
     /// takes memory of. Where memory is refused, nothing changes.
     pub fn add(&mut self, _alloc: Global, restriction: Restriction) -> Result<(), NoMemory>
-        ensures ok { OnOk result ((entries : List Entry) → self.old ≡ in_force entries
-            → self.new ≡ in_force (Restricted restriction ∷ entries)) }
+        ensures ok { OnOk result ((entries : List Entry) → self.old.track ≡ in_force entries
+            → self.new.track ≡ in_force (Restricted restriction ∷ entries)) }
         ensures err { OnErr result (self.new ≡ self.old) }
     {
-        self.items.reserve(1)?;
+        self.make_room(1)?;
+        self.add_reserved(restriction);
+        Ok(())
+    }
+
+    /// What `add` does, in the room that was made: it takes no memory.
+    pub fn add_reserved(&mut self, restriction: Restriction)
+        requires { 1 ≤ self.old.room }
+        ensures track { (entries : List Entry) → self.old.track ≡ in_force entries
+            → self.new.track ≡ in_force (Restricted restriction ∷ entries) }
+        ensures room { self.new.room + 1 ≡ self.old.room }
+    {
+        self.room -= 1;
         drop_number(&mut self.items, restriction.number);
         if restriction.reaches_past(self.mark) {
             self.items.push_reserved(restriction);
         }
-        Ok(())
     }
 
     /// Revokes the restriction of a number (but for 255).
     pub fn revoke(&mut self, number: RestrictionNumber)
-        ensures { (entries : List Entry) → self.old ≡ in_force entries
-            → self.new ≡ in_force (Revoked number ∷ entries) }
+        ensures track { (entries : List Entry) → self.old.track ≡ in_force entries
+            → self.new.track ≡ in_force (Revoked number ∷ entries) }
+        ensures room { self.new.room ≡ self.old.room }
     {
         drop_number(&mut self.items, number);
     }
 
     /// Forgets all track before a place, in centimetres. What was forgotten before stays so.
     pub fn drop_behind(&mut self, mark: Cm)
-        ensures { (entries : List Entry) → self.old ≡ in_force entries
-            → self.new ≡ in_force (Forgotten mark ∷ entries) }
+        ensures track { (entries : List Entry) → self.old.track ≡ in_force entries
+            → self.new.track ≡ in_force (Forgotten mark ∷ entries) }
+        ensures room { self.new.room ≡ self.old.room }
     {
         if self.mark < mark {
             self.mark = mark;
@@ -75,7 +120,7 @@ impl Restrictions {
 
     /// The least of a speed and of those that limit a train that may cover this stretch, in metres per hour.
     pub fn least(&self, train: &Stretch, otherwise: Mph) -> Mph
-        ensures { result ≡ least_speed self.now train.now otherwise }
+        ensures { result ≡ least_speed self.now.track train.now otherwise }
     {
         let first = self.mark.max(train.rear());
         let mut limit = otherwise;
@@ -85,13 +130,16 @@ impl Restrictions {
         limit
     }
 
-    /// An equal value; NoMemory where it is refused.
+    /// An equal value, with as much room; NoMemory where it is refused.
     pub fn copy(&self, alloc: Global) -> Result<Self, NoMemory>
         ensures { IfOk result (λ copy. copy ≡ self.now) }
     {
+        let mut items = Vec::from_slice(alloc, &self.items)?;
+        items.reserve(self.room)?;
         Ok(Restrictions {
             mark: self.mark,
-            items: Vec::from_slice(alloc, &self.items)?,
+            items,
+            room: self.room,
         })
     }
 }
@@ -108,7 +156,9 @@ fn drop_number(items: &mut Vec<Restriction>, number: RestrictionNumber)
 
 // Drops the restrictions that lie wholly before a forgetting mark.
 fn drop_forgotten(items: &mut Vec<Restriction>, mark: Cm)
-    ensures { items.new.items ≡ filter (reaches_past mark) items.old.items }
+    ensures kept { items.new.items ≡ filter (reaches_past mark) items.old.items }
+    ensures len { vec_len items.new ≤ vec_len items.old }
+    ensures capacity { vec_capacity items.new ≡ vec_capacity items.old }
 {
     items.retain(|restriction| restriction.reaches_past(mark));
 }

@@ -1,11 +1,14 @@
-ghost use Rattle.std.specs.Prelude.{◌≡◌, ℤ, List, Option};
-ghost use Rattle.track_store.specs.Segments.{value_of_segments, IsKept, count_of};
+ghost use Rattle.std.specs.Prelude.{◌≡◌, ℤ, Option};
+ghost use Rattle.track_store.specs.Segments.{IsKept, count_of};
 
 use crate::segments::{Segment, drop_below, hold_steps, next_start, piece_at, value_at};
-use crate::{Piece, Profile, ProfileStore, Same, Step};
+use crate::{MOST_STEPS, Piece, Profile, ProfileStore, Same, Step};
 use std::alloc::Global;
 use std::marker::Model;
 use units::{Cm, NoMemory};
+
+/// The most segments that a replacement adds: one a step, one before the first of them and one from an end mark on.
+const MOST_SEGMENTS: usize = MOST_STEPS + 2;
 
 /// A profile as segments of one value each (SUBSET-026, 3.11). What is replaced or dropped takes no place in it, so that
 /// it stays short however long the life.
@@ -13,26 +16,27 @@ use units::{Cm, NoMemory};
 pub struct SegmentStore<T> {
     // Each lasts up to the next one's start. Where nothing is known behind a value, a segment without one follows.
     segments: Vec<Segment<T>>,
+    // For how many replacements the list has room.
+    room: usize,
 }
 
 impl<T> Model for SegmentStore<T> {
-    ghost use Rattle.std.specs.Prelude.{List};
-    ghost use Rattle.track_store.specs.declared.segments.Segment.{Segment};
-    ghost use Rattle.track_store.specs.Segments.{IsKept};
+    ghost use Rattle.std.specs.Prelude.{◌+◌, ◌*◌, ◌≤◌, vec_len, vec_capacity};
+    ghost use Rattle.track_store.specs.Segments.{IsKept, Segmented};
 
-    ghost Value = { List (Segment T) };
+    ghost Value = { Segmented T };
 
-    ghost view = { λ s. s.segments.items };
+    ghost view = { λ s. record { segments = s.segments.items; room = s.room } };
 
-    ghost invariant = { λ s. IsKept s.segments.items };
+    ghost invariant = { λ s. IsKept s.segments.items × (vec_len s.segments + 34 * s.room ≤ vec_capacity s.segments) };
 }
 
 impl<T> SegmentStore<T> {
     /// How many segments there are, a stretch without a value being none. They are in order, meet where a value is
     /// stored on both sides, and no two neighbours have one value.
     pub fn count(&self) -> usize
-        ensures number { result ≡ count_of self.now }
-        ensures kept { IsKept self.now }
+        ensures number { result ≡ count_of self.now.segments }
+        ensures kept { IsKept self.now.segments }
     {
         self.segments
             .iter()
@@ -42,9 +46,9 @@ impl<T> SegmentStore<T> {
 }
 
 impl<T: Copy> Profile<T> for SegmentStore<T> {
-    ghost use Rattle.track_store.specs.Segments.{value_of_segments};
+    ghost use Rattle.track_store.specs.Segments.{value_kept};
 
-    ghost value = { value_of_segments };
+    ghost value = { value_kept };
 
     fn at(&self, place: Cm) -> Option<T> {
         value_at(&self.segments, place)
@@ -61,23 +65,59 @@ impl<T: Copy> Profile<T> for SegmentStore<T> {
 
 impl<T: Copy + Same> ProfileStore<T> for SegmentStore<T> {
     ghost use Rattle.std.specs.Prelude.{refl};
-    ghost use Rattle.track_store.specs.Segments.{profile_kept};
+    ghost use Rattle.track_store.specs.Segments.{profile_kept, with_room};
 
     ghost profile = { profile_kept };
 
+    ghost room = { λ kept. kept.room };
+
+    ghost with_room = { with_room };
+
     ghost profile_is = { λ _. refl };
+
+    ghost same_profile = { λ _ _. refl };
+
+    ghost room_is = { λ _ _. refl };
+
+    ghost room_again = { λ _ _ _. refl };
+
+    ghost own_room = { λ _. refl };
 
     fn empty(alloc: Global) -> Self {
         SegmentStore {
             segments: Vec::new(alloc),
+            room: 0,
         }
     }
 
     fn replace_from(&mut self, start: Cm, steps: &[Step<T>]) -> Result<(), NoMemory> {
-        // One segment a step, one before the first of them and one from an end mark on.
         self.segments.reserve(steps.len().saturating_add(2))?;
+        self.room = 0;
         hold_steps(&mut self.segments, start, steps);
         Ok(())
+    }
+
+    fn room(&self) -> usize {
+        self.room
+    }
+
+    fn make_room(&mut self, replacements: usize) -> Result<(), NoMemory> {
+        let room = replacements.max(self.room);
+        let Some(segments) = room.checked_mul(MOST_SEGMENTS) else {
+            return Err(NoMemory);
+        };
+        self.segments.reserve(segments)?;
+        self.room = room;
+        Ok(())
+    }
+
+    fn limit_room(&mut self, replacements: usize) {
+        self.room = replacements;
+    }
+
+    fn replace_reserved(&mut self, start: Cm, steps: &[Step<T>]) {
+        self.room -= 1;
+        hold_steps(&mut self.segments, start, steps);
     }
 
     fn drop_behind(&mut self, place: Cm) {
@@ -89,8 +129,11 @@ impl<T: Copy + Same> ProfileStore<T> for SegmentStore<T> {
     }
 
     fn copy(&self, alloc: Global) -> Result<Self, NoMemory> {
+        let mut segments = Vec::from_slice(alloc, &self.segments)?;
+        segments.reserve(self.room * MOST_SEGMENTS)?;
         Ok(SegmentStore {
-            segments: Vec::from_slice(alloc, &self.segments)?,
+            segments,
+            room: self.room,
         })
     }
 }

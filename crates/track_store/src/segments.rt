@@ -172,6 +172,8 @@ pub(crate) fn hold_steps<T: Copy + Same>(
     ensures value { (place : ℤ) → value_of_segments segments.new.items place
         ≡ replaced (value_of_segments segments.old.items) start steps.now place }
     ensures kept { IsKept segments.new.items }
+    ensures len { vec_len segments.new ≤ vec_len segments.old + length steps.now + 2 }
+    ensures capacity { vec_capacity segments.new ≡ vec_capacity segments.old }
 {
     hold_from(segments, start, None);
     for step in steps {
@@ -198,6 +200,8 @@ fn drop_passed<T: Copy>(segments: &mut Vec<Segment<T>>, mark: Cm)
     ensures value { (place : ℤ) → from_mark mark (value_of_segments segments.new.items) place
         ≡ from_mark mark (value_of_segments segments.old.items) place }
     ensures kept { IsKeptBehind segments.new.items }
+    ensures len { vec_len segments.new ≤ vec_len segments.old }
+    ensures capacity { vec_capacity segments.new ≡ vec_capacity segments.old }
     ensures none { is_first_passed mark segments.new.items ≡ false }
 {
     while is_first_passed(segments, mark) {
@@ -219,6 +223,8 @@ fn drop_gap<T: Copy>(segments: &mut Vec<Segment<T>>)
     requires { IsKeptBehind segments.old.items }
     ensures value { (place : ℤ) → value_of_segments segments.new.items place ≡ value_of_segments segments.old.items place }
     ensures kept { IsKept segments.new.items }
+    ensures len { vec_len segments.new ≤ vec_len segments.old }
+    ensures capacity { vec_capacity segments.new ≡ vec_capacity segments.old }
 {
     if let Some(first) = segments.first() {
         if first.value.is_none() {
@@ -233,6 +239,8 @@ pub(crate) fn drop_below<T: Copy>(segments: &mut Vec<Segment<T>>, mark: Cm)
     ensures value { (place : ℤ) → value_of_segments segments.new.items place
         ≡ from_mark mark (value_of_segments segments.old.items) place }
     ensures kept { IsKept segments.new.items }
+    ensures len { vec_len segments.new ≤ vec_len segments.old }
+    ensures capacity { vec_capacity segments.new ≡ vec_capacity segments.old }
 {
     drop_passed(segments, mark);
     cut_first(segments, mark);

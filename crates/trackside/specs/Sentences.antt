@@ -37,7 +37,7 @@ use Rattle.events.specs.declared.input.Reading.{Reading}
 use Rattle.trackside.specs.Bytes.{telegram_in}
 use Rattle.track_store.specs.Profiles.{is_known}
 use Rattle.authority.specs.Entries.{accepted as granted}
-use Rattle.trackside.specs.Entry.{Entry, Begun, Used, Outcome, Fact, so_far, looked, turned, marked, nothing_happened, no_groups, asking_for, added}
+use Rattle.trackside.specs.Entry.{Entry, Begun, Used, Outcome, Fact, so_far, marked, nothing_happened, no_groups, asking_for, added}
 use Rattle.trackside.specs.Entry.Outcome.{Broken, Ignored, Rejected, Accepted}
 use Rattle.trackside.specs.History.{place_of, groups_of, links_of, moment_of, authorities, gradients_of, speeds_of}
 

@@ -1,5 +1,5 @@
 -- What is known represents a life (this project's profile).
-use Rattle.std.specs.Prelude.{◌≡◌, ℕ, ℤ, Bool, Option, List, ◌∷◌}
+use Rattle.std.specs.Prelude.{◌≡◌, ℕ, min, ℤ, Bool, Option, List, ◌∷◌}
 use Rattle.areas.specs.declared.announcement.Announcement.{Announcement as AnnouncedLevel}
 use Rattle.areas.specs.declared.area.Area.{Area}
 use Rattle.authority.specs.Known.{Known as Authority}
@@ -24,7 +24,7 @@ pub record Life : Type 0 where
 abbrev pub national_of : Life → national.Known
 national_of life = national.known life.kept (national_entries life.entries)
 
--- what each part knows but for the profiles of the track
+-- what each part knows but for the restrictions and the profiles of the track
 pub record Known : Type 0 where
   pub place : odometry.Known
   pub group : Option GroupIdentity
@@ -32,7 +32,6 @@ pub record Known : Type 0 where
   pub groups : groups.Known
   pub links : linking.Known
   pub national : national.Known
-  pub restrictions : track.InForce
   pub moment : ℕ
   pub authority : Authority
   pub areas : List Area
@@ -40,9 +39,10 @@ pub record Known : Type 0 where
   pub happened : Happened
   pub stopped : Bool
 
--- .. and the profiles, as their stores keep them
+-- .. and what grows with what the track tells, as its stores keep it: restrictions and profiles
 pub record Knowledge (G S : Type 0) : Type 0 where
   pub parts : Known
+  pub restrictions : track.Held
   pub gradients : G
   pub speeds : S
 
@@ -56,7 +56,6 @@ parts_of life =
       groups = groups_of life.entries;
       links = links_of life.entries;
       national = national_of life;
-      restrictions = track.in_force (restrictions life.entries);
       moment = moment_of life.entries;
       authority = authority_of life.entries;
       areas = areas_of life.entries;
@@ -68,8 +67,14 @@ parts_of life =
 -- It represents a life; what the two stores give is read off them so.
 pub record StandsForLife {G S : Type 0} (gradients_in : G → Profile ℤ) (speeds_in : S → Profile CategorySpeeds) (known : Knowledge G S) (life : Life) : Type 0 where
   pub parts_are : known.parts ≡ parts_of life
+  pub restrictions_are : known.restrictions.track ≡ track.in_force (restrictions life.entries)
   pub gradients_are : gradients_in known.gradients ≡ gradients_of life.entries
   pub speeds_are : speeds_in known.speeds ≡ speeds_of life.entries
+
+-- for how many packets there is room in all of them
+abbrev pub room_in : {G S : Type 0} → (G → ℕ) → (S → ℕ) → Knowledge G S → ℕ
+room_in gradients_room speeds_room known =
+    min known.restrictions.room (min (gradients_room known.gradients) (speeds_room known.speeds))
 
 -- a life with one entry more
 abbrev pub grown : Life → Entry → Life

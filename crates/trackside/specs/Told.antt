@@ -38,7 +38,6 @@ known_of told =
     record told.others {
       links = linking.known told.links;
       national = national.known told.kept told.values;
-      restrictions = track.in_force told.restrictions;
       authority = known_authority told.grants;
       stopped = told.stopped;
       areas = stored told.areas;
@@ -48,6 +47,7 @@ known_of told =
 -- the state is what was taken
 pub record IsTold {G S : Type 0} (gradients_in : G → Profile ℤ) (speeds_in : S → Profile CategorySpeeds) (known : Knowledge G S) (told : Told) : Type 0 where
   pub parts_are : known.parts ≡ known_of told
+  pub restrictions_are : known.restrictions.track ≡ track.in_force told.restrictions
   pub mark_is : track.mark_of told.restrictions ≡ told.mark
   pub gradients_are : gradients_in known.gradients ≡ profiles.profile_of (record { mark = told.mark; facts = told.gradients })
   pub speeds_are : speeds_in known.speeds ≡ profiles.profile_of (record { mark = told.mark; facts = told.speeds })

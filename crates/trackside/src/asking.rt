@@ -49,9 +49,9 @@ impl<G, S> TracksideOver<G, S> {
 
     /// The restrictions in force.
     pub fn restrictions(&self) -> &Restrictions
-        ensures { result.now ≡ self.now.parts.restrictions }
+        ensures { result.now ≡ self.now.restrictions }
     {
-        &self.parts.restrictions
+        &self.restrictions
     }
 
     /// The authority.

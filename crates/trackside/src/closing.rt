@@ -1,8 +1,9 @@
 //! What a balise group does that closed: it is judged, it makes its fix, its packets are used.
-ghost use Rattle.std.specs.Prelude.{◌≡◌, ◌∷◌, [], OnOk, Option};
+ghost use Rattle.std.specs.Prelude.{◌≡◌, ◌∷◌, ◌+◌, ◌≤◌, [], length, Option, Some};
 ghost use Rattle.std.specs.Option.{option_map, option_or};
 ghost use Rattle.balise_groups.specs.declared.message.Closed.TheVariants as closed;
 ghost use Rattle.balise_groups.specs.declared.message.Message.{Message};
+ghost use Rattle.balise_groups.specs.Rooms.{packets_of_closed};
 ghost use Rattle.linking.specs.declared.announcement.Announcement.{Announcement};
 ghost use Rattle.linking.specs.Judging.{broken_effect};
 ghost use Rattle.odometry.specs.declared.fix.Fix.{Fix};
@@ -11,7 +12,7 @@ ghost use Rattle.trackside.specs.Entry.Outcome.{Accepted, Broken as NoMessage};
 ghost use Rattle.trackside.specs.History.{links_of};
 ghost use Rattle.trackside.specs.Sentences.{judged, ruled, accepted, with_facts, outcome_of, after_group, with_closed};
 ghost use Rattle.trackside.specs.Steps.{facts};
-ghost use Rattle.trackside.specs.StandsFor.{Life, StandsForLife, parts_of, grown_so_far};
+ghost use Rattle.trackside.specs.StandsFor.{Life, StandsForLife, parts_of, grown_so_far, room_in};
 
 use crate::parts::Parts;
 use crate::state::TracksideOver;
@@ -20,9 +21,8 @@ use balise_groups::{Broken, Closed, GroupPackets, Message};
 use linking::{Announcement, GroupRead, Verdict};
 use mode_table::Mode;
 use speed_profile::CategorySpeeds;
-use std::alloc::Global;
 use track_store::ProfileStore;
-use units::{NoMemory, Permille};
+use units::Permille;
 use vars::LinkOrientation;
 
 impl Parts {
@@ -60,32 +60,26 @@ impl Parts {
 }
 
 impl<G: ProfileStore<Permille> + Drop, S: ProfileStore<CategorySpeeds> + Drop> TracksideOver<G, S> {
-    // The packets of an accepted group are used: in rising number, equal numbers in the order of the message.
-    fn take_packets(
-        &mut self,
-        alloc: Global,
-        packets: &GroupPackets,
-        used: &Use,
-    ) -> Result<(), NoMemory>
-        ensures { OnOk result ((life : Life) (begun : Begun) (groups : Used) (message : Message) (announced : Option Announcement) (fix : Option Fix)
+    // The packets of an accepted group are used: in rising number, equal numbers in the order of the message. There is room for them,
+    // so that no memory is taken; so it is up to `close`.
+    fn take_packets(&mut self, packets: &GroupPackets, used: &Use)
+        requires { length packets.now ≤ room_in G.room S.room self.old }
+        ensures stands { (life : Life) (begun : Begun) (groups : Used) (message : Message) (announced : Option Announcement) (fix : Option Fix)
             → StandsForLife G.profile S.profile self.old (grown_so_far life begun (added (Accepted message announced fix []) groups))
-            → StandsForLife G.profile S.profile self.new (grown_so_far life begun (added (Accepted message announced fix (facts used.now packets.now)) groups))) }
+            → StandsForLife G.profile S.profile self.new (grown_so_far life begun (added (Accepted message announced fix (facts used.now packets.now)) groups)) }
+        ensures room { room_in G.room S.room self.old ≤ room_in G.room S.room self.new + length packets.now }
     {
-        take_all::<TracksideOver<G, S>, Earlier>(self, alloc, packets, used)?;
-        take_all::<TracksideOver<G, S>, Later>(self, alloc, packets, used)
+        take_all::<TracksideOver<G, S>, Earlier>(self, packets, used);
+        take_all::<TracksideOver<G, S>, Later>(self, packets, used);
     }
 
     // An accepted group is used.
-    fn accept(
-        &mut self,
-        alloc: Global,
-        mode: Mode,
-        message: &Message,
-        announced: &Option<Announcement>,
-    ) -> Result<(), NoMemory>
-        ensures { OnOk result ((life : Life) (begun : Begun) (used : Used)
+    fn accept(&mut self, mode: Mode, message: &Message, announced: &Option<Announcement>)
+        requires { length message.now.packets ≤ room_in G.room S.room self.old }
+        ensures stands { (life : Life) (begun : Begun) (used : Used)
             → StandsForLife G.profile S.profile self.old (grown_so_far life begun (added (accepted message.now announced.now) used))
-            → StandsForLife G.profile S.profile self.new (grown_so_far life begun (added (with_facts mode (so_far begun (added (accepted message.now announced.now) used) ∷ life.entries) message.now announced.now) used))) }
+            → StandsForLife G.profile S.profile self.new (grown_so_far life begun (added (with_facts mode (so_far begun (added (accepted message.now announced.now) used) ∷ life.entries) message.now announced.now) used)) }
+        ensures room { room_in G.room S.room self.old ≤ room_in G.room S.room self.new + length message.now.packets }
     {
         let free = self.is_free();
         let place = self.parts.fix(message, announced, free);
@@ -96,64 +90,58 @@ impl<G: ProfileStore<Permille> + Drop, S: ProfileStore<CategorySpeeds> + Drop> T
             moment: self.parts.moment,
             direction: direction_by(&message.direction, announced),
         };
-        self.take_packets(alloc, &message.packets, &used)
+        self.take_packets(&message.packets, &used);
     }
 
     // A whole group that was judged: one that is accepted is used.
-    fn follow(
-        &mut self,
-        alloc: Global,
-        mode: Mode,
-        message: &Message,
-        verdict: Verdict,
-    ) -> Result<(), NoMemory>
-        ensures { OnOk result ((life : Life) (begun : Begun) (used : Used)
+    fn follow(&mut self, mode: Mode, message: &Message, verdict: Verdict)
+        requires { length message.now.packets ≤ room_in G.room S.room self.old }
+        ensures stands { (life : Life) (begun : Begun) (used : Used)
             → StandsForLife G.profile S.profile self.old (grown_so_far life begun (added (ruled message.now verdict) used))
-            → StandsForLife G.profile S.profile self.new (grown_so_far life begun (added (outcome_of mode life.entries begun used message.now verdict) used))) }
+            → StandsForLife G.profile S.profile self.new (grown_so_far life begun (added (outcome_of mode life.entries begun used message.now verdict) used)) }
+        ensures room { room_in G.room S.room self.old ≤ room_in G.room S.room self.new + length message.now.packets }
     {
         match verdict {
-            Verdict::Accept(announced) => self.accept(alloc, mode, message, &announced),
-            Verdict::Ignore | Verdict::Reaction(_) => Ok(()),
+            Verdict::Accept(announced) => self.accept(mode, message, &announced),
+            Verdict::Ignore | Verdict::Reaction(_) => {}
         }
     }
 
     // A whole group.
-    fn close_whole(&mut self, alloc: Global, mode: Mode, message: &Message) -> Result<(), NoMemory>
-        ensures { OnOk result ((life : Life) (begun : Begun) (used : Used) → StandsForLife G.profile S.profile self.old (grown_so_far life begun used)
-            → StandsForLife G.profile S.profile self.new (grown_so_far life begun (after_group mode life.entries begun used (closed.Whole message.now)))) }
+    fn close_whole(&mut self, mode: Mode, message: &Message)
+        requires { length message.now.packets ≤ room_in G.room S.room self.old }
+        ensures stands { (life : Life) (begun : Begun) (used : Used) → StandsForLife G.profile S.profile self.old (grown_so_far life begun used)
+            → StandsForLife G.profile S.profile self.new (grown_so_far life begun (after_group mode life.entries begun used (closed.Whole message.now))) }
+        ensures room { room_in G.room S.room self.old ≤ room_in G.room S.room self.new + length message.now.packets }
     {
         let verdict = self.parts.judge(message);
-        self.follow(alloc, mode, message, verdict)
+        self.follow(mode, message, verdict);
     }
 
     // A group that closed. It stands out of line, since few events close one.
     #[inline(never)]
-    fn close_one(&mut self, alloc: Global, mode: Mode, group: &Closed) -> Result<(), NoMemory>
-        ensures { OnOk result ((life : Life) (begun : Begun) (used : Used) → StandsForLife G.profile S.profile self.old (grown_so_far life begun used)
-            → StandsForLife G.profile S.profile self.new (grown_so_far life begun (after_group mode life.entries begun used group.now))) }
+    fn close_one(&mut self, mode: Mode, group: &Closed)
+        requires { packets_of_closed (Some group.now) ≤ room_in G.room S.room self.old }
+        ensures stands { (life : Life) (begun : Begun) (used : Used) → StandsForLife G.profile S.profile self.old (grown_so_far life begun used)
+            → StandsForLife G.profile S.profile self.new (grown_so_far life begun (after_group mode life.entries begun used group.now)) }
+        ensures room { room_in G.room S.room self.old ≤ room_in G.room S.room self.new + packets_of_closed (Some group.now) }
     {
         match group {
-            Closed::Whole(message) => self.close_whole(alloc, mode, message),
-            Closed::Broken(broken) => {
-                self.parts.give_up(broken);
-                Ok(())
-            }
+            Closed::Whole(message) => self.close_whole(mode, message),
+            Closed::Broken(broken) => self.parts.give_up(broken),
         }
     }
 
     /// A group that closed, if one did.
-    pub(crate) fn close(
-        &mut self,
-        alloc: Global,
-        mode: Mode,
-        group: &Option<Closed>,
-    ) -> Result<(), NoMemory>
-        ensures { OnOk result ((life : Life) (begun : Begun) (used : Used) → StandsForLife G.profile S.profile self.old (grown_so_far life begun used)
-            → StandsForLife G.profile S.profile self.new (grown_so_far life begun (with_closed mode life.entries begun group.now used))) }
+    pub(crate) fn close(&mut self, mode: Mode, group: &Option<Closed>)
+        requires { packets_of_closed group.now ≤ room_in G.room S.room self.old }
+        ensures stands { (life : Life) (begun : Begun) (used : Used) → StandsForLife G.profile S.profile self.old (grown_so_far life begun used)
+            → StandsForLife G.profile S.profile self.new (grown_so_far life begun (with_closed mode life.entries begun group.now used)) }
+        ensures room { room_in G.room S.room self.old ≤ room_in G.room S.room self.new + packets_of_closed group.now }
     {
         match group {
-            None => Ok(()),
-            Some(group) => self.close_one(alloc, mode, group),
+            None => {}
+            Some(group) => self.close_one(mode, group),
         }
     }
 }

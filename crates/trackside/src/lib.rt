@@ -13,6 +13,7 @@ mod laws;
 mod looking;
 mod parts;
 mod receiving;
+mod rooms;
 mod state;
 mod using;
 

@@ -40,14 +40,6 @@ impl Parts {
         self.national.reach(train.max_front());
         self.level.reach(train.max_front())
     }
-
-    // The restrictions before a place are forgotten.
-    fn forget(&mut self, mark: Cm)
-        ensures { (life : Life) (begun : Begun) (used : Used) (train : Option Span) (mode : Option Mode) → self.old ≡ parts_of (grown life (turned begun used train mode))
-            → self.new ≡ parts_of (grown life (marked begun used train mode mark)) }
-    {
-        self.restrictions.drop_behind(mark);
-    }
 }
 
 impl<G: ProfileStore<Permille> + Drop, S: ProfileStore<CategorySpeeds> + Drop> TracksideOver<G, S> {
@@ -70,7 +62,7 @@ impl<G: ProfileStore<Permille> + Drop, S: ProfileStore<CategorySpeeds> + Drop> T
             → StandsForLife G.profile S.profile self.old (grown life (turned begun used train mode))
             → StandsForLife G.profile S.profile self.new (grown life (marked begun used train mode mark)) }
     {
-        self.parts.forget(mark);
+        self.restrictions.drop_behind(mark);
         self.gradients.drop_behind(mark);
         self.speeds.drop_behind(mark);
     }

@@ -1,4 +1,4 @@
-ghost use Rattle.std.specs.Prelude.{◌≡◌, [], IfOk};
+ghost use Rattle.std.specs.Prelude.{◌≡◌, []};
 ghost use Rattle.trackside.specs.StandsFor.{parts_of};
 
 use crate::happened::Happened;
@@ -8,13 +8,11 @@ use balise_groups::Assembler;
 use linking::Links;
 use national::{CountryValues, National};
 use odometry::Place;
-use std::alloc::Global;
 use std::marker::Model;
-use track_store::Restrictions;
-use units::{Mph, Ms, NoMemory};
+use units::{Mph, Ms};
 use vars::GroupIdentity;
 
-/// What is known but for the profiles of the track.
+/// What is known but for the restrictions and the profiles of the track: it takes no memory.
 #[derive(Drop)]
 pub struct Parts {
     /// Where the train's front is.
@@ -29,8 +27,6 @@ pub struct Parts {
     pub links: Links,
     /// The national values in force and announced.
     pub national: National,
-    /// The temporary speed restrictions.
-    pub restrictions: Restrictions,
     /// The last moment of the clock, in milliseconds.
     pub moment: Ms,
     /// The movement authority.
@@ -57,7 +53,6 @@ impl Model for Parts {
       groups = p.groups;
       links = p.links;
       national = p.national;
-      restrictions = p.restrictions;
       moment = p.moment;
       authority = p.authority;
       areas = p.areas;
@@ -68,8 +63,8 @@ impl Model for Parts {
 }
 
 impl Parts {
-    /// What is known as a life begins. Takes no memory.
-    pub fn new(alloc: Global, kept: CountryValues) -> Self
+    /// What is known as a life begins.
+    pub fn new(kept: CountryValues) -> Self
         ensures { result ≡ parts_of (record { kept = kept; entries = [] }) }
     {
         Parts {
@@ -79,7 +74,6 @@ impl Parts {
             groups: Assembler::new(),
             links: Links::new(),
             national: National::kept(kept),
-            restrictions: Restrictions::new(alloc),
             moment: Ms::new(0).unwrap(),
             authority: Authority::new(),
             areas: Areas::new(),
@@ -89,24 +83,23 @@ impl Parts {
         }
     }
 
-    /// An equal value; NoMemory where it is refused.
-    pub fn copy(&self, alloc: Global) -> Result<Self, NoMemory>
-        ensures { IfOk result (λ copy. copy ≡ self.now) }
+    /// An equal value.
+    pub fn copy(&self) -> Self
+        ensures { result ≡ self.now }
     {
-        Ok(Parts {
+        Parts {
             place: self.place,
             group: self.group,
             speed: self.speed,
             groups: self.groups.copy(),
             links: self.links.copy(),
             national: self.national.copy(),
-            restrictions: self.restrictions.copy(alloc)?,
             moment: self.moment,
             authority: self.authority.copy(),
             areas: self.areas.copy(),
             level: self.level,
             happened: self.happened,
             stopped: self.stopped,
-        })
+        }
     }
 }

@@ -1,11 +1,12 @@
 //! What an input does: its own effect, and then that of the groups which it closes.
-ghost use Rattle.std.specs.Prelude.{◌≡◌, ℕ, true, false, List, ◌∷◌, IsOk, OnOk, Some, None, is_none};
+ghost use Rattle.std.specs.Prelude.{◌≡◌, ◌≤◌, ◌+◌, ℕ, length, true, false, List, ◌∷◌, IsOk, OnOk, OnErr, Some, None, is_none};
 ghost use Rattle.events.specs.declared.input.Reading.{Reading as Told};
+ghost use Rattle.balise_groups.specs.Rooms.{packets_in, packets_of_closed};
 ghost use Rattle.trackside.specs.Bytes.{telegram_in};
 ghost use Rattle.trackside.specs.Entry.{nothing_happened, no_groups};
 ghost use Rattle.trackside.specs.History.{groups_of};
 ghost use Rattle.trackside.specs.Sentences.{nothing, moved, happened_by, heard, begun, closed_by, with_groups, used_by, received};
-ghost use Rattle.trackside.specs.StandsFor.{Life, StandsForLife, parts_of, grown, grown_so_far};
+ghost use Rattle.trackside.specs.StandsFor.{Life, StandsForLife, parts_of, grown, grown_so_far, room_in};
 ghost use Rattle.trackside.specs.Steps.{left_by, after_moving, still_reading, is_quiet};
 
 use crate::happened::Happened;
@@ -15,7 +16,6 @@ use balise_groups::{Closed, Reading as GroupReading, Taken};
 use events::{Input, Reading};
 use mode_table::Mode;
 use speed_profile::CategorySpeeds;
-use std::alloc::Global;
 use telegram::Received;
 use track_store::ProfileStore;
 use units::{Ms, NoMemory, Permille};
@@ -42,6 +42,7 @@ impl Parts {
         ensures moved { (life : Life) → self.old ≡ parts_of life → self.new ≡ still_reading life reading.now }
         ensures none { (life : Life) → self.old ≡ parts_of life → result ≡ false → left_by life.entries reading.now ≡ None }
         ensures idle { is_none self.old.groups.current ≡ true → result ≡ false }
+        ensures groups { self.new.groups ≡ self.old.groups }
         ensures stands { (life : Life) → self.old ≡ parts_of life → result ≡ false
             → self.new ≡ parts_of (grown_so_far life (moved life.entries reading.now) (after_moving life.entries reading.now)) }
     {
@@ -58,6 +59,7 @@ impl Parts {
         ensures answer { (life : Life) (reading : Told) → self.old ≡ still_reading life reading → result ≡ left_by life.entries reading }
         ensures stands { (life : Life) (reading : Told) → self.old ≡ still_reading life reading
             → self.new ≡ parts_of (grown_so_far life (moved life.entries reading) (after_moving life.entries reading)) }
+        ensures packets { packets_of_closed result ≤ packets_in self.old.groups.readings }
     {
         self.groups.moved(self.place.sums().path())
     }
@@ -68,6 +70,8 @@ impl Parts {
             → result ≡ closed_by (groups_of life.entries) (heard life.entries bytes).heard }
         ensures stands { (life : Life) (bytes : List ℕ) → self.old ≡ parts_of life → telegram_in bytes ≡ Some telegram
             → self.new ≡ parts_of (grown_so_far life (heard life.entries bytes) no_groups) }
+        ensures packets { packets_of_closed result.ended + packets_of_closed result.whole
+            ≤ packets_in self.old.groups.readings + length telegram.packets.items }
     {
         self.begin();
         self.groups.take(GroupReading {
@@ -88,41 +92,73 @@ impl Parts {
 }
 
 impl<G: ProfileStore<Permille> + Drop, S: ProfileStore<CategorySpeeds> + Drop> TracksideOver<G, S> {
-    // A movement, and the group that closed by it.
-    fn move_by(&mut self, alloc: Global, mode: Mode, reading: &Reading) -> Result<(), NoMemory>
+    // A movement while a group is being read, and the group that closes by it. There is room for its packets.
+    fn move_on(&mut self, mode: Mode, reading: &Reading)
+        requires { packets_in self.old.parts.groups.readings ≤ room_in G.room S.room self.old }
+        ensures { (life : Life) → StandsForLife G.profile S.profile self.old life
+            → StandsForLife G.profile S.profile self.new (grown_so_far life (moved life.entries reading.now)
+            (with_groups mode life.entries (moved life.entries reading.now) (happened_by life.entries reading.now))) }
+    {
+        if self.parts.go(reading) {
+            let ended = self.parts.leave();
+            self.close(mode, &ended);
+        }
+    }
+
+    // A movement, and the group that closed by it. Where memory is refused, nothing changes.
+    fn move_by(&mut self, mode: Mode, reading: &Reading) -> Result<(), NoMemory>
         ensures idle { is_none self.old.parts.groups.current ≡ true → IsOk result }
         ensures stands { OnOk result ((life : Life) → StandsForLife G.profile S.profile self.old life
             → StandsForLife G.profile S.profile self.new (grown_so_far life (moved life.entries reading.now)
             (with_groups mode life.entries (moved life.entries reading.now) (happened_by life.entries reading.now)))) }
+        ensures err { OnErr result (self.new ≡ self.old) }
     {
-        if !self.parts.go(reading) {
+        if self.parts.groups.is_idle() {
+            self.parts.go(reading);
             return Ok(());
         }
-        let ended = self.parts.leave();
-        self.close(alloc, mode, &ended)
+        let packets = self.parts.groups.packets();
+        self.make_room(packets)?;
+        self.move_on(mode, reading);
+        Ok(())
     }
 
-    // A telegram: the group that it ends closes, and behind that its own where that is whole now. It stands out of line, so that other
-    // inputs clear no room for groups.
-    #[inline(never)]
-    fn take(&mut self, alloc: Global, mode: Mode, telegram: Received) -> Result<(), NoMemory>
-        ensures { OnOk result ((life : Life) (bytes : List ℕ) → StandsForLife G.profile S.profile self.old life → telegram_in bytes ≡ Some telegram
+    // A telegram: the group that it ends closes, and behind that its own where that is whole now. There is room for the packets of both.
+    fn take(&mut self, mode: Mode, telegram: Received)
+        requires { packets_in self.old.parts.groups.readings + length telegram.packets.items ≤ room_in G.room S.room self.old }
+        ensures { (life : Life) (bytes : List ℕ) → StandsForLife G.profile S.profile self.old life → telegram_in bytes ≡ Some telegram
             → StandsForLife G.profile S.profile self.new (grown_so_far life (heard life.entries bytes)
-            (with_groups mode life.entries (heard life.entries bytes) nothing_happened))) }
+            (with_groups mode life.entries (heard life.entries bytes) nothing_happened)) }
     {
         let taken = self.parts.hear(telegram);
-        self.close(alloc, mode, &taken.ended)?;
-        self.close(alloc, mode, &taken.whole)
+        self.close(mode, &taken.ended);
+        self.close(mode, &taken.whole);
+    }
+
+    // A telegram, once there is room for what it may close. It stands out of line, so that other inputs clear no room for groups.
+    // Where memory is refused, nothing changes.
+    #[inline(never)]
+    fn read(&mut self, mode: Mode, telegram: Received) -> Result<(), NoMemory>
+        ensures stands { OnOk result ((life : Life) (bytes : List ℕ) → StandsForLife G.profile S.profile self.old life → telegram_in bytes ≡ Some telegram
+            → StandsForLife G.profile S.profile self.new (grown_so_far life (heard life.entries bytes)
+            (with_groups mode life.entries (heard life.entries bytes) nothing_happened))) }
+        ensures err { OnErr result (self.new ≡ self.old) }
+    {
+        let packets = self.parts.groups.packets() + telegram.packets().len() as usize;
+        self.make_room(packets)?;
+        self.take(mode, telegram);
+        Ok(())
     }
 
     // The bytes of a balise. Those that carry no telegram do nothing.
-    fn listen(&mut self, alloc: Global, mode: Mode, bytes: &[u8]) -> Result<(), NoMemory>
-        ensures { OnOk result ((life : Life) → StandsForLife G.profile S.profile self.old life
+    fn listen(&mut self, mode: Mode, bytes: &[u8]) -> Result<(), NoMemory>
+        ensures stands { OnOk result ((life : Life) → StandsForLife G.profile S.profile self.old life
             → StandsForLife G.profile S.profile self.new (grown_so_far life (heard life.entries bytes.now)
             (with_groups mode life.entries (heard life.entries bytes.now) nothing_happened))) }
+        ensures err { OnErr result (self.new ≡ self.old) }
     {
         match Received::new(bytes) {
-            Ok(telegram) => self.take(alloc, mode, telegram),
+            Ok(telegram) => self.read(mode, telegram),
             Err(_) => {
                 self.parts.pass_over();
                 Ok(())
@@ -131,16 +167,17 @@ impl<G: ProfileStore<Permille> + Drop, S: ProfileStore<CategorySpeeds> + Drop> T
     }
 
     /// What an input brings in a mode, and the groups that it closes: first its own effect, then each group is judged, makes its
-    /// fix, and the packets are used that the mode uses. Where memory is refused, the state is no longer of use; a quiet input is
-    /// never refused any.
-    pub fn receive(&mut self, alloc: Global, mode: Mode, input: &Input) -> Result<(), NoMemory>
+    /// fix, and the packets are used that the mode uses. Room is made first for all that they may add; where memory is refused for it,
+    /// nothing changes. A quiet input is never refused any.
+    pub fn receive(&mut self, mode: Mode, input: &Input) -> Result<(), NoMemory>
         ensures quiet { is_quiet self.old.parts input.now ≡ true → IsOk result }
         ensures stands { OnOk result ((life : Life) → StandsForLife G.profile S.profile self.old life
             → StandsForLife G.profile S.profile self.new (grown life (received mode life.entries input.now))) }
+        ensures err { OnErr result (self.new ≡ self.old) }
     {
         match input {
-            Input::Telegram(bytes) => self.listen(alloc, mode, bytes.as_slice()),
-            Input::Odometer(reading) => self.move_by(alloc, mode, reading),
+            Input::Telegram(bytes) => self.listen(mode, bytes.as_slice()),
+            Input::Odometer(reading) => self.move_by(mode, reading),
             Input::Clock(moment) => {
                 self.parts.tick(*moment);
                 Ok(())
@@ -149,18 +186,6 @@ impl<G: ProfileStore<Permille> + Drop, S: ProfileStore<CategorySpeeds> + Drop> T
                 self.parts.pass_over();
                 Ok(())
             }
-        }
-    }
-
-    /// Whether no group can close by an input: a moment of the clock, an action of the driver, and a reading while no group is being
-    /// read. Such an input takes no memory.
-    pub fn is_quiet(&self, input: &Input) -> bool
-        ensures { result ≡ is_quiet self.now.parts input.now }
-    {
-        match input {
-            Input::Telegram(_) => false,
-            Input::Odometer(_) => self.parts.groups.is_idle(),
-            Input::Clock(_) | Input::Driver(_) => true,
         }
     }
 }

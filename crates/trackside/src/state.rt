@@ -6,13 +6,14 @@ use national::CountryValues;
 use speed_profile::CategorySpeeds;
 use std::alloc::Global;
 use std::marker::Model;
-use track_store::{ProfileStore, SegmentStore};
+use track_store::{ProfileStore, Restrictions, SegmentStore};
 use units::{NoMemory, Permille};
 
 /// What the track sent and where the train is, with stores for the gradients and the static speeds.
 #[derive(Drop)]
 pub struct TracksideOver<G, S> {
     pub(crate) parts: Parts,
+    pub(crate) restrictions: Restrictions,
     pub(crate) gradients: G,
     pub(crate) speeds: S,
 }
@@ -25,7 +26,7 @@ impl<G, S> Model for TracksideOver<G, S> {
 
     ghost Value = { Knowledge G S };
 
-    ghost view = { λ s. record { parts = s.parts; gradients = s.gradients; speeds = s.speeds } };
+    ghost view = { λ s. record { parts = s.parts; restrictions = s.restrictions; gradients = s.gradients; speeds = s.speeds } };
 }
 
 impl<G: ProfileStore<Permille> + Drop, S: ProfileStore<CategorySpeeds> + Drop> TracksideOver<G, S> {
@@ -34,7 +35,8 @@ impl<G: ProfileStore<Permille> + Drop, S: ProfileStore<CategorySpeeds> + Drop> T
         ensures { StandsForLife G.profile S.profile result (record { kept = kept; entries = [] }) }
     {
         TracksideOver {
-            parts: Parts::new(alloc, kept),
+            parts: Parts::new(kept),
+            restrictions: Restrictions::new(alloc),
             gradients: G::empty(alloc),
             speeds: S::empty(alloc),
         }
@@ -45,7 +47,8 @@ impl<G: ProfileStore<Permille> + Drop, S: ProfileStore<CategorySpeeds> + Drop> T
         ensures { IfOk result (λ copy. copy ≡ self.now) }
     {
         Ok(TracksideOver {
-            parts: self.parts.copy(alloc)?,
+            parts: self.parts.copy(),
+            restrictions: self.restrictions.copy(alloc)?,
             gradients: self.gradients.copy(alloc)?,
             speeds: self.speeds.copy(alloc)?,
         })

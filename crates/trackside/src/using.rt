@@ -1,9 +1,10 @@
 //! How the packets of a group that was accepted are used. They are taken in rising number, equal numbers in the order of the
 //! message, and most kinds go to a part of their own: so two walks over the message are enough.
-ghost use Rattle.std.specs.Prelude.{◌≡◌, OnOk, if◌then◌else◌};
+ghost use Rattle.std.specs.Prelude.{◌≡◌, ◌+◌, ◌≤◌, ℕ, length, if◌then◌else◌};
 ghost use Rattle.trackside.specs.Entry.{Fact};
 ghost use Rattle.trackside.specs.History.{after_facts};
 ghost use Rattle.trackside.specs.Sentences.{is_passed, valid_in, is_used};
+ghost use Rattle.trackside.specs.StandsFor.{room_in};
 ghost use Rattle.trackside.specs.Steps.{fact_of, facts};
 ghost use Rattle.trackside.specs.Told.{Told as AllTold, IsTold as IsAllTold, known_of, after_earlier, after_later};
 
@@ -23,9 +24,8 @@ use balise_groups::GroupPackets;
 use mode_table::{Mode, uses};
 use packets::Packet;
 use speed_profile::CategorySpeeds;
-use std::alloc::Global;
 use track_store::ProfileStore;
-use units::{GroupPlace, Ms, NoMemory, Permille};
+use units::{GroupPlace, Ms, Permille};
 use vars::{GroupIdentity, LinkOrientation, ValidityDirection, Variable};
 
 /// How the packets of a group are used.
@@ -83,54 +83,53 @@ fn is_used(packet: &Packet<'_>, used: &Use) -> bool
     uses(used.mode, packet.number().number() as u8) && is_passed(valid, &used.direction)
 }
 
-/// A walk over the packets of a message, and what a state takes of them one after another.
+/// A walk over the packets of a message, and what a state takes of them one after another. It takes no memory, in the room that was
+/// made for so many packets of the walk, and for more behind them.
 pub trait Walk<T> {
     ghost Told: { Type 0 };
 
     ghost IsTold: { T → Told → Type 0 };
 
+    ghost HasRoom: { ℕ → ℕ → T → Type 0 };
+
     ghost after: { Fact → Told → Told };
 
-    /// Takes what concerns this walk of a packet that is used. Where memory is refused, the state is no longer of use.
-    fn take(state: &mut T, alloc: Global, packet: &Packet<'_>, used: &Use) -> Result<(), NoMemory>
-        ensures { OnOk result ((told : Told) → IsTold state.old told → IsTold state.new (after (fact_of used.now packet.now) told)) };
+    /// Takes what concerns this walk of a packet that is used.
+    fn take(state: &mut T, packet: &Packet<'_>, used: &Use)
+        requires { (left : ℕ) × HasRoom (left + 1) 0 state.old }
+        ensures told { (told : Told) → IsTold state.old told → IsTold state.new (after (fact_of used.now packet.now) told) }
+        ensures room { (left behind : ℕ) → HasRoom (left + 1) behind state.old → HasRoom left behind state.new };
+
+    ghost less: { (left behind : ℕ) (state : T) → HasRoom (left + 1) behind state → HasRoom left behind state };
 }
 
 // One packet of a walk.
-fn take_one<T, W: Walk<T>>(
-    state: &mut T,
-    alloc: Global,
-    packet: &Packet<'_>,
-    used: &Use,
-) -> Result<(), NoMemory>
-    ensures { OnOk result ((told : W.Told) → W.IsTold state.old told
-        → W.IsTold state.new (if is_used used.now.mode used.now.direction packet.now then W.after (fact_of used.now packet.now) told else told)) }
+fn take_one<T, W: Walk<T>>(state: &mut T, packet: &Packet<'_>, used: &Use)
+    requires { (left : ℕ) × W.HasRoom (left + 1) 0 state.old }
+    ensures told { (told : W.Told) → W.IsTold state.old told
+        → W.IsTold state.new (if is_used used.now.mode used.now.direction packet.now then W.after (fact_of used.now packet.now) told else told) }
+    ensures room { (left behind : ℕ) → W.HasRoom (left + 1) behind state.old → W.HasRoom left behind state.new }
 {
     if is_used(packet, used) {
-        W::take(state, alloc, packet, used)?;
+        W::take(state, packet, used);
     }
-    Ok(())
 }
 
 /// A whole walk.
-pub fn take_all<T, W: Walk<T>>(
-    state: &mut T,
-    alloc: Global,
-    packets: &GroupPackets,
-    used: &Use,
-) -> Result<(), NoMemory>
-    ensures { OnOk result ((told : W.Told) → W.IsTold state.old told → W.IsTold state.new (after_facts W.after (facts used.now packets.now) told)) }
+pub fn take_all<T, W: Walk<T>>(state: &mut T, packets: &GroupPackets, used: &Use)
+    requires { W.HasRoom (length packets.now) 0 state.old }
+    ensures told { (told : W.Told) → W.IsTold state.old told → W.IsTold state.new (after_facts W.after (facts used.now packets.now) told) }
+    ensures room { (behind : ℕ) → W.HasRoom (length packets.now) behind state.old → W.HasRoom 0 behind state.new }
 {
     for item in packets.iter() {
-        take_one::<T, W>(state, alloc, item.packet(), used)?;
+        take_one::<T, W>(state, item.packet(), used);
     }
-    Ok(())
 }
 
 impl Parts {
     // Takes what a packet has for one of these parts in the first walk.
-    fn tell(&mut self, alloc: Global, packet: &Packet<'_>, used: &Use) -> Result<(), NoMemory>
-        ensures { OnOk result ((told : AllTold) → self.old ≡ known_of told → self.new ≡ known_of (after_earlier (fact_of used.now packet.now) told)) }
+    fn tell(&mut self, packet: &Packet<'_>, used: &Use)
+        ensures { (told : AllTold) → self.old ≡ known_of told → self.new ≡ known_of (after_earlier (fact_of used.now packet.now) told) }
     {
         values::take(&mut self.national, packet, used);
         links::take(&mut self.links, packet, used);
@@ -138,14 +137,12 @@ impl Parts {
         grants::note_stop(&mut self.stopped, packet);
         mode_areas::clear(&mut self.areas, packet);
         levels::take(&mut self.level, packet, used);
-        restrictions::take(&mut self.restrictions, alloc, packet, used)
     }
 
     // .. and in the second.
     fn tell_later(&mut self, packet: &Packet<'_>, used: &Use)
         ensures { (told : AllTold) → self.old ≡ known_of told → self.new ≡ known_of (after_later (fact_of used.now packet.now) told) }
     {
-        revocations::take(&mut self.restrictions, packet, used);
         mode_areas::take(&mut self.areas, packet, used);
     }
 }
@@ -156,26 +153,28 @@ pub struct Earlier;
 impl<G: ProfileStore<Permille> + Drop, S: ProfileStore<CategorySpeeds> + Drop> Walk<
     TracksideOver<G, S>,
 > for Earlier {
+    ghost use Rattle.std.proofs.Common.{arith};
+
     ghost Told = { AllTold };
 
     ghost IsTold = { λ state told. IsAllTold G.profile S.profile state told };
 
+    ghost HasRoom = { λ left behind state. left + behind ≤ room_in G.room S.room state };
+
     ghost after = { after_earlier };
 
-    fn take(
-        state: &mut TracksideOver<G, S>,
-        alloc: Global,
-        packet: &Packet<'_>,
-        used: &Use,
-    ) -> Result<(), NoMemory> {
-        let mark = state.parts.restrictions.mark();
-        state.parts.tell(alloc, packet, used)?;
-        gradients::take(&mut state.gradients, mark, packet, used)?;
-        speeds::take(&mut state.speeds, mark, packet, used)
+    ghost less = { λ left behind state room. omega arith };
+
+    fn take(state: &mut TracksideOver<G, S>, packet: &Packet<'_>, used: &Use) {
+        let mark = state.restrictions.mark();
+        state.parts.tell(packet, used);
+        restrictions::take(&mut state.restrictions, packet, used);
+        gradients::take(&mut state.gradients, mark, packet, used);
+        speeds::take(&mut state.speeds, mark, packet, used);
     }
 }
 
-/// The walk over the revocations, behind the restrictions, and over the mode areas, behind the authorities.
+/// The walk over the revocations, behind the restrictions, and over the mode areas, behind the authorities. It needs no room.
 pub struct Later;
 
 impl<G: ProfileStore<Permille> + Drop, S: ProfileStore<CategorySpeeds> + Drop> Walk<
@@ -185,15 +184,14 @@ impl<G: ProfileStore<Permille> + Drop, S: ProfileStore<CategorySpeeds> + Drop> W
 
     ghost IsTold = { λ state told. IsAllTold G.profile S.profile state told };
 
+    ghost HasRoom = { λ left behind state. behind ≤ room_in G.room S.room state };
+
     ghost after = { after_later };
 
-    fn take(
-        state: &mut TracksideOver<G, S>,
-        _alloc: Global,
-        packet: &Packet<'_>,
-        used: &Use,
-    ) -> Result<(), NoMemory> {
+    ghost less = { λ left behind state room. room };
+
+    fn take(state: &mut TracksideOver<G, S>, packet: &Packet<'_>, used: &Use) {
         state.parts.tell_later(packet, used);
-        Ok(())
+        revocations::take(&mut state.restrictions, packet, used);
     }
 }

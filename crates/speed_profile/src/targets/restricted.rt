@@ -32,7 +32,7 @@ impl<'a> Model for RestrictionTargets<'a> {
 impl<'a> RestrictionTargets<'a> {
     /// The restrictions that are covered ahead of a front.
     pub fn new(front: Cm, restrictions: &'a Restrictions) -> RestrictionTargets<'a>
-        ensures { result.targets ≡ over_ahead front (restriction_targets restrictions.now.mark restrictions.now.restrictions) }
+        ensures { result.targets ≡ over_ahead front (restriction_targets restrictions.now.track.mark restrictions.now.track.restrictions) }
     {
         RestrictionTargets {
             front,

@@ -7,14 +7,14 @@ use units::Cm;
 impl Restrictions {
     /// The forgetting mark: no track before it counts.
     pub fn mark(&self) -> Cm
-        ensures { result ≡ self.now.mark }
+        ensures { result ≡ self.now.track.mark }
     {
         self.mark
     }
 
     /// The restrictions in force, each with track at or ahead of the mark.
     pub fn as_slice(&self) -> &[Restriction]
-        ensures { result.now ≡ self.now.restrictions }
+        ensures { result.now ≡ self.now.track.restrictions }
     {
         self.items.as_slice()
     }

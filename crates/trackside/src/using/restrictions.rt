@@ -1,14 +1,13 @@
 //! Temporary speed restrictions (packet 65).
-ghost use Rattle.std.specs.Prelude.{◌≡◌, List, OnOk};
+ghost use Rattle.std.specs.Prelude.{◌≡◌, ◌≤◌, ◌+◌, List};
 ghost use Rattle.track_store.specs.Restrictions.{Entry, in_force};
 ghost use Rattle.trackside.specs.History.{restriction_of, after_restriction};
 ghost use Rattle.trackside.specs.Steps.{fact_of};
 
 use crate::using::Use;
 use packets::{Packet, SpeedRestriction};
-use std::alloc::Global;
 use track_store::{Restriction, Restrictions};
-use units::{GroupPlace, NoMemory};
+use units::GroupPlace;
 
 // A restriction where it lies on the track, its group being at a place.
 fn restriction_of(packet: &SpeedRestriction, at: GroupPlace) -> Restriction
@@ -23,19 +22,15 @@ fn restriction_of(packet: &SpeedRestriction, at: GroupPlace) -> Restriction
     }
 }
 
-/// Takes a packet, where it is a restriction.
-pub fn take(
-    restrictions: &mut Restrictions,
-    alloc: Global,
-    packet: &Packet<'_>,
-    used: &Use,
-) -> Result<(), NoMemory>
-    ensures { OnOk result ((entries : List Entry) → restrictions.old ≡ in_force entries
-        → restrictions.new ≡ in_force (after_restriction (fact_of used.now packet.now) entries)) }
+/// Takes a packet, where it is a restriction, in the room for one.
+pub fn take(restrictions: &mut Restrictions, packet: &Packet<'_>, used: &Use)
+    requires { 1 ≤ restrictions.old.room }
+    ensures track { (entries : List Entry) → restrictions.old.track ≡ in_force entries
+        → restrictions.new.track ≡ in_force (after_restriction (fact_of used.now packet.now) entries) }
+    ensures room { restrictions.old.room ≤ restrictions.new.room + 1 }
 {
     let Packet::SpeedRestriction(packet) = packet else {
-        return Ok(());
+        return;
     };
-    restrictions.add(alloc, restriction_of(packet, used.place))?;
-    Ok(())
+    restrictions.add_reserved(restriction_of(packet, used.place));
 }

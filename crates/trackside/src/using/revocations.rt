@@ -10,8 +10,9 @@ use track_store::Restrictions;
 
 /// Takes a packet, where it is a revocation.
 pub fn take(restrictions: &mut Restrictions, packet: &Packet<'_>, used: &Use)
-    ensures { (entries : List Entry) → restrictions.old ≡ in_force entries
-        → restrictions.new ≡ in_force (after_revocation (fact_of used.now packet.now) entries) }
+    ensures track { (entries : List Entry) → restrictions.old.track ≡ in_force entries
+        → restrictions.new.track ≡ in_force (after_revocation (fact_of used.now packet.now) entries) }
+    ensures room { restrictions.new.room ≡ restrictions.old.room }
 {
     if let Packet::RestrictionRevocation(packet) = packet {
         restrictions.revoke(packet.number);

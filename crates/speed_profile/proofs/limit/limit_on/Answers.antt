@@ -18,5 +18,5 @@ returns g c =
     c.least_over-least.ensures
     ∙ (λ i. least (bound i) (over (λ place. listed (limiting_value category (c.min_front.ensures.value i) place (profile place)))
     (c.rear.ensures.value i) (c.max_front-2.ensures.value i))) in
-    let restricted = c.least-restricted.ensures ∙ ap (least_speed track.restrictions.now train) static in
+    let restricted = c.least-restricted.ensures ∙ ap (least_speed track.restrictions.now.track train) static in
     c.least.ensures ∙ ap (λ speed. least_in_areas track.national train speed track.areas.now) restricted

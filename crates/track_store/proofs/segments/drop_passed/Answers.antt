@@ -1,4 +1,4 @@
-use Rattle.std.proofs.Common.{◌≡◌, true, ap, sym, subst, ◌∙◌}
+use Rattle.std.proofs.Common.{◌≡◌, true, ap, sym, subst, ◌∙◌, arith}
 use Rattle.track_store.specs.Facts.{from_mark}
 use Rattle.track_store.specs.Segments.{value_of_segments, IsKeptBehind, is_first_passed}
 use Rattle.track_store.proofs.Apart.{value_of_rest, kept_rest}
@@ -12,4 +12,6 @@ loop-mark-preserved g c =
       λ place. ap (λ rest. from_mark c.args.mark (value_of_segments rest) place) c.remove.ensures.items
           ∙ value_of_rest c.args.mark segments passed place ∙ c.loop-mark.invariant.0 place,
       subst IsKeptBehind (sym c.remove.ensures.items) (kept_rest segments c.loop-mark.invariant.1),
+      omega arith,
+      c.remove.ensures.capacity ∙ c.loop-mark.invariant.3,
     )

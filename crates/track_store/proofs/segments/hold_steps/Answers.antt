@@ -1,4 +1,4 @@
-use Rattle.std.proofs.Common.{◌≡◌, ℤ, ◌+◌, ◌∷◌, drop, ap, sym, ◌∙◌, arith}
+use Rattle.std.proofs.Common.{◌≡◌, ℤ, ◌+◌, ◌∷◌, drop, ap, sym, ◌∙◌, arith, rules}
 use Rattle.std.specs.Prelude.{None}
 use Rattle.std.specs.Int.{int_max}
 use Rattle.std.proofs.lemmas.Int.{ints}
@@ -31,6 +31,8 @@ loop-step-preserved g c =
           ∙ c.loop-step.invariant.1 place h)),
       c.hold_from-in-loop-step.ensures.kept,
       omega arith,
+      omega arith,
+      search rules,
     )
 
 pub returns-in-Some-clause-value : goal.returns-in-Some-clause-value

@@ -12,3 +12,5 @@ invariant-loop-step g l =
     last_value (value_of_segments l.segments.items place) (passed place (drop l.step-index l.steps)) ≡ last_value None (passed place l.steps))
     × IsKept l.segments.items
     × (vec_len l.segments + length l.steps + 1 ≤ vec_capacity l.segments + l.step-index)
+    × (vec_len l.segments ≤ vec_len l.initial.segments + l.step-index)
+    × (vec_capacity l.segments ≡ vec_capacity l.initial.segments)

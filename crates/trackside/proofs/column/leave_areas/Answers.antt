@@ -1,6 +1,5 @@
-use Rattle.std.proofs.Common.{Bool, List, cond, ap, sym, ◌∙◌}
+use Rattle.std.proofs.Common.{Bool, cond, ap, sym, ◌∙◌}
 use Rattle.areas.specs.Areas.{stored}
-use Rattle.areas.specs.Entries.{Entry}
 use Rattle.trackside.specs.History.{areas_deleted}
 use Rattle.trackside.proofs.column.leave_areas.Goals as goal
 

@@ -1,5 +1,5 @@
-use Rattle.std.proofs.Common.{Bool, List, cond, ap, sym, ◌∙◌}
-use Rattle.areas.specs.Levels.{Entry, waiting}
+use Rattle.std.proofs.Common.{Bool, cond, ap, sym, ◌∙◌}
+use Rattle.areas.specs.Levels.{waiting}
 use Rattle.trackside.specs.History.{level_deleted}
 use Rattle.trackside.proofs.column.leave_level.Goals as goal
 

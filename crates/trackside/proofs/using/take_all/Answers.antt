@@ -1,20 +1,30 @@
-use Rattle.std.proofs.Common.{List, ◌∷◌, ap, sym, ◌∙◌}
+use Rattle.std.proofs.Common.{◌≡◌, ℕ, ◌+◌, List, ◌∷◌, length, ap, sym, subst, add-one, ◌∙◌}
 use Rattle.packets.specs.declared.packet.Packet.{Packet}
 use Rattle.trackside.specs.History.{after_facts}
 use Rattle.trackside.specs.Steps.{facts}
 use Rattle.trackside.proofs.Walking.{one_packet}
 use Rattle.trackside.proofs.using.take_all.Goals as goal
 
+-- one packet more is still to come
+pub take_one-requires : goal.take_one-requires
+take_one-requires g c =
+    let one : length c.loop-item.item-iterator ≡ length c.next.new.self + 1 = rw add-one (ap length c.in-Some.ensures.steps) in
+    (length c.next.new.self, subst (λ (n : ℕ). g.W.Walk.HasRoom n 0 c.loop-item.state) one (c.loop-item.invariant.1 0 c.requires))
+
 pub loop-item-preserved : goal.loop-item-preserved
-loop-item-preserved g c told s =
-    let before = c.loop-item.invariant told s in
-    let used = c.args.used.now in
-    let rest = c.next.new.self in
-    let packet = c.packet.result.now in (
-      _,
-      c.in_ok-take_one.ensures before.0 before.1,
-      sym (one_packet g.W.Walk.after used packet rest before.0)
-          ∙ ap (λ (p : Packet). after_facts g.W.Walk.after (facts used (p ∷ rest)) before.0) c.packet.ensures
-          ∙ sym (ap (λ (ps : List Packet). after_facts g.W.Walk.after (facts used ps) before.0) c.in-Some.ensures.steps)
-          ∙ before.2,
+loop-item-preserved g c =
+    let one : length c.loop-item.item-iterator ≡ length c.next.new.self + 1 = rw add-one (ap length c.in-Some.ensures.steps) in (
+      λ told s. (let before = c.loop-item.invariant.0 told s in
+          let used = c.args.used.now in
+          let rest = c.next.new.self in
+          let packet = c.packet.result.now in (
+            _,
+            c.take_one.ensures.told before.0 before.1,
+            sym (one_packet g.W.Walk.after used packet rest before.0)
+                ∙ ap (λ (p : Packet). after_facts g.W.Walk.after (facts used (p ∷ rest)) before.0) c.packet.ensures
+                ∙ sym (ap (λ (ps : List Packet). after_facts g.W.Walk.after (facts used ps) before.0) c.in-Some.ensures.steps)
+                ∙ before.2,
+          )),
+      λ behind room. c.take_one.ensures.room (length c.next.new.self) behind
+          (subst (λ (n : ℕ). g.W.Walk.HasRoom n behind c.loop-item.state) one (c.loop-item.invariant.1 behind room)),
     )

@@ -15,7 +15,7 @@ returns g c =
     let track : TrackLife = record { kept = kept.national; entries = [] } in
     let length = c.length.ensures ∙ ap (λ (k : Known). length_by k.driver.train_data) c.new-parts.ensures in
     let bare : StandsForTrack g.G.ProfileStore.profile g.S.ProfileStore.profile c.new-track.result (track_grown track (turned nothing no_groups None None)) =
-    record { parts_are = s.parts_are; gradients_are = s.gradients_are; speeds_are = s.speeds_are } in
+    record { parts_are = s.parts_are; restrictions_are = s.restrictions_are; gradients_are = s.gradients_are; speeds_are = s.speeds_are } in
     let known : Knowledge g.row.G.Denot g.row.S.Denot = record { parts = c.new-parts.result; track = c.forget.new.self } in
     subst (λ (n : ℕ). StandsForLife g.G.ProfileStore.profile g.S.ProfileStore.profile known (grown empty (begun (powered_up n) None)))
     length

@@ -1,15 +1,12 @@
 use Rattle.std.proofs.Common.{refl, ap, ◌∙◌}
-use Rattle.std.proofs.lemmas.Result.{on_ok_weaker}
 use Rattle.trackside.specs.History.{after_stop}
 use Rattle.trackside.specs.Steps.{fact_of}
 use Rattle.trackside.specs.StandsFor.{Known}
 use Rattle.trackside.proofs.parts.Parts.tell.Goals as goal
 
 pub returns : goal.returns
-returns c =
-    on_ok_weaker c.take-5.result
-    (λ restricted told s.
-    (let parts = c.self.view_is ∙ s in
+returns c told s =
+    let parts = c.self.view_is ∙ s in
     let fact = fact_of c.args.used.now c.args.packet.now in
     let values = c.take.ensures told.kept told.values (ap (λ (k : Known). k.national) parts) in
     let links = c.take-2.ensures told.links (ap (λ (k : Known). k.links) parts) in
@@ -17,6 +14,4 @@ returns c =
     let stopped = c.note_stop.ensures fact refl ∙ ap (λ (k : Known). after_stop fact k.stopped) parts in
     let areas = c.clear.ensures fact told.areas refl (ap (λ (k : Known). k.areas) parts) in
     let level = c.take-4.ensures told.levels (ap (λ (k : Known). k.level) parts) in
-    let restrictions = restricted told.restrictions (ap (λ (k : Known). k.restrictions) parts) in
-    (λ i. record (parts i) { national = values i; links = links i; authority = grants i; stopped = stopped i; areas = areas i; level = level i; restrictions = restrictions i })))
-    c.take-5.ensures
+    (λ i. record (parts i) { national = values i; links = links i; authority = grants i; stopped = stopped i; areas = areas i; level = level i })

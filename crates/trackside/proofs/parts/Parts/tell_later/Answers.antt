@@ -5,6 +5,5 @@ use Rattle.trackside.proofs.parts.Parts.tell_later.Goals as goal
 pub returns : goal.returns
 returns c told s =
     let parts = c.self.view_is ∙ s in
-    let restrictions = c.take.ensures told.restrictions (ap (λ (k : Known). k.restrictions) parts) in
-    let areas = c.take-2.ensures told.areas (ap (λ (k : Known). k.areas) parts) in
-    (λ i. record (parts i) { restrictions = restrictions i; areas = areas i })
+    let areas = c.take.ensures told.areas (ap (λ (k : Known). k.areas) parts) in
+    (λ i. record (parts i) { areas = areas i })

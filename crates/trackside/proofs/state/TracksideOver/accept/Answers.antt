@@ -1,6 +1,4 @@
 use Rattle.std.proofs.Common.{List, ◌∷◌, Option, subst, ap, ◌∙◌}
-use Rattle.std.proofs.lemmas.Result.{on_ok_weaker}
-use Rattle.odometry.specs.Place as odometry
 use Rattle.odometry.specs.declared.fix.Fix.{Fix}
 use Rattle.trackside.specs.Entry.{Entry, Fact, so_far, added}
 use Rattle.trackside.specs.Entry.Outcome.{Accepted}
@@ -10,11 +8,9 @@ use Rattle.trackside.specs.StandsFor.{Known, StandsForLife, grown, grown_so_far}
 use Rattle.trackside.proofs.Standing.{seen}
 use Rattle.trackside.proofs.state.TracksideOver.accept.Goals as goal
 
-pub returns : goal.returns
-returns g c =
-    on_ok_weaker c.take_packets.result
-    (λ taken life begun used s.
-    (let m = c.args.message.now in
+pub returns-clause-stands : goal.returns-clause-stands
+returns-clause-stands g c life begun used s =
+    let m = c.args.message.now in
     let a = c.args.announced.now in
     let entry : Entry = so_far begun (added (accepted m a) used) in
     let here = place_of (entry ∷ life.entries) in
@@ -27,6 +23,5 @@ returns g c =
     let direction = c.direction_by.ensures in
     subst (λ (o : Option Fix × List Fact). StandsForLife g.G.ProfileStore.profile g.S.ProfileStore.profile c.take_packets.new.self (grown_so_far life begun (added (Accepted m a o.0 o.1) used)))
     (λ i. (fix i, facts_of c.args.mode m.group (place i) (moment i) (direction i) m.packets))
-    (taken life begun used m a (fix_of here c.is_free-free.result m a)
-    (record { parts_are = fixed; gradients_are = inside.gradients_are; speeds_are = inside.speeds_are }))))
-    c.take_packets.ensures
+    (c.take_packets.ensures.stands life begun used m a (fix_of here c.is_free-free.result m a)
+    (record { parts_are = fixed; restrictions_are = inside.restrictions_are; gradients_are = inside.gradients_are; speeds_are = inside.speeds_are }))

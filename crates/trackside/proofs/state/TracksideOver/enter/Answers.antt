@@ -11,6 +11,7 @@ returns g c life begun used train s =
     let before = seen c.self.view_is s in
     record {
       parts_are = c.enter.ensures life begun used train before.parts_are;
+      restrictions_are = before.restrictions_are;
       gradients_are = c.leave_profile.ensures (record { mark = mark_of all; facts = gradients all }) before.gradients_are;
       speeds_are = c.leave_profile-2.ensures (record { mark = mark_of all; facts = speeds all }) before.speeds_are;
     }

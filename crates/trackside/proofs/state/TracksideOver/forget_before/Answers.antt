@@ -2,7 +2,7 @@ use Rattle.std.proofs.Common.{◌∷◌, sym, ◌∙◌}
 use Rattle.track_store.specs.Profiles.{profile_with}
 use Rattle.track_store.proofs.Telling.{marked_at}
 use Rattle.trackside.specs.Entry.{Entry, turned}
-use Rattle.trackside.specs.History.{mark_of, gradients, speeds}
+use Rattle.trackside.specs.History.{mark_of, restrictions, gradients, speeds}
 use Rattle.trackside.proofs.Standing.{seen}
 use Rattle.trackside.proofs.state.TracksideOver.forget_before.Goals as goal
 
@@ -14,11 +14,12 @@ returns g c life begun used train mode s =
     let gradients_before = sym (g.met.G.ProfileStore.profile_is c.self.inside.gradients) ∙ before.gradients_are in
     let speeds_before = sym (g.met.S.ProfileStore.profile_is c.self.inside.speeds) ∙ before.speeds_are in
     record {
-      parts_are = c.forget.ensures life begun used train mode before.parts_are;
+      parts_are = before.parts_are;
+      restrictions_are = c.drop_behind.ensures.track (restrictions all) before.restrictions_are;
       gradients_are = g.met.G.ProfileStore.profile_is _
-          ∙ marked_at (profile_with g.G.Profile.value c.self.inside.gradients) (profile_with g.G.Profile.value c.drop_behind.new.self)
-          (record { mark = mark_of all; facts = gradients all }) gradients_before c.args.mark c.drop_behind.ensures;
+          ∙ marked_at (profile_with g.G.Profile.value c.self.inside.gradients) (profile_with g.G.Profile.value c.drop_behind-2.new.self)
+          (record { mark = mark_of all; facts = gradients all }) gradients_before c.args.mark c.drop_behind-2.ensures.value;
       speeds_are = g.met.S.ProfileStore.profile_is _
-          ∙ marked_at (profile_with g.S.Profile.value c.self.inside.speeds) (profile_with g.S.Profile.value c.drop_behind-2.new.self)
-          (record { mark = mark_of all; facts = speeds all }) speeds_before c.args.mark c.drop_behind-2.ensures;
+          ∙ marked_at (profile_with g.S.Profile.value c.self.inside.speeds) (profile_with g.S.Profile.value c.drop_behind-3.new.self)
+          (record { mark = mark_of all; facts = speeds all }) speeds_before c.args.mark c.drop_behind-3.ensures.value;
     }

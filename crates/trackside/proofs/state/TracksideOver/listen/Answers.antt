@@ -11,20 +11,20 @@ use Rattle.trackside.proofs.Carrying.{carried_in, refused_none}
 use Rattle.trackside.proofs.Standing.{seen}
 use Rattle.trackside.proofs.state.TracksideOver.listen.Goals as goal
 
-pub returns-in-Ok : goal.returns-in-Ok
-returns-in-Ok g c =
-    on_ok_weaker c.take.result
+pub returns-in-Ok-clause-stands : goal.returns-in-Ok-clause-stands
+returns-in-Ok-clause-stands g c =
+    on_ok_weaker c.read.result
     (λ taken life s. taken life c.args.bytes.now s (carried_in _ _ ((c.in-Ok.ensures.found _).0 refl)))
-    c.take.ensures
+    c.read.ensures.stands
 
 abbrev with_telegram : Life → Option Telegram → Begun
 with_telegram life o = record nothing { heard = option_map (λ t. Read (record { telegram = t; sums = (place_of life.entries).sums })) o }
 
-pub returns-in-Err : goal.returns-in-Err
-returns-in-Err g c life s =
+pub returns-in-Err-clause-stands : goal.returns-in-Err-clause-stands
+returns-in-Err-clause-stands g c life s =
     let none = refused_none _ _ ((c.in-Err.ensures.fault _).0 refl) in
     let before = seen c.self.view_is s in
     subst
-    (λ (o : Option Telegram). StandsForLife g.G.ProfileStore.profile g.S.ProfileStore.profile (record { parts = c.pass_over.new.self; gradients = c.self.inside.gradients; speeds = c.self.inside.speeds }) (grown_so_far life (with_telegram life o) (with_groups c.args.mode life.entries (with_telegram life o) nothing_happened)))
+    (λ (o : Option Telegram). StandsForLife g.G.ProfileStore.profile g.S.ProfileStore.profile (record { parts = c.pass_over.new.self; restrictions = c.self.inside.restrictions; gradients = c.self.inside.gradients; speeds = c.self.inside.speeds }) (grown_so_far life (with_telegram life o) (with_groups c.args.mode life.entries (with_telegram life o) nothing_happened)))
     (sym none)
-    (record { parts_are = c.pass_over.ensures life before.parts_are; gradients_are = before.gradients_are; speeds_are = before.speeds_are })
+    (record { parts_are = c.pass_over.ensures life before.parts_are; restrictions_are = before.restrictions_are; gradients_are = before.gradients_are; speeds_are = before.speeds_are })

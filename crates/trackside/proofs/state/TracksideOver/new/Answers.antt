@@ -1,4 +1,5 @@
-use Rattle.std.proofs.Common.{[], ◌∙◌}
+use Rattle.std.proofs.Common.{[], ap, ◌∙◌}
+use Rattle.track_store.specs.Restrictions.{Held}
 use Rattle.track_store.specs.Profiles.{profile_with}
 use Rattle.track_store.proofs.Telling.{none_told}
 use Rattle.trackside.specs.History.{mark_of}
@@ -8,6 +9,7 @@ pub returns : goal.returns
 returns g c =
     record {
       parts_are = c.new.ensures;
+      restrictions_are = ap (λ (h : Held). h.track) c.new-2.ensures;
       gradients_are = g.met.G.ProfileStore.profile_is _
           ∙ none_told (profile_with g.G.Profile.value c.empty.result) (mark_of []) c.empty.ensures;
       speeds_are = g.met.S.ProfileStore.profile_is _

@@ -1,0 +1,33 @@
+//! Room for all that the groups of an event may add, so that behind it nothing can be refused.
+ghost use Rattle.std.specs.Prelude.{◌≡◌, ◌≤◌, OnOk, OnErr};
+ghost use Rattle.trackside.specs.StandsFor.{Life, StandsForLife, room_in};
+
+use crate::state::TracksideOver;
+use speed_profile::CategorySpeeds;
+use track_store::ProfileStore;
+use units::{NoMemory, Permille};
+
+impl<G: ProfileStore<Permille> + Drop, S: ProfileStore<CategorySpeeds> + Drop> TracksideOver<G, S> {
+    /// Makes room for so many packets. Where memory is refused, nothing changes.
+    pub(crate) fn make_room(&mut self, packets: usize) -> Result<(), NoMemory>
+        ensures room { OnOk result (packets ≤ room_in G.room S.room self.new) }
+        ensures parts { OnOk result (self.new.parts ≡ self.old.parts) }
+        ensures stands { OnOk result ((life : Life) → StandsForLife G.profile S.profile self.old life
+            → StandsForLife G.profile S.profile self.new life) }
+        ensures err { OnErr result (self.new ≡ self.old) }
+    {
+        let restrictions = self.restrictions.room();
+        let gradients = self.gradients.room();
+        self.restrictions.make_room(packets)?;
+        if let Err(refused) = self.gradients.make_room(packets) {
+            self.restrictions.limit_room(restrictions);
+            return Err(refused);
+        }
+        if let Err(refused) = self.speeds.make_room(packets) {
+            self.gradients.limit_room(gradients);
+            self.restrictions.limit_room(restrictions);
+            return Err(refused);
+        }
+        Ok(())
+    }
+}

@@ -1,9 +1,12 @@
 #!/usr/bin/env python3
 """Refuses memory to the calls of the unit and of the kernel, by the programs that run their rows: each request in turn, until a run meets
-no refusal. Where `accept` is refused memory it says so and changes nothing: the same input is handed in once more behind it, and then all
-answers are those of an undisturbed run. A `live` that is refused memory names the step, and has released what its earlier flushes released;
-an opening behind it finds all of that. A program that is refused memory for its own text ends with what it printed so far, or says that it
-has no such row.
+no refusal.
+
+Where `accept` is refused memory it says so and changes nothing: the same input is handed in once more behind it, and then all
+answers are those of an undisturbed run. `open` asks for no memory. A `live` that is refused memory names the step, and has released just
+what its earlier flushes released; an opening behind it finds all of that. Where `step` or `apply` is refused memory, the program tells
+place and kept items, which are those before the event, and hands it in again: all answers are those of an undisturbed run. (`power_up`
+can't refuse.) A program that is refused memory for its own text ends with what it printed so far, or says that it has no such row.
 """
 import os
 import re
@@ -13,7 +16,9 @@ import tempfile
 from pathlib import Path
 
 from built import AUTHORITY, RESTRICTION, TOP, Failures, built
+from onboard_lives import RINGS, Made
 
+MOST = 1_000_000
 ENTRIES = ["enter-identity A", "choose-level 1", "enter-train-data 20000 160000 70 0 15", "start"]
 READINGS = ["move 9046 10000", "move 1 10000", "move 7268 10000", "move 1 10000"]
 UNIT = {
@@ -22,33 +27,64 @@ UNIT = {
     "full supervision": ["format 2", "open unknown", f"hear {AUTHORITY}", *ENTRIES, "flush", "move 100 20000", "clock 5", "flush", "close", "list",
                          "open moved", "flush", "blocks"],
 }
-LIFE = ["format 4", "live unknown", f"hear {RESTRICTION}", ENTRIES[0], "flush", *ENTRIES[1:], "flush", *READINGS, "flush", "run", "list", "open unknown",
-        "flush", "blocks"]
-# Each answer is wanted to be another one, so that the program prints all of them.
-KERNEL = ["row refused", "power-up unknown", f"hear {RESTRICTION}", *ENTRIES, *READINGS, "power-up not-moved", "confirm identity", f"hear {AUTHORITY}"]
+LIFE = ["live unknown", f"hear {RESTRICTION}", ENTRIES[0], "flush", *ENTRIES[1:], "flush", *READINGS, "flush", "run", "list", "open unknown", "flush", "blocks"]
+# Behind what stands on a ring.
+ON_A_RING = ["open not-moved", f"hear {RESTRICTION}", "enter-identity B", "clock 7", "flush", "close", "list", "open moved", "confirm identity", "flush", "blocks"]
+RING_LIFE = ["live not-moved", "clock 7", "enter-running-number 5", "flush", f"hear {AUTHORITY}", "flush", "clock 9", "flush", "run", "list", "open unknown",
+             "flush", "blocks"]
+KERNEL = ["power-up unknown", f"hear {RESTRICTION}", *ENTRIES, *READINGS, "power-up not-moved", "confirm identity", f"hear {AUTHORITY}"]
+# Rows of the kernel: what they hear takes memory in each of the lists that it keeps.
+STORIES = ("an area ahead that is acknowledged", "an announced group in time", "several announced 1", "values ahead", "two restrictions 255 in a message",
+           "end timer", "position over several power-ups")
+ITEMS = ("identity", "running-number", "train-data", "level", "position", "national", "trip", "counts")
 
 
-def ran(name, lines, refuse, said, at):
-    """Status and lines of a run, and whether a request was refused."""
-    said.unlink(missing_ok=True)
-    env = dict(os.environ, LD_PRELOAD=refuse, REFUSE_AT=str(at), REFUSE_SAYS=str(said))
-    done = subprocess.run([TOP / f"crates/{name}/out/{name}"], input="".join(line + "\n" for line in lines).encode(), capture_output=True, env=env,
-                          timeout=60)
-    return done.returncode, done.stdout.decode().splitlines(), said.exists()
+class Calls:
+    """The programs, with a request that is refused."""
+
+    def __init__(self, folder):
+        self.refuse, self.said, self.counted = built("refuse", folder), Path(folder) / "said", Path(folder) / "counted"
+
+    def ran(self, name, lines, at):
+        """Status and lines of a run, and whether a request was refused."""
+        self.said.unlink(missing_ok=True)
+        env = dict(os.environ, LD_PRELOAD=self.refuse, REFUSE_AT=str(at), REFUSE_SAYS=str(self.said), REFUSE_COUNTS=str(self.counted))
+        done = subprocess.run([TOP / f"crates/{name}/out/{name}"], input="".join(line + "\n" for line in lines).encode(), capture_output=True,
+                              env=env, timeout=60)
+        return done.returncode, done.stdout.decode().splitlines(), self.said.exists()
+
+    def requests(self, name, lines):
+        """How many requests a run has."""
+        self.ran(name, lines, 0)
+        return int(self.counted.read_text())
+
+    def refusals(self, name, lines, failures, begin=()):
+        """Each refused run behind the lines that it begins with: the number of the request, the status and the lines behind these."""
+        _, undisturbed, _ = self.ran(name, [*begin, *lines], 0)
+        first = max(1, self.requests(name, begin) - 20) if begin else 1
+        for at in range(first, MOST):
+            status, answers, refused = self.ran(name, [*begin, *lines], at)
+            if not refused:
+                failures.unless((status, answers) == (0, undisturbed), f"{name}: with all memory {answers}")
+                return
+            if answers[:len(begin)] == undisturbed[:len(begin)]:
+                yield at, status, answers[len(begin):]
 
 
 def is_beginning(lines, undisturbed):
     return lines == undisturbed[:len(lines)]
 
 
-def unit(row, lines, refuse, said, failures):
-    _, undisturbed, _ = ran("test_onboard", lines, refuse, said, 0)
+def opens_without_memory(row, calls, begin, failures):
+    """A power-up, and a line without meaning that is as long as it and as its answer, have as many requests."""
+    counts = [calls.requests("test_onboard", [*begin, line]) for line in ("open unknown", "open-unknown")]
+    failures.unless(counts[0] == counts[1], f"{row}: {counts} requests with a power-up and without one")
+
+
+def unit(row, calls, begin, lines, failures):
+    undisturbed = calls.ran("test_onboard", [*begin, *lines], 0)[1][len(begin):]
     accepted, ended = 0, 0
-    for at in range(1, 1_000_000):
-        status, answers, refused = ran("test_onboard", lines, refuse, said, at)
-        if not refused:
-            failures.unless((status, answers) == (0, undisturbed), f"{row}: with all memory {answers}")
-            break
+    for at, _, answers in calls.refusals("test_onboard", lines, failures, begin):
         other = [k for k, (one, wanted) in enumerate(zip(answers, undisturbed)) if one != wanted]
         if not other or answers[other[0]] == f"{lines[other[0]]}: no row":
             ended += 1
@@ -58,63 +94,118 @@ def unit(row, lines, refuse, said, failures):
         k = other[0]
         failures.unless(answers[k] == f"{lines[k]}: 12 NoMemory", f"{row}, request {at}: {answers[k]}")
         twice = lines[:k + 1] + lines[k:]
-        _, answers, _ = ran("test_onboard", twice, refuse, said, at)
+        answers = calls.ran("test_onboard", [*begin, *twice], at)[1][len(begin):]
         failures.unless(answers[k].endswith("12 NoMemory") and answers[:k] + answers[k + 1:] == undisturbed,
                         f"{row}, request {at}: behind the refusal {[one for one in answers if one not in undisturbed]}")
     failures.unless(accepted, f"{row}: no input was refused memory")
     print(f"{row}: {accepted} refusals of an input, {ended} of the program's text")
 
 
-def life(lines, refuse, said, failures):
+def records_in(listing):
+    """Of each event that a listing tells, mode, level, brake and indications."""
+    return {words[3]: words[5:9] for words in (record.split() for record in listing.split("| ")[1:])}
+
+
+def stands_in(pair, records):
+    number, mode, level, brake, _, indications = pair.split()
+    return records.get(number) == [mode, level, brake, indications]
+
+
+def life(row, calls, begin, lines, failures):
     """The pairs that a life released stand in the journal, also where it was stopped."""
     run = lines.index("run")
-    _, undisturbed, _ = ran("test_onboard", lines, refuse, said, 0)
+    undisturbed = calls.ran("test_onboard", [*begin, *lines], 0)[1][len(begin):]
     told = undisturbed[run].partition("released ")[2].split(", ")[1:]
     stopped = 0
-    for at in range(1, 1_000_000):
-        status, answers, refused = ran("test_onboard", lines, refuse, said, at)
-        if not refused:
-            failures.unless((status, answers) == (0, undisturbed), f"a life: with all memory {answers}")
-            break
+    for at, _, answers in calls.refusals("test_onboard", lines, failures, begin):
         if any(answer.endswith(": no row") for answer in answers):
             continue
         if len(answers) <= run or answers[run] == undisturbed[run]:
-            failures.unless(is_beginning(answers[:run + 1], undisturbed), f"a life, request {at}: {answers[-1:]}")
+            failures.unless(is_beginning(answers, undisturbed), f"{row}, request {at}: {answers[-1:]}")
             continue
         stopped += 1
-        said_so = re.fullmatch(r"run: step (\d+) (12 )?NoMemory, released (\d+)((?:, .*)?)", answers[run])
-        failures.unless(said_so, f"a life, request {at}: {answers[run]}")
-        pairs = said_so.group(4).split(", ")[1:] if said_so else []
-        failures.unless(is_beginning(pairs, told), f"a life, request {at}: {answers[run]}")
-        numbers = re.findall(r"event (\d+) ", answers[run + 1]) if len(answers) > run + 1 else None
-        failures.unless(numbers is None or all(pair.split()[0] in numbers for pair in pairs), f"a life, request {at}: {answers[run + 1:]}")
-    failures.unless(stopped, "a life: none was stopped")
-    print(f"a life: {stopped} stopped")
+        said_so = re.fullmatch(r"run: step (\d+) (?:12 )?NoMemory, released (\d+)((?:, .*)?)", answers[run])
+        failures.unless(said_so, f"{row}, request {at}: {answers[run]}")
+        if said_so:
+            pairs = said_so.group(3).split(", ")[1:]
+            failures.unless(pairs == told[:released_before(lines[1:run], int(said_so.group(1)))] and len(pairs) == int(said_so.group(2)),
+                            f"{row}, request {at}: {answers[run]}")
+            records = records_in(answers[run + 1])
+            failures.unless(all(stands_in(pair, records) for pair in pairs), f"{row}, request {at}: {answers[run + 1:]}")
+            failures.unless(any(answer.endswith(": opened") for answer in answers[run:]), f"{row}, request {at}: {answers[run + 1:]}")
+    failures.unless(stopped, f"{row}: none was stopped")
+    print(f"{row}: {stopped} stopped")
 
 
-def kernel(lines, refuse, said, failures):
-    """`step`, `apply` and `power_up` give no other answer where memory is refused: the rows end."""
-    asked = [line if line.startswith(("row", "power-up")) else f"{line} -> none" for line in lines]
-    _, undisturbed, _ = ran("test_kernel", asked, refuse, said, 0)
-    for at in range(1, 1_000_000):
-        status, answers, refused = ran("test_kernel", asked, refuse, said, at)
-        if not refused:
-            failures.unless((status, answers) == (0, undisturbed), f"the kernel: with all memory {answers}")
-            break
-        if any(answer.endswith("what is that?") for answer in answers):
+def released_before(steps, stop):
+    """How many events the flushes before a step release."""
+    flushes = [k for k, step in enumerate(steps[:stop]) if step == "flush"]
+    return sum(step != "flush" for step in steps[:flushes[-1]]) if flushes else 0
+
+
+def story(name):
+    """What happens in a row of the kernel's."""
+    text = (TOP / "crates/test_kernel/stdin").read_text()
+    lines = text.partition(f"\nrow {name}\n")[2].partition("\nrow ")[0].splitlines()
+    said = [re.split("->|#", line)[0].strip() for line in lines]
+    return [line for line in said if line and not line.startswith(("place", "kept"))]
+
+
+def kernel(row, calls, lines, failures):
+    """The events of a row; each answer is wanted to be another one, so that the program prints all of them."""
+    asked = ["row refused", *(f"{line} -> none" for line in lines)]
+    questions = [f"{word} -> none" for word in ("place", *(f"kept {item}" for item in ITEMS))]
+    _, undisturbed, _ = calls.ran("test_kernel", asked, 0)
+    before = stood(calls, lines, questions)
+    refused = {"step": 0, "apply": 0, "power_up": 0}
+    for at, status, answers in calls.refusals("test_kernel", asked, failures):
+        told = [(k, re.fullmatch(r"refused, line (\d+): no memory for (\w+), (.*)", answer)) for k, answer in enumerate(answers)]
+        told = [(k, match) for k, match in told if match]
+        if not told:
+            failures.unless(is_beginning(answers, undisturbed) or any(answer.endswith("what is that?") for answer in answers),
+                            f"{row}, request {at}: {status} {answers[-2:]}")
             continue
-        failures.unless(status != 0 and is_beginning(answers, undisturbed), f"the kernel, request {at}: {status} {answers[-2:]}")
-    print(f"the kernel: {at - 1} requests refused")
+        (k, match), *more = told
+        line, way, stands = match.groups()
+        refused[way] += 1
+        failures.unless(not more and (status, answers[:k] + answers[k + 1:]) == (0, undisturbed), f"{row}, request {at}: {status} {answers[k:]}")
+        failures.unless(stands == before[int(line) - 2][way], f"{row}, request {at}: {answers[k]}, before it {before[int(line) - 2][way]}")
+    failures.unless(refused["step"], f"{row}: no event was refused memory")
+    print(f"{row}: {', '.join(f'{count} refusals of {way}' for way, count in refused.items())}")
+
+
+def stood(calls, lines, questions):
+    """Before each event place and items, by each way."""
+    asked = [one for line in lines for one in (*questions, line)]
+    # Another row asks, so that an answer isn't wanted by chance: each is wanted to be `none`.
+    _, answers, _ = calls.ran("test_kernel", ["row asked", *asked], 0)
+    found = [re.fullmatch(r"asked, line (\d+): wanted none, found (.*) by (\w+)", answer) for answer in answers]
+    by_line = {(int(match.group(1)), match.group(3)): match.group(2) for match in found if match}
+    size = len(questions) + 1
+    return [{way: ", ".join(by_line[2 + size * k + j, way] for j in range(len(questions))) for way in ("step", "apply", "power_up")}
+            for k in range(len(lines))]
+
+
+def on_rings(calls, failures):
+    for name, _, prepare in RINGS:
+        made = Made()
+        prepare(made)
+        opens_without_memory(name, calls, made.lines, failures)
+        unit(name, calls, made.lines, ON_A_RING, failures)
+        life(f"{name}, a life", calls, made.lines, RING_LIFE, failures)
 
 
 def main():
     failures = Failures()
     with tempfile.TemporaryDirectory() as name:
-        refuse, said = built("refuse", name), Path(name) / "said"
+        calls = Calls(name)
         for row, lines in UNIT.items():
-            unit(row, lines, refuse, said, failures)
-        life(LIFE, refuse, said, failures)
-        kernel(KERNEL, refuse, said, failures)
+            unit(row, calls, [], lines, failures)
+        life("a life", calls, ["format 4"], LIFE, failures)
+        on_rings(calls, failures)
+        kernel("the kernel", calls, KERNEL, failures)
+        for row in STORIES:
+            kernel(f"the kernel, {row}", calls, story(row), failures)
     return failures.end("memory refused to calls")
 
 

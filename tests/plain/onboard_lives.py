@@ -137,21 +137,38 @@ RINGS = (  # name, slots, what stands there
     ("3 slots, formats 1, 2 and 3", 3, lambda made: (image(made, 3, mixed()), made.say("open moved; close"))),
 )
 
+THOROUGH = {"2 slots", "4 slots", "4 slots, formats 1 and 2"}  # in these every combination is tried,
+TWICE = {"2 slots", "4 slots, formats 1 and 2"}  # and in these cuts twice in a row
+
 SETTLED = ("settle", "settle new new new new new", "settle ff ff ff ff ff")
 LIFE = "open not-moved; clock 7; enter-running-number 5; flush"
 
 
-def combinations(numbers, sectors, others):
-    """What is chosen for the open sectors: all alike, one of them otherwise than the rest, and some mixtures."""
-    if not sectors:
-        return [()]
-    choices = [("old", "new", "ff", f"@{other}") for other in others]
-    if len(sectors) == 1:
-        return list(product(*choices))
-    alike = [tuple(c[k] for c in choices) for k in range(4)]
-    one = [rest[:at] + (choices[at][k],) + rest[at + 1:] for rest in alike[:2] for at in range(len(sectors)) for k in range(4)]
-    mixtures = [tuple(numbers.one_of(c) for c in choices) for _ in range(12)]
-    return list(dict.fromkeys(alike + one + mixtures))
+EVERY = 4_096  # so many combinations are tried at most for one cut: all of them
+BOTH = 64  # .. and for a cut and another one in the opening behind it; where there are more, those of `some`
+SAMPLE = 40
+
+
+def lists_for(numbers, disk):
+    """The words for each open sector: what it held, what was handed in, ones, and another block's sector of its kind."""
+    return [("old", "new", "ff", f"@{same_kind(numbers, disk, sector)}") for sector in disk.open_sectors()]
+
+
+def text_of(lists):
+    return " ".join(map(",".join, lists))
+
+
+def some(first, second):
+    """The lists of combinations of many sectors: a sample; and for up to six sectors, but where the first cut is already split, old and
+    new in any mixture, and all words for one beside only old or only new ones."""
+    both = first + second
+    split = lambda lists: f"{text_of(lists[:len(first)])} / {text_of(lists[len(first):])}"
+    if len(first) > 1 and len(both) <= 6:
+        yield f"{BOTH} {split([words[:2] for words in both])}"
+        for at in range(len(both)):
+            for rest in range(2):
+                yield f"{BOTH} {split([words if k == at else words[rest:rest + 1] for k, words in enumerate(both)])}"
+    yield f"{SAMPLE} {split(both)}"
 
 
 def same_kind(numbers, disk, sector):
@@ -195,48 +212,70 @@ def allowed(number, counts, events):
     return {events[-1]}
 
 
+def lived(made, number):
+    """The disk of a life that a cut in its change of this number ends."""
+    made.session.do_again()
+    made.session.do_cut(number)
+    for said in LIFE.split("; "):
+        made.session.answer(said)
+    return made.session.disk
+
+
 def cuts(made, numbers):
-    """A cut in each write and sync of an opening and a flush, with what each open sector may hold then."""
+    """A cut in each write and sync of an opening and a flush, with every combination of what the open sectors may hold then, or with some."""
     for name, _, prepare in RINGS:
         prepare(made)
         made.say("keep")
         counts, events = changes_in(made, LIFE)
         made.say(f"group cuts, {name}")
         for number in range(counts[-1] + 1):
-            made.session.do_again()
-            made.session.do_cut(number)
-            for said in LIFE.split("; "):
-                made.session.answer(said)
-            disk = made.session.disk
-            sectors = disk.open_sectors()
-            others = [same_kind(numbers, disk, sector) for sector in sectors]
-            for words in combinations(numbers, sectors, others):
-                settle = " ".join(("settle",) + words)
-                answers = made.say(f"again; cut {number}; {LIFE}; {settle}; blocks; {BEHIND}")
-                events_found = int(answers[7].split()[-1])
-                assert events_found in allowed(number, counts, events), (name, number, words, answers)
-                assert answers[8] == "opened", answers
-                assert not answers[5].startswith("released") or events_found == events[-1], answers
+            lists = lists_for(numbers, lived(made, number))
+            for tried in [f"{EVERY} {text_of(lists)}"] if name in THOROUGH or len(lists) < 3 else some(lists, []):
+                for answers in made.say(f"try {tried}: again; cut {number}; {LIFE}; settle *; blocks; {BEHIND}"):
+                    events_found = int(answers[7].split()[-1])
+                    assert events_found in allowed(number, counts, events), (name, number, answers)
+                    assert answers[8] == "opened", answers
+                    assert not answers[5].startswith("released") or events_found == events[-1], answers
         made.say("end")
+
+
+def first_cuts(lists):
+    """The first cut's choices, as lists: each alone where one sector is open, since what the next opening does may depend on it."""
+    if len(lists) > 1:
+        return [lists]
+    return [[(word,) for word in words] for words in product(*lists)]
 
 
 def cuts_twice(made, numbers):
     """The same, and another cut in the opening behind it."""
     for name, _, prepare in RINGS:
+        if name not in TWICE:
+            continue
         prepare(made)
         made.say("keep")
         counts, events = changes_in(made, LIFE)
         made.say(f"group cuts twice in a row, {name}")
         for number in range(counts[-1]):
-            for kind in ("new", "ff"):
-                for other in ("old", "new", "ff"):
-                    settle, again = " ".join(["settle"] + 5 * [kind]), " ".join(["settle"] + 5 * [other])
-                    told = made.say(f"for 0 6: again; cut {number}; {LIFE}; {settle}; cut *; open moved; {again}; blocks; {BEHIND}")
-                    for answers in told:
-                        before, after = allowed(number, counts, events), int(answers[10].split()[-1])
-                        assert after in before | {count + 1 for count in before}, (name, number, answers)
-                        assert answers[11] == "opened", answers
+            for first in first_cuts(lists_for(numbers, lived(made, number))):
+                cut_again(made, numbers, number, first, allowed(number, counts, events))
         made.say("end")
+
+
+def cut_again(made, numbers, number, first, before):
+    """A cut in each write and sync of the opening behind a first cut."""
+    for again in range(8):
+        made.session.set_disk(lived(made, number))
+        made.session.do_settle(*(words[0] for words in first))
+        made.session.do_cut(again)
+        if made.session.answer("open moved") == "opened":
+            return
+        second = lists_for(numbers, made.session.disk)
+        count = 4 ** (sum(len(words) > 1 for words in first) + len(second))
+        tries = [f"{BOTH} {text_of(first)} / {text_of(second)}"] if count <= BOTH else some(first, second)
+        for lists in tries:
+            for answers in made.say(f"try {lists}: again; cut {number}; {LIFE}; settle *; cut {again}; open moved; settle %; blocks; {BEHIND}"):
+                assert int(answers[10].split()[-1]) in before | {count + 1 for count in before}, (number, again, answers)
+                assert answers[11] == "opened", answers
 
 
 def faults(made):

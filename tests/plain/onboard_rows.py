@@ -1,5 +1,6 @@
 """Rows of the onboard unit, as the program test_onboard reads them: each answer is worked out by the plain unit over the plain disk."""
 from functools import lru_cache
+from math import prod
 
 import blocks
 import rows
@@ -201,6 +202,24 @@ class Group:
         return f"{self.name}: {self.lines} lines, {len(self.answers)} answers, digest {digest:016x}"
 
 
+STRIDE = 2_654_435_761
+
+
+def combined(each):
+    """The lines of `try`: the number that is tried at most, lists for one sign and for the other, and the line."""
+    head, _, line = each.partition(":")
+    most, _, lists = head.partition(" ")
+    first, _, second = ([words.split(",") for words in part.split()] for part in lists.partition("/"))
+    count = prod(map(len, first + second))
+    tried = min(int(most), count)
+    for k in range(tried):
+        rest, words = (k * STRIDE & MASK) % count if tried < count else k, []
+        for choice in first + second:
+            rest, place = divmod(rest, len(choice))
+            words.append(" " + choice[place])
+        yield line.replace("*", "".join(words[:len(first)])).replace("%", "".join(words[len(first):]))
+
+
 class Reader:
     """Takes rows line by line, as the program does."""
 
@@ -220,6 +239,9 @@ class Reader:
             each, _, line = line[4:].partition(":")
             first, last = map(int, each.split())
             return [self.row(line.replace("*", str(number))) for number in range(first, last + 1)]
+        elif line.startswith("try "):
+            before = {}
+            return [self.tried(text, before) for text in combined(line[4:])]
         else:
             return self.row(line)
         return []
@@ -232,6 +254,21 @@ class Reader:
             done.append((said, answer))
             if wanted and wanted != answer:
                 self.differences.append(f"{line}: wanted {wanted}, found {answer} by the plain program")
+        return self.tell(done)
+
+    def tried(self, line, before):
+        """A row that begins as one before it, up to a `settle`, goes on from there: what is settled isn't changed by it."""
+        parts = [part.strip() for part in line.split(";")]
+        settled = [place for place, said in enumerate(parts) if said.startswith("settle")]
+        begun = next((place for place in reversed(settled) if tuple(parts[:place]) in before), 0)
+        done = []
+        if begun:
+            done, session = before[tuple(parts[:begun])]
+            done, self.session.__dict__ = done[:], dict(session)
+        for place in range(begun, len(parts)):
+            if place in settled:
+                before[tuple(parts[:place])] = done[:], dict(self.session.__dict__)
+            done.append((parts[place], self.command(parts[place])))
         return self.tell(done)
 
     def command(self, said):

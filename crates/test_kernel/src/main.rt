@@ -1,7 +1,8 @@
 //! Runs rows of the kernel. Its input has a line each for what happens and the answer that is wanted to it; each line that gets
 //! another one, by `step` over stores that keep all that was told, by `apply` in place over stores that stay short, or by `apply`
-//! where each life begins by `power_up` with what was kept, is printed, and so is each line that says nothing. At the end come the
-//! numbers of rows, of events, of answers that were wanted and of such differences.
+//! where each life begins by `power_up` with what was kept, is printed, and so is each line that says nothing. An event that is refused
+//! memory is handed in once more, behind a line that tells place and items as they stand. At the end come the numbers of rows, of
+//! events, of answers that were wanted and of such differences.
 //!
 //!     # a comment
 //!     row NAME                         new equipment, that never had power

@@ -1,26 +1,49 @@
 // One row, run in three ways side by side.
 use crate::answers::{item_text, place_text};
 use crate::calls::{Listing, Short, after, apply, begin, listing, short};
-use crate::line::Said;
-use anyhow::Result;
 use events::{Event, Output};
-use row_words::output_text;
-use std::alloc::Global;
+use row_words::Item;
+use std::alloc::{AllocError, Global};
+use units::NoMemory;
+
+/// All that is kept.
+pub const ITEMS: [Item; 8] = [
+    Item::Identity,
+    Item::RunningNumber,
+    Item::TrainData,
+    Item::Level,
+    Item::Position,
+    Item::National,
+    Item::Trip,
+    Item::Counts,
+];
+
+/// A way to run a row.
+#[derive(Clone, Copy)]
+pub enum Way {
+    /// By `step`, over stores that keep all that was told.
+    Step,
+    /// In place, over stores that stay short.
+    Apply,
+    /// The same, where each life begins with what was kept.
+    PowerUp,
+}
+
+impl Way {
+    pub fn name(self) -> &'static str {
+        match self {
+            Way::Step => "step",
+            Way::Apply => "apply",
+            Way::PowerUp => "power_up",
+        }
+    }
+}
 
 #[derive(Drop)]
 pub struct Runs {
     listing: Listing,
     short: Short,
-    // Of which each life begins with what was kept.
     revived: Short,
-}
-
-/// The answers of the three ways, in words.
-#[derive(Drop)]
-pub struct Answers {
-    pub by_step: String,
-    pub in_place: String,
-    pub by_kept: String,
 }
 
 impl Runs {
@@ -33,42 +56,45 @@ impl Runs {
         }
     }
 
-    /// What is answered to a line.
-    pub fn answers(&mut self, alloc: Global, said: &Said) -> Result<Answers> {
-        let answers = match said {
-            Said::Event(event) => self.take(alloc, event)?,
-            Said::Place => Answers {
-                by_step: place_text(alloc, &self.listing)?,
-                in_place: place_text(alloc, &self.short)?,
-                by_kept: place_text(alloc, &self.revived)?,
-            },
-            Said::Kept(item) => Answers {
-                by_step: item_text(alloc, &self.listing, *item)?,
-                in_place: item_text(alloc, &self.short, *item)?,
-                by_kept: item_text(alloc, &self.revived, *item)?,
-            },
-        };
-        Ok(answers)
+    /// What is answered to an event. Where memory is refused, it can be handed in again.
+    pub fn take(&mut self, alloc: Global, way: Way, event: &Event) -> Result<Output, NoMemory> {
+        match way {
+            Way::Step => self.step(alloc, event),
+            Way::Apply => apply(alloc, &mut self.short, event),
+            Way::PowerUp => self.revive(alloc, event),
+        }
     }
 
-    fn take(&mut self, alloc: Global, event: &Event) -> Result<Answers> {
-        let (next, by_step) = after(alloc, &self.listing, event)?;
+    fn step(&mut self, alloc: Global, event: &Event) -> Result<Output, NoMemory> {
+        let (next, output) = after(alloc, &self.listing, event)?;
         self.listing = next;
-        let in_place = apply(alloc, &mut self.short, event)?;
-        let by_kept = self.take_by_kept(alloc, event)?;
-        Ok(Answers {
-            by_step: output_text(alloc, &by_step)?,
-            in_place: output_text(alloc, &in_place)?,
-            by_kept: output_text(alloc, &by_kept)?,
-        })
+        Ok(output)
     }
 
-    fn take_by_kept(&mut self, alloc: Global, event: &Event) -> Result<Output> {
+    fn revive(&mut self, alloc: Global, event: &Event) -> Result<Output, NoMemory> {
         let Event::PowerUp(cold) = event else {
-            return Ok(apply(alloc, &mut self.revived, event)?);
+            return apply(alloc, &mut self.revived, event);
         };
         let (next, output) = begin(alloc, &self.revived, *cold);
         self.revived = next;
         Ok(output)
+    }
+
+    /// The estimate and its uncertainty.
+    pub fn place(&self, alloc: Global, way: Way) -> Result<String, AllocError> {
+        match way {
+            Way::Step => place_text(alloc, &self.listing),
+            Way::Apply => place_text(alloc, &self.short),
+            Way::PowerUp => place_text(alloc, &self.revived),
+        }
+    }
+
+    /// An item of what is kept.
+    pub fn item(&self, alloc: Global, way: Way, item: Item) -> Result<String, AllocError> {
+        match way {
+            Way::Step => item_text(alloc, &self.listing, item),
+            Way::Apply => item_text(alloc, &self.short, item),
+            Way::PowerUp => item_text(alloc, &self.revived, item),
+        }
     }
 }

@@ -1,5 +1,4 @@
-// What was counted, and what is printed of differences.
-use anyhow::Result;
+// What was counted.
 
 /// How many there were.
 #[derive(Clone, Copy)]
@@ -29,35 +28,7 @@ impl Tally {
         self.answers = self.answers.wrapping_add(u64::from(is_wanted));
     }
 
-    /// Says where another answer was found than is wanted.
-    pub fn compare(
-        &mut self,
-        rt: &impl Print,
-        name: &str,
-        by: &str,
-        line: u64,
-        wanted: &str,
-        found: &str,
-    ) -> Result<()> {
-        if !is_met(wanted, found) {
-            self.differences = self.differences.wrapping_add(1);
-            println!(rt; "{name}, line {line}: wanted {wanted}, found {found} by {by}")?;
-        }
-        Ok(())
-    }
-
-    /// Says that a line says nothing.
-    pub fn refuse(&mut self, rt: &impl Print, line: u64) -> Result<()> {
+    pub fn count_difference(&mut self) {
         self.differences = self.differences.wrapping_add(1);
-        println!(rt; "line {line}: what is that?")?;
-        Ok(())
     }
-}
-
-// A number alone wants the limit, which is the fourth word of an output.
-fn is_met(wanted: &str, found: &str) -> bool {
-    if wanted == found {
-        return true;
-    }
-    wanted.parse::<u32>().is_ok() && found.split_whitespace().nth(3) == Some(wanted)
 }

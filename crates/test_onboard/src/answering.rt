@@ -1,15 +1,15 @@
 // The answer to a command.
-use crate::commands::Command;
+use crate::commands::{Act, Change, Command, Make, Tell};
 use crate::images::{choices, flip, formatted, put_slot, shortened};
 use crate::listing::found_on;
 use crate::pairs::tell_pairs;
 use crate::session::Session;
 use crate::words::{accept_word, flush_word, open_word};
-use anyhow::Result;
 use events::Input;
 use mode_table::Cold;
 use onboard::{LiveError, Released, Step};
-use std::alloc::Global;
+use std::alloc::{AllocError, Global};
+use units::NoMemory;
 
 /// Does what a command says, and writes the answer.
 pub fn answer(
@@ -17,90 +17,96 @@ pub fn answer(
     session: &mut Session,
     command: Command<'_>,
     text: &mut String,
-) -> Result<()> {
+) -> Result<(), NoMemory> {
     match command {
-        Command::Input(input) => accept(alloc, session, input, text),
-        Command::Flush => flush(alloc, session, text),
-        Command::Open(cold) => {
-            text.push_str(open(alloc, session, cold))?;
-            Ok(())
+        Command::Act(act) => take(alloc, session, act, text),
+        Command::Make(make) => match made(alloc, session, make)? {
+            Some(()) => Ok(()),
+            None => say(text, "not done"),
+        },
+        Command::Tell(tell) => show(alloc, session, tell, text),
+    }
+}
+
+fn say(text: &mut String, words: &str) -> Result<(), NoMemory> {
+    text.push_str(words)?;
+    Ok(())
+}
+
+fn take(alloc: Global, session: &mut Session, act: Act, text: &mut String) -> Result<(), NoMemory> {
+    match act {
+        Act::Open(cold) => say(text, open(alloc, session, cold)),
+        Act::Openings(times, cold) => {
+            let last = openings(alloc, session, times, cold)?;
+            say(text, last)
         }
-        Command::Openings(times, cold) => openings(alloc, session, times, cold, text),
-        Command::Live(cold) => {
+        Act::Input(input) => accept(alloc, session, input, text),
+        Act::Flush => flush(alloc, session, text),
+        Act::Close => Ok(close(session, text)?),
+        Act::Calls => say(text, calls(session)),
+        Act::Default => Ok(tell_pairs(alloc, &[Released::default()], text)?),
+        Act::Live(cold) => {
             session.collect(cold);
             Ok(())
         }
-        Command::Run => run(alloc, session, text),
-        Command::Close => close(session, text),
-        Command::Calls => calls(session, text),
-        Command::Default => tell_pairs(alloc, &[Released::default()], text),
-        Command::Blocks | Command::Kept(_) | Command::List | Command::Bytes => {
-            show(alloc, session, command, text)
-        }
-        _ => {
-            if make(alloc, session, command)?.is_none() {
-                text.push_str("not done")?;
-            }
-            Ok(())
-        }
+        Act::Run => run(alloc, session, text),
     }
 }
 
-// What says nothing of itself. None where it can't be done.
-fn make(alloc: Global, session: &mut Session, command: Command<'_>) -> Result<Option<()>> {
-    match command {
-        Command::Format(slots) => match formatted(alloc, slots)? {
-            Some(memory) => session.set_disk(memory),
-            None => return Ok(None),
-        },
-        Command::Keep => match session.settled(alloc, &[])? {
-            Some(memory) => session.keep(memory),
-            None => return Ok(None),
-        },
-        Command::Again => session.go_back(alloc)?,
-        Command::Settle(words) => return settle(alloc, session, words),
-        Command::Less => return less(alloc, session),
-        _ => return Ok(change(alloc, session, command)),
+// None where it can't be done.
+fn made(alloc: Global, session: &mut Session, make: Make<'_>) -> Result<Option<()>, NoMemory> {
+    match make {
+        Make::Format(slots) => {
+            let memory = formatted(alloc, slots)?;
+            Ok(session.put_in(memory))
+        }
+        Make::Less => less(alloc, session),
+        Make::Keep => {
+            let memory = session.settled(alloc, &[])?;
+            Ok(session.keep(memory))
+        }
+        Make::Again => {
+            session.go_back(alloc)?;
+            Ok(Some(()))
+        }
+        Make::Settle(words) => settle(alloc, session, words),
+        Make::Change(change) => Ok(changed(alloc, session, change)),
     }
-    Ok(Some(()))
 }
 
-// What is done to a disk without power.
-fn change(alloc: Global, session: &mut Session, command: Command<'_>) -> Option<()> {
+fn changed(alloc: Global, session: &mut Session, change: Change<'_>) -> Option<()> {
     let device = session.device()?;
-    match command {
-        Command::Plan(number, plan) => device.plan(number, plan),
-        Command::PlanAny(plan) => device.plan_any(plan),
-        Command::Put(slot, patches) => put_slot(alloc, device, slot, patches)?,
-        Command::Flip(sector, offset, mask) => flip(device, sector, offset, mask)?,
-        _ => return None,
+    match change {
+        Change::Plan(number, plan) => {
+            device.plan(number, plan);
+            Some(())
+        }
+        Change::PlanAny(plan) => {
+            device.plan_any(plan);
+            Some(())
+        }
+        Change::Put(slot, patches) => put_slot(alloc, device, slot, patches),
+        Change::Flip(sector, offset, mask) => flip(device, sector, offset, mask),
     }
-    Some(())
 }
 
-fn settle(alloc: Global, session: &mut Session, words: &[&str]) -> Result<Option<()>> {
+fn settle(alloc: Global, session: &mut Session, words: &str) -> Result<Option<()>, NoMemory> {
     let Some(mut before) = session.settled(alloc, &[])? else {
         return Ok(None);
     };
     let Some(left) = choices(alloc, &mut before, words)? else {
         return Ok(None);
     };
-    let Some(memory) = session.settled(alloc, &left)? else {
-        return Ok(None);
-    };
-    session.set_disk(memory);
-    Ok(Some(()))
+    let memory = session.settled(alloc, &left)?;
+    Ok(session.put_in(memory))
 }
 
-fn less(alloc: Global, session: &mut Session) -> Result<Option<()>> {
+fn less(alloc: Global, session: &mut Session) -> Result<Option<()>, NoMemory> {
     let Some(mut before) = session.settled(alloc, &[])? else {
         return Ok(None);
     };
-    let Some(memory) = shortened(alloc, &mut before)? else {
-        return Ok(None);
-    };
-    session.set_disk(memory);
-    Ok(Some(()))
+    let memory = shortened(alloc, &mut before)?;
+    Ok(session.put_in(memory))
 }
 
 fn open(alloc: Global, session: &mut Session, cold: Cold) -> &'static str {
@@ -116,64 +122,67 @@ fn openings(
     session: &mut Session,
     times: u64,
     cold: Cold,
-    text: &mut String,
-) -> Result<()> {
+) -> Result<&'static str, NoMemory> {
     let mut last = "none";
     for _ in 0..times {
         last = open(alloc, session, cold);
-        if let Some(memory) = session.settled(alloc, &[])? {
-            session.set_disk(memory);
-        }
+        let memory = session.settled(alloc, &[])?;
+        let _done = session.put_in(memory);
     }
-    text.push_str(last)?;
-    Ok(())
+    Ok(last)
 }
 
-fn accept(alloc: Global, session: &mut Session, input: Input, text: &mut String) -> Result<()> {
+fn accept(
+    alloc: Global,
+    session: &mut Session,
+    input: Input,
+    text: &mut String,
+) -> Result<(), NoMemory> {
     if session.is_collecting() {
         return session.push(Step::Accept(input));
     }
-    text.push_str(match session.accept(alloc, input) {
-        Some(Ok(())) => "accepted",
-        Some(Err(error)) => accept_word(error),
-        None => "no power",
-    })?;
-    Ok(())
+    say(
+        text,
+        match session.accept(alloc, input) {
+            Some(Ok(())) => "accepted",
+            Some(Err(error)) => accept_word(error),
+            None => "no power",
+        },
+    )
 }
 
-fn flush(alloc: Global, session: &mut Session, text: &mut String) -> Result<()> {
+fn flush(alloc: Global, session: &mut Session, text: &mut String) -> Result<(), NoMemory> {
     if session.is_collecting() {
         return session.push(Step::Flush);
     }
     match session.flush() {
-        Some(Ok(pairs)) => tell_pairs(alloc, pairs.as_slice(), text)?,
-        Some(Err(error)) => text.push_str(flush_word(error))?,
-        None => text.push_str("no power")?,
+        Some(Ok(pairs)) => Ok(tell_pairs(alloc, pairs.as_slice(), text)?),
+        Some(Err(error)) => say(text, flush_word(error)),
+        None => say(text, "no power"),
     }
-    Ok(())
 }
 
-fn run(alloc: Global, session: &mut Session, text: &mut String) -> Result<()> {
+fn run(alloc: Global, session: &mut Session, text: &mut String) -> Result<(), NoMemory> {
     let mut pairs = Vec::new(alloc);
     match session.live(alloc, &mut pairs) {
         Some(Ok(())) => text.push_str("done, ")?,
         Some(Err(error)) => tell_end(error, text)?,
         None => text.push_str("no disk, ")?,
     }
-    tell_pairs(alloc, &pairs, text)
-}
-
-fn tell_end(error: LiveError, text: &mut String) -> Result<()> {
-    match error {
-        LiveError::Open(error) => write!(text, "{}, ", open_word(error))?,
-        LiveError::Accept(k, error) => write!(text, "step {k} {}, ", accept_word(error))?,
-        LiveError::Flush(k, error) => write!(text, "step {k} {}, ", flush_word(error))?,
-        LiveError::NoMemory(k) => write!(text, "step {k} NoMemory, ")?,
-    }
+    tell_pairs(alloc, &pairs, text)?;
     Ok(())
 }
 
-fn close(session: &mut Session, text: &mut String) -> Result<()> {
+fn tell_end(error: LiveError, text: &mut String) -> Result<(), AllocError> {
+    match error {
+        LiveError::Open(error) => write!(text, "{}, ", open_word(error)),
+        LiveError::Accept(k, error) => write!(text, "step {k} {}, ", accept_word(error)),
+        LiveError::Flush(k, error) => write!(text, "step {k} {}, ", flush_word(error)),
+        LiveError::NoMemory(k) => write!(text, "step {k} NoMemory, "),
+    }
+}
+
+fn close(session: &mut Session, text: &mut String) -> Result<(), AllocError> {
     let was_on = session.close().is_some();
     match session.device() {
         Some(device) if was_on => write!(
@@ -181,43 +190,38 @@ fn close(session: &mut Session, text: &mut String) -> Result<()> {
             "{} writes and syncs, faults {}",
             device.changes(),
             device.faults()
-        )?,
-        _ => text.push_str("no power")?,
+        ),
+        _ => text.push_str("no power"),
     }
-    Ok(())
 }
 
-fn calls(session: &mut Session, text: &mut String) -> Result<()> {
-    text.push_str(match session.has_as_many_calls() {
+fn calls(session: &mut Session) -> &'static str {
+    match session.has_as_many_calls() {
         Some(true) => "as many as before",
         Some(false) => "another number",
         None => "power is on",
-    })?;
-    Ok(())
+    }
 }
 
 // What is on the disk, of which a copy is read.
 fn show(
     alloc: Global,
     session: &mut Session,
-    command: Command<'_>,
+    tell: Tell,
     text: &mut String,
-) -> Result<()> {
+) -> Result<(), NoMemory> {
     let Some(mut memory) = session.settled(alloc, &[])? else {
-        text.push_str("no disk")?;
-        return Ok(());
+        return say(text, "no disk");
     };
     let told = match found_on(&mut memory) {
         Ok(told) => told,
-        Err(word) => {
-            text.push_str(word)?;
-            return Ok(());
-        }
+        Err(word) => return say(text, word),
     };
-    match command {
-        Command::Kept(item) => told.tell_kept(alloc, item, text),
-        Command::List => told.tell_records(alloc, &mut memory, text),
-        Command::Bytes => told.tell_bytes(&mut memory, text),
-        _ => told.tell_blocks(text),
+    match tell {
+        Tell::Blocks => told.tell_blocks(text)?,
+        Tell::Kept(item) => told.tell_kept(alloc, item, text)?,
+        Tell::List => told.tell_records(alloc, &mut memory, text)?,
+        Tell::Bytes => told.tell_bytes(&mut memory, text)?,
     }
+    Ok(())
 }

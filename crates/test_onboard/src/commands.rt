@@ -8,16 +8,20 @@ use std::alloc::Global;
 /// A command.
 #[derive(Drop)]
 pub enum Command<'a> {
-    Format(u32),
-    Less,
-    Put(u64, &'a [&'a str]),
-    Flip(u64, usize, u8),
-    Keep,
-    Again,
-    /// Of the writes and syncs the one of this number.
-    Plan(u64, Plan),
-    PlanAny(Plan),
+    /// The unit does something, or is asked.
+    Act(Act),
+    /// Something is done to the disk.
+    Make(Make<'a>),
+    /// What is on the disk is asked for.
+    Tell(Tell),
+}
+
+/// What the unit does.
+#[derive(Drop)]
+pub enum Act {
     Open(Cold),
+    /// So many openings, with nothing between.
+    Openings(u64, Cold),
     Input(Input),
     Flush,
     Close,
@@ -25,53 +29,113 @@ pub enum Command<'a> {
     Default,
     Live(Cold),
     Run,
-    Openings(u64, Cold),
-    Settle(&'a [&'a str]),
+}
+
+/// What is done to the disk.
+#[derive(Drop)]
+pub enum Make<'a> {
+    Format(u32),
+    Less,
+    Keep,
+    Again,
+    /// What each open sector holds.
+    Settle(&'a str),
+    Change(Change<'a>),
+}
+
+/// What is done to a disk without power.
+#[derive(Drop)]
+pub enum Change<'a> {
+    /// Of the writes and syncs the one of this number.
+    Plan(u64, Plan),
+    /// The same, with reads counted too.
+    PlanAny(Plan),
+    /// A slot, and runs of bytes.
+    Put(u64, &'a str),
+    /// A sector, a byte of it, and the bits that are changed.
+    Flip(u64, usize, u8),
+}
+
+/// What is asked of a disk.
+#[derive(Drop)]
+pub enum Tell {
     Blocks,
     Kept(Item),
     List,
     Bytes,
 }
 
-/// What a command says, of which these are the words; None where it is none.
-pub fn read_command<'a>(alloc: Global, said: &str, words: &'a [&'a str]) -> Option<Command<'a>> {
-    match words {
-        ["less"] => Some(Command::Less),
-        ["keep"] => Some(Command::Keep),
-        ["again"] => Some(Command::Again),
-        ["flush"] => Some(Command::Flush),
-        ["close"] => Some(Command::Close),
-        ["calls"] => Some(Command::Calls),
-        ["default"] => Some(Command::Default),
-        ["run"] => Some(Command::Run),
-        ["blocks"] => Some(Command::Blocks),
-        ["list"] => Some(Command::List),
-        ["bytes"] => Some(Command::Bytes),
-        ["put", slot, patches @ ..] => Some(Command::Put(slot.parse().ok()?, patches)),
-        ["settle", left @ ..] => Some(Command::Settle(left)),
-        _ => read_longer(alloc, said, words),
+/// What a command says; None where it is none.
+pub fn read_command(alloc: Global, said: &str) -> Option<Command<'_>> {
+    let (word, value) = said.split_once(' ').unwrap_or((said, ""));
+    if let Some(tell) = read_tell(word, value) {
+        return Some(Command::Tell(tell));
+    }
+    if let Some(make) = read_make(word, value) {
+        return Some(Command::Make(make));
+    }
+    Some(Command::Act(read_act(alloc, word, value)?))
+}
+
+fn read_tell(word: &str, value: &str) -> Option<Tell> {
+    match word {
+        "blocks" => Some(Tell::Blocks),
+        "kept" => Some(Tell::Kept(Item::named(value)?)),
+        "list" => Some(Tell::List),
+        "bytes" => Some(Tell::Bytes),
+        _ => None,
     }
 }
 
-fn read_longer<'a>(alloc: Global, said: &str, words: &'a [&'a str]) -> Option<Command<'a>> {
-    match *words {
-        ["format", slots] => Some(Command::Format(slots.parse().ok()?)),
-        ["flip", sector, offset, mask] => Some(Command::Flip(
-            sector.parse().ok()?,
-            offset.parse().ok()?,
-            u8::from_str_radix(mask, 16).ok()?,
-        )),
-        ["cut", number] => Some(Command::Plan(number.parse().ok()?, Plan::Cut(0))),
-        ["fail", number] => Some(Command::Plan(number.parse().ok()?, Plan::Fail(0))),
-        ["cut-any", number] => Some(Command::PlanAny(Plan::Cut(number.parse().ok()?))),
-        ["fail-any", number] => Some(Command::PlanAny(Plan::Fail(number.parse().ok()?))),
-        ["open", word] => Some(Command::Open(cold(word)?)),
-        ["live", word] => Some(Command::Live(cold(word)?)),
-        ["openings", times, word] => Some(Command::Openings(times.parse().ok()?, cold(word)?)),
-        ["kept", item] => Some(Command::Kept(Item::named(item)?)),
-        _ => {
-            let (word, value) = said.split_once(' ').unwrap_or((said, ""));
-            Some(Command::Input(input(alloc, word, value)?))
+fn read_make<'a>(word: &str, value: &'a str) -> Option<Make<'a>> {
+    match word {
+        "format" => Some(Make::Format(value.parse().ok()?)),
+        "less" => Some(Make::Less),
+        "keep" => Some(Make::Keep),
+        "again" => Some(Make::Again),
+        "settle" => Some(Make::Settle(value)),
+        _ => Some(Make::Change(read_change(word, value)?)),
+    }
+}
+
+fn read_change<'a>(word: &str, value: &'a str) -> Option<Change<'a>> {
+    match word {
+        "cut" => Some(Change::Plan(value.parse().ok()?, Plan::Cut(0))),
+        "fail" => Some(Change::Plan(value.parse().ok()?, Plan::Fail(0))),
+        "cut-any" => Some(Change::PlanAny(Plan::Cut(value.parse().ok()?))),
+        "fail-any" => Some(Change::PlanAny(Plan::Fail(value.parse().ok()?))),
+        "put" => {
+            let (slot, patches) = value.split_once(' ')?;
+            Some(Change::Put(slot.parse().ok()?, patches))
         }
+        "flip" => read_flip(value),
+        _ => None,
+    }
+}
+
+fn read_flip<'a>(value: &str) -> Option<Change<'a>> {
+    let (sector, rest) = value.split_once(' ')?;
+    let (offset, mask) = rest.split_once(' ')?;
+    Some(Change::Flip(
+        sector.parse().ok()?,
+        offset.parse().ok()?,
+        u8::from_str_radix(mask, 16).ok()?,
+    ))
+}
+
+fn read_act(alloc: Global, word: &str, value: &str) -> Option<Act> {
+    match word {
+        "open" => Some(Act::Open(cold(value)?)),
+        "openings" => {
+            let (times, word) = value.split_once(' ')?;
+            Some(Act::Openings(times.parse().ok()?, cold(word)?))
+        }
+        "live" => Some(Act::Live(cold(value)?)),
+        "flush" => Some(Act::Flush),
+        "close" => Some(Act::Close),
+        "calls" => Some(Act::Calls),
+        "default" => Some(Act::Default),
+        "run" => Some(Act::Run),
+        _ => Some(Act::Input(input(alloc, word, value)?)),
     }
 }

@@ -1,7 +1,6 @@
 // Lines whose answers are counted.
 use crate::digest::Digest;
-use anyhow::Result;
-use std::alloc::Global;
+use std::alloc::{AllocError, Global};
 
 /// Lines that are not printed.
 #[derive(Drop)]
@@ -14,7 +13,7 @@ pub struct Group {
 }
 
 impl Group {
-    pub fn new(alloc: Global, name: &str) -> Result<Group> {
+    pub fn new(alloc: Global, name: &str) -> Result<Group, AllocError> {
         Ok(Group {
             name: String::from_str(alloc, name)?,
             lines: 0,
@@ -35,7 +34,7 @@ impl Group {
         }
     }
 
-    pub fn tell(&self, rt: &impl Print) -> Result<()> {
+    pub fn tell(&self, rt: &impl Print) -> anyhow::Result<()> {
         println!(rt;
             "{}: {} lines, {} answers, digest {:016x}",
             self.name.as_str(),

@@ -1,7 +1,8 @@
 // Disks made by hand.
+use crate::calls::{format, put, read};
 use crate::device::Device;
 use crate::session::{blank, sectors_of};
-use disk::{Choice, Disk, Memory, SECTOR_BYTES};
+use disk::{Choice, Memory, SECTOR_BYTES};
 use std::alloc::Global;
 use units::NoMemory;
 
@@ -11,10 +12,15 @@ pub const SLOT_BYTES: usize = 3_072;
 /// An empty journal of so many slots. None where there is no such one.
 pub fn formatted(alloc: Global, slots: u32) -> Result<Option<Memory>, NoMemory> {
     let mut memory = blank(alloc, 1 + 6 * u64::from(slots))?;
-    match journal::format(&mut memory, slots) {
-        Ok(()) => Ok(Some(memory.settle(alloc, &[])?)),
-        Err(_) => Ok(None),
+    match format(&mut memory, slots) {
+        Some(()) => settled(alloc, &memory),
+        None => Ok(None),
     }
+}
+
+// The disk as the next life has it.
+fn settled(alloc: Global, memory: &Memory) -> Result<Option<Memory>, NoMemory> {
+    Ok(Some(memory.settle(alloc, &[])?))
 }
 
 /// The same disk without its last sector. None where it has none.
@@ -25,53 +31,43 @@ pub fn shortened(alloc: Global, memory: &mut Memory) -> Result<Option<Memory>, N
     }
     let mut short = blank(alloc, sectors - 1)?;
     for sector in 0..sectors - 1 {
-        let Some(()) = copy_sector(memory, &mut short, sector) else {
+        if copy_sector(memory, &mut short, sector).is_none() {
             return Ok(None);
-        };
+        }
     }
-    Ok(Some(short.settle(alloc, &[])?))
+    settled(alloc, &short)
 }
 
 fn copy_sector(from: &mut Memory, to: &mut Memory, sector: u64) -> Option<()> {
-    let bytes = sector_at(from, sector)?;
-    if !to.are_sectors(sector, SECTOR_BYTES) {
-        return None;
-    }
-    disk::put(to, sector, &bytes).ok()
+    put(to, sector, &sector_at(from, sector)?)
 }
 
 /// What a sector holds. None where it can't be read.
 pub fn sector_at(memory: &mut Memory, sector: u64) -> Option<[u8; SECTOR_BYTES]> {
     let mut bytes = [0; SECTOR_BYTES];
-    if !memory.are_sectors(sector, SECTOR_BYTES) {
-        return None;
-    }
-    memory.read(sector, &mut bytes).ok()?;
+    read(memory, sector, &mut bytes)?;
     Some(bytes)
+}
+
+// The first sector of a slot.
+fn first_of(slot: u64) -> Option<u64> {
+    slot.checked_mul(6)?.checked_add(1)
 }
 
 /// What a slot holds. None where it can't be read.
 pub fn slot_at(memory: &mut Memory, slot: u64) -> Option<[u8; SLOT_BYTES]> {
-    let first = slot.checked_mul(6)?.checked_add(1)?;
     let mut bytes = [0; SLOT_BYTES];
-    if !memory.are_sectors(first, SLOT_BYTES) {
-        return None;
-    }
-    memory.read(first, &mut bytes).ok()?;
+    read(memory, first_of(slot)?, &mut bytes)?;
     Some(bytes)
 }
 
 /// Makes the sectors of a slot of some bytes, OFFSET:HEX each, all others zero. None where there is no such slot or byte.
-pub fn put_slot(alloc: Global, device: &mut Device, slot: u64, patches: &[&str]) -> Option<()> {
-    let first = slot.checked_mul(6)?.checked_add(1)?;
+pub fn put_slot(alloc: Global, device: &mut Device, slot: u64, patches: &str) -> Option<()> {
     let mut bytes = [0; SLOT_BYTES];
-    for text in patches {
+    for text in patches.split_whitespace() {
         patch(alloc, &mut bytes, text)?;
     }
-    if !device.are_sectors(first, SLOT_BYTES) {
-        return None;
-    }
-    disk::put(device, first, &bytes).ok()
+    put(device, first_of(slot)?, &bytes)
 }
 
 fn patch(alloc: Global, bytes: &mut [u8], text: &str) -> Option<()> {
@@ -89,26 +85,26 @@ fn patch(alloc: Global, bytes: &mut [u8], text: &str) -> Option<()> {
 /// Changes the bits of a mask in a byte of a sector. None where there is none.
 pub fn flip(device: &mut Device, sector: u64, offset: usize, mask: u8) -> Option<()> {
     let mut bytes = [0; SECTOR_BYTES];
-    if offset >= SECTOR_BYTES || !device.are_sectors(sector, SECTOR_BYTES) {
+    if offset >= SECTOR_BYTES {
         return None;
     }
-    device.read(sector, &mut bytes).ok()?;
+    read(device, sector, &mut bytes)?;
     bytes[offset] ^= mask;
-    disk::put(device, sector, &bytes).ok()
+    put(device, sector, &bytes)
 }
 
 /// What is left of open sectors, by their words; the disk holds what `@` names. None where a word says nothing.
 pub fn choices(
     alloc: Global,
     memory: &mut Memory,
-    words: &[&str],
-) -> anyhow::Result<Option<Vec<Choice>>> {
+    words: &str,
+) -> Result<Option<Vec<Choice>>, NoMemory> {
     let mut choices = Vec::new(alloc);
-    for word in words {
-        let Some(choice) = choice(memory, word) else {
-            return Ok(None);
-        };
-        choices.push(choice)?;
+    for word in words.split_whitespace() {
+        match choice(memory, word) {
+            Some(choice) => choices.push(choice)?,
+            None => return Ok(None),
+        }
     }
     Ok(Some(choices))
 }

@@ -29,12 +29,17 @@
 //!     list                     a line for each record that is retained
 //!     bytes                    a digest of all bytes of the blocks that are retained
 //!     for 0 511: flip 0 * 01; ..    the rest of the line for each number of this range, which stands in the place of `*`
+//!     try 4096 old,new old,ff / new,@7: cut 3; open moved; settle *; cut 1; open moved; settle %   the rest of the line for each
+//!                              combination that has a word of each list, where there are at most so many, else for so many of
+//!                              them; the words of the lists before `/` stand in the place of `*`, the others in that of `%`
 //!     group NAME               the lines from here on are not printed, up to
 //!     end                      .. which prints how many they were, how often the answers changed from one line to the next, and
 //!                              the digest of the answers, each that is the same as the line's before it left out
 #![tactic(auto)]
 
 mod answering;
+mod calls;
+mod combinations;
 mod commands;
 mod device;
 mod digest;

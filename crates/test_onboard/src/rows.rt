@@ -1,10 +1,13 @@
 // The rows, line by line.
 use crate::answering::answer;
+use crate::combinations::{Lists, nth_tried, with_words};
 use crate::commands::read_command;
 use crate::group::Group;
 use crate::session::Session;
 use anyhow::Result;
-use std::alloc::Global;
+use std::alloc::{AllocError, Global};
+use std::cmp::min;
+use units::NoMemory;
 
 // The first and the last number, and the line.
 fn read_range(each: &str) -> Option<(u16, u16, &str)> {
@@ -13,16 +16,17 @@ fn read_range(each: &str) -> Option<(u16, u16, &str)> {
     Some((from.parse().ok()?, to.parse().ok()?, line))
 }
 
-// A line with a number in the place of each `*`.
-fn with_number(alloc: Global, line: &str, number: u16) -> Result<String> {
-    let mut text = String::new(alloc);
-    for (k, part) in line.split('*').enumerate() {
-        if k > 0 {
-            write!(text, "{number}")?;
-        }
-        text.push_str(part)?;
-    }
-    Ok(text)
+// How many combinations are tried at most, the lists for one sign and for the other, and the line.
+fn read_lists(each: &str) -> Option<(u64, Lists<'_>, Lists<'_>, &str)> {
+    let (head, line) = each.split_once(':')?;
+    let (tried, lists) = head.split_once(' ')?;
+    let (first, second) = lists.split_once('/').unwrap_or((lists, ""));
+    Some((
+        tried.parse().ok()?,
+        Lists::new(first),
+        Lists::new(second),
+        line,
+    ))
 }
 
 #[derive(Drop)]
@@ -46,6 +50,8 @@ impl Rows {
             self.end(rt)?;
         } else if let Some(each) = line.strip_prefix("for ") {
             self.each(rt, session, each)?;
+        } else if let Some(each) = line.strip_prefix("try ") {
+            self.combine(rt, session, each)?;
         } else {
             self.row(rt, session, line)?;
         }
@@ -59,10 +65,43 @@ impl Rows {
             return Ok(());
         };
         for number in from..=to {
-            let line = with_number(self.alloc, line, number)?;
+            let number = format!(in self.alloc; "{number}")?;
+            let line = with_words(self.alloc, line, '*', number.as_str())?;
             self.row(rt, session, line.as_str())?;
         }
         Ok(())
+    }
+
+    // A line for each combination of words, or for some of them.
+    fn combine(&mut self, rt: &impl Print, session: &mut Session, each: &str) -> Result<()> {
+        let Some((most, first, second, line)) = read_lists(each) else {
+            println!(rt; "try {each}: no row")?;
+            return Ok(());
+        };
+        let count = first.count().saturating_mul(second.count());
+        let tried = min(most, count);
+        for k in 0..tried {
+            let number = nth_tried(k, tried, count);
+            let line = self.combined(&first, &second, number, line)?;
+            self.row(rt, session, line.as_str())?;
+        }
+        Ok(())
+    }
+
+    // The line with the words of a combination in the place of both signs.
+    fn combined(
+        &self,
+        first: &Lists<'_>,
+        second: &Lists<'_>,
+        number: u64,
+        line: &str,
+    ) -> Result<String, AllocError> {
+        let mut words = String::new(self.alloc);
+        let mut more = String::new(self.alloc);
+        let rest = first.write(number, &mut words)?;
+        let _rest = second.write(rest, &mut more)?;
+        let line = with_words(self.alloc, line, '*', words.as_str())?;
+        with_words(self.alloc, line.as_str(), '%', more.as_str())
     }
 
     fn end(&mut self, rt: &impl Print) -> Result<()> {
@@ -90,7 +129,12 @@ impl Rows {
     }
 
     // Does what a command says, and writes the answer, behind the command where lines are printed.
-    fn command(&self, session: &mut Session, said: &str, told: &mut String) -> Result<()> {
+    fn command(
+        &self,
+        session: &mut Session,
+        said: &str,
+        told: &mut String,
+    ) -> Result<(), NoMemory> {
         let answer = self.answer_to(session, said)?;
         let answer = answer.as_str().trim();
         if self.group.is_none() {
@@ -103,10 +147,9 @@ impl Rows {
         Ok(())
     }
 
-    fn answer_to(&self, session: &mut Session, said: &str) -> Result<String> {
-        let words: Vec<&str> = said.split_whitespace().collect(self.alloc)?;
+    fn answer_to(&self, session: &mut Session, said: &str) -> Result<String, NoMemory> {
         let mut text = String::new(self.alloc);
-        match read_command(self.alloc, said, &words) {
+        match read_command(self.alloc, said) {
             Some(command) => answer(self.alloc, session, command, &mut text)?,
             None => text.push_str("no row")?,
         }

@@ -1,10 +1,11 @@
 // A disk, and the unit on it while it has power.
+use crate::calls::{Unit, accepted, closed, flushed, lived, opened};
 use crate::device::Device;
 use arrayvec::ArrayVec;
 use disk::{Choice, Disk, Memory};
 use events::Input;
 use mode_table::Cold;
-use onboard::{AcceptError, FlushError, LiveError, Onboard, OpenError, Released, Step, live};
+use onboard::{AcceptError, FlushError, LiveError, OpenError, Released, Step};
 use std::alloc::Global;
 use std::mem;
 use units::NoMemory;
@@ -19,7 +20,7 @@ enum Station {
     /// Nothing; only while it changes hands.
     Gone,
     Off(Device),
-    On(Onboard<Device>),
+    On(Unit),
 }
 
 /// A disk, and the unit on it while it has power.
@@ -39,7 +40,7 @@ fn off(station: Station) -> Option<Device> {
     match station {
         Station::Gone => None,
         Station::Off(device) => Some(device),
-        Station::On(unit) => Some(unit.close()),
+        Station::On(unit) => Some(closed(unit)),
     }
 }
 
@@ -89,8 +90,14 @@ impl Session {
     }
 
     /// Power is off, and this is the disk.
-    pub fn set_disk(&mut self, memory: Memory) {
+    fn set_disk(&mut self, memory: Memory) {
         self.set(Station::Off(Device::new(memory)));
+    }
+
+    /// The same with a disk that may be none; None where it is.
+    pub fn put_in(&mut self, memory: Option<Memory>) -> Option<()> {
+        self.set_disk(memory?);
+        Some(())
     }
 
     /// The disk while power is off.
@@ -105,7 +112,7 @@ impl Session {
     pub fn close(&mut self) -> Option<()> {
         match mem::replace(&mut self.station, Station::Gone) {
             Station::On(unit) => {
-                self.set(Station::Off(unit.close()));
+                self.set(Station::Off(closed(unit)));
                 Some(())
             }
             Station::Off(device) => {
@@ -129,8 +136,10 @@ impl Session {
         }
     }
 
-    pub fn keep(&mut self, memory: Memory) {
-        self.kept = memory;
+    /// What `again` goes back to. None where there is no disk.
+    pub fn keep(&mut self, memory: Option<Memory>) -> Option<()> {
+        self.kept = memory?;
+        Some(())
     }
 
     pub fn go_back(&mut self, alloc: Global) -> Result<(), NoMemory> {
@@ -142,7 +151,7 @@ impl Session {
     /// Powers up.
     pub fn open(&mut self, alloc: Global, cold: Cold) -> Option<Result<(), OpenError>> {
         let device = self.take()?;
-        match Onboard::open(alloc, device, cold) {
+        match opened(alloc, device, cold) {
             Ok(unit) => {
                 self.set(Station::On(unit));
                 Some(Ok(()))
@@ -165,7 +174,7 @@ impl Session {
         self.is_collecting
     }
 
-    pub fn push(&mut self, step: Step) -> anyhow::Result<()> {
+    pub fn push(&mut self, step: Step) -> Result<(), NoMemory> {
         self.steps.push(step)?;
         Ok(())
     }
@@ -184,7 +193,7 @@ impl Session {
         out: &mut Vec<Released>,
     ) -> Option<Result<(), LiveError>> {
         let device = self.take()?;
-        let (device, done) = live(alloc, device, self.cold, &self.steps, out);
+        let (device, done) = lived(alloc, device, self.cold, &self.steps, out);
         self.set(Station::Off(device));
         self.is_collecting = false;
         Some(done)
@@ -193,7 +202,7 @@ impl Session {
     /// None where power is off.
     pub fn accept(&mut self, alloc: Global, input: Input) -> Option<Result<(), AcceptError>> {
         match &mut self.station {
-            Station::On(unit) => Some(unit.accept(alloc, input)),
+            Station::On(unit) => Some(accepted(alloc, unit, input)),
             Station::Gone | Station::Off(_) => None,
         }
     }
@@ -201,7 +210,7 @@ impl Session {
     /// None where power is off.
     pub fn flush(&mut self) -> Option<Result<ArrayVec<Released, 8>, FlushError>> {
         match &mut self.station {
-            Station::On(unit) => Some(unit.flush()),
+            Station::On(unit) => Some(flushed(unit)),
             Station::Gone | Station::Off(_) => None,
         }
     }

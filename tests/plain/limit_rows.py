@@ -1,8 +1,8 @@
 #!/usr/bin/env python3
-"""Pseudo-random tracks for the rows of crates/test_limits, the same in every run, with what the definitions say of them
+"""Pseudo-random tracks for the rows of crates/test_modes, the same in every run, with what the definitions say of them
 centimetre by centimetre.
 
-    tests/plain/limit_rows.py            writes them behind the worked rows of crates/test_limits, and their answers
+    tests/plain/limit_rows.py            writes them behind the worked rows of crates/test_modes, and their answers
     tests/plain/limit_rows.py --check    makes them anew; the exit status is 1 where others stand there
 """
 import sys
@@ -11,7 +11,7 @@ from pathlib import Path
 
 from random_lists import Numbers
 
-CRATE = Path(__file__).resolve().parents[2] / "crates" / "test_limits"
+CRATE = Path(__file__).resolve().parents[2] / "crates" / "test_modes"
 HEADING = "random tracks"
 
 TRACKS, OF_EACH = 12, 10
@@ -96,9 +96,9 @@ class Track:
             length = numbers.one_of((0, 1, 10, 40, 32_767 if numbers.below(4) == 0 else 5))
             mode, speed = numbers.below(2), numbers.one_of((127, 1 + numbers.below(9)))
             start += 10 * distance
-            self.say("area", distance, mode, speed, length)
+            self.say("mode_area", distance, mode, speed, length)
             told.append(Area(start, None if length == 32_767 else start + 10 * length, mode, speed))
-        self.say("areas", 0)
+        self.say("mode_areas", 0)
         return told
 
     def area_speed(self, area):

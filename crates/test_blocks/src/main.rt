@@ -16,10 +16,10 @@ mod telling;
 
 use std::io;
 
-fn main(rt: HostRuntime) -> anyhow::Result<()> {
+fn main(rt: HostRuntime) -> io::Result<()> {
     for line in rt.lines(rt.alloc()) {
         let line = line?;
-        rows::answer(&rt, rt.alloc(), line.as_str())?;
+        rows::tell_row(&rt, rt.alloc(), line.as_str())?;
     }
     Ok(())
 }

@@ -4,43 +4,54 @@ ghost use Rattle.blocks.specs.Blocks.{HasLimits};
 
 use crate::bytes::patched;
 use crate::telling::tell;
-use anyhow::Result;
 use blocks::{
     Block, Record, read_block, read_first_sector, valid_number, write_block_in, write_first_sector,
 };
 use events::{Estimate, Output};
 use std::alloc::Global;
+use std::io;
 use units::Mph;
 
+// What a row is answered by, but for a block.
+#[derive(Drop)]
+enum Answer {
+    Slots(u32, bool),
+    Number(u64),
+    NotValid,
+    Count(u32),
+    Refused,
+    NoRow,
+}
+
 /// Prints a row with its answer.
-pub fn answer(rt: &impl Print, alloc: Global, line: &str) -> Result<()> {
+pub fn tell_row(rt: &impl Print, alloc: Global, line: &str) -> io::Result<()> {
     let words: Vec<&str> = line.split_whitespace().collect(alloc)?;
-    match words.as_slice() {
-        [] | ["#", ..] => println!(rt; "{line}")?,
-        ["sector", patches @ ..] => match sector(alloc, patches) {
-            Some((Some(slots), same)) => println!(rt; "{line}: {slots} slots, {}", again(same))?,
-            Some((None, _)) => println!(rt; "{line}: refused")?,
-            None => println!(rt; "{line}: no row")?,
-        },
-        ["slot", slot, slots, patches @ ..] => match number(alloc, slot, slots, patches) {
-            Some(Some(number)) => println!(rt; "{line}: number {number}")?,
-            Some(None) => println!(rt; "{line}: not valid")?,
-            None => println!(rt; "{line}: no row")?,
-        },
-        ["block", patches @ ..] => {
-            let mut bytes = [0; 3_072];
-            match patched(alloc, &mut bytes, patches) {
-                Some(()) => block(rt, alloc, line, &bytes)?,
-                None => println!(rt; "{line}: no row")?,
-            }
-        }
-        ["each", from, to, patches @ ..] => match refused(alloc, from, to, patches) {
-            Some(count) => println!(rt; "{line}: {count} refused")?,
-            None => println!(rt; "{line}: no row")?,
-        },
-        _ => println!(rt; "{line}: no row")?,
+    match words.as_slice().split_first() {
+        None | Some((&"#", _)) => println!(rt; "{line}"),
+        Some((&"block", patches)) => block(rt, alloc, line, patches),
+        Some((word, others)) => tell_answer(rt, line, &answer_of(alloc, word, others)),
     }
-    Ok(())
+}
+
+fn answer_of(alloc: Global, word: &str, words: &[&str]) -> Answer {
+    let answer = match word {
+        "sector" => sector(alloc, words),
+        "slot" => number(alloc, words),
+        "each" => refused(alloc, words),
+        _ => None,
+    };
+    answer.unwrap_or(Answer::NoRow)
+}
+
+fn tell_answer(rt: &impl Print, line: &str, answer: &Answer) -> io::Result<()> {
+    match answer {
+        Answer::Slots(slots, same) => println!(rt; "{line}: {slots} slots, {}", again(*same)),
+        Answer::Number(number) => println!(rt; "{line}: number {number}"),
+        Answer::NotValid => println!(rt; "{line}: not valid"),
+        Answer::Count(count) => println!(rt; "{line}: {count} refused"),
+        Answer::Refused => println!(rt; "{line}: refused"),
+        Answer::NoRow => println!(rt; "{line}: no row"),
+    }
 }
 
 fn again(same: bool) -> &'static str {
@@ -52,32 +63,44 @@ fn again(same: bool) -> &'static str {
 }
 
 // How many slots a first sector tells, and whether it is written again as it was.
-fn sector(alloc: Global, patches: &[&str]) -> Option<(Option<u32>, bool)> {
+fn sector(alloc: Global, patches: &[&str]) -> Option<Answer> {
     let mut bytes = [0; 512];
     patched(alloc, &mut bytes, patches)?;
     match read_first_sector(&bytes) {
         Some(slots) => {
             let mut written = [1; 512];
             write_first_sector(slots, &mut written);
-            Some((Some(slots), written.as_slice() == bytes.as_slice()))
+            Some(Answer::Slots(slots, written.as_slice() == bytes.as_slice()))
         }
-        None => Some((None, false)),
+        None => Some(Answer::Refused),
     }
 }
 
 // The number of the block in a slot.
-fn number(alloc: Global, slot: &str, slots: &str, patches: &[&str]) -> Option<Option<u64>> {
-    let slot = slot.parse::<u32>().ok()?;
-    let slots = slots.parse::<u32>().ok()?;
+fn number(alloc: Global, words: &[&str]) -> Option<Answer> {
+    let [slot, slots, patches @ ..] = words else {
+        return None;
+    };
+    let mut bytes = [0; 1_024];
+    patched(alloc, &mut bytes, patches)?;
+    number_in(
+        &bytes,
+        slot.parse::<u32>().ok()?,
+        slots.parse::<u32>().ok()?,
+    )
+}
+
+fn number_in(bytes: &[u8; 1_024], slot: u32, slots: u32) -> Option<Answer> {
     if slots == 0 {
         return None;
     }
     let mut gate = [0; 512];
     let mut head = [0; 512];
-    let mut bytes = [0; 1_024];
-    patched(alloc, &mut bytes, patches)?;
-    part(&bytes, &mut gate, &mut head);
-    Some(valid_number(&gate, &head, slot, slots))
+    part(bytes, &mut gate, &mut head);
+    Some(match valid_number(&gate, &head, slot, slots) {
+        Some(number) => Answer::Number(number),
+        None => Answer::NotValid,
+    })
 }
 
 // Parts the first two sectors of a slot.
@@ -87,18 +110,19 @@ fn part(bytes: &[u8; 1_024], gate: &mut [u8; 512], head: &mut [u8; 512]) {
 }
 
 // Of how many bytes from one offset up to another each, set to 1 alone, makes a block no spelling.
-fn refused(alloc: Global, from: &str, to: &str, patches: &[&str]) -> Option<u32> {
-    let from = from.parse::<u16>().ok()?;
-    let to = to.parse::<u16>().ok()?;
+fn refused(alloc: Global, words: &[&str]) -> Option<Answer> {
+    let [from, to, patches @ ..] = words else {
+        return None;
+    };
     let mut bytes = [0; 3_072];
     patched(alloc, &mut bytes, patches)?;
     let mut count: u32 = 0;
-    for offset in from..to {
+    for offset in from.parse::<u16>().ok()?..to.parse::<u16>().ok()? {
         if is_refused_at(&mut bytes, usize::from(offset)) {
             count = count.wrapping_add(1);
         }
     }
-    Some(count)
+    Some(Answer::Count(count))
 }
 
 fn is_refused_at(bytes: &mut [u8; 3_072], offset: usize) -> bool {
@@ -114,21 +138,23 @@ fn is_refused_at(bytes: &mut [u8; 3_072], offset: usize) -> bool {
 }
 
 // Tells the block that the bytes hold, and writes it again.
-fn block(rt: &impl Print, alloc: Global, line: &str, bytes: &[u8; 3_072]) -> Result<()> {
-    let mut block = Block::blank();
-    match read_block(bytes, &mut block) {
-        Err(_) => println!(rt; "{line}: refused")?,
-        Ok(()) => {
-            println!(rt; "{line}:")?;
-            tell(rt, alloc, &block)?;
-            if block.records.len() == 1 {
-                let mut written = [1; 3_072];
-                write_again(block, &mut written);
-                println!(rt; "  {}", again(written.as_slice() == bytes.as_slice()))?;
-            }
-        }
+fn block(rt: &impl Print, alloc: Global, line: &str, patches: &[&str]) -> io::Result<()> {
+    let mut bytes = [0; 3_072];
+    if patched(alloc, &mut bytes, patches).is_none() {
+        return tell_answer(rt, line, &Answer::NoRow);
     }
-    Ok(())
+    let mut block = Block::blank();
+    if read_block(&bytes, &mut block).is_err() {
+        return tell_answer(rt, line, &Answer::Refused);
+    }
+    println!(rt; "{line}:")?;
+    tell(rt, alloc, &block)?;
+    if block.records.len() != 1 {
+        return Ok(());
+    }
+    let mut written = [1; 3_072];
+    write_again(block, &mut written);
+    println!(rt; "  {}", again(written.as_slice() == bytes.as_slice()))
 }
 
 // Writes a block of one record in its own format.

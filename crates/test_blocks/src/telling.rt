@@ -1,14 +1,14 @@
 // A block in words: a line for its head, and one for each record.
-use anyhow::Result;
 use blocks::{Block, BlockRecord, Format, Situation};
 use driver::{Acknowledged, Action, Confirmed, Datum, TrainData};
 use events::{Brake, Event, Input, Kept, Position};
 use mode_table::{Cold, TrainLevel};
 use std::alloc::Global;
+use std::io;
 use vars::Variable;
 
 /// Prints a block.
-pub fn tell(rt: &impl Print, alloc: Global, block: &Block) -> Result<()> {
+pub fn tell(rt: &impl Print, alloc: Global, block: &Block) -> io::Result<()> {
     let format = match block.format {
         Format::One => 1,
         Format::Two => 2,
@@ -27,7 +27,7 @@ pub fn tell(rt: &impl Print, alloc: Global, block: &Block) -> Result<()> {
     Ok(())
 }
 
-fn tell_items(rt: &impl Print, alloc: Global, kept: &Kept) -> Result<()> {
+fn tell_items(rt: &impl Print, alloc: Global, kept: &Kept) -> io::Result<()> {
     match &kept.identity {
         Some(identity) => println!(rt; "  identity {}", hex::encode(alloc, identity.bytes())?)?,
         None => println!(rt; "  no identity")?,
@@ -53,7 +53,7 @@ fn tell_items(rt: &impl Print, alloc: Global, kept: &Kept) -> Result<()> {
     Ok(())
 }
 
-fn tell_train(rt: &impl Print, train: &TrainData) -> Result<()> {
+fn tell_train(rt: &impl Print, train: &TrainData) -> io::Result<()> {
     let brakes = train.brakes();
     println!(rt;
         "  train {} {} {} {} {}",
@@ -66,7 +66,7 @@ fn tell_train(rt: &impl Print, train: &TrainData) -> Result<()> {
     Ok(())
 }
 
-fn tell_place(rt: &impl Print, place: &Position, status: &str) -> Result<()> {
+fn tell_place(rt: &impl Print, place: &Position, status: &str) -> io::Result<()> {
     let group = place.group();
     let distance = place.distance().get();
     println!(rt;
@@ -77,7 +77,7 @@ fn tell_place(rt: &impl Print, place: &Position, status: &str) -> Result<()> {
     Ok(())
 }
 
-fn tell_values(rt: &impl Print, kept: &Kept) -> Result<()> {
+fn tell_values(rt: &impl Print, kept: &Kept) -> io::Result<()> {
     let values = kept.national.values();
     print!(rt;
         "  values {} {} {} {} {}",
@@ -109,7 +109,7 @@ fn tell_values(rt: &impl Print, kept: &Kept) -> Result<()> {
     Ok(())
 }
 
-fn tell_record(rt: &impl Print, alloc: Global, told: &BlockRecord) -> Result<()> {
+fn tell_record(rt: &impl Print, alloc: Global, told: &BlockRecord) -> io::Result<()> {
     let brake = match told.brake {
         Brake::None => "none",
         Brake::Service => "service",
@@ -141,52 +141,68 @@ fn tell_record(rt: &impl Print, alloc: Global, told: &BlockRecord) -> Result<()>
             limit.get()
         )?,
     }
-    match &told.event {
-        Event::PowerUp(Cold::Unknown) => println!(rt; ": power up, unknown")?,
-        Event::PowerUp(Cold::Moved) => println!(rt; ": power up, moved")?,
-        Event::PowerUp(Cold::NotMoved) => println!(rt; ": power up, not moved")?,
-        Event::Input(Input::Telegram(bytes)) => {
-            println!(rt; ": telegram {}", hex::encode(alloc, bytes.as_slice())?)?;
-        }
-        Event::Input(Input::Odometer(reading)) => {
-            println!(rt;
-                ": odometer {} {}",
-                reading.movement.get(),
-                reading.speed.get()
-            )?;
-        }
-        Event::Input(Input::Clock(moment)) => println!(rt; ": clock {}", moment.get())?,
-        Event::Input(Input::Driver(action)) => tell_action(rt, alloc, action)?,
-    }
-    Ok(())
+    tell_event(rt, alloc, &told.event)
 }
 
-fn tell_action(rt: &impl Print, alloc: Global, action: &Action) -> Result<()> {
+fn tell_event(rt: &impl Print, alloc: Global, event: &Event) -> io::Result<()> {
+    match event {
+        Event::PowerUp(word) => println!(rt; ": power up, {}", cold(*word)),
+        Event::Input(Input::Telegram(bytes)) => {
+            println!(rt; ": telegram {}", hex::encode(alloc, bytes.as_slice())?)
+        }
+        Event::Input(Input::Odometer(reading)) => println!(rt;
+            ": odometer {} {}",
+            reading.movement.get(),
+            reading.speed.get()
+        ),
+        Event::Input(Input::Clock(moment)) => println!(rt; ": clock {}", moment.get()),
+        Event::Input(Input::Driver(action)) => tell_action(rt, alloc, action),
+    }
+}
+
+fn cold(word: Cold) -> &'static str {
+    match word {
+        Cold::Unknown => "unknown",
+        Cold::Moved => "moved",
+        Cold::NotMoved => "not moved",
+    }
+}
+
+fn tell_action(rt: &impl Print, alloc: Global, action: &Action) -> io::Result<()> {
     match action {
         Action::EnterIdentity(identity) => {
-            println!(rt; ": identity {}", hex::encode(alloc, identity.bytes())?)?;
+            println!(rt; ": identity {}", hex::encode(alloc, identity.bytes())?)
         }
-        Action::EnterRunningNumber(number) => println!(rt; ": running number {}", number.get())?,
+        Action::EnterRunningNumber(number) => println!(rt; ": running number {}", number.get()),
         Action::EnterTrainData(train) => {
             print!(rt; ":")?;
-            tell_train(rt, train)?;
+            tell_train(rt, train)
         }
-        Action::ChooseLevel(level) => println!(rt; ": level {}", level_number(*level))?,
-        Action::Confirm(Confirmed::Identity) => println!(rt; ": confirm identity")?,
-        Action::Confirm(Confirmed::RunningNumber) => println!(rt; ": confirm running number")?,
-        Action::Confirm(Confirmed::TrainData) => println!(rt; ": confirm train data")?,
-        Action::Confirm(Confirmed::Level) => println!(rt; ": confirm level")?,
-        Action::Start => println!(rt; ": start")?,
-        Action::ChooseShunting => println!(rt; ": choose shunting")?,
-        Action::LeaveShunting => println!(rt; ": leave shunting")?,
-        Action::Override => println!(rt; ": override")?,
-        Action::Acknowledge(Acknowledged::Trip) => println!(rt; ": acknowledge trip")?,
-        Action::Acknowledge(Acknowledged::OnSight) => println!(rt; ": acknowledge on sight")?,
-        Action::Acknowledge(Acknowledged::Shunting) => println!(rt; ": acknowledge shunting")?,
-        Action::Acknowledge(Acknowledged::Level0) => println!(rt; ": acknowledge level 0")?,
-        Action::CloseDesk => println!(rt; ": close desk")?,
+        Action::ChooseLevel(level) => println!(rt; ": level {}", level_number(*level)),
+        other => println!(rt; ": {}", word_of(other)),
     }
-    Ok(())
+}
+
+fn word_of(action: &Action) -> &'static str {
+    match action {
+        Action::EnterIdentity(_) => "identity",
+        Action::EnterRunningNumber(_) => "running number",
+        Action::EnterTrainData(_) => "train data",
+        Action::ChooseLevel(_) => "level",
+        Action::Confirm(Confirmed::Identity) => "confirm identity",
+        Action::Confirm(Confirmed::RunningNumber) => "confirm running number",
+        Action::Confirm(Confirmed::TrainData) => "confirm train data",
+        Action::Confirm(Confirmed::Level) => "confirm level",
+        Action::Start => "start",
+        Action::ChooseShunting => "choose shunting",
+        Action::LeaveShunting => "leave shunting",
+        Action::Override => "override",
+        Action::Acknowledge(Acknowledged::Trip) => "acknowledge trip",
+        Action::Acknowledge(Acknowledged::OnSight) => "acknowledge on sight",
+        Action::Acknowledge(Acknowledged::Shunting) => "acknowledge shunting",
+        Action::Acknowledge(Acknowledged::Level0) => "acknowledge level 0",
+        Action::CloseDesk => "close desk",
+    }
 }
 
 fn level_number(level: TrainLevel) -> u8 {

@@ -1,6 +1,6 @@
 // Rows of one kind of acknowledgement: what is told of it, and what is asked about it.
 use crate::answer::Answer;
-use crate::numbers::ms;
+use crate::words::Words;
 use areas::Acknowledgement;
 
 #[derive(Drop)]
@@ -15,18 +15,18 @@ impl Acknowledging {
         }
     }
 
-    pub fn answer(&mut self, words: &[&str]) -> Option<Answer> {
-        match *words {
-            ["waits"] => return Some(Answer::yes_or_no(self.kind.waits())),
-            ["brakes", now] => return Some(Answer::yes_or_no(self.kind.brakes(ms(now)?))),
-            ["acknowledge"] => self.kind.acknowledge(),
-            ["turn", moment] => self.kind.turn(ms(moment)?),
-            ["ask"] => self.kind.ask(),
-            ["settle"] => self.kind.settle(),
-            ["clear"] => self.kind.clear(),
-            _ => return None,
+    pub fn answer(&mut self, words: &mut Words<'_>) -> Answer {
+        match words.word() {
+            "waits" => return Answer::yes_or_no(self.kind.waits()),
+            "brakes" => return Answer::yes_or_no(self.kind.brakes(words.ms())),
+            "acknowledge" => self.kind.acknowledge(),
+            "turn" => self.kind.turn(words.ms()),
+            "ask" => self.kind.ask(),
+            "settle" => self.kind.settle(),
+            "clear" => self.kind.clear(),
+            _ => return Answer::no_row(),
         }
-        Some(Answer::Word(self.name()))
+        Answer::Word(self.name())
     }
 
     fn name(&self) -> &'static str {

@@ -1,8 +1,11 @@
 // What a row is answered by.
-#[derive(Clone, Copy)]
+use units::NoMemory;
+
+#[derive(Drop)]
 pub enum Answer {
     Word(&'static str),
     Number(u64),
+    Numbers(Vec<i64>),
 }
 
 impl Answer {
@@ -12,5 +15,16 @@ impl Answer {
 
     pub fn done() -> Answer {
         Answer::Word("done")
+    }
+
+    pub fn no_row() -> Answer {
+        Answer::Word("no row")
+    }
+
+    pub fn of(numbers: Result<Vec<i64>, NoMemory>) -> Answer {
+        match numbers {
+            Ok(numbers) => Answer::Numbers(numbers),
+            Err(NoMemory) => Answer::Word("no memory"),
+        }
     }
 }

@@ -2,16 +2,14 @@
 // 80 in metres, `replace PLACE` takes it, `order LEVEL ACKNOWLEDGEMENT` writes one element more of a packet 41, `announce PLACE DISTANCE`
 // takes it, and the rest asks and looks.
 use crate::answer::Answer;
-use crate::numbers::{
-    area_speed, cm, distance, group_place, mph, open_length, start_place, stretch,
-};
-use crate::words::{announced_level, area_mode};
+use crate::names::announced_level;
+use crate::words::Words;
 use areas::{AnnouncedLevel, Areas, NationalSpeeds};
 use arrayvec::ArrayVec;
 use mode_table::TrainLevel;
 use packets::{LevelOrder, LevelTransition, ModeArea, ModeProfile};
-use units::{Mph, Stretch};
-use vars::{Scale, StartPlace, ValidityDirection};
+use units::{Cm, GroupPlace, Mph, Stretch};
+use vars::{AreaMode, Scale, StartPlace, ValidityDirection};
 
 #[derive(Drop)]
 pub struct AreasTold {
@@ -40,79 +38,95 @@ impl AreasTold {
         }
     }
 
-    pub fn answer(&mut self, words: &[&str]) -> Option<Answer> {
-        match *words {
-            ["area", ahead, mode, speed, long, before] => {
-                let area = ModeArea {
-                    distance: distance(ahead)?,
-                    mode: area_mode(mode)?,
-                    speed: area_speed(speed)?,
-                    length: open_length(long)?,
-                    acknowledgement: distance(before)?,
-                };
-                self.profile.areas.try_push(area).ok()?;
-                Some(Answer::done())
+    pub fn answer(&mut self, words: &mut Words<'_>) -> Answer {
+        match words.word() {
+            "area" => return self.write_area(words),
+            "order" => return self.write_order(words),
+            "replace" => self.replace(words.group_place()),
+            "announce" => {
+                let place = words.group_place();
+                self.announce(place, words.value(StartPlace::Now));
             }
-            ["order", level, before] => {
-                let order = LevelOrder {
-                    level: announced_level(level)?,
-                    stm: None,
-                    acknowledgement: distance(before)?,
-                };
-                self.transition.orders.try_push(order).ok()?;
-                Some(Answer::done())
-            }
-            ["replace", place] => self.replace(place),
-            ["announce", place, start] => self.announce(place, start),
-            ["clear"] => {
+            "clear" => {
                 self.areas.clear();
                 self.level.clear();
-                Some(Answer::done())
             }
-            ["reach", max_front] => {
-                let level = self.level.reach(cm(max_front)?);
-                Some(Answer::Word(name_of(level)))
-            }
-            _ => self.asked(words),
+            asked => return self.asked(asked, words),
+        }
+        Answer::done()
+    }
+
+    fn write_area(&mut self, words: &mut Words<'_>) -> Answer {
+        let blank = ModeArea::default();
+        let area = ModeArea {
+            distance: words.value(blank.distance),
+            mode: words.area_mode(),
+            speed: words.value(blank.speed),
+            length: words.value(blank.length),
+            acknowledgement: words.value(blank.acknowledgement),
+        };
+        match self.profile.areas.try_push(area) {
+            Ok(()) => Answer::done(),
+            Err(_) => Answer::no_row(),
         }
     }
 
-    fn replace(&mut self, place: &str) -> Option<Answer> {
-        self.areas.replace(&self.profile, group_place(place)?);
+    fn write_order(&mut self, words: &mut Words<'_>) -> Answer {
+        let blank = LevelOrder::default();
+        let level = announced_level(words.word());
+        let order = LevelOrder {
+            level: level.unwrap_or(blank.level),
+            stm: None,
+            acknowledgement: words.value(blank.acknowledgement),
+        };
+        match self.transition.orders.try_push(order) {
+            Ok(()) if level.is_some() => Answer::done(),
+            _ => Answer::no_row(),
+        }
+    }
+
+    fn replace(&mut self, place: GroupPlace) {
+        self.areas.replace(&self.profile, place);
         self.profile.areas = ArrayVec::new();
-        Some(Answer::done())
     }
 
-    fn announce(&mut self, place: &str, start: &str) -> Option<Answer> {
-        self.transition.start = start_place(start)?;
-        self.level.announce(&self.transition, group_place(place)?);
+    fn announce(&mut self, place: GroupPlace, start: StartPlace) {
+        self.transition.start = start;
+        self.level.announce(&self.transition, place);
         self.transition.orders = ArrayVec::new();
-        Some(Answer::done())
     }
 
-    fn asked(&self, words: &[&str]) -> Option<Answer> {
-        match *words {
-            ["is_met", mode, min_front, max_front] => {
-                let train = stretch(min_front, max_front)?;
-                Some(Answer::yes_or_no(self.areas.is_met(area_mode(mode)?, &train)))
+    fn asked(&mut self, asked: &str, words: &mut Words<'_>) -> Answer {
+        match asked {
+            "is_met" | "asks" => {
+                let mode = words.area_mode();
+                self.of_fronts(asked, mode, &words.fronts())
             }
-            ["is_left", mode, min_front] => {
-                let left = self.areas.is_left(area_mode(mode)?, cm(min_front)?);
-                Some(Answer::yes_or_no(left))
+            "is_left" => {
+                let mode = words.area_mode();
+                self.is_left(mode, words.cm())
             }
-            ["asks", mode, min_front, max_front] => {
-                let train = stretch(min_front, max_front)?;
-                Some(Answer::yes_or_no(self.areas.asks(area_mode(mode)?, &train)))
+            "least" => {
+                let train = words.fronts();
+                self.least(&train, words.mph())
             }
-            ["least", min_front, max_front, otherwise] => {
-                Some(self.least(&stretch(min_front, max_front)?, mph(otherwise)?))
-            }
-            ["level_0_is_left"] => Some(Answer::yes_or_no(self.level.is_left())),
-            ["level_0_asks", max_front] => {
-                Some(Answer::yes_or_no(self.level.asks(cm(max_front)?)))
-            }
-            _ => None,
+            "level_0_is_left" => Answer::yes_or_no(self.level.is_left()),
+            "level_0_asks" => Answer::yes_or_no(self.level.asks(words.cm())),
+            "reach" => Answer::Word(name_of(self.level.reach(words.cm()))),
+            _ => Answer::no_row(),
         }
+    }
+
+    fn of_fronts(&self, asked: &str, mode: AreaMode, train: &Stretch) -> Answer {
+        Answer::yes_or_no(if asked == "asks" {
+            self.areas.asks(mode, train)
+        } else {
+            self.areas.is_met(mode, train)
+        })
+    }
+
+    fn is_left(&self, mode: AreaMode, min_front: Cm) -> Answer {
+        Answer::yes_or_no(self.areas.is_left(mode, min_front))
     }
 
     // By national values of 40 km/h in On Sight and 25 km/h in Shunting; of a copy, which is equal.

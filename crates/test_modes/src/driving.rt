@@ -1,14 +1,13 @@
 // Rows of the driver: `at MODE SPEED ALLOWED WAITING` makes the situation, `when MOMENT PATH TIME DISTANCE` the occasion, `accepts ACTION`
 // asks, `do ACTION` does what is accepted, `come_in LEVEL` and `enter MODE` tell, and the rest asks for what is known.
 use crate::answer::Answer;
-use crate::numbers::{length, mph, ms, reach};
-use crate::words::{cold, mode, train_level};
+use crate::words::Words;
 use braking::{Brakes, Deceleration, Reaction};
 use driver::{
     Acknowledged, Action, Confirmed, Datum, Driver, DriverIdentity, Kept, Occasion, RunningNumber,
     Situation, TrainData,
 };
-use mode_table::Mode;
+use mode_table::{Cold, Mode, TrainLevel};
 use units::{Length, Mph, Ms, Reach};
 use vars::{TrainCategory, Variable};
 
@@ -40,64 +39,60 @@ impl Driving {
         }
     }
 
-    pub fn answer(&mut self, words: &[&str]) -> Option<Answer> {
-        match *words {
-            ["at", mode, speed, allowed, waiting] => {
-                self.situation = situation(mode, speed, allowed, waiting)?;
-                Some(Answer::done())
-            }
-            ["when", moment, path, time, distance] => {
-                self.occasion = occasion(moment, path, time, distance)?;
-                Some(Answer::done())
-            }
-            ["accepts", action] => {
-                let accepted = self.driver.accepts(&action_of(action)?, &self.situation);
-                Some(Answer::yes_or_no(accepted))
-            }
-            ["do", action] => self.does(action),
-            ["enter", into] => {
-                self.driver.turn(mode(into)?);
-                Some(Answer::done())
-            }
-            ["come_in", level] => {
-                self.driver.come_in(train_level(level)?);
-                Some(Answer::done())
-            }
-            ["power_up", word] => {
-                let kept = self.driver.kept().powered_up(cold(word)?);
-                self.driver = Driver::new(&kept);
-                Some(Answer::done())
-            }
-            ["overridden", moment, path] => {
-                let overridden = self.driver.is_overridden(ms(moment)?, length(path)?);
-                Some(Answer::yes_or_no(overridden))
-            }
-            [asked] => self.known(asked),
-            _ => None,
+    pub fn answer(&mut self, words: &mut Words<'_>) -> Answer {
+        match words.word() {
+            "at" => self.situation = situation(words),
+            "when" => self.occasion = occasion(words),
+            "accepts" => return self.accepts(words.word()),
+            "do" => return self.does(words.word()),
+            "enter" => self.driver.turn(words.mode()),
+            "come_in" => self.driver.come_in(words.train_level()),
+            "power_up" => self.power_up(words.cold()),
+            "overridden" => return self.is_overridden(words.ms(), words.length()),
+            asked => return self.known(asked),
         }
+        Answer::done()
+    }
+
+    fn accepts(&self, word: &str) -> Answer {
+        match action_of(word) {
+            Some(action) => Answer::yes_or_no(self.driver.accepts(&action, &self.situation)),
+            None => Answer::no_row(),
+        }
+    }
+
+    fn power_up(&mut self, word: Cold) {
+        let kept = self.driver.kept().powered_up(word);
+        self.driver = Driver::new(&kept);
+    }
+
+    fn is_overridden(&self, moment: Ms, path: Length) -> Answer {
+        Answer::yes_or_no(self.driver.is_overridden(moment, path))
     }
 
     // Does what is accepted.
-    fn does(&mut self, word: &str) -> Option<Answer> {
-        let action = action_of(word)?;
+    fn does(&mut self, word: &str) -> Answer {
+        let Some(action) = action_of(word) else {
+            return Answer::no_row();
+        };
         if self.driver.accepts(&action, &self.situation) {
             self.driver.act(&action, &self.occasion);
-            Some(Answer::done())
+            Answer::done()
         } else {
-            Some(Answer::Word("not accepted"))
+            Answer::Word("not accepted")
         }
     }
 
-    fn known(&self, asked: &str) -> Option<Answer> {
+    fn known(&self, asked: &str) -> Answer {
         let kept = self.driver.kept();
         match asked {
-            "identity" => Some(status_of(&kept.identity)),
-            "running_number" => Some(status_of(&kept.running_number)),
-            "train_data" => Some(status_of(&self.driver.train_data())),
-            "level" => Some(status_of(&self.driver.level())),
-            "trip_outstanding" => Some(Answer::yes_or_no(self.driver.is_trip_outstanding())),
-            "revalidated" => Some(Answer::yes_or_no(self.driver.is_revalidated())),
-            _ => None,
+            "identity" => status_of(&kept.identity),
+            "running_number" => status_of(&kept.running_number),
+            "train_data" => status_of(&self.driver.train_data()),
+            "level" => status_of(&self.driver.level()),
+            "trip_outstanding" => Answer::yes_or_no(self.driver.is_trip_outstanding()),
+            "revalidated" => Answer::yes_or_no(self.driver.is_revalidated()),
+            _ => Answer::no_row(),
         }
     }
 }
@@ -110,58 +105,65 @@ fn status_of<T: Copy>(datum: &Datum<T>) -> Answer {
     })
 }
 
-fn situation(into: &str, speed: &str, allowed: &str, waiting: &str) -> Option<Situation> {
-    Some(Situation {
-        mode: mode(into)?,
-        speed: mph(speed)?,
-        override_allowed: mph(allowed)?,
+fn situation(words: &mut Words<'_>) -> Situation {
+    let (mode, speed, override_allowed) = (words.mode(), words.mph(), words.mph());
+    let waiting = words.word();
+    Situation {
+        mode,
+        speed,
+        override_allowed,
         on_sight_waits: waiting == "on_sight",
         shunting_waits: waiting == "shunting",
         level_0_waits: waiting == "level_0",
-    })
+    }
 }
 
 // A time of 255 has no end, any other is in seconds.
-fn occasion(moment: &str, path: &str, time: &str, distance: &str) -> Option<Occasion> {
-    let seconds = time.parse::<u8>().ok()?;
+fn occasion(words: &mut Words<'_>) -> Occasion {
+    let (moment, path, seconds) = (words.ms(), words.length(), words.byte());
     let override_time = if seconds == 255 {
         None
     } else {
         Ms::new(u64::from(seconds) * 1_000)
     };
-    Some(Occasion {
-        moment: ms(moment)?,
-        path: length(path)?,
+    Occasion {
+        moment,
+        path,
         override_time,
-        override_distance: reach(distance)?,
-    })
+        override_distance: words.reach(),
+    }
 }
 
 // The train of the rows: 200 m, 160 km/h, 70 cm/s2, no reaction time, no category.
 fn train() -> Option<TrainData> {
     let brakes = Brakes {
-        deceleration: Deceleration::new(70)?,
-        reaction: Reaction::new(0)?,
+        deceleration: Deceleration::new(70).unwrap(),
+        reaction: Reaction::new(0).unwrap(),
     };
-    let category = TrainCategory::of_number(15).ok()?;
-    TrainData::new(Length::new(20_000)?, Mph::new(160_000)?, category, brakes)
+    let category = TrainCategory::of_number(15).unwrap();
+    let (length, speed) = (Length::new(20_000).unwrap(), Mph::new(160_000).unwrap());
+    TrainData::new(length, speed, category, brakes)
 }
 
 fn action_of(word: &str) -> Option<Action> {
     let action = match word {
-        "enter_identity" => Action::EnterIdentity(DriverIdentity::new(b"A 1")?),
-        "enter_running_number" => Action::EnterRunningNumber(RunningNumber::new(4_711)?),
-        "enter_train_data" => Action::EnterTrainData(train()?),
-        "choose_level_0" => Action::ChooseLevel(train_level("0")?),
-        "choose_level_1" => Action::ChooseLevel(train_level("1")?),
+        "choose_level_0" => Action::ChooseLevel(TrainLevel::Level0),
+        "choose_level_1" => Action::ChooseLevel(TrainLevel::Level1),
         "start" => Action::Start,
         "choose_shunting" => Action::ChooseShunting,
         "leave_shunting" => Action::LeaveShunting,
         "override" => Action::Override,
         "close_desk" => Action::CloseDesk,
+        "enter_identity" => return identity(),
+        "enter_running_number" => Action::EnterRunningNumber(RunningNumber::new(4_711).unwrap()),
+        "enter_train_data" => return Some(Action::EnterTrainData(train()?)),
         other => return confirming(other),
     };
     Some(action)
+}
+
+fn identity() -> Option<Action> {
+    Some(Action::EnterIdentity(DriverIdentity::new(b"A 1")?))
 }
 
 fn confirming(word: &str) -> Option<Action> {

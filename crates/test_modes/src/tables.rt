@@ -1,28 +1,28 @@
 // Rows of the tables: `mode MODE CONDITION ..`, `entry MODE ITEM`, `power_up WORD ITEM`, `packet MODE NUMBER`.
 use crate::answer::Answer;
-use crate::words::{cold, item, letter_of, mode, name_of};
+use crate::names::{letter_of, name_of};
+use crate::words::Words;
 use mode_table::{Conditions, next_mode, power_up_status, status_on, uses};
 
-pub fn answer(group: &str, words: &[&str]) -> Option<Answer> {
-    let (first, rest) = words.split_first()?;
+pub fn answer(group: &str, words: &mut Words<'_>) -> Answer {
     match group {
         "mode" => {
-            let next = next_mode(mode(first)?, &conditions(rest));
-            Some(Answer::Word(name_of(next)))
+            let from = words.mode();
+            let next = next_mode(from, &conditions(words.others()));
+            Answer::Word(name_of(next))
         }
         "entry" => {
-            let fate = status_on(item(rest.first()?)?, mode(first)?);
-            Some(Answer::Word(letter_of(fate)))
+            let into = words.mode();
+            Answer::Word(letter_of(status_on(words.item(), into)))
         }
         "power_up" => {
-            let fate = power_up_status(item(rest.first()?)?, cold(first)?);
-            Some(Answer::Word(letter_of(fate)))
+            let word = words.cold();
+            Answer::Word(letter_of(power_up_status(words.item(), word)))
         }
-        "packet" => {
-            let number = rest.first()?.parse::<u8>().ok()?;
-            Some(Answer::yes_or_no(uses(mode(first)?, number)))
+        _ => {
+            let mode = words.mode();
+            Answer::yes_or_no(uses(mode, words.byte()))
         }
-        _ => None,
     }
 }
 

@@ -1,99 +1,203 @@
-// The words of rows: modes, items, fates, areas and levels.
-use mode_table::{Cold, Fate, Item, Mode, TrainLevel};
-use vars::{AreaMode, Level};
+// The words of a row.
+use crate::names::{area_mode, cold, item, mode, train_level};
+use braking::{Brakes, Deceleration, Reaction, Target};
+use mode_table::{Cold, Item, Mode, TrainLevel};
+use units::{Cm, GroupPlace, Length, Mph, Ms, Reach, Stretch};
+use vars::{AreaMode, Variable};
 
-pub fn mode(word: &str) -> Option<Mode> {
-    match word {
-        "FS" => Some(Mode::FullSupervision),
-        "OS" => Some(Mode::OnSight),
-        "SR" => Some(Mode::StaffResponsible),
-        "SH" => Some(Mode::Shunting),
-        "UN" => Some(Mode::Unfitted),
-        "SB" => Some(Mode::StandBy),
-        "TR" => Some(Mode::Trip),
-        "PT" => Some(Mode::PostTrip),
-        "SF" => Some(Mode::SystemFailure),
-        _ => None,
+/// The words of a row behind its first, which are taken one after another. Where one isn't what is asked for, something else is
+/// answered, and the row is none.
+#[derive(Drop)]
+pub struct Words<'a> {
+    words: &'a [&'a str],
+    taken: usize,
+    is_row: bool,
+}
+
+impl<'a> Words<'a> {
+    pub fn new(words: &'a [&'a str]) -> Words<'a> {
+        Words {
+            words,
+            taken: 0,
+            is_row: true,
+        }
+    }
+
+    /// Whether each word was what was asked for, and none is left.
+    pub fn are_all(&self) -> bool {
+        self.is_row && self.at_end()
+    }
+
+    /// Whether none is left.
+    pub fn at_end(&self) -> bool {
+        self.taken >= self.words.len()
+    }
+
+    pub fn word(&mut self) -> &'a str {
+        let words = self.words;
+        match words.get(self.taken) {
+            Some(word) => {
+                self.taken = self.taken.saturating_add(1);
+                word
+            }
+            None => {
+                self.is_row = false;
+                ""
+            }
+        }
+    }
+
+    /// All that are left.
+    pub fn others(&mut self) -> &'a [&'a str] {
+        let words = self.words;
+        let from = self.taken;
+        self.taken = words.len();
+        words.get(from..).unwrap_or(&[])
+    }
+
+    // What was found, or else something else.
+    fn found<T: Copy>(&mut self, found: Option<T>, otherwise: T) -> T {
+        match found {
+            Some(it) => it,
+            None => {
+                self.is_row = false;
+                otherwise
+            }
+        }
+    }
+
+    pub fn number(&mut self) -> u64 {
+        let number = self.word().parse::<u64>().ok();
+        self.found(number, 0)
+    }
+
+    fn small(&mut self) -> u32 {
+        let number = self.word().parse::<u32>().ok();
+        self.found(number, 0)
+    }
+
+    fn signed(&mut self) -> i64 {
+        let number = self.word().parse::<i64>().ok();
+        self.found(number, 0)
+    }
+
+    /// The value of a variable's number.
+    pub fn value<V: Variable + Copy>(&mut self, otherwise: V) -> V {
+        let number = u64::from(self.small());
+        let within = number % (1 << V::WIDTH);
+        if within != number {
+            self.is_row = false;
+        }
+        let value = V::of_number(within).ok();
+        self.found(value, otherwise)
+    }
+
+    pub fn cm(&mut self) -> Cm {
+        let cm = Cm::new(self.signed());
+        self.found(cm, Cm::ZERO)
+    }
+
+    pub fn group_place(&mut self) -> GroupPlace {
+        let place = GroupPlace::new(self.signed());
+        self.found(place, GroupPlace::new(0).unwrap())
+    }
+
+    pub fn length(&mut self) -> Length {
+        let length = Length::new(self.number());
+        self.found(length, Length::ZERO)
+    }
+
+    pub fn ms(&mut self) -> Ms {
+        let ms = Ms::new(self.number());
+        self.found(ms, Ms::new(0).unwrap())
+    }
+
+    pub fn mph(&mut self) -> Mph {
+        let mph = Mph::new(self.small());
+        self.found(mph, Mph::new(0).unwrap())
+    }
+
+    pub fn reach(&mut self) -> Reach {
+        let reach = Reach::new(self.small());
+        self.found(reach, Reach::new(0).unwrap())
+    }
+
+    pub fn byte(&mut self) -> u8 {
+        let number = self.word().parse::<u8>().ok();
+        self.found(number, 0)
+    }
+
+    fn short(&mut self) -> u16 {
+        let number = self.word().parse::<u16>().ok();
+        self.found(number, 0)
+    }
+
+    /// The least rear, the least front and the greatest front.
+    pub fn stretch(&mut self) -> Stretch {
+        let (rear, min_front, max_front) = (self.cm(), self.cm(), self.cm());
+        let stretch = Stretch::new(rear, min_front, max_front);
+        self.found(stretch, nowhere())
+    }
+
+    /// The least and the greatest front; the rear is where the front may least be.
+    pub fn fronts(&mut self) -> Stretch {
+        let (min_front, max_front) = (self.cm(), self.cm());
+        let stretch = Stretch::new(min_front, min_front, max_front);
+        self.found(stretch, nowhere())
+    }
+
+    /// The deceleration in cm/s2, and the reaction time in ms.
+    pub fn brakes(&mut self) -> Brakes {
+        let deceleration = Deceleration::new(self.short());
+        let reaction = Reaction::new(self.short());
+        Brakes {
+            deceleration: self.found(deceleration, Deceleration::new(70).unwrap()),
+            reaction: self.found(reaction, Reaction::new(0).unwrap()),
+        }
+    }
+
+    pub fn target(&mut self) -> Target {
+        Target {
+            place: self.cm(),
+            speed: self.mph(),
+        }
+    }
+
+    /// A target, or none where no word is left.
+    pub fn last(&mut self) -> Option<Target> {
+        if self.at_end() {
+            None
+        } else {
+            Some(self.target())
+        }
+    }
+
+    pub fn mode(&mut self) -> Mode {
+        let found = mode(self.word());
+        self.found(found, Mode::StandBy)
+    }
+
+    pub fn item(&mut self) -> Item {
+        let found = item(self.word());
+        self.found(found, Item::Counts)
+    }
+
+    pub fn cold(&mut self) -> Cold {
+        let found = cold(self.word());
+        self.found(found, Cold::Unknown)
+    }
+
+    pub fn train_level(&mut self) -> TrainLevel {
+        let found = train_level(self.word());
+        self.found(found, TrainLevel::Level0)
+    }
+
+    pub fn area_mode(&mut self) -> AreaMode {
+        let found = area_mode(self.word());
+        self.found(found, AreaMode::Shunting)
     }
 }
 
-pub fn name_of(mode: Mode) -> &'static str {
-    match mode {
-        Mode::FullSupervision => "FS",
-        Mode::OnSight => "OS",
-        Mode::StaffResponsible => "SR",
-        Mode::Shunting => "SH",
-        Mode::Unfitted => "UN",
-        Mode::StandBy => "SB",
-        Mode::Trip => "TR",
-        Mode::PostTrip => "PT",
-        Mode::SystemFailure => "SF",
-    }
-}
-
-pub fn item(word: &str) -> Option<Item> {
-    match word {
-        "identity" => Some(Item::Identity),
-        "running_number" => Some(Item::RunningNumber),
-        "train_data" => Some(Item::TrainData),
-        "level" => Some(Item::Level),
-        "position" => Some(Item::Position),
-        "national_values" => Some(Item::NationalValues),
-        "announced_values" => Some(Item::AnnouncedValues),
-        "linking" => Some(Item::Linking),
-        "authority" => Some(Item::Authority),
-        "profiles" => Some(Item::Profiles),
-        "mode_areas" => Some(Item::ModeAreas),
-        "restrictions" => Some(Item::Restrictions),
-        "level_announcement" => Some(Item::LevelAnnouncement),
-        "acknowledgements" => Some(Item::Acknowledgements),
-        "override" => Some(Item::Override),
-        "trip_outstanding" => Some(Item::OutstandingTrip),
-        "counts" => Some(Item::Counts),
-        _ => None,
-    }
-}
-
-pub fn letter_of(fate: Fate) -> &'static str {
-    match fate {
-        Fate::Kept => "K",
-        Fate::Invalid => "I",
-        Fate::Deleted => "D",
-    }
-}
-
-pub fn cold(word: &str) -> Option<Cold> {
-    match word {
-        "unknown" => Some(Cold::Unknown),
-        "moved" => Some(Cold::Moved),
-        "not_moved" => Some(Cold::NotMoved),
-        _ => None,
-    }
-}
-
-pub fn train_level(word: &str) -> Option<TrainLevel> {
-    match word {
-        "0" => Some(TrainLevel::Level0),
-        "1" => Some(TrainLevel::Level1),
-        _ => None,
-    }
-}
-
-pub fn announced_level(word: &str) -> Option<Level> {
-    match word {
-        "0" => Some(Level::Level0),
-        "stm" => Some(Level::Stm),
-        "1" => Some(Level::Level1),
-        "2" => Some(Level::Level2),
-        "3" => Some(Level::Level3),
-        _ => None,
-    }
-}
-
-pub fn area_mode(word: &str) -> Option<AreaMode> {
-    match word {
-        "OS" => Some(AreaMode::OnSight),
-        "SH" => Some(AreaMode::Shunting),
-        _ => None,
-    }
+fn nowhere() -> Stretch {
+    Stretch::new(Cm::ZERO, Cm::ZERO, Cm::ZERO).unwrap()
 }

@@ -1,13 +1,15 @@
 // What was told of a track, and what `speed_profile` answers of it.
-use crate::rows::Row;
+use crate::answer::Answer;
+use crate::words::Words;
 use crate::written::{Written, no_areas, no_slopes, no_statics};
 use areas::{Areas, NationalSpeeds};
+use authority::{End, Release};
 use braking::{Approach, Brakes, Deceleration, Reaction, Target};
 use speed_profile::{Ahead, Bounds, CategorySpeeds, Track, gradients, limit_on, static_speeds};
 use std::alloc::Global;
-use track_store::{ProfileStore, Restrictions, SegmentStore};
+use track_store::{ProfileStore, Restriction, Restrictions, SegmentStore};
 use units::{Cm, GroupPlace, Mph, NoMemory, Permille, Stretch};
-use vars::{TrainCategory, Variable};
+use vars::{RestrictionNumber, TrainCategory, TrainLengthDelay, Variable};
 
 /// Stands for no value.
 const NONE: i64 = -1;
@@ -53,50 +55,71 @@ impl Told {
         }
     }
 
-    /// Writes the element of a packet that a row says; None where it says none.
-    pub fn write(&mut self, words: &[&str]) -> Option<()> {
-        self.written.write(words)
+    /// What comes of a row.
+    pub fn answer(&mut self, name: &str, words: &mut Words<'_>) -> Answer {
+        match name {
+            "statics" => Answer::of(self.take_statics(words.group_place())),
+            "slopes" => Answer::of(self.take_slopes(words.group_place())),
+            "restriction" => self.restrict(restriction(words)),
+            "train" | "authority" | "national" | "mode_areas" => self.tell(name, words),
+            "limit" | "targets" | "permitted" | "fitting" | "either" => self.asked(name, words),
+            _ if self.written.write(name, words) => self.nothing_to_say(),
+            _ => Answer::no_row(),
+        }
     }
 
-    /// What comes of a row.
-    pub fn answer(&mut self, row: Row) -> Result<Vec<i64>, NoMemory> {
-        match row {
-            Row::Statics(place) => self.take_statics(place),
-            Row::Slopes(place) => self.take_slopes(place),
-            Row::Limit(train) => self.limit(&train),
-            Row::Targets(front, last) => self.targets(front, last),
-            Row::Permitted(front, limit, last) => self.permitted(front, limit, last),
-            Row::Fitting(front, limit, last) => self.fitting(front, limit, last),
-            Row::Either(front, limit, one, other) => self.either(front, limit, one, other),
-            Row::Restriction(restriction) => {
-                self.restrictions.add(self.alloc, restriction)?;
-                Ok(Vec::new(self.alloc))
+    fn tell(&mut self, name: &str, words: &mut Words<'_>) -> Answer {
+        match name {
+            "train" => {
+                self.brakes = words.brakes();
+                self.bounds.maximum = words.mph();
+                self.bounds.category = words.value(self.bounds.category);
+            }
+            "authority" => {
+                self.bounds.main = Some(words.mph());
+                self.bounds.end = Some(end(words));
+            }
+            "national" => {
+                self.national.on_sight = words.mph();
+                self.national.shunting = words.mph();
             }
             _ => {
-                self.tell(row);
-                Ok(Vec::new(self.alloc))
+                self.areas.replace(&self.written.areas, words.group_place());
+                self.written.areas = no_areas();
             }
+        }
+        self.nothing_to_say()
+    }
+
+    // A row that tells the track something is answered by no numbers.
+    fn nothing_to_say(&self) -> Answer {
+        Answer::Numbers(Vec::new(self.alloc))
+    }
+
+    fn restrict(&mut self, restriction: Restriction) -> Answer {
+        match self.restrictions.add(self.alloc, restriction) {
+            Ok(()) => self.nothing_to_say(),
+            Err(NoMemory) => Answer::Word("no memory"),
         }
     }
 
-    fn tell(&mut self, row: Row) {
-        match row {
-            Row::Train(brakes, maximum, category) => {
-                self.brakes = brakes;
-                self.bounds.maximum = maximum;
-                self.bounds.category = category;
-            }
-            Row::Authority(main, end) => {
-                self.bounds.main = Some(main);
-                self.bounds.end = Some(end);
-            }
-            Row::National(national) => self.national = national,
-            Row::Areas(place) => {
-                self.areas.replace(&self.written.areas, place);
-                self.written.areas = no_areas();
-            }
-            _ => {}
+    fn asked(&self, name: &str, words: &mut Words<'_>) -> Answer {
+        if name == "limit" {
+            return Answer::of(self.limit(&words.stretch()));
         }
+        let front = words.cm();
+        if name == "targets" {
+            return Answer::of(self.targets(front, words.last()));
+        }
+        let limit = words.mph();
+        Answer::of(match name {
+            "permitted" => self.permitted(front, limit, words.last()),
+            "fitting" => self.fitting(front, limit, words.last()),
+            _ => {
+                let one = words.target();
+                self.either(front, limit, one, words.target())
+            }
+        })
     }
 
     fn take_statics(&mut self, place: GroupPlace) -> Result<Vec<i64>, NoMemory> {
@@ -204,5 +227,27 @@ impl Told {
             numbers.push(i64::from(speed.get()))?;
         }
         Ok(numbers)
+    }
+}
+
+fn end(words: &mut Words<'_>) -> End {
+    let end = words.cm();
+    End {
+        end,
+        location: end,
+        release: Release::National,
+        speed: words.mph(),
+    }
+}
+
+fn restriction(words: &mut Words<'_>) -> Restriction {
+    let (start, length, speed) = (words.cm(), words.reach(), words.mph());
+    Restriction {
+        // That of a restriction which no other one replaces.
+        number: RestrictionNumber::of_number(255).unwrap(),
+        start,
+        length,
+        delay: words.value(TrainLengthDelay::Applied),
+        speed,
     }
 }

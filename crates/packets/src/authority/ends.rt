@@ -125,6 +125,7 @@ pub(crate) struct AuthorityEnd {
 }
 
 /// Reads the end.
+#[inline(always)]
 #[tactic(auto, unfolding(crate::specs::Layouts::authority_end))]
 pub(crate) fn read_end(reader: &mut BitReader<'_>) -> Result<AuthorityEnd, PacketFault>
     ensures { Gives (λ x. x) result reader.new (read authority_end reader.old) }

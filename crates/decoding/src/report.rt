@@ -1,3 +1,4 @@
+// The lines of a telegram.
 ghost use Rattle.std.specs.Prelude.{◌^◌};
 
 use bits::{Run, VariableName};
@@ -12,7 +13,7 @@ struct FieldLine<'a, W> {
     out: &'a mut W,
 }
 
-/// What the output takes can't be said, only what is handed to it; it has room for each packet.
+// Contracts say what is handed to it, not what its output takes; it has room for each packet.
 impl<'a, W: Write> FieldSink for FieldLine<'a, W> {
     ghost Seen = { Unit {0} };
 
@@ -49,8 +50,8 @@ fn print_packet<W: Write>(packet: &Packet<'_>, out: &mut W) -> io::Result<()> {
     writeln!(line.out)
 }
 
-/// Writes a telegram: a line with its header, one a packet, and one with its number of bits.
-pub fn print_telegram<W: Write>(telegram: &Telegram<'_>, out: &mut W) -> io::Result<()> {
+/// Writes a telegram: a line with its header, one a packet, and one with its number of bits. The error is that of a write.
+pub(crate) fn print_telegram<W: Write>(telegram: &Telegram<'_>, out: &mut W) -> io::Result<()> {
     print_header(&telegram.header, out)?;
     for packet in telegram.packets.as_slice() {
         print_packet(packet, out)?;

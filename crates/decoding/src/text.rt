@@ -21,7 +21,8 @@ fn show<W: Write>(bytes: &[u8], out: &mut W) -> io::Result<Status> {
     }
 }
 
-/// Tells the telegram that hex digits carry, or why they carry none. The error is that of a write.
+/// Writes the telegram that hexadecimal digits carry, two a byte, or a line that says why they carry none, and answers the status: Done, or
+/// Refused for digits that are none, a telegram with a fault, and memory that is refused. The error is that of a write.
 pub fn decode_text<W: Write>(alloc: Global, text: &str, out: &mut W) -> io::Result<Status> {
     match hex::decode(alloc, text) {
         Ok(bytes) => show(bytes.as_slice(), out),

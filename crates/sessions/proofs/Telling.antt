@@ -6,8 +6,8 @@ use Rattle.exit_status.specs.declared.status.Status.{Status}
 use Rattle.onboard.specs.declared.errors.LiveError.{LiveError}
 use Rattle.onboard.specs.declared.released.Released.{Released}
 use Rattle.sessions.specs.Lines.{lines_of, Printed}
+use Rattle.sessions.specs.Reasons.{ending_of, status_of}
 use Rattle.sessions.specs.Sessions.{report_of}
-use Rattle.sessions.specs.Stops.{ending_of, status_of}
 
 -- where all writes succeeded, the lines came behind the text
 pub all_printed : {E : Type 0} (told : Result (Unit {0}) E) (x : Unit {0}) → told ≡ Ok x → (were : Bool) (before after : Option (List ℕ)) (given : List Released)

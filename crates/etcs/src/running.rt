@@ -1,3 +1,4 @@
+// The words of the process, and its output.
 use crate::program::{etcs_main, status_of};
 use exit_status::{Status, tell};
 use std::alloc::{AllocError, Global};
@@ -37,8 +38,9 @@ fn run_into<R: Env + Files<File = File> + AllocGlobal, W: Write>(rt: &R, out: &m
     }
 }
 
-/// Does what the words of the process behind the program's name ask, over standard output, and answers the exit status.
-pub fn run<R: Env + Files<File = File> + Print + AllocGlobal>(rt: &R) -> u8 {
+/// Does what the words of the process behind the program's name ask, over standard output, and returns the exit status: that of `etcs_main`, 1 where
+/// the output can't be written, 1 where memory is refused.
+pub(crate) fn run<R: Env + Files<File = File> + Print + AllocGlobal>(rt: &R) -> u8 {
     let Ok(mut out) = BufWriter::new(rt.alloc(), io::writer(rt)) else {
         return status_of(tell(&mut io::writer(rt), "refused memory", Status::Refused));
     };

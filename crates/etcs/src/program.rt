@@ -1,3 +1,7 @@
+// What the words of the program ask.
+ghost use Rattle.std.specs.Prelude.{◌≡◌, ◌≤◌};
+ghost use Rattle.etcs.specs.Exits.{exit_of};
+
 use clap::error::ErrorKind;
 use clap::{Arg, ArgMatches, Command, Error};
 use decoding::decode_text;
@@ -71,26 +75,30 @@ fn done<R: Files<File = File> + AllocGlobal, W: Write>(
     }
 }
 
-/// Does what the words behind the program's name ask, writes what there is to tell, and answers the exit status: 0 done,
-/// 1 refused or not written, 2 for words that are none of the program's, 3 where a file or the device fails.
-pub fn etcs_main<R: Files<File = File> + AllocGlobal, W: Write>(
+/// Does what the words behind the program's name ask, writes the answer, and returns the exit status: 0 done, 1 refused or not
+/// written, 2 for words that are none of the program's, 3 where a file or the device fails.
+pub(crate) fn etcs_main<R: Files<File = File> + AllocGlobal, W: Write>(
     rt: &R,
     words: &[&str],
     out: &mut W,
-) -> u8 {
-    let told = match parsed(rt.alloc(), words) {
+) -> u8
+    ensures { result ≤ 3 }
+{
+    let answer = match parsed(rt.alloc(), words) {
         Ok(matches) => done(rt, &matches, out),
         Err(error) if error.kind() == ErrorKind::OutOfMemory => {
             tell(out, "refused memory", Status::Refused)
         }
         Err(_) => tell(out, "usage", Status::Usage),
     };
-    status_of(told)
+    status_of(answer)
 }
 
-/// The number of a status, or that of a write that failed.
-pub fn status_of(told: io::Result<Status>) -> u8 {
-    match told {
+/// The exit status: the number of a status, and 1 for a write that failed.
+pub(crate) fn status_of(answer: io::Result<Status>) -> u8
+    ensures { result ≡ exit_of answer }
+{
+    match answer {
         Ok(status) => status as u8,
         Err(_) => Status::Refused as u8,
     }

@@ -1,13 +1,15 @@
--- The report of a life, piece by piece.
-use Rattle.std.proofs.Common.{◌≡◌, ℕ, List, ◌++◌, Bool, Option, Result, Ok, Err, IsTrue, IfOk, OnOk, is_ok, refl, sym, subst}
+-- What is written, piece by piece.
+use Rattle.std.proofs.Common.{◌≡◌, ◌⊎◌, inr, ℕ, List, ◌++◌, Bool, Option, Result, Ok, Err, IsTrue, IfOk, OnOk, is_ok, refl, sym, subst}
 use Rattle.std.specs.Io.KnownBytes.{Appends}
 use Rattle.std.proofs.KnownBytes.{Appends-trans}
 use Rattle.exit_status.specs.declared.status.Status.{Status}
 use Rattle.onboard.specs.declared.errors.LiveError.{LiveError}
 use Rattle.onboard.specs.declared.released.Released.{Released}
 use Rattle.sessions.specs.Lines.{lines_of, Printed}
-use Rattle.sessions.specs.Sessions.{report_of}
-use Rattle.sessions.specs.Stops.{ending_of, status_of}
+use Rattle.reader.specs.Listings.{IsListingRefusal}
+use Rattle.reader.specs.declared.errors.ListingError.{ListingError}
+use Rattle.sessions.specs.Reasons.{ending_of, status_of, listing_reason, listing_status, refusal_of}
+use Rattle.sessions.specs.Sessions.{report_of, IsListed, Says}
 
 -- where all writes succeeded, the lines came behind the text
 pub all_printed : {E : Type 0} (told : Result (Unit {0}) E) (x : Unit {0}) → told ≡ Ok x → (were : Bool) (before after : Option (List ℕ)) (given : List Released)
@@ -20,3 +22,16 @@ pub told_whole : {E : Type 0} (answer : Result Status E) (ended : Result (Unit {
     → IfOk answer (λ status. (status ≡ status_of ended) × Appends before after (report_of given ended))
 told_whole (Ok status) ended before here after given lines status_is line = (status_is, Appends-trans before here after _ _ lines line)
 told_whole (Err error) ended before here after given lines status_is line = tt
+
+-- a status and a text, from the two clauses of a call
+pub said : {E : Type 0} (wanted : Status) (answer : Result Status E) (text : List ℕ) (before after : Option (List ℕ))
+    → IfOk answer (λ status. status ≡ wanted) → OnOk answer (Appends before after text) → Says wanted text before after answer
+said wanted (Ok status) text before after status_is line = (status_is, line)
+said wanted (Err error) text before after status_is line = tt
+
+-- the line of a refusal behind what a listing wrote
+pub listed_refusal : {E : Type 0} (answer : Result Status E) (error : ListingError) (sectors : ℕ) (image : ℕ → List ℕ) (before mid after : Option (List ℕ))
+    → IsListingRefusal sectors image error → IfOk answer (λ status. status ≡ listing_status error)
+    → OnOk answer (Appends mid after (refusal_of (listing_reason error))) → IfOk answer (IsListed sectors image before after)
+listed_refusal (Ok status) error sectors image before mid after cause status_is line = inr (error, status_is, cause, mid, line)
+listed_refusal (Err e) error sectors image before mid after cause status_is line = tt

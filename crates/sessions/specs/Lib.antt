@@ -1,4 +1,4 @@
 pub mod Lines
 pub mod Printing
+pub mod Reasons
 pub mod Sessions
-pub mod Stops

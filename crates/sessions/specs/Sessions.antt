@@ -1,22 +1,31 @@
--- What a life does and tells (this project's profile).
-use Rattle.std.specs.Prelude.{◌≡◌, ℕ, List, [], ◌∷◌, ◌++◌, Bool, true, false, Option, Result, OnOk, IfOk}
+-- What the program does with a disk, and what it writes (this project's profile).
+use Rattle.std.specs.Prelude.{◌≡◌, ◌⊎◌, ℕ, ◌+◌, ◌*◌, List, [], ◌∷◌, ◌++◌, Bool, true, false, IsTrue, Option, Some, None, Result, OnOk, IfOk, codes, decimal}
 use Rattle.std.specs.Io.KnownBytes.{Appends}
 use Rattle.disk.specs.State.{State}
 use Rattle.events.specs.declared.input.Event.{Event}
 use Rattle.events.specs.declared.input.Event.TheVariants.{PowerUp}
 use Rattle.exit_status.specs.declared.status.Status.{Status}
 use Rattle.exit_status.specs.declared.status.Status.TheVariants.{Done, Refused, Usage, Device}
+use Rattle.journal.specs.declared.errors.FormatError.{FormatError}
 use Rattle.life_steps.specs.declared.step.Step.{Step}
 use Rattle.mode_table.specs.declared.statuses.Cold.{Cold}
 use Rattle.onboard.specs.declared.errors.LiveError.{LiveError}
 use Rattle.onboard.specs.declared.released.Released.{Released}
+use Rattle.onboard.specs.Lives.{IsReady}
 use Rattle.onboard.specs.Runs.{accepted_by, Lives}
+use Rattle.reader.specs.Listings.{AddsListing, IsListingRefusal}
+use Rattle.reader.specs.declared.errors.ListingError.{ListingError}
+use Rattle.scenario_values.specs.declared.fault.ScenarioFault.{ScenarioFault}
+use Rattle.scenario_values.specs.declared.fault.ScenarioFault.TheVariants.{NoMemory}
+use Rattle.simulator.specs.Scenarios.{Tells, FaultOf}
+use Rattle.sessions.specs.declared.images.Image.{Image}
+use Rattle.sessions.specs.declared.images.Image.TheVariants.{Unopened, Missing, Opened}
 use Rattle.sessions.specs.Lines.{lines_of}
-use Rattle.sessions.specs.Stops.{ending_of, status_of}
+use Rattle.sessions.specs.Reasons.{ending_of, status_of, format_reason, format_status, listing_reason, listing_status, fault_reason, refusal_of}
 
--- a line a release, in their order, and behind them the line of the end, if the life stopped
-abbrev pub report_of : {T : Type 0} → List Released → Result T LiveError → List ℕ
-report_of given ended = lines_of given ++ ending_of ended
+-- where the write succeeded, just this text came behind what was written, and the status is this one
+abbrev pub Says : {E : Type 0} → Status → List ℕ → Option (List ℕ) → Option (List ℕ) → Result Status E → Type 0
+Says wanted text before after answer = IfOk answer (λ status. (status ≡ wanted) × Appends before after text)
 
 abbrev pub is_device : Status → Bool
 is_device Done = false
@@ -24,7 +33,13 @@ is_device Refused = false
 is_device Usage = false
 is_device Device = true
 
--- A life on a disk whose images each stood for d or for a. Where all writes succeeded, just the report of what was released came behind the
+-- ---- a life
+
+-- a line a release, in their order, and behind them the line of the end, if the life stopped
+abbrev pub report_of : {T : Type 0} → List Released → Result T LiveError → List ℕ
+report_of given ended = lines_of given ++ ending_of ended
+
+-- A life on a disk whose images each represented d or a. Where all writes succeeded, just the report of what was released came behind the
 -- text, and the status is that of the end.
 pub record Session {E : Type 0} (d a : List Event) (cold : Cold) (steps : List Step) (old new : State) (before after : Option (List ℕ)) (answer : Result Status E) : Type 0 where
   pub p : List Event
@@ -33,4 +48,45 @@ pub record Session {E : Type 0} (d a : List Event) (cold : Cold) (steps : List S
   pub ended : Result (Unit {0}) LiveError
   pub life : Lives d a p cold word steps old new [] given
   pub whole : OnOk ended (life.after ≡ accepted_by (PowerUp word ∷ p) steps)
-  pub told : IfOk answer (λ status. (status ≡ status_of ended) × Appends before after (report_of given ended))
+  pub told : Says (status_of ended) (report_of given ended) before after answer
+
+-- ---- from the bytes of a scenario to what is written
+
+-- the bytes tell this life, of a word and steps
+abbrev pub TellsOne : List ℕ → (Cold → List Step → Type 0) → Type 0
+TellsOne bytes P = (cold : Cold) × (steps : List Step) × Tells bytes cold steps × P cold steps
+
+-- A scenario and an image, end to end: by what became of the image. It was not opened, for the scenario has a fault, or memory was refused;
+-- it is missing; or it was opened, and on an honest disk the session is that of the life which the scenario tells. The image is opened by a
+-- call, which `gives` relates to its answers, and `state` is how contracts see a disk.
+abbrev pub Plays : {D O E : Type 0} → (D → State) → (O → Option D → Type 0) → List ℕ → O → Image D O → Option (List ℕ) → Option (List ℕ) → Result Status E → Type 0
+Plays state gives bytes opener (Unopened same) before after answer =
+    (same ≡ opener) × (fault : ScenarioFault) × ((fault ≡ NoMemory) ⊎ FaultOf bytes fault) × Says Refused (refusal_of (fault_reason fault)) before after answer
+Plays state gives bytes opener Missing before after answer =
+    TellsOne bytes (λ cold steps. gives opener None × Says Device (codes "device\n") before after answer)
+Plays {D} state gives bytes opener (Opened new) before after answer =
+    TellsOne bytes (λ cold steps. (old : D) × gives opener (Some old)
+    × ((d a : List Event) → IsTrue (state old).honest → IsReady d a (state old) → Session d a cold steps (state old) (state new) before after answer))
+
+-- ---- an image is made
+
+-- the line of an image that was made, of so many blocks
+abbrev pub formatted_line : ℕ → List ℕ
+formatted_line blocks = codes "formatted " ++ decimal blocks ++ codes " blocks " ++ decimal (512 * (1 + 6 * blocks)) ++ codes " bytes\n"
+
+-- why none was made
+abbrev pub IsUnformatted : Option (List ℕ) → Option (List ℕ) → Status → Type 0
+IsUnformatted before after status = (error : FormatError) × (status ≡ format_status error) × Appends before after (refusal_of (format_reason error))
+
+-- What the status tells is what was written: Done the line of the image, else the line of a refusal.
+abbrev pub IsFormatReport : ℕ → Option (List ℕ) → Option (List ℕ) → Status → Type 0
+IsFormatReport blocks before after status = ((status ≡ Done) × Appends before after (formatted_line blocks)) ⊎ IsUnformatted before after status
+
+-- ---- a journal is listed
+
+-- At Done just the listing of the image was written. Else the last line is that of a refusal, which has its cause.
+abbrev pub IsListed : ℕ → (ℕ → List ℕ) → Option (List ℕ) → Option (List ℕ) → Status → Type 0
+IsListed sectors image before after status =
+    ((status ≡ Done) × AddsListing sectors image before after)
+    ⊎ ((error : ListingError) × (status ≡ listing_status error) × IsListingRefusal sectors image error
+    × (mid : Option (List ℕ)) × Appends mid after (refusal_of (listing_reason error)))

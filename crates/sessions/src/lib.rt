@@ -1,14 +1,15 @@
-//! What the program does with images and scenarios: makes an image, runs a life on it and tells what is released as it is released, and
-//! lists its journal.
+//! What the program does with images and scenarios (this project's profile): makes an image, runs a life on it and writes what is released as
+//! it is released, and lists its journal.
 #![tactic(auto)]
 
 mod images;
 mod lives;
 mod printer;
+mod reasons;
 mod refusals;
 mod scenarios;
 mod stops;
 
-pub use images::{format_image, list_image};
+pub use images::{Image, format_disk, format_image, list_disk, list_image};
 pub use lives::run_life;
-pub use scenarios::run_scenario;
+pub use scenarios::{play, run_scenario};

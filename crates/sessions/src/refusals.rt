@@ -1,7 +1,9 @@
-// Refusals, as the program tells them: their numbers and names.
-ghost use Rattle.std.specs.Prelude.{◌++◌, codes, decimal, OnOk};
+// Refusals, as the program tells them. The errors are those of the writes.
+ghost use Rattle.std.specs.Prelude.{◌≡◌, IfOk, OnOk};
 ghost use Rattle.std.specs.Io.KnownBytes.{Appends};
+ghost use Rattle.sessions.specs.Reasons.{format_reason, format_status, listing_reason, listing_status, fault_reason, refusal_of};
 
+use crate::reasons::{of_fault, of_format, of_listing, write_reason};
 use exit_status::Status;
 use journal::FormatError;
 use reader::ListingError;
@@ -9,41 +11,35 @@ use simulator::ScenarioFault;
 use std::io;
 use std::io::Write;
 
-fn refuse<W: Write>(number: u8, word: &str, status: Status, out: &mut W) -> io::Result<Status>
-    ensures { OnOk result (Appends (W.contents out.old) (W.contents out.new)
-        (codes "refused " ++ decimal number ++ codes " " ++ word.now ++ codes "\n")) }
-{
-    writeln!(out, "refused {number} {word}")?;
-    Ok(status)
-}
-
 /// Tells why no image was made.
-pub(crate) fn refuse_format<W: Write>(error: FormatError, out: &mut W) -> io::Result<Status> {
-    match error {
-        FormatError::DeviceFault => refuse(40, "DeviceFault", Status::Device, out),
-        FormatError::BadSlots => refuse(41, "BadSlots", Status::Refused, out),
-        FormatError::WrongSize => refuse(42, "WrongSize", Status::Refused, out),
-    }
+pub(crate) fn refuse_format<W: Write>(error: FormatError, out: &mut W) -> io::Result<Status>
+    ensures status { IfOk result (λ status. status ≡ format_status error) }
+    ensures line { OnOk result (Appends (W.contents out.old) (W.contents out.new) (refusal_of (format_reason error))) }
+{
+    write_reason("refused", of_format(error), out)?;
+    Ok(match error {
+        FormatError::DeviceFault => Status::Device,
+        FormatError::BadSlots | FormatError::WrongSize => Status::Refused,
+    })
 }
 
 /// Tells why a journal was not listed to its end.
-pub(crate) fn refuse_listing<W: Write>(error: ListingError, out: &mut W) -> io::Result<Status> {
-    match error {
-        ListingError::DeviceFault => refuse(30, "DeviceFault", Status::Device, out),
-        ListingError::NotFormatted => refuse(31, "NotFormatted", Status::Refused, out),
-        ListingError::Damaged => refuse(32, "Damaged", Status::Refused, out),
-        ListingError::Write => refuse(33, "Write", Status::Refused, out),
-        ListingError::NoMemory => refuse(34, "NoMemory", Status::Refused, out),
-    }
+pub(crate) fn refuse_listing<W: Write>(error: ListingError, out: &mut W) -> io::Result<Status>
+    ensures status { IfOk result (λ status. status ≡ listing_status error) }
+    ensures line { OnOk result (Appends (W.contents out.old) (W.contents out.new) (refusal_of (listing_reason error))) }
+{
+    write_reason("refused", of_listing(error), out)?;
+    Ok(match error {
+        ListingError::DeviceFault => Status::Device,
+        _ => Status::Refused,
+    })
 }
 
 /// Tells the fault of a scenario.
-pub(crate) fn refuse_scenario<W: Write>(fault: ScenarioFault, out: &mut W) -> io::Result<Status> {
-    match fault {
-        ScenarioFault::NotJson => refuse(1, "NotJson", Status::Refused, out),
-        ScenarioFault::Shape => refuse(2, "Shape", Status::Refused, out),
-        ScenarioFault::OutOfRange => refuse(3, "OutOfRange", Status::Refused, out),
-        ScenarioFault::BadHex => refuse(4, "BadHex", Status::Refused, out),
-        ScenarioFault::NoMemory => refuse(5, "NoMemory", Status::Refused, out),
-    }
+pub(crate) fn refuse_scenario<W: Write>(fault: ScenarioFault, out: &mut W) -> io::Result<Status>
+    ensures status { IfOk result (λ status. status ≡ Status.Refused) }
+    ensures line { OnOk result (Appends (W.contents out.old) (W.contents out.new) (refusal_of (fault_reason fault))) }
+{
+    write_reason("refused", of_fault(fault), out)?;
+    Ok(Status::Refused)
 }

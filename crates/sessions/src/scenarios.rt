@@ -1,16 +1,50 @@
-// Scenarios in files.
+// Scenarios, end to end.
+ghost use Rattle.sessions.specs.Sessions.{Plays};
+
+use crate::images::Image;
 use crate::lives::run_life;
 use crate::refusals::refuse_scenario;
+use disk::Disk;
 use exit_status::{Status, tell};
 use file_disk::FileDisk;
 use simulator::{Scenario, ScenarioFault, events_of};
+use std::alloc::Global;
 use std::fs::File;
 use std::io::Write;
 use std::rt::Files;
 use std::{fs, io};
 
-/// One life, by the steps of a scenario in a file, on an image. The scenario is judged before the image is opened. The error is that of a
-/// write.
+/// One life, by the steps that the bytes of a scenario tell, on the image that a call opens. The scenario is judged before the image is
+/// opened. It hands on what became of the image, and the writer back, and answers the status that the program ends with: where the scenario
+/// has a fault or memory is refused, the fault's line is written and the image not opened; where it can't be opened, `device` is written; else
+/// the lines of `run_life`. The error is that of a write.
+pub fn play<D: Disk, O: FnOnce() -> Option<D>, W: Write>(
+    alloc: Global,
+    scenario: &Scenario,
+    opener: O,
+    out: W,
+) -> (Image<D, O>, W, io::Result<Status>)
+    requires { O.pre opener }
+    ensures told { Plays D.state O.post scenario.now.bytes.items opener result.0 (W.contents out) (W.contents result.1) result.2 }
+{
+    let mut out = out;
+    let (cold, steps) = match events_of(alloc, scenario) {
+        Ok(life) => life,
+        Err(fault) => {
+            let status = refuse_scenario(fault, &mut out);
+            return (Image::Unopened(opener), out, status);
+        }
+    };
+    let Some(disk) = opener() else {
+        let status = tell(&mut out, "device", Status::Device);
+        return (Image::Missing, out, status);
+    };
+    let (disk, out, status) = run_life(alloc, disk, cold, steps.as_slice(), out);
+    (Image::Opened(disk), out, status)
+}
+
+/// One life, by the steps of a scenario in a file, on an image in a file. Where the scenario's file can't be read, `device` is written. The
+/// error is that of a write.
 pub fn run_scenario<R: Files<File = File> + AllocGlobal, W: Write>(
     rt: &R,
     scenario: &str,
@@ -24,13 +58,7 @@ pub fn run_scenario<R: Files<File = File> + AllocGlobal, W: Write>(
         }
         Err(_) => return tell(out, "device", Status::Device),
     };
-    let (cold, steps) = match events_of(rt.alloc(), &Scenario { bytes }) {
-        Ok(life) => life,
-        Err(fault) => return refuse_scenario(fault, out),
-    };
-    let Ok(disk) = FileDisk::open(rt, image) else {
-        return tell(out, "device", Status::Device);
-    };
-    let (_, _, status) = run_life(rt.alloc(), disk, cold, steps.as_slice(), out);
+    let opener = || FileDisk::open(rt, image).ok();
+    let (_, _, status) = play(rt.alloc(), &Scenario { bytes }, opener, out);
     status
 }

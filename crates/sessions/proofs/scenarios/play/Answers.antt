@@ -3,14 +3,29 @@ use Rattle.sessions.proofs.scenarios.play.Goals as goal
 
 pub returns-in_default : goal.returns-in_default
 returns-in_default g c = record {
-      told = (c.in-Ok.life.0, c.in-Ok.life.1.items, c.in-Ok.ensures.ok, (c.in_default.ensures,
-          said _ c.tell-status.result _ _ _ c.tell-status.ensures.status c.tell-status.ensures.line));
-    }
+  told = (
+    c.in-Ok.life.0,
+    c.in-Ok.life.1.items,
+    c.in-Ok.ensures.ok,
+    (
+      c.in_default.ensures,
+      said _ c.tell-status.result _ _ _ c.tell-status.ensures.status c.tell-status.ensures.line,
+    ),
+  );
+}
 
 pub returns : goal.returns
 returns g c = record {
-      told = (c.in-Ok.life.0, c.in-Ok.life.1.items, c.in-Ok.ensures.ok, (c.in-Some.disk, c.in-Some.ensures,
-          λ d a honest ready.
-              let session = c.run_life-disk.ensures.session d a honest ready in
-              rw c.as_slice.ensures.value at session));
-    }
+  told = (
+    c.in-Ok.life.0,
+    c.in-Ok.life.1.items,
+    c.in-Ok.ensures.ok,
+    (
+      c.in-Some.disk,
+      c.in-Some.ensures,
+      λ d a honest ready.
+          let session = c.run_life-disk.ensures.session d a honest ready in
+          rw c.as_slice.ensures.value at session,
+    ),
+  );
+}

@@ -21,16 +21,25 @@ fn with_words<'a>(
     Ok(command)
 }
 
+fn with_subcommand<'a>(
+    alloc: Global,
+    command: Command<'a>,
+    name: &'a str,
+    words: &[&'a str],
+) -> Result<Command<'a>, AllocError> {
+    command.subcommand(with_words(alloc, name, words)?)
+}
+
 fn command<'a>(alloc: Global) -> Result<Command<'a>, AllocError> {
-    Command::new(alloc, "etcs")
+    let command = Command::new(alloc, "etcs")
         .no_binary_name(true)
         .disable_help_flag(true)
         .disable_help_subcommand(true)
-        .subcommand_required(true)
-        .subcommand(with_words(alloc, "decode", &["HEX"])?)?
-        .subcommand(with_words(alloc, "format", &["IMAGE", "BLOCKS"])?)?
-        .subcommand(with_words(alloc, "run", &["SCENARIO", "IMAGE"])?)?
-        .subcommand(with_words(alloc, "journal", &["IMAGE"])?)
+        .subcommand_required(true);
+    let command = with_subcommand(alloc, command, "decode", &["HEX"])?;
+    let command = with_subcommand(alloc, command, "format", &["IMAGE", "BLOCKS"])?;
+    let command = with_subcommand(alloc, command, "run", &["SCENARIO", "IMAGE"])?;
+    with_subcommand(alloc, command, "journal", &["IMAGE"])
 }
 
 fn parsed<'a>(alloc: Global, words: &'a [&'a str]) -> Result<ArgMatches<'a>, Error> {
@@ -73,7 +82,7 @@ fn done<R: Files<File = File> + AllocGlobal, W: Write>(
 
 /// Does what the words behind the program's name ask, writes what there is to tell, and answers the exit status: 0 done,
 /// 1 refused or not written, 2 for words that are none of the program's, 3 where a file or the device fails.
-pub fn etcs_main<R: Files<File = File> + AllocGlobal, W: Write>(
+pub(crate) fn etcs_main<R: Files<File = File> + AllocGlobal, W: Write>(
     rt: &R,
     words: &[&str],
     out: &mut W,
@@ -89,7 +98,7 @@ pub fn etcs_main<R: Files<File = File> + AllocGlobal, W: Write>(
 }
 
 /// The number of a status, or that of a write that failed.
-pub fn status_of(told: io::Result<Status>) -> u8 {
+pub(crate) fn status_of(told: io::Result<Status>) -> u8 {
     match told {
         Ok(status) => status as u8,
         Err(_) => Status::Refused as u8,

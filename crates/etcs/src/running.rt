@@ -38,7 +38,7 @@ fn run_into<R: Env + Files<File = File> + AllocGlobal, W: Write>(rt: &R, out: &m
 }
 
 /// Does what the words of the process behind the program's name ask, over standard output, and answers the exit status.
-pub fn run<R: Env + Files<File = File> + Print + AllocGlobal>(rt: &R) -> u8 {
+pub(crate) fn run<R: Env + Files<File = File> + Print + AllocGlobal>(rt: &R) -> u8 {
     let Ok(mut out) = BufWriter::new(rt.alloc(), io::writer(rt)) else {
         return status_of(tell(&mut io::writer(rt), "refused memory", Status::Refused));
     };

@@ -34,16 +34,31 @@ mod tally;
 
 use rows::Rows;
 use std::io::{BufRead, BufReader};
+use tally::Tally;
 
-fn main(rt: HostRuntime) -> anyhow::Result<()> {
-    let mut rows = Rows::new(rt.alloc());
+// All lines of the input.
+fn take_all(rt: &HostRuntime, rows: &mut Rows) -> anyhow::Result<()> {
     for line in BufReader::new(rt.alloc(), rt.reader())?.lines(rt.alloc()) {
-        rows.take(&rt, line?.as_str())?;
+        rows.take(rt, line?.as_str())?;
     }
-    let tally = rows.tally();
+    Ok(())
+}
+
+// The last line.
+fn sum_up(rt: &HostRuntime, tally: Tally) -> anyhow::Result<()> {
     println!(rt;
         "{} rows, {} events, {} answers, {} differences",
         tally.rows, tally.events, tally.answers, tally.differences
     )?;
     Ok(())
+}
+
+fn run(rt: &HostRuntime, rows: &mut Rows) -> anyhow::Result<()> {
+    take_all(rt, rows)?;
+    sum_up(rt, rows.tally())
+}
+
+fn main(rt: HostRuntime) -> anyhow::Result<()> {
+    let mut rows = Rows::new(rt.alloc());
+    run(&rt, &mut rows)
 }

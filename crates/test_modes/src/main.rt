@@ -101,12 +101,19 @@ fn tell(rt: &impl Print, line: &str, answer: &Answer) -> io::Result<()> {
     }
 }
 
-fn main(rt: HostRuntime) -> io::Result<()> {
-    let mut rows = Rows::new(rt.alloc());
+fn take_line(rt: &HostRuntime, rows: &mut Rows, line: &str) -> io::Result<()> {
+    let answer = answer_to(rt.alloc(), rows, line)?;
+    tell(rt, line, &answer)
+}
+
+fn take_all(rt: &HostRuntime, rows: &mut Rows) -> io::Result<()> {
     for line in rt.lines(rt.alloc()) {
-        let line = line?;
-        let answer = answer_to(rt.alloc(), &mut rows, line.as_str())?;
-        tell(&rt, line.as_str(), &answer)?;
+        take_line(rt, rows, line?.as_str())?;
     }
     Ok(())
+}
+
+fn main(rt: HostRuntime) -> io::Result<()> {
+    let mut rows = Rows::new(rt.alloc());
+    take_all(&rt, &mut rows)
 }

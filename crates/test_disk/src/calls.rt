@@ -5,29 +5,41 @@ use disk::{Disk, SECTOR_BYTES, put};
 /// The answer of a disk to a row, None where it is none.
 pub fn answer<D: Disk>(disk: &mut D, words: &[&str]) -> Option<Answer> {
     match *words.first()? {
-        "write" if words.len() == 4 => {
-            let mut bytes = [byte(words, 2)?; 2 * SECTOR_BYTES];
-            bytes[SECTOR_BYTES..].fill(byte(words, 3)?);
-            write(disk, number(words, 1)?, &bytes)
-        }
-        "write" => write(disk, number(words, 1)?, &[byte(words, 2)?; SECTOR_BYTES]),
-        "put" => putting(disk, number(words, 1)?, byte(words, 2)?),
-        "read" => {
-            let mut bytes = [0; SECTOR_BYTES];
-            read(disk, number(words, 1)?, &mut bytes, 0)
-        }
-        "pair" => {
-            let mut bytes = [0; 2 * SECTOR_BYTES];
-            read(disk, number(words, 1)?, &mut bytes, byte(words, 2)?)
-        }
+        "write" => write_filled(disk, words),
+        "put" => putting(disk, words),
+        "read" => read_one(disk, words),
+        "pair" => read_pair(disk, words),
         "sync" => Some(Answer::of(disk.sync())),
         "sectors" => Some(Answer::Number(disk.sectors())),
-        "whole" => {
-            let bytes = usize::try_from(number(words, 2)?).ok()?;
-            Some(Answer::yes_or_no(disk.are_sectors(number(words, 1)?, bytes)))
-        }
+        "whole" => whole(disk, words),
         _ => None,
     }
+}
+
+// One sector, or two, each of one byte.
+fn write_filled<D: Disk>(disk: &mut D, words: &[&str]) -> Option<Answer> {
+    let (first, byte_of_first) = (number(words, 1)?, byte(words, 2)?);
+    if words.len() != 4 {
+        return write(disk, first, &[byte_of_first; SECTOR_BYTES]);
+    }
+    let mut bytes = [byte_of_first; 2 * SECTOR_BYTES];
+    bytes[SECTOR_BYTES..].fill(byte(words, 3)?);
+    write(disk, first, &bytes)
+}
+
+fn read_one<D: Disk>(disk: &mut D, words: &[&str]) -> Option<Answer> {
+    let first = number(words, 1)?;
+    read(disk, first, &mut [0; SECTOR_BYTES], 0)
+}
+
+fn read_pair<D: Disk>(disk: &mut D, words: &[&str]) -> Option<Answer> {
+    let (first, asked) = (number(words, 1)?, byte(words, 2)?);
+    read(disk, first, &mut [0; 2 * SECTOR_BYTES], asked)
+}
+
+fn whole<D: Disk>(disk: &D, words: &[&str]) -> Option<Answer> {
+    let bytes = usize::try_from(number(words, 2)?).ok()?;
+    Some(Answer::yes_or_no(disk.are_sectors(number(words, 1)?, bytes)))
 }
 
 fn write<D: Disk>(disk: &mut D, first: u64, bytes: &[u8]) -> Option<Answer> {
@@ -37,7 +49,8 @@ fn write<D: Disk>(disk: &mut D, first: u64, bytes: &[u8]) -> Option<Answer> {
     Some(Answer::of(disk.write(first, bytes)))
 }
 
-fn putting<D: Disk>(disk: &mut D, first: u64, byte: u8) -> Option<Answer> {
+fn putting<D: Disk>(disk: &mut D, words: &[&str]) -> Option<Answer> {
+    let (first, byte) = (number(words, 1)?, byte(words, 2)?);
     if !disk.are_sectors(first, SECTOR_BYTES) {
         return None;
     }

@@ -24,42 +24,57 @@ impl Files {
     /// Of the disk over a file.
     pub fn answer(&mut self, words: &[&str]) -> Option<Answer> {
         match *words.first()? {
-            "fill" => {
-                let file = HonestFile::new(self.alloc, number(words, 1)? as usize).ok()?;
-                self.disk = filled(file, number(words, 2)?);
-                Some(Answer::yes_or_no(self.disk.is_some()))
-            }
-            "over" => {
-                let file = HonestFile::new(self.alloc, number(words, 1)? as usize).ok()?;
-                self.disk = FileDisk::over(file).ok();
-                Some(Answer::yes_or_no(self.disk.is_some()))
-            }
+            "fill" => self.fill(words),
+            "over" => self.go_over(words),
             _ => calls::answer(self.disk.as_mut()?, words),
         }
+    }
+
+    fn fill(&mut self, words: &[&str]) -> Option<Answer> {
+        let sectors = number(words, 2)?;
+        self.disk = filled(file_of(self.alloc, words)?, sectors);
+        Some(Answer::yes_or_no(self.disk.is_some()))
+    }
+
+    fn go_over(&mut self, words: &[&str]) -> Option<Answer> {
+        self.disk = disk_over(file_of(self.alloc, words)?);
+        Some(Answer::yes_or_no(self.disk.is_some()))
     }
 
     /// Of the file itself.
     pub fn answer_raw(&mut self, words: &[&str]) -> Option<Answer> {
         match *words.first()? {
-            "new" => {
-                let mut file = HonestFile::new(self.alloc, number(words, 1)? as usize).ok()?;
-                let done = file.set_length(number(words, 2)?);
-                self.raw = Some(file);
-                Some(Answer::of(done))
-            }
-            "write" => {
-                let bytes = [byte(words, 3)?; 1024];
-                let part = bytes.get(..number(words, 2)? as usize)?;
-                written(self.raw.as_mut()?, number(words, 1)?, part)
-            }
-            "open" => {
-                let sector = number(words, 1)?;
-                Some(Answer::yes_or_no(self.raw.as_ref()?.is_open(sector)))
-            }
+            "new" => self.make_raw(words),
+            "write" => write_raw(self.raw.as_mut()?, words),
+            "open" => is_open(self.raw.as_ref()?, words),
             "sync" => Some(Answer::of(self.raw.as_mut()?.sync())),
             _ => None,
         }
     }
+
+    fn make_raw(&mut self, words: &[&str]) -> Option<Answer> {
+        let length = number(words, 2)?;
+        self.raw = Some(file_of(self.alloc, words)?);
+        Some(Answer::of(self.raw.as_mut()?.set_length(length)))
+    }
+}
+
+fn file_of(alloc: Global, words: &[&str]) -> Option<HonestFile> {
+    HonestFile::new(alloc, number(words, 1)? as usize).ok()
+}
+
+fn disk_over(file: HonestFile) -> Option<FileDisk<HonestFile>> {
+    FileDisk::over(file).ok()
+}
+
+fn write_raw(file: &mut HonestFile, words: &[&str]) -> Option<Answer> {
+    let bytes = [byte(words, 3)?; 1024];
+    let part = bytes.get(..number(words, 2)? as usize)?;
+    written(file, number(words, 1)?, part)
+}
+
+fn is_open(file: &HonestFile, words: &[&str]) -> Option<Answer> {
+    Some(Answer::yes_or_no(file.is_open(number(words, 1)?)))
 }
 
 fn filled(file: HonestFile, sectors: u64) -> Option<FileDisk<HonestFile>> {

@@ -80,18 +80,30 @@ fn answer_to(alloc: Global, rows: &mut Rows, line: &str) -> Result<Option<Answer
     })
 }
 
+fn tell(rt: &HostRuntime, line: &str, answer: Option<Answer>) -> io::Result<()> {
+    match answer {
+        Some(Answer::Word("")) => println!(rt; "{line}"),
+        Some(Answer::Word(word)) => println!(rt; "{line}: {word}"),
+        Some(Answer::Number(number)) => println!(rt; "{line}: {number}"),
+        None => println!(rt; "{line}: no row"),
+    }
+}
+
+fn take_line(rt: &HostRuntime, rows: &mut Rows, line: &str) -> io::Result<()> {
+    let answer = answer_to(rt.alloc(), rows, line)?;
+    tell(rt, line, answer)
+}
+
+fn take_all(rt: &HostRuntime, rows: &mut Rows) -> io::Result<()> {
+    for line in rt.lines(rt.alloc()) {
+        take_line(rt, rows, line?.as_str())?;
+    }
+    Ok(())
+}
+
 fn main(rt: HostRuntime) -> io::Result<()> {
     let Ok(mut rows) = Rows::new(rt.alloc()) else {
         return Err(io::Error::from(io::ErrorKind::OutOfMemory));
     };
-    for line in rt.lines(rt.alloc()) {
-        let line = line?;
-        match answer_to(rt.alloc(), &mut rows, line.as_str())? {
-            Some(Answer::Word("")) => println!(rt; "{line}")?,
-            Some(Answer::Word(word)) => println!(rt; "{line}: {word}")?,
-            Some(Answer::Number(number)) => println!(rt; "{line}: {number}")?,
-            None => println!(rt; "{line}: no row")?,
-        }
-    }
-    Ok(())
+    take_all(&rt, &mut rows)
 }

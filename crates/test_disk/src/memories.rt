@@ -22,16 +22,8 @@ impl Memories {
 
     pub fn answer(&mut self, alloc: Global, words: &[&str]) -> Option<Answer> {
         match *words.first()? {
-            "new" => {
-                let (sectors, calls) = (number(words, 1)?, number(words, 2)?);
-                let made = make(alloc, sectors, calls, number(words, 3)?);
-                Some(self.go_on(made))
-            }
-            "settle" => {
-                let settled = settle(&self.disk, alloc, words.get(1..)?);
-                let answer = self.go_on(settled);
-                Some(answer)
-            }
+            "new" => self.begin(alloc, words),
+            "settle" => self.settle(alloc, words.get(1..)?),
             "turn" => {
                 swap(&mut self.disk, &mut self.aside);
                 Some(Answer::Word("done"))
@@ -43,6 +35,17 @@ impl Memories {
             "faults" => Some(Answer::Number(self.disk.faults())),
             _ => calls::answer(&mut self.disk, words),
         }
+    }
+
+    fn begin(&mut self, alloc: Global, words: &[&str]) -> Option<Answer> {
+        let (sectors, calls) = (number(words, 1)?, number(words, 2)?);
+        let made = make(alloc, sectors, calls, number(words, 3)?);
+        Some(self.go_on(made))
+    }
+
+    fn settle(&mut self, alloc: Global, words: &[&str]) -> Option<Answer> {
+        let settled = settle(&self.disk, alloc, words);
+        Some(self.go_on(settled))
     }
 
     // Goes on with a disk, and lays the one before aside.

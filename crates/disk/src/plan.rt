@@ -15,7 +15,7 @@ pub enum Plan {
     Cut(u64),
 }
 
-/// What the plan makes of a call.
+/// What the plan makes of a call (this project's profile).
 #[derive(Clone, Copy)]
 pub enum Fate {
     /// It does what it is to do.

@@ -10,8 +10,8 @@ use std::alloc::Global;
 use track_store::ProfileStore;
 use units::{NoMemory, Permille};
 
-/// One event: what is known after it, and what is answered. The old state is unchanged; NoMemory where the new one is refused. The caller
-/// owes that the moments of the clock don't fall in a life (`Onboard::accept` tests that).
+/// One event: what is known after it, and what is answered (this project's profile). The old state is unchanged; NoMemory where
+/// the new one is refused. The caller owes that the moments of the clock don't fall in a life (`Onboard::accept` tests that).
 pub fn step<G: ProfileStore<Permille> + Drop, S: ProfileStore<CategorySpeeds> + Drop>(
     alloc: Global,
     state: &StateOver<G, S>,

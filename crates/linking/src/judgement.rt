@@ -40,7 +40,7 @@ pub enum Verdict {
     Reaction(Announcement),
 }
 
-/// What becomes of a group that was read, and what linking asks of the train.
+/// What becomes of a group that was read, and what linking asks of the train (SUBSET-026, 3.4.4).
 #[derive(Clone, Copy)]
 pub struct Judgement {
     /// What becomes of the group.

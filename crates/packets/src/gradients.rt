@@ -21,7 +21,7 @@ use vars::{
     has_number,
 };
 
-/// A gradient from a place on.
+/// A gradient from a place on (SUBSET-026, 7.4.2).
 #[derive(Clone, Copy)]
 pub struct Gradient {
     /// D_GRADIENT: from the place before, the first from the group.

@@ -21,7 +21,7 @@ use vars::{
     Scale, ValidityDirection, Variable, has_number,
 };
 
-/// A group that packet 5 announces.
+/// A group that packet 5 announces (SUBSET-026, 7.4.2; its layout: this project's profile).
 #[derive(Clone, Copy)]
 pub struct Link {
     /// D_LINK: from the group announced before, the first from this group.
@@ -104,7 +104,7 @@ impl Element for Link {
     }
 }
 
-/// Packet 5: which groups come, and what follows where one doesn't.
+/// Packet 5: which groups come, and what follows where one doesn't (SUBSET-026, 7.4.2; its layout: this project's profile).
 #[derive(Drop)]
 pub struct Linking {
     /// Q_DIR.

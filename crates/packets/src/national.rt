@@ -50,7 +50,8 @@ impl Element for Country {
     }
 }
 
-/// Packet 3, in this project's own order: national values and the countries that they are for.
+/// Packet 3, in this project's own order: national values and the countries that they are for (SUBSET-026, 7.4.2 and 3.18.2;
+/// the order: this project's profile).
 #[derive(Drop)]
 pub struct NationalValues {
     /// Q_DIR.

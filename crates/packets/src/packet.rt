@@ -21,7 +21,7 @@ use vars::{
     PacketNumber, RestrictionNumber, UntestedDirection, ValidityDirection, Variable, has_number,
 };
 
-/// A packet of another number, which is skipped by its length.
+/// A packet of another number, which is skipped by its length (SUBSET-026, 7.4.2).
 #[derive(Drop)]
 pub struct Other<'a> {
     /// NID_PACKET.
@@ -32,7 +32,7 @@ pub struct Other<'a> {
     pub body: Run<'a>,
 }
 
-/// A packet of a telegram.
+/// A packet of a telegram (SUBSET-026, 7.4.2).
 #[derive(Drop)]
 pub enum Packet<'a> {
     /// Packet 3.

@@ -17,7 +17,7 @@ use vars::{
     ValidityDirection, has_number,
 };
 
-/// Packet 65: a temporary speed restriction.
+/// Packet 65: a temporary speed restriction (SUBSET-026, 7.4.2).
 #[derive(Clone, Copy)]
 pub struct SpeedRestriction {
     /// Q_DIR.
@@ -36,7 +36,7 @@ pub struct SpeedRestriction {
     pub speed: SpeedStep,
 }
 
-/// Packet 66: a temporary speed restriction is revoked.
+/// Packet 66: a temporary speed restriction is revoked (SUBSET-026, 7.4.2).
 #[derive(Clone, Copy)]
 pub struct RestrictionRevocation {
     /// Q_DIR.

@@ -5,7 +5,7 @@ use bits::{BitWriter, Run, VariableName};
 use std::convert::Infallible;
 use vars::Variable;
 
-/// What takes fields, one after another in the order in which they are spelled.
+/// What takes fields, one after another in the order in which they are spelled (this project's profile).
 pub trait FieldSink {
     /// What is said of it.
     ghost Seen: { Type 0 };

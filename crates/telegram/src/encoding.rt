@@ -10,7 +10,7 @@ use packet_coding::write_packet;
 use packets::Packet;
 use thiserror::Error;
 
-/// The telegram has more than 832 bits, which are those of 104 bytes.
+/// The telegram has more than 832 bits, which are those of 104 bytes (SUBSET-026, 8.4.2).
 #[derive(Clone, Copy, Debug, PartialEq, Eq, Error)]
 #[error("TooLong")]
 pub struct TooLong;

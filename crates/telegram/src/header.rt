@@ -13,7 +13,7 @@ use vars::{
     has_number,
 };
 
-/// The header of a telegram. Its direction is up, its version 16 and its medium a balise.
+/// The header of a telegram (SUBSET-026, 8.4.2). Its direction is up, its version 16 and its medium a balise.
 #[derive(Clone, Copy)]
 pub struct Header {
     /// N_PIG: the place of the balise in its group.

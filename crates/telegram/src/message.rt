@@ -10,7 +10,7 @@ use crate::header::Header;
 use arrayvec::ArrayVec;
 use packets::Packet;
 
-/// The telegram of a balise: its header and its packets up to the end mark.
+/// The telegram of a balise: its header and its packets up to the end mark (SUBSET-026, 8.4.2).
 #[derive(Drop)]
 pub struct Telegram<'a> {
     /// The 50 bits in front (SUBSET-026, 8.4.2).

@@ -9,7 +9,7 @@ use std::marker::Model;
 use track_store::{ProfileStore, Restrictions, SegmentStore};
 use units::{NoMemory, Permille};
 
-/// What the track sent and where the train is, with stores for the gradients and the static speeds.
+/// What the track sent and where the train is, with stores for the gradients and the static speeds (this project's profile).
 #[derive(Drop)]
 pub struct TracksideOver<G, S> {
     pub(crate) parts: Parts,

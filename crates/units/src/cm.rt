@@ -5,7 +5,8 @@ ghost use Rattle.units.specs.Limits.{IsCm, HasReach, reach};
 use crate::Reach;
 use std::marker::Model;
 
-/// A distance or a place, in centimetres: from -2^42 to 2^42. Places behind the start of a life are negative.
+/// A distance or a place, in centimetres: from -2^42 to 2^42 (this project's profile). Places behind the start of a life are
+/// negative.
 #[derive(Clone, Copy, Debug, PartialEq, Eq, PartialOrd, Ord)]
 pub struct Cm {
     cm: i64,

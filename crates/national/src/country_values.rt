@@ -44,7 +44,7 @@ impl CountryValues {
         &self.values
     }
 
-    /// The countries that the values are for, repeated where they came so; none before a packet 3 or a foreign group.
+    /// The countries (NID_C) that the values are for, repeated where they came so; none where they are for no country.
     pub fn countries(&self) -> &[Country]
         ensures value { result.now ≡ self.now.countries }
         ensures few { length result.now ≤ MOST_COUNTRIES }

@@ -53,8 +53,8 @@ impl National {
         self.announced = Some(Announcement::of(packet, group_country, place));
     }
 
-    /// Takes note of an accepted group of a country. Where the values in force aren't for it, the defaults come into force for
-    /// this country alone. The caller asks before the packets of the group are taken.
+    /// Takes note of an accepted group of a country, before its packets are taken. Where the values in force are for other
+    /// countries alone, the defaults come into force for this one.
     pub fn enter(&mut self, country: Country)
         ensures stands { (kept : ValuesFor) → (entries : List Entry) → self.old ≡ known kept entries
             → self.new ≡ known kept (Entered country ∷ entries) }

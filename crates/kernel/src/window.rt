@@ -9,7 +9,7 @@ ghost use Rattle.supervision.specs.Sentences.{begun_life};
 
 use crate::sight::Sight;
 
-/// What the brakes remember (this project's profile). All but the last of it is of the time since the train stood, or else
+/// What the brakes remember (this project's profile). All but `too_fast` is of the time since the last standstill, or else
 /// since the power-up.
 #[derive(Clone, Copy)]
 pub struct Window {

@@ -35,9 +35,9 @@ pub struct Use {
     pub mode: Mode,
     /// Which group it is.
     pub group: GroupIdentity,
-    /// From where its distances count.
+    /// From where its distances count, in centimetres.
     pub place: GroupPlace,
-    /// When it closed.
+    /// When it closed, in milliseconds of the life.
     pub moment: Ms,
     /// The direction in which it was passed, where that is known.
     pub direction: Option<LinkOrientation>,

@@ -130,7 +130,7 @@ impl<const N: usize> BitWriter<N> {
         }
     }
 
-    /// Writes the bits of a run.
+    /// Writes the bits of a run. The caller owes that they fit.
     pub fn write_run(&mut self, run: &Run<'_>)
         requires { length self.old + length run.now ≤ 8 * N }
         ensures value { self.new ≡ self.old ++ run.now }

@@ -31,6 +31,7 @@ pub fn fits<P: Profile<Permille>>(
 }
 
 /// Whether a speed above a target's fits it, and what was summed on the way. Places are centimetres, speeds metres per hour.
+/// The caller owes what was summed of the same train and gradient.
 pub fn fits_summed<P: Profile<Permille>>(
     front: Cm,
     speed: Mph,
@@ -52,6 +53,7 @@ pub fn fits_summed<P: Profile<Permille>>(
 
 /// What the brakes take off before a target from where they act at a speed above its own, as far as is needed to see whether
 /// the speed fits; None where they don't act before it. What is summed already isn't gone through again, where it lies within.
+/// The caller owes what was summed of the same train and gradient.
 pub fn summed_before<P: Profile<Permille>>(
     front: Cm,
     speed: Mph,

@@ -37,7 +37,7 @@ impl Summed {
     }
 
     /// The same, gone on with up to a place, in centimetres, or only until it takes off enough, in (m/h)^2. It is gone through
-    /// from one change of the gradient to the next.
+    /// from one change of the gradient to the next. The caller owes a place at or beyond its end.
     pub fn gone_on<P: Profile<Permille>>(
         self,
         gradient: &P,
@@ -71,7 +71,7 @@ impl Summed {
         }
     }
 
-    /// The same, begun before: from an earlier place on, in centimetres.
+    /// The same, begun before: from an earlier place on, in centimetres. The caller owes a place at or before its beginning.
     pub fn begun<P: Profile<Permille>>(
         self,
         gradient: &P,

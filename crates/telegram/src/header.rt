@@ -48,7 +48,8 @@ impl Default for Header {
 }
 
 impl Header {
-    /// Hands all fields to the sink, and stops where it takes no more.
+    /// Hands all fields to the sink, 50 bits; stops with the sink's error where it takes no more. The caller owes room in the
+    /// sink.
     #[tactic(auto, unfolding(crate::specs::Telegrams::header))]
     pub fn fields<S: FieldSink>(&self, sink: &mut S) -> Result<(), S::Error>
         requires room { S.held sink.old + 50 ≤ S.most }

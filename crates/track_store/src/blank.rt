@@ -30,7 +30,8 @@ impl<T: Copy> Blank<T> {
         })
     }
 
-    /// A profile from a first place on, in centimetres, as steps give it. Takes no memory.
+    /// A profile from a first place on, in centimetres, as steps give it. Takes no memory. The caller owes at most `MOST_STEPS`
+    /// steps.
     pub fn fill(self, start: Cm, steps: &[Step<T>]) -> Fact<T>
         requires { length steps.now ≤ MOST_STEPS }
         ensures { result ≡ record { start = start; steps = steps.now; mark = start } }

@@ -74,7 +74,7 @@ impl Cm {
         Cm::new(self.cm - other.cm)
     }
 
-    /// The place so far ahead.
+    /// The place so far ahead. The caller owes a place so far within the limits that any `Reach` from it is a `Cm`.
     pub fn ahead(self, by: Reach) -> Cm
         requires { HasReach self }
         ensures value { result ≡ self +ℤ pos by }
@@ -83,7 +83,7 @@ impl Cm {
         Cm::new(self.cm + i64::from(by.get())).unwrap()
     }
 
-    /// The place so far behind.
+    /// The place so far behind. The caller owes a place so far within the limits that any `Reach` from it is a `Cm`.
     pub fn behind(self, by: Reach) -> Cm
         requires { HasReach self }
         ensures { result ≡ self -ℤ pos by }

@@ -136,7 +136,7 @@ pub fn bytes_in<'a>(start: &'a [u8], written: &'a [u8], sector: u64, place: Plac
     }
 }
 
-/// The places of so many sectors before the first call.
+/// The places of so many sectors before the first call. AllocError where memory is refused.
 pub fn unwritten(alloc: Global, sectors: usize) -> Result<Vec<Place>, AllocError>
     ensures size { IfOk result (λ places. vec_len places ≡ sectors) }
     ensures start { IfOk result (λ places. (s : ℕ) → s < sectors → slice_index_or places.items s Place.Start ≡ Place.Start) }

@@ -120,7 +120,7 @@ pub fn run_into<D: Disk, S: ReleaseSink>(
     Ok(())
 }
 
-/// The same; what is released goes to the end of a list.
+/// The same, with the same errors; what is released goes to the end of a list.
 pub fn run<D: Disk>(
     alloc: Global,
     unit: &mut Onboard<D>,

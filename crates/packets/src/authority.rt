@@ -151,7 +151,8 @@ pub struct MovementAuthority {
     pub overlap: Option<Overlap>,
 }
 
-/// Reads packet 12 behind its number, into the place of another packet; answers its L_PACKET.
+/// Reads packet 12 behind its number, into the place of another packet; answers its L_PACKET, in bits. The error is the first
+/// fault in the order of the bits.
 #[tactic(auto, unfolding(crate::specs::Layouts::movement_authority_telling))]
 pub fn read_movement_authority<'a>(
     reader: &mut BitReader<'a>,

@@ -136,7 +136,8 @@ pub struct LevelTransition {
     pub orders: ArrayVec<LevelOrder, 32>,
 }
 
-/// Reads packet 41 behind its number, into the place of another packet; answers its L_PACKET.
+/// Reads packet 41 behind its number, into the place of another packet; answers its L_PACKET, in bits. The error is the first
+/// fault in the order of the bits.
 #[tactic(auto, unfolding(crate::specs::Layouts::level_transition_telling))]
 pub fn read_level_transition<'a>(
     reader: &mut BitReader<'a>,

@@ -115,7 +115,8 @@ pub struct Linking {
     pub links: ArrayVec<Link, 32>,
 }
 
-/// Reads packet 5 behind its number, into the place of another packet; answers its L_PACKET.
+/// Reads packet 5 behind its number, into the place of another packet; answers its L_PACKET, in bits. The error is the first
+/// fault in the order of the bits.
 #[tactic(auto, unfolding(crate::specs::Layouts::linking_telling))]
 pub fn read_linking<'a>(
     reader: &mut BitReader<'a>,

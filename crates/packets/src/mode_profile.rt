@@ -105,7 +105,8 @@ pub struct ModeProfile {
     pub areas: ArrayVec<ModeArea, 32>,
 }
 
-/// Reads packet 80 behind its number, into the place of another packet; answers its L_PACKET.
+/// Reads packet 80 behind its number, into the place of another packet; answers its L_PACKET, in bits. The error is the first
+/// fault in the order of the bits.
 #[tactic(auto, unfolding(crate::specs::Layouts::mode_profile_telling))]
 pub fn read_mode_profile<'a>(
     reader: &mut BitReader<'a>,

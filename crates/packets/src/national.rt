@@ -86,7 +86,8 @@ pub struct NationalValues {
     pub staff_responsible_distance: OpenLength,
 }
 
-/// Reads packet 3 behind its number, into the place of another packet; answers its L_PACKET.
+/// Reads packet 3 behind its number, into the place of another packet; answers its L_PACKET, in bits. The error is the first
+/// fault in the order of the bits.
 #[tactic(auto, unfolding(crate::specs::Layouts::national_values_telling))]
 pub fn read_national_values<'a>(
     reader: &mut BitReader<'a>,

@@ -45,7 +45,8 @@ pub struct RestrictionRevocation {
     pub number: RestrictionNumber,
 }
 
-/// Reads packet 65 behind its number, into the place of another packet; answers its L_PACKET.
+/// Reads packet 65 behind its number, into the place of another packet; answers its L_PACKET, in bits. The error is the first
+/// fault in the order of the bits.
 #[tactic(auto, unfolding(crate::specs::Layouts::speed_restriction_telling))]
 pub fn read_restriction<'a>(
     reader: &mut BitReader<'a>,
@@ -71,7 +72,8 @@ pub fn read_restriction<'a>(
     Ok(told)
 }
 
-/// Reads packet 66 behind its number, into the place of another packet; answers its L_PACKET.
+/// Reads packet 66 behind its number, into the place of another packet; answers its L_PACKET, in bits. The error is the first
+/// fault in the order of the bits.
 #[tactic(auto, unfolding(crate::specs::Layouts::restriction_revocation_telling))]
 pub fn read_revocation<'a>(
     reader: &mut BitReader<'a>,

@@ -1,7 +1,26 @@
 #!/bin/bash
-# The rows of the program and the examples, on the program that the gate leaves behind. Another program may be named.
+# The rows of the program and the examples, on the program that the gate leaves behind; and each example as ./etcs --example runs it.
+#
+#     tests/programs.sh [PROGRAM]    the rows alone, on another program
 cd "$(dirname "$0")" || exit 1
 export PYTHONDONTWRITEBYTECODE=1
 program=${1:-../crates/etcs/out/etcs}
 [ -x "$program" ] || { echo "there is no program $program: rt ci or ./etcs --prove makes it"; exit 1; }
-exec python3 plain/program_rows.py "$program"
+python3 plain/program_rows.py "$program"
+status=$?
+[ $# -eq 0 ] || exit $status
+
+# Where a source is newer than the program, ./etcs would compile the sources for each command.
+newer=$(find ../crates.txt ../crates -name out -prune -o -type f ! -name README.md -newer "$program" -print | head -n 1)
+[ -z "$newer" ] || { echo "./etcs --example isn't tried: $newer is newer than the program"; exit $status; }
+
+# The lines of an example's rows, each command as a user types it at the top.
+wanted() {
+    sed -e '/^#/d' -e '/^$/d' -e '/^= 0$/d' -e "s|^\\\$ run |\$ run examples/$1/|" -e 's|^\$ |$ ./etcs |' "../examples/$1/session.row"
+}
+
+for row in ../examples/*/session.row; do
+    name=$(basename "$(dirname "$row")")
+    [ "$(../etcs --example "$name")" = "$(wanted "$name")" ] || { echo "./etcs --example $name prints something else than examples/$name/session.row"; status=1; }
+done
+exit $status

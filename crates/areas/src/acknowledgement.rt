@@ -4,16 +4,17 @@ ghost use Rattle.areas.specs.Acknowledging.Entry.{Acknowledged, Turned, Asking, 
 
 use units::Ms;
 
-/// What the driver has to acknowledge of one kind: On Sight, Shunting or level 0 (SUBSET-026, 5.7, 5.9, 5.10).
+/// What the driver has to acknowledge of one kind: On Sight, Shunting or level 0 (SUBSET-026, 5.7, 5.9 and 5.10; when: this
+/// project's profile).
 #[derive(Clone, Copy)]
 pub enum Acknowledgement {
-    /// Nothing.
+    /// Nothing is asked for.
     Nothing,
     /// It is asked for, before the transition.
     Asked,
     /// It was given before the transition.
     Done,
-    /// It is owed since a transition at this moment.
+    /// It is owed since a transition at this moment, in milliseconds.
     Owed(Ms),
 }
 
@@ -28,7 +29,7 @@ impl Acknowledgement {
         Acknowledgement::Nothing
     }
 
-    /// The driver acknowledges.
+    /// The driver acknowledges: what is asked for is done, and what is owed is settled. Else it has no effect.
     pub fn acknowledge(&mut self)
         ensures { (entries : List Entry) → self.old ≡ after_all entries → self.new ≡ after_all (Acknowledged ∷ entries) }
     {
@@ -39,7 +40,8 @@ impl Acknowledgement {
         };
     }
 
-    /// The transition, at a moment: its mode is entered because of an area, or the announced level 0 comes into force.
+    /// The transition, at a moment in milliseconds: its mode is entered because of an area, or the announced level 0 comes into
+    /// force. It is owed from then on, unless it was done before.
     pub fn turn(&mut self, moment: Ms)
         ensures { (entries : List Entry) → self.old ≡ after_all entries → self.new ≡ after_all (Turned moment ∷ entries) }
     {
@@ -49,7 +51,7 @@ impl Acknowledgement {
         };
     }
 
-    /// An area or an announcement of the kind asks for it.
+    /// An area or an announcement of the kind asks for it: from Nothing it becomes Asked.
     pub fn ask(&mut self)
         ensures { (entries : List Entry) → self.old ≡ after_all entries → self.new ≡ after_all (Asking ∷ entries) }
     {
@@ -58,7 +60,7 @@ impl Acknowledgement {
         }
     }
 
-    /// No area or announcement of the kind is left.
+    /// No area or announcement of the kind is left: what was asked for or done is over, and what is owed stays owed.
     pub fn settle(&mut self)
         ensures { (entries : List Entry) → self.old ≡ after_all entries → self.new ≡ after_all (Settled ∷ entries) }
     {
@@ -67,21 +69,21 @@ impl Acknowledgement {
         }
     }
 
-    /// A mode is entered that deletes it.
+    /// A mode is entered that deletes it (4.10): nothing is asked for.
     pub fn clear(&mut self)
         ensures { (entries : List Entry) → self.new ≡ after_all (Forgotten ∷ entries) }
     {
         *self = Acknowledgement::Nothing;
     }
 
-    /// Whether it is asked for or owed.
+    /// Whether it is asked for or owed, so that the driver is shown it.
     pub fn waits(&self) -> bool
         ensures { result ≡ waits self.now }
     {
         matches!(self, Acknowledgement::Asked | Acknowledgement::Owed(_))
     }
 
-    /// Whether it has been owed for 5,000 ms, and so orders the service brake.
+    /// Whether it has been owed for 5,000 ms at this moment, and so asks for the service brake (this project's profile).
     pub fn brakes(&self, now: Ms) -> bool
         ensures { result ≡ brakes now self.now }
     {

@@ -8,7 +8,8 @@ use packets::LevelTransition;
 use std::marker::Model;
 use units::{Cm, GroupPlace};
 
-/// The level that is announced, if one is (packet 41; SUBSET-026, 5.10).
+/// The level that is announced, if one is (packet 41; SUBSET-026, 5.10; which of its levels counts: this project's profile).
+/// Its calls take no memory.
 #[derive(Clone, Copy)]
 pub struct AnnouncedLevel {
     announced: Option<Announcement>,
@@ -33,7 +34,8 @@ impl AnnouncedLevel {
         AnnouncedLevel { announced: None }
     }
 
-    /// Takes packet 41 in place of the older announcement, unless the train can run in none of its levels.
+    /// Takes packet 41 in place of the older announcement. It counts from the place of its group, in centimetres. Where the
+    /// train can run in none of its levels, nothing changes.
     pub fn announce(&mut self, packet: &LevelTransition, place: GroupPlace)
         ensures { (entries : List Entry) → self.old ≡ waiting entries
             → self.new ≡ waiting (Announced (fact_of packet.now place) ∷ entries) }
@@ -43,7 +45,8 @@ impl AnnouncedLevel {
         }
     }
 
-    /// The look, once an event: answers the level that comes into force, which is then no longer announced.
+    /// Answers the level that comes into force where the maximum safe front, in centimetres, has reached its start; then it is
+    /// no longer announced. The caller asks once an event.
     pub fn reach(&mut self, max_front: Cm) -> Option<TrainLevel>
         ensures stands { (entries : List Entry) → self.old ≡ waiting entries
             → self.new ≡ waiting (Reached max_front ∷ entries) }
@@ -57,7 +60,7 @@ impl AnnouncedLevel {
         Some(announced.level)
     }
 
-    /// Deletes the announcement.
+    /// Deletes the announcement, as a mode does (4.10).
     pub fn clear(&mut self)
         ensures { (entries : List Entry) → self.new ≡ waiting (Forgotten ∷ entries) }
     {
@@ -74,7 +77,8 @@ impl AnnouncedLevel {
         }
     }
 
-    /// Whether an announcement of level 0 asks for an acknowledgement.
+    /// Whether an announcement of level 0 asks for an acknowledgement, with the maximum safe front at this place, in
+    /// centimetres.
     pub fn asks(&self, max_front: Cm) -> bool
         ensures { result ≡ any_asks_for max_front self.now }
     {

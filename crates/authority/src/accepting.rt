@@ -14,7 +14,8 @@ use packets::{DangerPoint, EndTimer, MovementAuthority, Overlap, Section};
 use units::{Cm, GroupPlace, Ms};
 use vars::{Distance, Scale, Timer};
 
-/// What is stored of an authority whose sections count from a place, when it is accepted.
+/// What is stored of an authority that is accepted at a moment, in milliseconds. Its sections count from the place of its
+/// group, in centimetres.
 pub fn stored_by(packet: &MovementAuthority, place: GroupPlace, moment: Ms) -> Stored
     ensures { result ≡ stored_of (fact_of packet.now place moment) [] }
 {

@@ -4,12 +4,13 @@ ghost use Rattle.authority.specs.Authority.{release_of, no_release};
 use units::{Cm, Mph};
 use vars::{ReleaseSpeed, SpeedStep, Variable};
 
-/// The speed at which a train may approach the end of its authority.
+/// The speed at which a train may approach the end of its authority (V_RELEASEDP, V_RELEASEOL; which of them holds: this
+/// project's profile).
 #[derive(Clone, Copy)]
 pub enum Release {
-    /// This speed; 0 where there is none.
+    /// This speed, in metres per hour; 0 where there is none (126).
     Speed(Mph),
-    /// The national value.
+    /// The national value, V_NVREL (127).
     National,
 }
 
@@ -33,7 +34,7 @@ impl Release {
     }
 }
 
-/// Up to where the train may go.
+/// Up to where the train may go (SUBSET-026, 3.8).
 #[derive(Clone, Copy)]
 pub struct End {
     /// The end of authority, in centimetres.
@@ -42,6 +43,6 @@ pub struct End {
     pub speed: Mph,
     /// The supervised location, in centimetres: the end of the overlap, else the danger point, else the end.
     pub location: Cm,
-    /// The release speed that holds.
+    /// The release speed that holds; none where a speed is allowed at the end.
     pub release: Release,
 }

@@ -11,7 +11,8 @@ use packets::MovementAuthority;
 use std::marker::Model;
 use units::{GroupPlace, Mph, Ms, Stretch};
 
-/// The movement authority, if one is stored, and the clock that its timers go by (SUBSET-026, 3.8).
+/// The movement authority, if one is stored, and the clock that its timers go by (SUBSET-026, 3.8; the moments: this project's
+/// profile). Its calls take no memory.
 #[derive(Drop)]
 pub struct Authority {
     moment: Ms,
@@ -27,7 +28,7 @@ impl Model for Authority {
 }
 
 impl Authority {
-    /// No authority, at moment 0. Takes no memory.
+    /// No authority is stored, at moment 0.
     pub fn new() -> Self
         ensures { result ≡ known [] }
     {
@@ -37,7 +38,8 @@ impl Authority {
         }
     }
 
-    /// Takes packet 12 in place of the old authority. Its sections count from this place.
+    /// Takes packet 12 in place of the old authority. Its sections count from the place of its group, in centimetres; its
+    /// timers from the moment of acceptance, in milliseconds.
     pub fn accept(&mut self, packet: &MovementAuthority, place: GroupPlace, moment: Ms)
         ensures { (entries : List Entry) → self.new ≡ known (Accepted (fact_of packet.now place moment) ∷ entries) }
     {
@@ -47,7 +49,7 @@ impl Authority {
         };
     }
 
-    /// Moves the clock to a moment of the life. That moments don't fall is for the caller.
+    /// Moves the clock to a moment of the life, in milliseconds. The caller owes moments that don't fall.
     pub fn tick(&mut self, moment: Ms)
         ensures { (entries : List Entry) → self.old ≡ known entries
             → self.new ≡ known (Ticked moment ∷ entries) }
@@ -55,7 +57,7 @@ impl Authority {
         self.moment = moment;
     }
 
-    /// Takes where the front is after an event, so that timers start and stop. The caller calls it once an event.
+    /// Takes where the train is after an event, so that timers start and stop. The caller calls it once an event.
     pub fn pass(&mut self, train: &Stretch)
         ensures { (entries : List Entry) → self.old ≡ known entries
             → self.new ≡ known (Passed train.now ∷ entries) }
@@ -65,7 +67,7 @@ impl Authority {
         }
     }
 
-    /// Deletes the authority. The clock goes on.
+    /// Deletes the authority, as a mode does (4.10). The clock goes on.
     pub fn clear(&mut self)
         ensures { (entries : List Entry) → self.old ≡ known entries
             → self.new ≡ known (Cleared ∷ entries) }
@@ -73,7 +75,8 @@ impl Authority {
         self.stored = None;
     }
 
-    /// The end of authority now, and what is supervised behind it; None where no authority is stored.
+    /// The end of authority now, with the speed there, the supervised location and the release speed; None where no authority
+    /// is stored.
     pub fn end(&self) -> Option<End>
         ensures { (entries : List Entry) → self.now ≡ known entries → result ≡ end_of entries }
     {

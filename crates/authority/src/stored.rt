@@ -10,7 +10,8 @@ use vars::Timer;
 /// How many sections an authority has at most: the 31 that a packet 12 lists, and the end section.
 pub const MOST_SECTIONS: usize = 32;
 
-/// A place behind the end that is supervised, and its release speed.
+/// A place behind the end that is supervised, the danger point or the end of the overlap, and its release speed (SUBSET-026,
+/// 3.8.4).
 #[derive(Clone, Copy)]
 pub struct Point {
     /// Where it is, in centimetres of the life.
@@ -19,19 +20,19 @@ pub struct Point {
     pub release: Release,
 }
 
-/// The overlap with its timer.
+/// The overlap with its timer (SUBSET-026, 3.8.4).
 #[derive(Clone, Copy)]
 pub struct TimedOverlap {
-    /// Its end, with its release speed.
+    /// The end of the overlap, with its release speed.
     pub point: Point,
-    /// When it is over.
+    /// Its timer, T_OL: the overlap is supervised until it runs out.
     pub timer: PlaceTimer,
 }
 
-/// The authority that was accepted last, with what was seen of its timers.
+/// The authority that was accepted last, with what was seen of its timers (SUBSET-026, 3.8.3 and 3.8.4).
 #[derive(Drop)]
 pub struct Stored {
-    /// When it was accepted.
+    /// When it was accepted, in milliseconds of the life.
     pub accepted: Ms,
     /// The sections whose timers aren't stopped, along the track.
     pub timed: ArrayVec<TimedSection, MOST_SECTIONS>,
@@ -43,19 +44,20 @@ pub struct Stored {
     pub main_speed: Mph,
     /// The speed at the end, V_LOA, in metres per hour.
     pub end_speed: Mph,
-    /// How long the speed at the end holds from the acceptance on, T_LOA.
+    /// How long the speed at the end holds from the acceptance on, T_LOA, in seconds; 1,023 has no end.
     pub end_time: Timer,
-    /// The timer of the end section.
+    /// The timer of the end section, T_ENDTIMER, where it has one.
     pub end_timer: Option<PlaceTimer>,
-    /// The danger point.
+    /// The danger point, where it has one.
     pub danger_point: Option<Point>,
-    /// The overlap.
+    /// The overlap, where it has one.
     pub overlap: Option<TimedOverlap>,
 }
 
 /// What is seen after an event.
 impl Stored {
-    /// Takes where the front is.
+    /// Takes where the front is at a moment, in milliseconds: starts the timers of the end section and the overlap, and drops
+    /// the sections whose timers stop.
     pub fn pass(&mut self, now: Ms, train: &Stretch)
         ensures { self.new ≡ passed_stored now train.now self.old }
     {
@@ -108,7 +110,7 @@ fn is_stopped(section: &TimedSection, start: Ms, now: Ms, min_front: Cm) -> bool
 
 /// What it answers.
 impl Stored {
-    /// The end now.
+    /// The end at a moment, in milliseconds.
     pub fn end_now(&self, now: Ms) -> End
         ensures { result ≡ end_in now self.now }
     {

@@ -5,7 +5,7 @@ ghost use Rattle.authority.specs.Steps.{passed_timer};
 use units::{Cm, Ms};
 use vars::{Timer, Variable};
 
-/// Whether a timer that started at a moment has run out by now.
+/// Whether a timer that started at a moment has run out by now; both are milliseconds. A timer of 1,023 s never runs out.
 pub fn is_over(time: Timer, start: Ms, now: Ms) -> bool
     ensures { result ≡ has_run_out time start now }
 {
@@ -15,14 +15,14 @@ pub fn is_over(time: Timer, start: Ms, now: Ms) -> bool
     }
 }
 
-/// The timer of a section, at its place on the track.
+/// The timer of a section, at its place on the track (SUBSET-026, 3.8.3). It runs from the acceptance of the authority on.
 #[derive(Clone, Copy)]
 pub struct TimedSection {
-    /// Where the section begins.
+    /// Where the section begins, in centimetres of the life.
     pub entry: Cm,
-    /// Where the least front stops the timer.
+    /// Where the minimum safe front stops the timer, in centimetres of the life.
     pub stop_at: Cm,
-    /// How long it runs.
+    /// How long it runs, in seconds (T_SECTIONTIMER); 1,023 has no end.
     pub time: Timer,
 }
 
@@ -37,19 +37,19 @@ impl Default for TimedSection {
     }
 }
 
-/// A timer that the greatest front starts.
+/// A timer that the maximum safe front starts: that of the end section or of the overlap (SUBSET-026, 3.8.3 and 3.8.4).
 #[derive(Clone, Copy)]
 pub struct PlaceTimer {
-    /// Where the greatest front starts it.
+    /// Where the maximum safe front starts it, in centimetres of the life.
     pub from: Cm,
-    /// How long it runs.
+    /// How long it runs, in seconds (T_ENDTIMER, T_OL); 1,023 has no end.
     pub time: Timer,
-    /// When it started.
+    /// When it started, in milliseconds of the life; None before.
     pub started: Option<Ms>,
 }
 
 impl PlaceTimer {
-    /// The timer once the greatest front was seen at a place.
+    /// The timer once the maximum safe front was seen at a place, in centimetres, at a moment, in milliseconds.
     pub fn passed(&self, now: Ms, max_front: Cm) -> PlaceTimer
         ensures { result ≡ passed_timer now max_front self.now }
     {
@@ -64,7 +64,7 @@ impl PlaceTimer {
         }
     }
 
-    /// Whether it has started and run out.
+    /// Whether it has started and run out by this moment, in milliseconds.
     pub fn is_over(&self, now: Ms) -> bool
         ensures { result ≡ started_has_run_out self.now.time self.now.started now }
     {

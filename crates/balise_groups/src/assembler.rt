@@ -14,7 +14,7 @@ use vars::GroupIdentity;
 /// How far behind its last telegram a group is still the same one, in centimetres of path.
 const GROUP_PATH: u64 = 1_300;
 
-/// A group, and the path of the life at a telegram of it.
+/// A group, and the path of the life at a telegram of it (SUBSET-026, 3.4.1).
 #[derive(Clone, Copy)]
 pub struct Seen {
     /// The group of the telegram.
@@ -23,7 +23,8 @@ pub struct Seen {
     pub path: Length,
 }
 
-/// What closes at a reading: the group that it ended, and its own where that is whole now.
+/// What closes at a reading: the group that it ended, and its own where that is whole now (when a group ends: this project's
+/// profile).
 #[derive(Drop)]
 pub struct Taken {
     /// The group that the reading ended.
@@ -32,7 +33,8 @@ pub struct Taken {
     pub whole: Option<Closed>,
 }
 
-/// Puts the readings of a life together to groups.
+/// Puts the readings of a life together to groups (SUBSET-026, 3.4.1 to 3.4.3; when a group ends: this project's profile). Its
+/// calls take no memory.
 #[derive(Drop)]
 pub struct Assembler {
     // The readings of the group being read that count, and its newest telegram.
@@ -100,7 +102,8 @@ impl Assembler {
         }
     }
 
-    /// Takes a reading, and answers what closes at it.
+    /// Takes a reading, and answers what closes at it. The caller owes the readings of a life in order, each with the sums of
+    /// its moment, and each movement to `moved`.
     pub fn take(&mut self, reading: Reading) -> Taken
         ensures answer { result ≡ taken_by reading self.old }
         ensures stands { (entries : List Entry) → self.old ≡ known entries → self.new ≡ known (Read reading ∷ entries) }
@@ -123,8 +126,9 @@ impl Assembler {
         }
     }
 
-    /// Whether the group being read is left at a path of the life. While it isn't, `moved` answers None and changes nothing;
-    /// its answer has room for a whole message, so who asks at each movement asks this first.
+    /// Whether the group being read is left at a path of the life, in centimetres: beyond 1,300 cm behind its last telegram.
+    /// While it isn't, `moved` answers None and changes nothing; its answer has room for a whole message, so who asks at each
+    /// movement asks this first.
     pub fn is_leaving(&self, path: Length) -> bool
         ensures answer { result ≡ is_left path self.now.current }
         ensures none { result ≡ false → ended_by path self.now ≡ None }
@@ -150,7 +154,8 @@ impl Assembler {
         self.readings.packets()
     }
 
-    /// Takes the path of the life after a movement, and answers the group that is left by it. The caller owes each movement.
+    /// Takes the path of the life after a movement, in centimetres, and answers the group that is left by it, if one is. The
+    /// caller owes each movement.
     pub fn moved(&mut self, path: Length) -> Option<Closed>
         ensures answer { result ≡ ended_by path self.old }
         ensures stands { (entries : List Entry) → self.old ≡ known entries → self.new ≡ known (Went path ∷ entries) }

@@ -16,7 +16,7 @@ fn is_at(reading: &Reading, place: u64) -> bool
     reading.telegram.header().position.number() == place
 }
 
-/// Whether a place is among these.
+/// Whether a place in the group, N_PIG, is among those of these readings.
 pub fn was_read(readings: &[Reading], place: u64) -> bool
     ensures { result ≡ is_read readings.now place }
 {
@@ -231,7 +231,8 @@ fn message(first: &Reading, readings: &[Reading]) -> Message
     }
 }
 
-/// What a group closes to, of which these are the readings that count; None where there are none.
+/// What a group closes to (SUBSET-026, 3.4 and 3.16.2; why it is broken: this project's profile), of which these are the
+/// readings that count, one a place. None where there are none.
 pub fn close(readings: &[Reading]) -> Option<Closed>
     ensures { result ≡ close_of readings.now }
 {

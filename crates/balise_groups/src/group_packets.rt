@@ -11,7 +11,8 @@ use telegram::{PacketInPlace, Packets, Received};
 /// NID_PACKET of infill: neither it nor what follows it is used.
 const INFILL: u8 = 136;
 
-/// The packets of a group: those of its telegrams in order of place, of each those before its first packet 136.
+/// The packets of a group (SUBSET-026, 3.4): those of its telegrams in order of place, of each those before its first packet
+/// 136.
 #[derive(Drop)]
 pub struct GroupPackets {
     pub(crate) telegrams: ArrayVec<Received, 8>,
@@ -39,7 +40,7 @@ impl GroupPackets {
     }
 }
 
-/// A walk over the packets of a group.
+/// A walk over the packets of a group, in order, in their bytes as they came. It takes no memory.
 #[derive(Drop)]
 pub struct PacketsInTurn<'a> {
     /// What is still to come of a telegram, up to its first packet 136.

@@ -11,7 +11,8 @@ pub struct Message {
     pub linked: bool,
     /// The direction in which the train passed the group; None where that isn't known.
     pub direction: Option<LinkOrientation>,
-    /// The sums of the life when its balise 1 was read, or the first that was read where balise 1 was missed.
+    /// The movements and the path of the life, in centimetres, when its balise 1 was read, or the first that was read where
+    /// balise 1 was missed.
     pub sums: Sums,
     /// Whether balise 1 was missed.
     pub missed: bool,
@@ -19,7 +20,8 @@ pub struct Message {
     pub packets: GroupPackets,
 }
 
-/// Why a group gives no message. Where more than one holds, Mixed comes before Counter, and Counter before Missing.
+/// Why a group gives no message (SUBSET-026, 3.16.2; the order: this project's profile). Where more than one holds, Mixed comes
+/// before Counter, and Counter before Missing.
 #[derive(Clone, Copy, Debug, PartialEq, Eq, Drop)]
 pub enum Cause {
     /// A balise wasn't read, and no neighbour that was read repeats it.
@@ -30,7 +32,7 @@ pub enum Cause {
     Mixed,
 }
 
-/// A group that gave no message.
+/// A group that gave no message (SUBSET-026, 3.16.2).
 #[derive(Drop)]
 pub struct Broken {
     /// NID_C and NID_BG of the group.
@@ -41,7 +43,7 @@ pub struct Broken {
     pub cause: Cause,
 }
 
-/// A group that has ended.
+/// A group that has ended, whole or broken (SUBSET-026, 3.4 and 3.16.2).
 #[derive(Drop)]
 pub enum Closed {
     /// Its message.

@@ -3,7 +3,7 @@ ghost use Rattle.std.specs.Prelude.{◌≡◌};
 use odometry::Sums;
 use telegram::Received;
 
-/// A telegram of a balise, and the sums of the life when the balise was read.
+/// A telegram of a balise (SUBSET-026, 8.4.2), and the sums of the life when the balise was read.
 #[derive(Drop)]
 pub struct Reading {
     /// The telegram of one balise.

@@ -10,7 +10,8 @@ use arrayvec::ArrayVec;
 use std::marker::Model;
 use vars::Variable;
 
-/// The readings of a group that count: the first of each place, in the order in which they came.
+/// The readings of a group that count: the first of each place, in the order in which they came (this project's profile). At
+/// most 8.
 #[derive(Drop)]
 pub struct Readings {
     items: ArrayVec<Reading, 8>,
@@ -38,7 +39,7 @@ impl Readings {
         }
     }
 
-    /// Adds a reading; one of a place that is there already isn't added.
+    /// Adds a reading of the group; one of a place that is there already isn't added.
     pub fn add(&mut self, reading: Reading)
         ensures { self.new ≡ with_reading self.old reading }
     {
@@ -55,7 +56,7 @@ impl Readings {
         are_all_read(self.items.as_slice())
     }
 
-    /// How many packets their telegrams have.
+    /// How many packets their telegrams have together.
     pub fn packets(&self) -> usize
         ensures number { result ≡ packets_in self.now }
         ensures few { result ≤ 2 ^ 35 }
@@ -67,7 +68,7 @@ impl Readings {
         packets
     }
 
-    /// What they close to.
+    /// What they close to; None where there are none.
     pub fn close(&self) -> Option<Closed>
         ensures { result ≡ close_of self.now }
     {

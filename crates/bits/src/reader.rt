@@ -122,8 +122,8 @@ impl<'a> BitReader<'a> {
         more.div_ceil(8) <= self.window.rest.len()
     }
 
-    /// The number of the next n bits, the highest first, for n up to 64. None where fewer are left, and then
-    /// nothing is taken.
+    /// The number of the next n bits, the highest first. None where fewer are left, and then nothing is taken. The caller owes
+    /// n up to 64.
     #[inline(always)]
     pub fn take(&mut self, n: u32) -> Option<u64>
         requires { n ≤ 64 }

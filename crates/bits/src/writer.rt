@@ -76,8 +76,8 @@ impl<const N: usize> BitWriter<N> {
         n / 8 + (n % 8 + self.held as u64).div_ceil(8) <= left as u64
     }
 
-    /// Writes the lowest n bits of a number that has no others, the highest first. Nothing is written where
-    /// they do not fit.
+    /// Writes the lowest n bits of a number, the highest first. Full where they do not fit, and then nothing is written. The
+    /// caller owes n up to 64 and a number below 2^n.
     #[inline]
     pub fn put(&mut self, n: u32, v: u64) -> Result<(), Full>
         requires bits { n ≤ 64 }
@@ -93,7 +93,7 @@ impl<const N: usize> BitWriter<N> {
         Ok(())
     }
 
-    /// Writes the lowest n bits of a number that has no others, the highest first.
+    /// Writes the lowest n bits of a number, the highest first. The caller owes n up to 64, a number below 2^n, and room.
     #[inline]
     pub fn write(&mut self, n: u32, v: u64)
         requires bits { n ≤ 64 }
@@ -130,7 +130,7 @@ impl<const N: usize> BitWriter<N> {
         }
     }
 
-    /// Writes the bits of a run.
+    /// Writes the bits of a run. The caller owes that they fit.
     pub fn write_run(&mut self, run: &Run<'_>)
         requires { length self.old + length run.now ≤ 8 * N }
         ensures value { self.new ≡ self.old ++ run.now }

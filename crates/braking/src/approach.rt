@@ -11,9 +11,9 @@ use std::marker::Model;
 use track_store::Profile;
 use units::{Cm, Mph, Permille};
 
-/// A train that takes one target ahead after another, and the greatest speed that fits those so far. What the braking
-/// takes off is carried from one target to the next: for a target farther ahead only the gradients between are gone
-/// through.
+/// A train that takes one target ahead after another, and the greatest speed that fits those so far (this project's profile).
+/// What the braking takes off is carried from one target to the next: for a target farther ahead only the gradients between are
+/// gone through.
 #[derive(Drop)]
 pub struct Approach<'a, P: Profile<Permille>> {
     front: Cm,
@@ -36,7 +36,8 @@ impl<'a, P: Profile<Permille>> Model for Approach<'a, P> {
 }
 
 impl<'a, P: Profile<Permille>> Approach<'a, P> {
-    /// No target yet, for a train whose greatest front is at a place: the speed is the limit. Takes no memory.
+    /// No target yet, for a train whose maximum safe front is at this place, in centimetres: the speed is the limit, in metres
+    /// per hour. Takes no memory.
     pub fn new(front: Cm, limit: Mph, gradient: &'a P, brakes: &'a Brakes) -> Approach<'a, P>
         ensures { result ≡ record { front = front; gradient = gradient.now; brakes = brakes.now; speed = limit } }
     {
@@ -51,7 +52,7 @@ impl<'a, P: Profile<Permille>> Approach<'a, P> {
         }
     }
 
-    /// The same one again.
+    /// An equal value.
     pub fn copy(&self) -> Approach<'a, P>
         ensures { result ≡ self.now }
     {
@@ -149,9 +150,9 @@ impl<'a, P: Profile<Permille>> Approach<'a, P> {
     }
 }
 
-/// The greatest speed up to a limit that fits all targets, for a train whose greatest front is at a place; 0 where none
-/// does. Takes no memory. A speed below one that fits also fits, so it is looked for target by target, each time up to
-/// the one found so far.
+/// The greatest speed up to a limit that fits all targets (this project's profile), in metres per hour; 0 where none does.
+/// `front` is the maximum safe front, in centimetres. The targets may come in any order. Takes no memory. A speed below one
+/// that fits also fits, so it is looked for target by target, each time up to the one found so far.
 pub fn permitted<P: Profile<Permille>>(
     front: Cm,
     limit: Mph,

@@ -3,7 +3,7 @@ ghost use Rattle.braking.specs.Limits.{IsDeceleration, IsReaction};
 
 use std::marker::Model;
 
-/// The deceleration of a train on level track, in cm/s^2: from 1 to 300.
+/// The deceleration of a train on level track (SUBSET-026, 3.18.3; this project's profile), in cm/s^2: from 1 to 300.
 #[derive(Clone, Copy, Debug, PartialEq, Eq)]
 pub struct Deceleration {
     cm_per_second_squared: u16,
@@ -46,7 +46,7 @@ impl Deceleration {
     }
 }
 
-/// The time from an order to brake until the brakes act, in milliseconds: from 0 to 10,000.
+/// The time from an order to brake until the brakes act (this project's profile), in milliseconds: from 0 to 10,000.
 #[derive(Clone, Copy, Debug, PartialEq, Eq)]
 pub struct Reaction {
     ms: u16,

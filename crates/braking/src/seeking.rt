@@ -8,7 +8,8 @@ use crate::{Brakes, Target};
 use track_store::Profile;
 use units::{Cm, Mph, Permille};
 
-/// The greatest speed up to a limit above a target's that fits the target, and what was summed on the way.
+/// The greatest speed up to a limit that fits a target whose speed is below that limit, in metres per hour, and what was summed
+/// on the way. The caller owes what was summed of the same train and gradient.
 pub fn permitted_before<P: Profile<Permille>>(
     front: Cm,
     limit: Mph,

@@ -7,7 +7,7 @@ ghost use Rattle.braking.specs.Braking.{slowing_on};
 use crate::Deceleration;
 use units::{Cm, Permille};
 
-/// Where a value ends that lasts up to a place, or an end before that.
+/// Where a value ends that lasts up to a place, or an end before that, in centimetres.
 pub fn end_of_stretch(next: Option<Cm>, end: Cm) -> Cm
     ensures within { result ≤ℤ end }
     ensures lasts { (value : ℤ → Option ℤ) (place : ℤ) → place <ℤ end → Lasts value place next → Lasts value place (Some result) }
@@ -18,7 +18,8 @@ pub fn end_of_stretch(next: Option<Cm>, end: Cm) -> Cm
     }
 }
 
-/// What a stretch with the same deceleration on each centimetre takes off the square of the speed.
+/// What a stretch with the same deceleration on each centimetre, in cm/s^2, takes off the square of the speed, in (m/h)^2. The
+/// caller owes places in order, in centimetres.
 pub fn taken_off_evenly(slowing: u16, from: Cm, to: Cm) -> u64
     requires small { slowing ≤ 549 }
     requires ordered { from ≤ℤ to }
@@ -27,7 +28,7 @@ pub fn taken_off_evenly(slowing: u16, from: Cm, to: Cm) -> u64
     2592 * u64::from(slowing) * (to.get() - from.get()) as u64
 }
 
-/// The deceleration on a gradient, in cm/s^2; 0 where none is known.
+/// The deceleration on a gradient, in cm/s^2, rounded down; never below 0, and 0 where no gradient is known.
 pub fn slowing(deceleration: Deceleration, gradient: Option<Permille>) -> u16
     ensures value { result ≡ slowing_on deceleration gradient }
     ensures small { result ≤ 549 }

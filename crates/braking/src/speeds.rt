@@ -8,8 +8,9 @@ use crate::{Brakes, Reaction, Target};
 use track_store::Profile;
 use units::{Cm, Mph, Permille};
 
-/// Whether a speed fits a target, for a train whose greatest front is at a place: it is no greater than the target's,
-/// or the brakes act before the target and take off enough. A speed below one that fits also fits.
+/// Whether a speed, in metres per hour, fits a target, for a train whose maximum safe front is at a place, in centimetres: it
+/// is no greater than the target's, or the brakes act before the target and take off enough (this project's profile). A speed
+/// below one that fits also fits.
 pub fn fits<P: Profile<Permille>>(
     front: Cm,
     speed: Mph,
@@ -29,7 +30,8 @@ pub fn fits<P: Profile<Permille>>(
     fits
 }
 
-/// Whether a speed above a target's fits it, and what was summed on the way.
+/// Whether a speed above a target's fits it, and what was summed on the way. Places are centimetres, speeds metres per hour.
+/// The caller owes what was summed of the same train and gradient.
 pub fn fits_summed<P: Profile<Permille>>(
     front: Cm,
     speed: Mph,
@@ -49,8 +51,9 @@ pub fn fits_summed<P: Profile<Permille>>(
     }
 }
 
-/// What the brakes take off before a target from where they act at a speed above its own, as far as is needed to see whether the
-/// speed fits; None where they don't act before it. What is summed already isn't gone through again, where it lies within.
+/// What the brakes take off before a target from where they act at a speed above its own, as far as is needed to see whether
+/// the speed fits; None where they don't act before it. What is summed already isn't gone through again, where it lies within.
+/// The caller owes what was summed of the same train and gradient.
 pub fn summed_before<P: Profile<Permille>>(
     front: Cm,
     speed: Mph,
@@ -75,7 +78,8 @@ pub fn summed_before<P: Profile<Permille>>(
     Some(begun.gone_on(gradient, brakes.deceleration, place, enough))
 }
 
-/// Whether a train comes to a stop within what is summed.
+/// Whether a train comes to a stop within what is summed, from a speed in metres per hour, with its maximum safe front at a
+/// place in centimetres.
 pub fn stops_within(front: Cm, speed: Mph, brakes: &Brakes, sum: &Summed) -> bool
     ensures { IsTrue result → IsStopping front brakes.now.reaction speed sum.now }
 {
@@ -86,7 +90,8 @@ pub fn stops_within(front: Cm, speed: Mph, brakes: &Brakes, sum: &Summed) -> boo
     front.get() + i64::from(reaction_way(brakes.reaction, speed)) <= sum.from.get()
 }
 
-/// What the brakes must take off the square of the speed, from one speed down to another.
+/// What the brakes must take off the square of the speed, from one speed down to another, in (m/h)^2. The caller owes speeds
+/// that fall.
 pub fn lacking(from: Mph, to: Mph) -> u64
     requires { to ≤ from }
     ensures { result ≡ from * from - to * to }
@@ -95,7 +100,7 @@ pub fn lacking(from: Mph, to: Mph) -> u64
     from * from - to * to
 }
 
-/// The way that a train runs before its brakes act, in centimetres.
+/// The way that a train runs before its brakes act, in centimetres, rounded up.
 pub fn reaction_way(reaction: Reaction, speed: Mph) -> u32
     ensures value { result ≡ reaction_way reaction speed }
     ensures small { result ≤ 166_667 }
@@ -103,7 +108,8 @@ pub fn reaction_way(reaction: Reaction, speed: Mph) -> u32
     (u64::from(speed.get()) * u64::from(reaction.get())).div_ceil(36_000) as u32
 }
 
-/// Where the brakes act after a way from the front; None where this isn't before a place.
+/// Where the brakes act after a way from the front, all in centimetres; None where this isn't before a place. The caller owes a
+/// way of `reaction_way`.
 pub fn brakes_act(front: Cm, way: u32, place: Cm) -> Option<Cm>
     requires { way ≤ 166_667 }
     ensures found { IsSome result ↔ (front +ℤ pos way) <ℤ place }

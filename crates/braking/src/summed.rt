@@ -7,21 +7,21 @@ use crate::slowing::{end_of_stretch, slowing, taken_off_evenly};
 use track_store::Profile;
 use units::{Cm, Permille};
 
-/// What a stretch takes off the square of the speed, reckoned once for many speeds and targets.
+/// What a stretch takes off the square of the speed, reckoned once for many speeds and targets (this project's profile).
 #[derive(Clone, Copy)]
 pub struct Summed {
-    /// Where it begins.
+    /// Where it begins, in centimetres.
     pub from: Cm,
-    /// Where it ends, that centimetre not included.
+    /// Where it ends, that centimetre not included, in centimetres.
     pub to: Cm,
-    /// What it takes off.
+    /// What it takes off, in (m/h)^2.
     pub taken_off: u64,
-    /// What finds the gradient where it ends sooner.
+    /// A hint for `Profile::piece`: near which piece the gradient is where it ends.
     pub near: usize,
 }
 
 impl Summed {
-    /// No stretch, at a place.
+    /// No stretch, at a place in centimetres: it takes off nothing.
     pub fn none(place: Cm) -> Summed
         ensures from { result.from ≡ place }
         ensures to { result.to ≡ place }
@@ -36,8 +36,8 @@ impl Summed {
         }
     }
 
-    /// The same, gone on with up to a place, or only until it takes off enough. It is gone through from one change of the
-    /// gradient to the next.
+    /// The same, gone on with up to a place, in centimetres, or only until it takes off enough, in (m/h)^2. It is gone through
+    /// from one change of the gradient to the next. The caller owes a place at or beyond its end.
     pub fn gone_on<P: Profile<Permille>>(
         self,
         gradient: &P,
@@ -71,7 +71,7 @@ impl Summed {
         }
     }
 
-    /// The same, begun before.
+    /// The same, begun before: from an earlier place on, in centimetres. The caller owes a place at or before its beginning.
     pub fn begun<P: Profile<Permille>>(
         self,
         gradient: &P,
@@ -97,7 +97,7 @@ impl Summed {
         }
     }
 
-    /// The one that goes farther ahead.
+    /// The one of the two that goes farther ahead.
     pub fn farther(self, other: Summed) -> Summed
         ensures { (gradient : ℤ → Option ℤ) → (deceleration : ℕ) → IsSummed gradient deceleration self → IsSummed gradient deceleration other
             → IsSummed gradient deceleration result }

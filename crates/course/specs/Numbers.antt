@@ -1,4 +1,4 @@
--- Numbers.
+-- Numbers (this project's profile).
 use Rattle.std.specs.Prelude.{ℕ, ℤ, pos, negsuc}
 
 -- a number, 0 where it is below 0

@@ -2,12 +2,12 @@ use crate::distance::Distance;
 use events::Input;
 use units::Mph;
 
-/// What a step of a scenario asks for.
+/// What a step of a scenario asks for (this project's profile).
 #[derive(Drop)]
 pub enum Asked {
     /// The train drives so far, in centimetres, at a speed in metres per hour.
     Drive(Distance, Mph),
-    /// An input comes.
+    /// This input comes.
     Happens(Input),
     /// What is pending is put on the disk and released.
     Flush,

@@ -2,12 +2,12 @@ ghost use Rattle.std.specs.Prelude.{◌≡◌};
 
 use events::{Input, TelegramBytes};
 
-/// A balise that lies on the track.
+/// A balise that lies on the track (this project's profile).
 #[derive(Drop)]
 pub struct Balise {
     /// Where it lies, in centimetres ahead of where the front of the train starts.
     pub at: u64,
-    /// The telegram that it sends.
+    /// The telegram that it sends, 1 to 104 bytes.
     pub bytes: TelegramBytes,
 }
 

@@ -3,7 +3,7 @@ ghost use Rattle.course.specs.Limits.{IsDistance};
 
 use std::marker::Model;
 
-/// How far one step drives, forward or backward, in centimetres: from -10,000 to 1,000,000.
+/// How far one step drives, forward or backward, in centimetres: from -10,000 to 1,000,000 (this project's profile).
 #[derive(Clone, Copy)]
 pub struct Distance {
     cm: i64,

@@ -40,7 +40,8 @@ fn way(from: i128, to: i128) -> u64
     if to > from { (to - from) as u64 } else { 0 }
 }
 
-/// The steps of a life so far, where the front is, and how many events are pending. A front of 128 bits has room for any number of drives.
+/// The steps of a life so far, where the front is, and how many events are pending (this project's profile). A front of 128
+/// bits has room for any number of drives.
 #[derive(Drop)]
 pub struct Course {
     /// Where the front is, in centimetres ahead of where it started.
@@ -55,7 +56,7 @@ pub struct Course {
 impl Course {
     ghost use Rattle.course.specs.Course.{run_of, start, accepted, flushed, ended, readings, driven_to, driven_over, driven_over_all, driven, taken};
 
-    /// The train stands where it starts.
+    /// The train stands where it starts: the front is at 0, and there are no steps.
     pub fn new(alloc: Global) -> Course
         ensures { run_of result ≡ start }
     {
@@ -171,8 +172,8 @@ impl Course {
         }
     }
 
-    /// Takes a step that is asked for, which moves the front by at most 1,000,000 cm. NoMemory where memory was refused; the course may then
-    /// have a part of the step.
+    /// Takes a step that is asked for, which moves the front by at most 1,000,000 cm. NoMemory where memory was refused; the
+    /// course may then have a part of the step. The caller owes a front within 2^99 cm of the start.
     pub fn take(&mut self, track: &Track, asked: Asked) -> Result<(), NoMemory>
         requires low { neg_ℤ (pos (2 ^ 99)) ≤ℤ self.old.front }
         requires high { self.old.front ≤ℤ pos (2 ^ 99) }

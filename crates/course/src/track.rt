@@ -5,7 +5,8 @@ ghost use Rattle.course.specs.Passing.{passed, AreUpTo};
 use crate::balise::Balise;
 use units::NoMemory;
 
-/// The balises on the track, in the order of their places; those of one place in the order of the file.
+/// The balises on the track, in the order of their places; those of one place in the order of the file (this project's
+/// profile).
 #[derive(Drop)]
 pub struct Track {
     /// The balises, with their places in centimetres ahead of the start.
@@ -31,8 +32,8 @@ impl Track {
             .partition_point(|balise| i128::from(balise.at) <= place)
     }
 
-    /// The balises that a way of so many centimetres ahead of a place leads over, in their order: those beyond the place, up to the end of
-    /// the way.
+    /// The balises that a way of so many centimetres ahead of a place leads over, in their order: those beyond the place, up to
+    /// the end of the way. The caller owes a place within 2^99 cm of the start.
     pub fn ahead(&self, from: i128, cm: u32) -> &[Balise]
         requires low { neg_ℤ (pos (2 ^ 99)) ≤ℤ from }
         requires high { from ≤ℤ pos (2 ^ 99) }

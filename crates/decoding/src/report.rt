@@ -49,7 +49,9 @@ fn print_packet<W: Write>(packet: &Packet<'_>, out: &mut W) -> io::Result<()> {
     writeln!(line.out)
 }
 
-/// Writes a telegram: a line with its header, one a packet, and one with its number of bits.
+/// Writes a telegram: a line with the fields of its header, one for each packet, and `end` with its number of bits. Fields are
+/// named as in SUBSET-026, 7.5.1, with their numbers as they were sent. The error is that of a write; then some of the text may
+/// be written.
 pub fn print_telegram<W: Write>(telegram: &Telegram<'_>, out: &mut W) -> io::Result<()> {
     print_header(&telegram.header, out)?;
     for packet in telegram.packets.as_slice() {

@@ -21,7 +21,9 @@ fn show<W: Write>(bytes: &[u8], out: &mut W) -> io::Result<Status> {
     }
 }
 
-/// Tells the telegram that hex digits carry, or why they carry none. The error is that of a write.
+/// Writes the telegram that hex digits carry, two a byte, and answers Done. Else it writes why they carry none, and answers
+/// Refused: `refused hex`, `refused memory`, or number and name of the fault (`docs/REFUSALS.md`). The error is that of a
+/// write.
 pub fn decode_text<W: Write>(alloc: Global, text: &str, out: &mut W) -> io::Result<Status> {
     match hex::decode(alloc, text) {
         Ok(bytes) => show(bytes.as_slice(), out),

@@ -1,4 +1,4 @@
--- What a cut is chosen to leave.
+-- What a cut is chosen to leave (this project's profile). Sectors are numbered from 0.
 use Rattle.std.specs.Prelude.{◌≡◌, ℕ, suc, zero, ◌+◌, ◌<◌, if◌then◌else◌, List, length, slice_index_or, All}
 use Rattle.disk.specs.State.{State, Platter, now, contents_of, last_synced}
 use Rattle.disk.specs.declared.choice.Choice.{Choice}

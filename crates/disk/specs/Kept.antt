@@ -1,4 +1,4 @@
--- What the fields of a disk in memory keep.
+-- What the fields of a disk in memory keep (this project's profile). Sectors are numbered from 0.
 use Rattle.std.specs.Prelude.{◌≡◌, ℕ, ◌*◌, ◌<◌, ◌≤◌, vec_len, vec_capacity, slice_index_or, All}
 use Rattle.disk.specs.Record.{IsWithin, trace_of}
 use Rattle.disk.specs.declared.record.Place.TheVariants.{Start}

@@ -1,4 +1,4 @@
--- A disk that lies.
+-- A disk that lies (this project's profile).
 use Rattle.std.specs.Prelude.{false, []}
 use Rattle.disk.specs.State.{State}
 use Rattle.disk.specs.declared.liar.Liar.{Liar}

@@ -1,4 +1,4 @@
--- What is to go wrong with a disk in memory.
+-- What is to go wrong with a disk in memory (this project's profile). Calls are numbered from 0.
 use Rattle.std.specs.Prelude.{ℕ, ◌==◌, nat_lt, Bool, true, false, if◌then◌else◌}
 use Rattle.disk.specs.declared.plan.Plan.{Plan}
 use Rattle.disk.specs.declared.plan.Plan.TheVariants.{Nothing, Fail, Cut}

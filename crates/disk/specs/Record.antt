@@ -1,4 +1,4 @@
--- What the record of a disk in memory says of each sector. Offsets are bytes, sectors are numbered from 0.
+-- What the record of a disk in memory says of each sector (this project's profile). Offsets are bytes, sectors are numbered from 0.
 use Rattle.std.specs.Prelude.{ℕ, ◌+◌, ◌-◌, ◌*◌, ◌≤◌, ◌&&◌, nat_le, nat_lt, true, false, if◌then◌else◌, List, length, take, drop, fold, Option, Some, None}
 use Rattle.disk.specs.State.{State, Platter, sector_of}
 use Rattle.disk.specs.declared.record.Call.{Call}

@@ -4,7 +4,7 @@ ghost use Rattle.disk.specs.Choice.{choice_at};
 
 use crate::SECTOR_BYTES;
 
-/// What an open sector holds after a cut.
+/// What an open sector holds after a cut (this project's profile).
 #[derive(Clone, Copy)]
 pub enum Choice {
     /// Its bytes as last synced.
@@ -15,7 +15,7 @@ pub enum Choice {
     Given([u8; SECTOR_BYTES]),
 }
 
-/// The choice at this place, Old past the end of the list.
+/// The choice at this place, from 0 on; Old past the end of the list.
 pub fn nth(choices: &[Choice], place: usize) -> Choice
     ensures { result ≡ choice_at choices.now place }
 {

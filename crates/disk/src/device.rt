@@ -28,8 +28,8 @@ pub trait Disk {
             && (bytes / SECTOR_BYTES) as u64 <= sectors - first
     }
 
-    /// Reads whole sectors. It changes neither the contents nor which sectors are open. At DiskFault the bytes read
-    /// may be any.
+    /// Reads whole sectors from `first` on. It changes neither the contents nor which sectors are open. DiskFault where the
+    /// device failed; then the bytes read may be any. The caller owes sectors of this disk (`are_sectors`).
     fn read(&mut self, first: u64, bytes: &mut [u8]) -> Result<(), DiskFault>
         requires { AreSectors first (length bytes.old) (state self.old).sectors }
         ensures counted { Counted (is_err result) (state self.old) (state self.new) }
@@ -37,8 +37,9 @@ pub trait Disk {
         ensures same_open { IsTrue (state self.old).honest → SameOpen (state self.old) (state self.new) }
         ensures bytes { IsTrue (state self.old).honest → OnOk result (Holds (contents_of (state self.old)) first bytes.new) };
 
-    /// Writes whole sectors. At each moment of the call they may hold any bytes. At Ok they hold these bytes and are
-    /// open; at DiskFault each of them is open, or nothing happened to it. The others stay as they are.
+    /// Writes whole sectors from `first` on. At each moment of the call they may hold any bytes. At Ok they hold these bytes
+    /// and are open; at DiskFault each of them is open, or nothing happened to it. The others stay as they are. The caller owes
+    /// sectors of this disk (`are_sectors`).
     fn write(&mut self, first: u64, bytes: &[u8]) -> Result<(), DiskFault>
         requires { AreSectors first (length bytes.now) (state self.old).sectors }
         ensures counted { Counted (is_err result) (state self.old) (state self.new) }

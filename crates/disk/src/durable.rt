@@ -4,8 +4,8 @@ ghost use Rattle.disk.specs.State.{contents_of, AreSectors, Counted, Touches, Ho
 
 use crate::{Disk, DiskFault};
 
-/// Writes whole sectors and syncs: at Ok they hold these bytes, and no sector is open. It stops at the first
-/// DiskFault, after which the sectors may hold any bytes.
+/// Writes whole sectors and syncs: at Ok they hold these bytes, and no sector is open (this project's profile). It stops at the
+/// first DiskFault, after which the sectors may hold any bytes. The caller owes sectors of this disk (`are_sectors`).
 pub fn put<D: Disk>(disk: &mut D, first: u64, bytes: &[u8]) -> Result<(), DiskFault>
     requires { AreSectors first (length bytes.now) (D.state disk.old).sectors }
 

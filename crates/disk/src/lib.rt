@@ -23,9 +23,9 @@ pub use memory::{Memory, Room};
 pub use plan::{Fate, Plan};
 pub use record::{Call, Span};
 
-/// How many bytes a sector has.
+/// How many bytes a sector has (this project's profile).
 pub const SECTOR_BYTES: usize = 512;
 
-/// The device failed in this call.
+/// The device failed in this call (this project's profile). What holds then is said at each call of `Disk`.
 #[derive(Clone, Copy, Debug)]
 pub struct DiskFault;

@@ -2,8 +2,8 @@
 ghost use Rattle.std.specs.Prelude.{◌≡◌};
 ghost use Rattle.disk.specs.Plan.{fate_of};
 
-/// What is to go wrong. Calls of `read`, `write` and `sync` are counted from 0 since the plan was made; one that is
-/// beyond the room is not counted.
+/// What is to go wrong with a `Memory` (this project's profile). Calls of `read`, `write` and `sync` are counted from 0 since
+/// the plan was made; one that is beyond the room is not counted.
 #[derive(Clone, Copy)]
 pub enum Plan {
     /// No call fails.
@@ -15,7 +15,7 @@ pub enum Plan {
     Cut(u64),
 }
 
-/// What the plan makes of a call.
+/// What the plan makes of a call (this project's profile).
 #[derive(Clone, Copy)]
 pub enum Fate {
     /// It does what it is to do.

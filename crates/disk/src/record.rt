@@ -107,7 +107,7 @@ impl Trace {
     }
 }
 
-/// Follows a sector through these calls.
+/// Follows a sector through these calls. The caller owes calls whose sectors and bytes are there.
 pub fn follow(calls: &[Call], sector: u64, sectors: u64, written: usize) -> Trace
     requires { All (IsWithin sectors written) calls.now }
     ensures trace { result ≡ trace_of sector calls.now }
@@ -120,7 +120,7 @@ pub fn follow(calls: &[Call], sector: u64, sectors: u64, written: usize) -> Trac
     trace
 }
 
-/// The bytes of a sector at this place.
+/// The 512 bytes of a sector at this place. The caller owes a sector and a place that are there.
 pub fn bytes_in<'a>(start: &'a [u8], written: &'a [u8], sector: u64, place: Place) -> &'a [u8]
     requires within { 512 * sector + 512 ≤ length start.now }
     requires placed { IsPlaced (length written.now) place }
@@ -136,7 +136,7 @@ pub fn bytes_in<'a>(start: &'a [u8], written: &'a [u8], sector: u64, place: Plac
     }
 }
 
-/// The places of so many sectors before the first call.
+/// The places of so many sectors before the first call. AllocError where memory is refused.
 pub fn unwritten(alloc: Global, sectors: usize) -> Result<Vec<Place>, AllocError>
     ensures size { IfOk result (λ places. vec_len places ≡ sectors) }
     ensures start { IfOk result (λ places. (s : ℕ) → s < sectors → slice_index_or places.items s Place.Start ≡ Place.Start) }
@@ -146,7 +146,7 @@ pub fn unwritten(alloc: Global, sectors: usize) -> Result<Vec<Place>, AllocError
     Ok(places)
 }
 
-/// Notes where the bytes of these sectors are.
+/// Notes where the bytes of these sectors are. The caller owes sectors that have places.
 pub fn place_sectors(places: &mut [Place], span: Span)
     requires within { span.first + span.sectors ≤ length places.old }
     requires bytes { span.from + 512 * span.sectors < 2 ^ 64 }

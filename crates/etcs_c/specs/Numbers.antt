@@ -1,4 +1,4 @@
--- The numbers by which C is told of faults (this project's profile).
+-- The numbers of faults, as C gets them (this project's profile).
 use Rattle.std.specs.Prelude.{ℕ}
 use Rattle.telegram.specs.declared.fault.TelegramFault.{TelegramFault}
 use Rattle.telegram.specs.declared.fault.TelegramFault.TheVariants.{Truncated, WrongLength, Spare, OutOfRange, WrongVersion, NotUplink, NotBalise, NoEnd, TooLong}

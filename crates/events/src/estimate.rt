@@ -3,7 +3,8 @@ ghost use Rattle.events.specs.Limits.{IsEstimate};
 
 use std::marker::Model;
 
-/// The estimated place of the train's front, in centimetres from where its life began: from -2^40 to 2^40.
+/// The estimated place of the train's front, in centimetres from where its life began: from -2^40 to 2^40 (this project's
+/// profile).
 #[derive(Clone, Copy)]
 pub struct Estimate {
     cm: i64,

@@ -3,7 +3,7 @@ use driver::Action;
 use mode_table::Cold;
 use units::{Movement, Mph, Ms};
 
-/// One reading of the odometer.
+/// One reading of the odometer (this project's profile).
 #[derive(Clone, Copy)]
 pub struct Reading {
     /// The movement since the last reading, forward or backward, in centimetres.
@@ -12,7 +12,7 @@ pub struct Reading {
     pub speed: Mph,
 }
 
-/// What comes in from outside.
+/// What comes in from outside (this project's profile).
 #[derive(Drop)]
 pub enum Input {
     /// The bytes that a balise sent; they need not carry a telegram.
@@ -25,7 +25,7 @@ pub enum Input {
     Driver(Action),
 }
 
-/// One atomic event.
+/// One atomic event (this project's profile).
 #[derive(Drop)]
 pub enum Event {
     /// Power comes on, and a life begins, with the word on movements while it was off.

@@ -49,7 +49,7 @@ impl Indications {
     }
 }
 
-/// What the kernel answers to an event.
+/// What the kernel answers to an event (this project's profile).
 #[derive(Clone, Copy)]
 pub struct Output {
     /// The mode after the event (SUBSET-026, 4.4).

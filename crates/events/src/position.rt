@@ -5,7 +5,8 @@ use std::marker::Model;
 use units::Cm;
 use vars::GroupIdentity;
 
-/// Where the train is, by a balise group: how far behind it the estimated front lies, from -2^41 to 2^41 cm.
+/// Where the train is, by a balise group: how far behind it the estimated front lies, from -2^41 to 2^41 cm (this project's
+/// profile).
 #[derive(Clone, Copy)]
 pub struct Position {
     group: GroupIdentity,

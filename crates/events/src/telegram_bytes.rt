@@ -7,7 +7,7 @@ use std::marker::Model;
 /// How many bytes a balise sends at most.
 pub const MOST_BYTES: usize = 104;
 
-/// The bytes that a balise sent, from 1 to 104; they need not carry a telegram.
+/// The bytes that a balise sent, from 1 to 104; they need not carry a telegram (SUBSET-026, 8.4.2).
 #[derive(Drop)]
 pub struct TelegramBytes {
     bytes: ArrayVec<u8, MOST_BYTES>,

@@ -1,5 +1,5 @@
--- What a file holds, and what a loss of power may leave of it. Its bytes are seen in sectors of 512, numbered from 0, as
--- those of a disk; the last one may have fewer.
+-- What a file holds, and what a loss of power may leave of it (this project's profile). Its bytes are seen in sectors of
+-- 512, numbered from 0, as those of a disk; the last one may have fewer.
 use Rattle.std.specs.Prelude.{◌≡◌, ℕ, ◌+◌, ◌-◌, ◌/◌, ◌++◌, Bool, List, length, take, drop, replicate}
 use Rattle.disk.specs.State.{State, Platter, Touches, OpenOrSame, SameOpenOutside, sector_of}
 

@@ -1,4 +1,4 @@
--- A file of the operating system.
+-- A file of the operating system (this project's profile).
 use Rattle.std.specs.Prelude.{◌≡◌, Bool, false, [], refl}
 use Rattle.std.specs.declared.fs.File.{File}
 use Rattle.file_disk.specs.Files.{FileState}

@@ -6,7 +6,8 @@ ghost use Rattle.file_disk.specs.Files.{bytes_of, whole_disk, overwritten, Write
 use crate::RawFile;
 use disk::{DiskFault, SECTOR_BYTES};
 
-/// Reads from a sector on until all bytes are read. DiskFault also where the file ends before.
+/// Reads from a sector on until all bytes are read. DiskFault where a read fails, or the file ends before. The caller owes an
+/// end below 2^64 bytes.
 pub fn read_all<F: RawFile>(file: &F, first: u64, bytes: &mut [u8]) -> Result<(), DiskFault>
     requires { 512 * first + length bytes.old < 2 ^ 64 }
     ensures { IsTrue (F.state file.now).honest →
@@ -24,7 +25,8 @@ pub fn read_all<F: RawFile>(file: &F, first: u64, bytes: &mut [u8]) -> Result<()
     Ok(())
 }
 
-/// Writes from a sector on until all bytes are written. It stops at the first DiskFault.
+/// Writes from a sector on until all bytes are written. It stops at the first DiskFault. The caller owes an end below 2^64
+/// bytes.
 pub fn write_all<F: RawFile>(file: &mut F, first: u64, bytes: &[u8]) -> Result<(), DiskFault>
     requires { 512 * first + length bytes.now < 2 ^ 64 }
     ensures honest { (F.state file.new).honest ≡ (F.state file.old).honest }

@@ -1,4 +1,5 @@
--- What the kernel knows represents a life, and so a list of events (this project's profile).
+-- What the kernel knows represents a life, and so a list of events (this project's profile). Distances are centimetres,
+-- speeds metres per hour.
 use Rattle.std.specs.Prelude.{◌≡◌, ℕ, ◌-◌, ◌^◌, ℤ, min, List}
 use Rattle.driver.specs.declared.datum.Datum.{Datum}
 use Rattle.events.specs.declared.input.Event.{Event}

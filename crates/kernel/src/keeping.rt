@@ -45,15 +45,16 @@ impl<G: ProfileStore<Permille> + Drop, S: ProfileStore<CategorySpeeds> + Drop> S
         }
     }
 
-    /// What a power-up keeps. Takes no memory.
+    /// What a power-up keeps (SUBSET-026, 4.10; what: this project's profile). Takes no memory.
     pub fn kept(&self) -> Kept
         ensures { (events : List Event) → StandsFor G.profile S.profile self.now events → result ≡ kept_by events }
     {
         self.kept_of_life()
     }
 
-    /// A life begins with what was kept: what is known then, and what is answered. What is known of movements while the power was off
-    /// decides whether level and position stay valid, so that only what it leaves of them counts. Takes no memory.
+    /// A life begins with what was kept: what is known then, and what is answered. What is known of movements while the power
+    /// was off decides whether level and position stay valid, so that only what it leaves of them counts. The caller owes a
+    /// word that is true. Takes no memory.
     pub fn power_up(alloc: Global, kept: &Kept, cold: Cold) -> (Self, Output)
         ensures stands { (events : List Event) → left_by cold kept.now ≡ left_by cold (kept_by events) → StandsFor G.profile S.profile result.0 (event.PowerUp cold ∷ events) }
         ensures output { (events : List Event) → left_by cold kept.now ≡ left_by cold (kept_by events) → result.1 ≡ output_after (event.PowerUp cold ∷ events) }

@@ -6,10 +6,10 @@ use events::Position;
 use std::marker::Model;
 use units::Mph;
 
-/// What is known beside what is supervised.
+/// What is known beside what is supervised (this project's profile).
 #[derive(Clone, Copy)]
 pub struct Parts {
-    /// What the brakes remember since the train stood.
+    /// What the brakes remember of the time since the train was at standstill.
     pub window: Window,
     /// The limit after the last event, in metres per hour.
     pub limit: Mph,
@@ -35,7 +35,7 @@ impl Model for Parts {
     } };
 }
 
-/// The speed of a train at standstill.
+/// The speed of a train at standstill, 0 m/h.
 pub fn no_speed() -> Mph
     ensures { result ≡ 0 }
 {

@@ -39,7 +39,7 @@ fn fixed_at(group: GroupIdentity, place: &Place) -> Datum<Position>
     Datum::Valid(Position::new(group, place.since_fix()).unwrap())
 }
 
-/// The position, by the group of the last fix, or else by what was kept of it.
+/// The position, by the group of the last fix, or else by what was kept of it; how far behind the group is centimetres.
 pub fn position_by(
     group: &Option<GroupIdentity>,
     kept: &Datum<Position>,

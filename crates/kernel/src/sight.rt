@@ -5,7 +5,7 @@ ghost use Rattle.kernel.specs.Brake.{reading_of, stands, backward, backward_by};
 use events::{Input, Reading};
 use units::{Movement, Mph};
 
-/// What an event shows, once the limit is known that it answers.
+/// What an event shows, once the limit is known that it answers (SUBSET-026, 3.14; this project's profile).
 #[derive(Clone, Copy)]
 pub struct Sight {
     /// Whether it is a reading of speed 0.
@@ -21,7 +21,7 @@ pub struct Sight {
 }
 
 impl Sight {
-    /// Whether the speed is above the limit by more than this.
+    /// Whether the speed is above the limit by more than this, in metres per hour.
     pub fn is_above_by(&self, margin: u16) -> bool
         ensures { result ≡ nat_lt (self.now.limit + margin) self.now.speed }
     {
@@ -35,7 +35,7 @@ impl Sight {
         !self.stands && before
     }
 
-    /// How far the train has rolled backward since it stood, where it was so far before the event.
+    /// How far the train has rolled backward since its last standstill, in centimetres, where it was so far before the event.
     pub fn rolled(&self, before: u64) -> u64
         ensures { (n : ℕ) → before ≡ min n (2 ^ 64 - 1)
             → result ≡ min ((if self.now.stands then 0 else n) + self.now.backward) (2 ^ 64 - 1) }

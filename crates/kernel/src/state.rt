@@ -17,7 +17,7 @@ use supervision::SupervisionOver;
 use track_store::{ProfileStore, SegmentStore};
 use units::{NoMemory, Permille};
 
-/// What the kernel knows, with stores for the gradients and the static speeds.
+/// What the kernel knows, with stores for the gradients and the static speeds (this project's profile).
 #[derive(Drop)]
 pub struct StateOver<G, S> {
     pub(crate) parts: Parts,
@@ -25,7 +25,7 @@ pub struct StateOver<G, S> {
     pub(crate) supervision: SupervisionOver<G, S>,
 }
 
-/// What the kernel knows, with stores that stay short however long the life.
+/// What the kernel knows, with stores that stay short however long the life (this project's profile).
 pub type State = StateOver<SegmentStore<Permille>, SegmentStore<CategorySpeeds>>;
 
 impl<G, S> Model for StateOver<G, S> {
@@ -72,7 +72,7 @@ impl<G: ProfileStore<Permille> + Drop, S: ProfileStore<CategorySpeeds> + Drop> S
         }
     }
 
-    /// An equal value; NoMemory where it is refused.
+    /// An equal value; NoMemory where memory is refused.
     pub fn copy(&self, alloc: Global) -> Result<Self, NoMemory>
         ensures { IfOk result (λ copy. copy ≡ self.now) }
     {

@@ -10,8 +10,9 @@ use std::alloc::Global;
 use track_store::ProfileStore;
 use units::{NoMemory, Permille};
 
-/// One event: what is known after it, and what is answered. The old state is unchanged; NoMemory where the new one is refused. The caller
-/// owes that the moments of the clock don't fall in a life (`Onboard::accept` tests that).
+/// One event: what is known after it, and what is answered (this project's profile). The old state is unchanged. NoMemory where
+/// memory for the new one is refused. The caller owes moments of the clock that don't fall in a life (`Onboard::accept` tests
+/// that).
 pub fn step<G: ProfileStore<Permille> + Drop, S: ProfileStore<CategorySpeeds> + Drop>(
     alloc: Global,
     state: &StateOver<G, S>,
@@ -29,8 +30,8 @@ pub fn step<G: ProfileStore<Permille> + Drop, S: ProfileStore<CategorySpeeds> + 
 }
 
 impl<G: ProfileStore<Permille> + Drop, S: ProfileStore<CategorySpeeds> + Drop> StateOver<G, S> {
-    /// The same in place; NoMemory where memory is refused, and then nothing changes. Room is made first for all that the event can add,
-    /// so that nothing is copied. An event by which no group can close takes no memory.
+    /// The same in place. NoMemory where memory is refused, and then nothing changes. Room is made first for all that the event
+    /// can add, so that nothing is copied. An event by which no group can close takes no memory.
     pub fn apply(&mut self, alloc: Global, event: &Event) -> Result<Output, NoMemory>
         ensures stands { OnOk result ((events : List Event) → StandsFor G.profile S.profile self.old events
             → StandsFor G.profile S.profile self.new (event.now ∷ events)) }

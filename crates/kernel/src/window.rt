@@ -9,7 +9,8 @@ ghost use Rattle.supervision.specs.Sentences.{begun_life};
 
 use crate::sight::Sight;
 
-/// What the brakes remember. All but the last of it is of the time since the train stood, or else since the power-up.
+/// What the brakes remember (this project's profile). All but `too_fast` is of the time since the last standstill, or else
+/// since the power-up.
 #[derive(Clone, Copy)]
 pub struct Window {
     /// After some event the speed was above the limit by more than 10 km/h.

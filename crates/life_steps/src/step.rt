@@ -3,7 +3,7 @@ use events::Input;
 /// What happens in a life (this project's profile).
 #[derive(Drop)]
 pub enum Step {
-    /// The unit is handed an input.
+    /// The unit is handed this input.
     Accept(Input),
     /// What is pending is put on the disk, in one block, and then released.
     Flush,

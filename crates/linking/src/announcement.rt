@@ -16,9 +16,9 @@ pub struct Announcement {
     pub number: u8,
     /// Which group it is.
     pub group: GroupIdentity,
-    /// Where the group is to lie, in centimetres.
+    /// Where the group is to lie, in centimetres of the life.
     pub place: Cm,
-    /// How far it may lie from there, to either side (Q_LOCACC).
+    /// How far it may lie from there, to either side, in metres (Q_LOCACC).
     pub accuracy: LocationAccuracy,
     /// The direction in which the train is to pass it (Q_LINKORIENTATION).
     pub direction: LinkOrientation,

@@ -3,7 +3,7 @@ ghost use Rattle.linking.specs.Linking.{both, effect_of};
 
 use vars::LinkReaction;
 
-/// What linking asks of the train.
+/// What linking asks of the train (SUBSET-026, 3.4.4 and 3.16.2). Both may be asked for at once.
 #[derive(Clone, Copy, Debug, PartialEq, Eq)]
 pub struct Effect {
     /// Whether it asks for a trip.
@@ -13,25 +13,25 @@ pub struct Effect {
 }
 
 impl Effect {
-    /// Nothing.
+    /// Linking asks for nothing.
     pub const NONE: Effect = Effect {
         trip: false,
         service: false,
     };
 
-    /// A trip alone.
+    /// Linking asks for a trip alone.
     pub const TRIP: Effect = Effect {
         trip: true,
         service: false,
     };
 
-    /// The service brake alone.
+    /// Linking asks for the service brake alone.
     pub const SERVICE: Effect = Effect {
         trip: false,
         service: true,
     };
 
-    /// What a reaction asks for.
+    /// What a Q_LINKREACTION asks for.
     pub fn of(reaction: LinkReaction) -> Effect
         ensures { result ≡ effect_of reaction }
     {
@@ -42,7 +42,7 @@ impl Effect {
         }
     }
 
-    /// What either asks for.
+    /// What one or the other asks for.
     pub fn both(self, other: Effect) -> Effect
         ensures { result ≡ both self other }
     {

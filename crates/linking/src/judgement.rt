@@ -6,16 +6,16 @@ use crate::{Announcement, Effect};
 use odometry::EarlierPlace;
 use vars::{GroupIdentity, LinkOrientation};
 
-/// A whole balise group, as it was read.
+/// A whole balise group, as it was read (SUBSET-026, 3.4).
 #[derive(Clone, Copy)]
 pub struct GroupRead {
     /// Which group it is.
     pub group: GroupIdentity,
     /// Whether it may be announced (Q_LINK).
     pub linked: bool,
-    /// The direction in which it was passed, where that is known.
+    /// The direction in which it was passed; None where it isn't known.
     pub direction: Option<LinkOrientation>,
-    /// Where the front was thought to be at its reading.
+    /// Where the front was thought to be when its balise was read, and how far that may be wrong, in centimetres.
     pub place: EarlierPlace,
 }
 
@@ -29,22 +29,23 @@ impl GroupRead {
     }
 }
 
-/// What becomes of a group that was read.
+/// What becomes of a group that was read (SUBSET-026, 3.4.4 and 3.16.2; which comes first: this project's profile).
 #[derive(Clone, Copy)]
 pub enum Verdict {
-    /// Its message is used; as the group of this announcement, if of one.
+    /// Its message is used. With Some it is the group of this announcement; with None it isn't linked, or linking isn't in use.
     Accept(Option<Announcement>),
-    /// It isn't announced while others are, and its message isn't used.
+    /// It is linked and isn't announced while others are. Its message isn't used.
     Ignore,
-    /// It was found too early or in the wrong direction, and its message isn't used.
+    /// It was found before the place that this announcement allows, or in the wrong direction. Its message isn't used.
     Reaction(Announcement),
 }
 
-/// What becomes of a group that was read, and what the train is to do.
+/// What becomes of a group that was read, and what linking asks of the train (SUBSET-026, 3.4.4).
 #[derive(Clone, Copy)]
 pub struct Judgement {
     /// What becomes of the group.
     pub verdict: Verdict,
-    /// What the train is to do.
+    /// What linking asks of the train: after Reaction a trip for the wrong direction, else the announced reaction; after Accept
+    /// that of the announcements passed over.
     pub effect: Effect,
 }

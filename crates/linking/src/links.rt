@@ -10,10 +10,11 @@ use std::marker::Model;
 use units::Cm;
 use vars::GroupIdentity;
 
-/// How many groups a list of links (packet 5) announces at most.
+/// How many groups a list of links announces at most: the first element of packet 5 and the 31 behind it.
 pub const MOST_ANNOUNCED: usize = 32;
 
-/// The announced groups that are left, and whether one was missed since the last that was accepted.
+/// The announced groups that are left, and whether one was missed since the last that was accepted (SUBSET-026, 3.4.4). Its
+/// calls take no memory.
 #[derive(Drop)]
 pub struct Links {
     // In the order of their list.
@@ -32,7 +33,7 @@ impl Model for Links {
 }
 
 impl Links {
-    /// No group is announced. Takes no memory.
+    /// No group is announced, and none was missed.
     pub fn new() -> Self
         ensures { result ≡ known [] }
     {
@@ -42,7 +43,8 @@ impl Links {
         }
     }
 
-    /// Takes a list of links in place of the one before, and numbers it from 0; an empty one deletes linking.
+    /// Takes a list of links in place of the one before, and numbers it from 0; an empty one deletes linking. Whether one was
+    /// missed stays. The caller owes at most 32 announcements.
     pub fn replace(&mut self, announcements: &[Announcement])
         requires { length announcements.now ≤ MOST_ANNOUNCED }
         ensures { (entries : List Entry) → self.old ≡ known entries
@@ -51,8 +53,8 @@ impl Links {
         self.left = numbered(announcements);
     }
 
-    /// Judges a whole group that was read. One that is accepted takes its announcement and all before it with it, one that
-    /// is found too early or in the wrong direction takes its own.
+    /// Judges a whole group that was read. An accepted group takes its announcement and all before it out of the list. One that
+    /// is found too early or in the wrong direction takes out its own.
     pub fn judge(&mut self, group: &GroupRead) -> Judgement
         ensures answer { result ≡ judgement self.old group.now }
         ensures stands { (entries : List Entry) → self.old ≡ known entries
@@ -64,8 +66,9 @@ impl Links {
         Judgement { verdict, effect }
     }
 
-    /// Takes note of a broken group, which `linked` says by its Q_LINK: answers what it asks for. One that is announced takes its
-    /// announcement with it.
+    /// Takes note of a broken group and answers what it asks for (3.16.2; this project's profile). `linked` is its Q_LINK:
+    /// without it the service brake, with it the reaction that is announced for it, or nothing where none is. An announced one
+    /// is taken out of the list.
     pub fn broken(&mut self, group: GroupIdentity, linked: bool) -> Effect
         ensures answer { result ≡ broken_effect self.old group linked }
         ensures stands { (entries : List Entry) → self.old ≡ known entries
@@ -83,8 +86,9 @@ impl Links {
         }
     }
 
-    /// Drops the announcements that the least front has passed, and answers what they ask for. The caller asks once at each
-    /// odometer reading.
+    /// Drops the announcements whose last possible place the least front has passed, and answers what they ask for; the second
+    /// miss in turn asks for the service brake. `min_front` is the minimum safe front, in centimetres. The caller asks once at
+    /// each odometer reading.
     pub fn missed(&mut self, min_front: Cm) -> Effect
         ensures answer { result ≡ misses self.old.has_missed (filter (is_passed_by min_front) self.old.left) }
         ensures stands { (entries : List Entry) → self.old ≡ known entries

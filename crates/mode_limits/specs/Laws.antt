@@ -1,4 +1,4 @@
--- What is true of every limit (this project's profile).
+-- What is true of every limit (this project's profile). Speeds are metres per hour.
 use Rattle.std.specs.Prelude.{◌≡◌, ◌≤◌, true, [], ◌∷◌}
 use Rattle.driver.specs.declared.datum.Datum.TheVariants.{Valid}
 use Rattle.driver.specs.Limits.{Train}

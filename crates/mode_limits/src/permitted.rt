@@ -78,7 +78,7 @@ fn permitted_speed<G: ProfileStore<Permille> + Drop, S: ProfileStore<CategorySpe
     released_by(&ahead, limit, &bounds.end, values(supervision).release)
 }
 
-/// The permitted speed, in metres per hour; 0 where the train data aren't valid.
+/// The permitted speed, in metres per hour; 0 where the train data aren't valid (this project's profile).
 pub fn permitted_for<G: ProfileStore<Permille> + Drop, S: ProfileStore<CategorySpeeds> + Drop>(
     supervision: &SupervisionOver<G, S>,
 ) -> Mph

@@ -10,7 +10,7 @@ use speed_profile::{Ahead, CategorySpeeds};
 use track_store::Profile;
 use units::{Cm, Mph, Permille};
 
-/// The permitted speed up to a limit, by the release rule, in metres per hour.
+/// The permitted speed up to a limit, by the release rule, in metres per hour (this project's profile).
 pub fn released_by<S: Profile<CategorySpeeds>, G: Profile<Permille>>(
     ahead: &Ahead<'_, S, G>,
     limit: Mph,

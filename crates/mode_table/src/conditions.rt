@@ -2,9 +2,9 @@
 /// this project's profile).
 #[derive(Clone, Copy)]
 pub struct Conditions {
-    /// A reading would have taken the path of the life or the estimated place past its limit.
+    /// A movement of this event would take the path of the life or the estimated place beyond 2^40 cm.
     pub overrun: bool,
-    /// Closing the desk was accepted.
+    /// Closing the desk was accepted in this event.
     pub desk_closed: bool,
     /// The trip isn't overridden, and the minimum safe front is above the end of authority while no speed is allowed there (V_LOA
     /// isn't in force), or in this event linking asks for a trip or an authority is used whose speed is 0 (V_MAIN).
@@ -20,16 +20,16 @@ pub struct Conditions {
     pub full: bool,
     /// An On Sight area meets a centimetre from the minimum to the maximum safe front.
     pub on_sight_area: bool,
-    /// A Shunting area does.
+    /// A Shunting area meets a centimetre from the minimum to the maximum safe front.
     pub shunting_area: bool,
-    /// Acknowledging a trip was accepted.
+    /// The driver's acknowledgement of a trip was accepted in this event (5.11).
     pub trip_acknowledged: bool,
-    /// Override was accepted.
+    /// Override was accepted in this event (5.8).
     pub overridden: bool,
-    /// Choosing Shunting was accepted.
+    /// Choosing Shunting was accepted in this event (5.6).
     pub shunting_chosen: bool,
-    /// Leaving Shunting was accepted.
+    /// Leaving Shunting was accepted in this event (5.6).
     pub shunting_left: bool,
-    /// Start was accepted.
+    /// Start was accepted in this event (5.4).
     pub started: bool,
 }

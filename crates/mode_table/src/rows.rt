@@ -4,8 +4,8 @@ ghost use Rattle.mode_table.specs.declared.mode.Mode.TheVariants as mode;
 
 use crate::{Conditions, Mode};
 
-/// The mode that an event leads to: that of the first row of the mode table that starts from the old mode and whose condition
-/// holds; the old mode where there is none. Takes no memory.
+/// The mode that an event leads to (SUBSET-026, 4.6; the rows: this project's profile): that of the first row of the mode table
+/// that starts from the old mode and whose condition holds; the old mode where there is none. Takes no memory.
 pub fn next_mode(mode: Mode, conditions: &Conditions) -> Mode
     ensures { result ≡ next_mode mode conditions.now }
 {

@@ -6,7 +6,7 @@ use packets::NationalValues;
 use units::{Cm, GroupPlace};
 use vars::{Country, Scale, StartPlace};
 
-/// National values that are to come into force.
+/// National values that are to come into force (packet 3; SUBSET-026, 3.18.2).
 #[derive(Drop)]
 pub struct Announcement {
     /// The values, with the countries that they are for.
@@ -16,7 +16,8 @@ pub struct Announcement {
 }
 
 impl Announcement {
-    /// What packet 3 announces, by the country and the place of its group.
+    /// What packet 3 announces, for the countries that it lists and that of its group, counted from the place of its group, in
+    /// centimetres.
     pub fn of(packet: &NationalValues, country: Country, place: GroupPlace) -> Self
         ensures { result ≡ announcement_of (fact_of packet.now country place) }
     {
@@ -26,7 +27,7 @@ impl Announcement {
         }
     }
 
-    /// Whether the greatest front has reached where they come into force.
+    /// Whether the maximum safe front, in centimetres, has reached where they come into force.
     pub fn is_reached(&self, max_front: Cm) -> bool
         ensures { result ≡ is_reached self.now.start max_front }
     {

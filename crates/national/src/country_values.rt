@@ -10,7 +10,7 @@ use vars::Country;
 /// For how many countries values are at most: those that a packet 3 lists, and that of its group.
 pub const MOST_COUNTRIES: usize = 32;
 
-/// National values, with the countries that they are for.
+/// National values, with the countries (NID_C) that they are for (SUBSET-026, 3.18.2).
 #[derive(Drop)]
 pub struct CountryValues {
     values: Values,
@@ -27,7 +27,7 @@ impl Model for CountryValues {
 }
 
 impl CountryValues {
-    /// These values for these countries.
+    /// These values for these countries, at most 32.
     pub fn new(values: &Values, countries: ArrayVec<Country, MOST_COUNTRIES>) -> Self
         ensures { result ≡ values_for values.now countries.items }
     {
@@ -37,14 +37,14 @@ impl CountryValues {
         }
     }
 
-    /// The values.
+    /// The values, in the units of `Values`.
     pub fn values(&self) -> &Values
         ensures { result.now ≡ self.now.values }
     {
         &self.values
     }
 
-    /// The countries that the values are for, repeated where they came so; none where they are for no country.
+    /// The countries (NID_C) that the values are for, repeated where they came so; none where they are for no country.
     pub fn countries(&self) -> &[Country]
         ensures value { result.now ≡ self.now.countries }
         ensures few { length result.now ≤ MOST_COUNTRIES }

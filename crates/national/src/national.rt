@@ -10,7 +10,8 @@ use std::marker::Model;
 use units::{Cm, GroupPlace};
 use vars::Country;
 
-/// The national values in force, and those that are announced (SUBSET-026, 3.18.2).
+/// The national values in force, and those that are announced (SUBSET-026, 3.18.2; when they come into force: this project's
+/// profile). Its calls take no memory.
 #[derive(Drop)]
 pub struct National {
     in_force: CountryValues,
@@ -26,7 +27,7 @@ impl Model for National {
 }
 
 impl National {
-    /// The defaults, for no country. Takes no memory.
+    /// The defaults are in force, for no country, and nothing is announced.
     pub fn new() -> Self
         ensures { result ≡ known nothing_kept [] }
     {
@@ -43,7 +44,8 @@ impl National {
         }
     }
 
-    /// Takes packet 3 of a group of a country, in place of the one that is announced. It starts from the group's place on.
+    /// Takes packet 3 of a group of a country, in place of the one that is announced. Its start counts from the place of the
+    /// group, in centimetres.
     pub fn announce(&mut self, packet: &NationalValues, group_country: Country, place: GroupPlace)
         ensures { (kept : ValuesFor) → (entries : List Entry) → self.old ≡ known kept entries
             → self.new ≡ known kept (Announced (fact_of packet.now group_country place) ∷ entries) }
@@ -51,8 +53,8 @@ impl National {
         self.announced = Some(Announcement::of(packet, group_country, place));
     }
 
-    /// Takes note of an accepted group of a country, before its packets are taken. In a foreign country the defaults come
-    /// into force.
+    /// Takes note of an accepted group of a country, before its packets are taken. Where the values in force are for other
+    /// countries alone, the defaults come into force for this one.
     pub fn enter(&mut self, country: Country)
         ensures stands { (kept : ValuesFor) → (entries : List Entry) → self.old ≡ known kept entries
             → self.new ≡ known kept (Entered country ∷ entries) }
@@ -63,7 +65,8 @@ impl National {
         }
     }
 
-    /// The look, once an event: what is announced comes into force where the greatest front has reached its start.
+    /// The look, once an event: what is announced comes into force where the maximum safe front, in centimetres, has reached
+    /// its start.
     pub fn reach(&mut self, max_front: Cm)
         ensures stands { (kept : ValuesFor) → (entries : List Entry) → self.old ≡ known kept entries
             → self.new ≡ known kept (Reached max_front ∷ entries) }
@@ -78,7 +81,7 @@ impl National {
         }
     }
 
-    /// Forgets what is announced, as a power-up does.
+    /// Forgets what is announced, as a power-up does (4.10).
     pub fn forget_announced(&mut self)
         ensures { (kept : ValuesFor) → (entries : List Entry) → self.old ≡ known kept entries
             → self.new ≡ known (in_force kept entries) [] }
@@ -86,14 +89,14 @@ impl National {
         self.announced = None;
     }
 
-    /// What is in force: what is to be kept over a power-up.
+    /// What is in force, with its countries: what is to be kept over a power-up.
     pub fn in_force(&self) -> &CountryValues
         ensures { result.now ≡ self.now.in_force }
     {
         &self.in_force
     }
 
-    /// The values in force.
+    /// The values in force, in the units of `Values`.
     pub fn values(&self) -> &Values
         ensures { result.now ≡ self.now.in_force.values }
     {

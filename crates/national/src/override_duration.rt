@@ -4,7 +4,7 @@ ghost use Rattle.national.specs.Limits.{IsOverrideDuration};
 use std::marker::Model;
 use units::Ms;
 
-/// How long the trip stays overridden where that has an end (T_NVOVTRP), in milliseconds: from 0 to 254,000.
+/// How long the trip stays overridden where that has an end (T_NVOVTRP; SUBSET-026, 7.5.1), in milliseconds: from 0 to 254,000.
 #[derive(Clone, Copy, Debug, PartialEq, Eq)]
 pub struct OverrideDuration {
     ms: u32,
@@ -47,7 +47,7 @@ impl OverrideDuration {
         self.ms
     }
 
-    /// The same span among all spans.
+    /// The same span as a `Ms`.
     pub fn to_ms(self) -> Ms
         ensures value { result ≡ self }
         ensures limits { IsOverrideDuration result }

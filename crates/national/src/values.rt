@@ -6,7 +6,7 @@ use packets::NationalValues;
 use units::{Mph, Reach};
 use vars::{OpenLength, OverrideTime, Scale, SpeedStep, Variable};
 
-/// National values (packet 3; SUBSET-026, 3.18.2). Speeds are metres per hour.
+/// National values (packet 3; SUBSET-026, 3.18.2). Speeds are metres per hour, distances centimetres, times milliseconds.
 #[derive(Clone, Copy, Debug, PartialEq, Eq)]
 pub struct Values {
     /// The speed in Shunting (V_NVSHUNT).
@@ -34,7 +34,8 @@ pub struct Values {
 }
 
 impl Values {
-    /// The defaults, which hold until others come into force.
+    /// The defaults, which hold until others come into force (SUBSET-026, 3.18.2; the numbers: this project's profile, in
+    /// `docs/CONFORMANCE.md`).
     pub fn defaults() -> Values
         ensures { result ≡ defaults }
     {
@@ -53,7 +54,7 @@ impl Values {
         }
     }
 
-    /// The values of a packet 3, in units.
+    /// The values of a packet 3, in the units of `Values`: steps of 5 km/h, its scale, and seconds are worked out.
     pub fn of(packet: &NationalValues) -> Values
         ensures { result ≡ values_of packet.now }
     {

@@ -1,16 +1,16 @@
 use crate::Sums;
 use units::{Cm, Length};
 
-/// A place that a balise group gives (SUBSET-026, 3.6.4).
+/// A place that a balise group gives (SUBSET-026, 3.6.4; what it makes of the uncertainty: this project's profile).
 #[derive(Clone, Copy)]
 pub struct Fix {
     /// Where the group lies, in centimetres of the life.
     pub at: Cm,
-    /// How far it may lie from there, in centimetres.
+    /// How far it may lie from there, to either side, in centimetres.
     pub accuracy: Length,
-    /// The sums of the life when its balise was read.
+    /// The movements and the path of the life when its balise was read, in centimetres.
     pub sums: Sums,
-    /// Whether its balise 1 was missed.
+    /// Whether its balise 1 was missed, which adds 1,200 cm to the uncertainty.
     pub missed: bool,
 }
 

@@ -1,7 +1,7 @@
 use std::error::Error;
 use std::fmt;
 
-/// The path of the life or a place would lie beyond 2^40 cm.
+/// The path of the life, the estimate or the place of a group would lie beyond 2^40 cm (this project's profile).
 #[derive(Clone, Copy, Debug, PartialEq, Eq)]
 pub struct Overrun;
 

@@ -10,7 +10,8 @@ use units::{Cm, GroupPlace, Length, Movement, Stretch};
 /// The farthest place of a life, in centimetres.
 const FARTHEST: u64 = 1 << 40;
 
-/// Where the train's front is, by the odometer and the balise groups of this life (SUBSET-026, 3.6.4; the formula: this project's profile).
+/// Where the train's front is, by the odometer and the balise groups of this life (SUBSET-026, 3.6.4; the formula: this
+/// project's profile). Places count from where the life began, forward positive.
 #[derive(Clone, Copy)]
 pub struct Place {
     // The last fix, and the sums now.
@@ -38,7 +39,7 @@ fn is_near(place: i64) -> bool
 }
 
 impl Place {
-    /// The place at the start of a life: exactly 0.
+    /// The place at the start of a life: estimate, movements and path are 0, and the uncertainty is 500 cm. Takes no memory.
     pub fn new() -> Self
         ensures { result ≡ known [] }
     {
@@ -48,7 +49,8 @@ impl Place {
         }
     }
 
-    /// Adds a movement, forward or backward; Overrun exactly where it has no room, and then nothing changes.
+    /// Adds a movement, forward or backward, in centimetres. Overrun exactly where the path of the life or the new estimate
+    /// would lie beyond 2^40 cm; then nothing changes. The caller owes each movement of the odometer once, in order.
     pub fn moved(&mut self, movement: Movement) -> Result<(), Overrun>
         ensures room { IsOk result ↔ IsTrue (has_room self.old movement) }
         ensures stands { (entries : List Entry) → self.old ≡ known entries
@@ -65,8 +67,8 @@ impl Place {
         Ok(())
     }
 
-    /// Takes the place of a balise group; Overrun exactly where the group or the new estimate lies too far, and then nothing
-    /// changes.
+    /// Takes the place of a balise group in place of the last fix, and answers it, in centimetres. Overrun exactly where it, or
+    /// the estimate that it gives now, lies beyond 2^40 cm; then nothing changes. The sums of the fix are those of this life.
     pub fn fix(&mut self, fix: Fix) -> Result<GroupPlace, Overrun>
         ensures made { IsOk result ↔ IsTrue (is_made self.old.sums fix) }
         ensures place { IfOk result (λ place. place ≡ fix.at) }
@@ -82,14 +84,15 @@ impl Place {
         Ok(GroupPlace::new(at).unwrap())
     }
 
-    /// The sums of the life now, in centimetres.
+    /// The movements and the path of the life up to now, in centimetres.
     pub fn sums(&self) -> Sums
         ensures { result ≡ self.now.sums }
     {
         self.sums
     }
 
-    /// Where the front was at a moment of this life, reckoned from the last fix, in centimetres. The sums are those of the moment.
+    /// Where the front was at a moment of this life, reckoned from the last fix, in centimetres. The caller owes the sums of
+    /// that moment.
     pub fn place_at(&self, moment: &Sums) -> EarlierPlace
         ensures { result ≡ place_at self.now.fix moment.now }
     {
@@ -99,7 +102,7 @@ impl Place {
         }
     }
 
-    /// Where the front is thought to be, in centimetres.
+    /// The estimated position: where the front is thought to be, in centimetres; at most 2^40 from 0.
     pub fn estimate(&self) -> Cm
         ensures value { result ≡ estimate self.now }
         ensures near { unsigned_abs result ≤ farthest }
@@ -124,28 +127,30 @@ impl Place {
         Cm::new(self.fix.uncertainty_at(&self.sums) as i64).unwrap()
     }
 
-    /// The minimum safe front, in centimetres: the estimate less the uncertainty.
+    /// The minimum safe front (3.6.4), in centimetres: the estimate less the uncertainty.
     pub fn min_front(&self) -> Cm
         ensures { result ≡ min_front self.now }
     {
         self.stretch(Length::ZERO).min_front()
     }
 
-    /// The maximum safe front, in centimetres: the estimate and the uncertainty.
+    /// The maximum safe front (3.6.4), in centimetres: the estimate plus the uncertainty.
     pub fn max_front(&self) -> Cm
         ensures { result ≡ max_front self.now }
     {
         self.stretch(Length::ZERO).max_front()
     }
 
-    /// The minimum safe rear of a train of this length; with no length the minimum safe front.
+    /// The minimum safe rear of a train of this length (3.6.4), in centimetres: the minimum safe front less the length. For
+    /// length 0 it is the minimum safe front.
     pub fn min_rear(&self, length: Length) -> Cm
         ensures { result ≡ min_rear self.now length }
     {
         self.stretch(length).rear()
     }
 
-    /// The track that a train of this length may cover. Even from its rear each distance of a packet leads to a place.
+    /// The track that a train of this length may cover, in centimetres: minimum safe rear, minimum and maximum safe front. Each
+    /// distance of a packet, counted from any of these, leads to a place within the limits of `Cm`.
     pub fn stretch(&self, length: Length) -> Stretch
         ensures value { result ≡ stretch self.now length }
         ensures near { HasReach result.rear }

@@ -6,7 +6,8 @@ ghost use Rattle.odometry.specs.Sums.{moved_on, movement_between, path_between};
 use std::marker::Model;
 use units::{Cm, Length, Movement};
 
-/// The sums of a life at one moment: of its movements, and of their absolute values (its path).
+/// The sums of a life at one moment, in centimetres: of its movements, and of their absolute values, which is its path (this
+/// project's profile).
 #[derive(Clone, Copy)]
 pub struct Sums {
     moved: i64,
@@ -29,10 +30,10 @@ impl Model for Sums {
 const LONGEST: u64 = 1 << 40;
 
 impl Sums {
-    /// The sums at the start of a life.
+    /// The sums at the start of a life: both 0.
     pub const ZERO: Sums = Sums { moved: 0, path: 0 };
 
-    /// The sum of the movements, in centimetres.
+    /// The sum of the movements, forward positive, in centimetres; at most 2^40 from 0.
     pub fn moved(&self) -> Cm
         ensures value { result ≡ self.now.moved }
         ensures near { unsigned_abs result ≤ farthest }
@@ -40,7 +41,7 @@ impl Sums {
         Cm::new(self.moved).unwrap()
     }
 
-    /// The path, in centimetres.
+    /// The path, in centimetres: from 0 to 2^40. It never falls within a life.
     pub fn path(&self) -> Length
         ensures { result ≡ self.now.path }
     {

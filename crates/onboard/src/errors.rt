@@ -5,11 +5,11 @@
 pub enum OpenError {
     /// The device failed in this call.
     DeviceFault,
-    /// The first sector is no spelling, or there is none.
+    /// The first sector isn't that of a journal, or there is none. Nothing was written.
     NotFormatted,
-    /// The number of sectors isn't that of the slots, or the block of the greatest number is no spelling.
+    /// The number of sectors isn't that of the slots, or the block of the greatest number is no spelling. Nothing was written.
     Damaged,
-    /// Memory was refused; nothing was written.
+    /// Memory was refused; nothing was written. `open` takes none, and so never answers it.
     NoMemory,
     /// The block of the greatest number has the last number, 2^40; nothing was written.
     WornOut,
@@ -22,9 +22,9 @@ pub enum AcceptError {
     Failed,
     /// Eight events are pending, as many as one block holds; flush first.
     PendingFull,
-    /// Its moment lies before the last one of this life, in milliseconds.
+    /// Its moment, in milliseconds, lies before the last one of this life.
     ClockBack,
-    /// Memory was refused.
+    /// Memory was refused for the event; nothing changed.
     NoMemory,
 }
 
@@ -42,12 +42,12 @@ pub enum FlushError {
 /// Why a life ended before its last step, with the number of the step, from 0 on (this project's profile).
 #[derive(Clone, Copy, Debug, PartialEq, Eq)]
 pub enum LiveError {
-    /// It didn't begin.
+    /// It didn't begin, for this reason.
     Open(OpenError),
-    /// An input wasn't accepted.
+    /// The input of this step wasn't accepted.
     Accept(usize, AcceptError),
-    /// A flush released nothing.
+    /// The flush of this step released nothing.
     Flush(usize, FlushError),
-    /// There was no room for the eight outputs that a flush may release, so that it didn't begin.
+    /// There was no room for the eight outputs that the flush of this step may release, so that it didn't begin.
     NoMemory(usize),
 }

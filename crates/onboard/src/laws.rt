@@ -12,7 +12,7 @@ pub fn lives_compose()
     ensures { LivesCompose }
 {}
 
-/// A law: whatever lives follow one another, all that was ever released stands in the list that is found last.
+/// A law: whatever lives follow one another, the list that is found last has all that was ever released.
 pub fn releases_stay()
     ensures { AnyNumberOfLives }
 {}

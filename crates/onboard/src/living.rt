@@ -19,8 +19,9 @@ use life_steps::Step;
 use mode_table::Cold;
 use std::alloc::Global;
 
-/// One life: powers up, and takes the steps in order, up to the first error, whose step it names (this project's profile). It hands on what
-/// is released as it is released, and the disk back.
+/// One life (this project's profile): powers up on the disk, and takes the steps in order, up to the first error, whose step it
+/// names. What is released is handed to the sink as it is released. It hands the disk back. `cold` says whether the train moved
+/// without power; the caller owes that "not moved" is true.
 pub fn live_into<D: Disk, S: ReleaseSink>(
     alloc: Global,
     disk: D,
@@ -49,7 +50,7 @@ pub fn live_into<D: Disk, S: ReleaseSink>(
     }
 }
 
-/// One life, which hands on what is released to the end of a list.
+/// One life as by `live_into`; what is released goes to the end of a list, also where an error follows.
 pub fn live<D: Disk>(
     alloc: Global,
     disk: D,

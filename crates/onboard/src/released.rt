@@ -39,7 +39,7 @@ impl Released {
         self.number
     }
 
-    /// What the kernel answered to the event.
+    /// What the kernel answered to the event: mode, level, brake, limit and indications.
     pub fn output(&self) -> Output
         ensures { result ≡ self.now.output }
     {

@@ -13,13 +13,13 @@ pub trait ReleaseSink {
     /// For how many releases it has room.
     ghost room: { Self → ℕ };
 
-    /// Makes room for the eight releases of a flush, before it begins.
+    /// Makes room for the eight releases of a flush, before it begins. NoMemory exactly where there is less room then.
     fn make_room(&mut self) -> Result<(), NoMemory>
         ensures given { Gave self.old [] self.new }
         ensures room { OnOk result (8 ≤ room self.new) }
         ensures full { OnErr result (room self.new < 8) };
 
-    /// Takes these, in their order.
+    /// Takes these, in their order. The caller owes that there is room for them.
     fn give(&mut self, pairs: &[Released])
         requires room { length pairs.now ≤ room self.old }
         ensures given { Gave self.old pairs.now self.new };

@@ -95,7 +95,8 @@ fn take<D: Disk, S: ReleaseSink>(
     }
 }
 
-/// Takes the steps in order, up to the first error, and hands on what is released as it is released.
+/// Takes the steps in order, up to the first error, whose step it names, and hands on what is released as it is released (this
+/// project's profile).
 pub fn run_into<D: Disk, S: ReleaseSink>(
     alloc: Global,
     unit: &mut Onboard<D>,
@@ -119,7 +120,7 @@ pub fn run_into<D: Disk, S: ReleaseSink>(
     Ok(())
 }
 
-/// The same into a list, at its end.
+/// The same, with the same errors; what is released goes to the end of a list.
 pub fn run<D: Disk>(
     alloc: Global,
     unit: &mut Onboard<D>,

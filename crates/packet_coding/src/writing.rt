@@ -7,8 +7,9 @@ ghost use Rattle.packets.specs.Packets.{packet as packet_layout, length_of, numb
 use bits::{BitWriter, Full, VariableName};
 use packets::{FieldSink, Packet, put};
 
-/// Hands a whole packet to a sink, NID_PACKET first; stops where the sink takes no more. The length is the packet's own
-/// (`Packet::length`). Where L_PACKET can't hold it, the packet has no spelling, and nothing is said of what the sink takes.
+/// Hands a whole packet to a sink, NID_PACKET first; stops with the sink's error where it takes no more. The caller owes the
+/// packet's own length in bits (`Packet::length`), and room in the sink. Where L_PACKET can't hold the length, the packet has
+/// no spelling, and nothing is said of what the sink takes.
 pub fn hand_packet<S: FieldSink>(
     packet: &Packet<'_>,
     length: u64,
@@ -22,7 +23,8 @@ pub fn hand_packet<S: FieldSink>(
     packet.fields(length, sink)
 }
 
-/// Writes a packet that has a spelling (SUBSET-026, 7.4.2). Nothing is written where its bits do not fit.
+/// Writes a packet (SUBSET-026, 7.4.2). Full where its bits do not fit, and then nothing is written. The caller owes a packet
+/// that has a spelling, as each that was read has (`Packet::has_spelling`).
 pub fn write_packet<const N: usize>(
     packet: &Packet<'_>,
     writer: &mut BitWriter<N>,

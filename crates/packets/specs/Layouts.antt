@@ -1,5 +1,6 @@
 -- The layouts of packets (SUBSET-026, 7.4.2; the orders and widths of packets 3, 5, 12, 41 and 80 are this project's
 -- profile). A layout follows the number of its packet, and hands the L_PACKET that was read on beside the packet.
+-- Widths and L_PACKET are bits.
 use Rattle.std.specs.Prelude.{ℕ, ◌+◌, ◌-◌, nat_lt, List, [], ◌∷◌, ◌++◌, length, take, slice_index_or}
 use Rattle.bits.specs.Layout.{Layout, done, unless, run, inner, more, ◌>>=◌, folded}
 use Rattle.bits.specs.Sums.{total}

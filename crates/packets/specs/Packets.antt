@@ -1,4 +1,4 @@
--- Any packet: its layout by its number, its length and its fields (SUBSET-026, 7.4.2).
+-- Any packet: its layout by its number, its length and its fields (SUBSET-026, 7.4.2). Lengths are bits.
 use Rattle.std.specs.Prelude.{ℕ, ◌+◌, ◌==◌, List, Option, Some, None}
 use Rattle.bits.specs.Layout.{Layout, unless, choice, kind, measured, ◌>>=◌}
 use Rattle.bits.specs.Writing.{Shown, taken, size, shown}

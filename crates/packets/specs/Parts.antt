@@ -1,4 +1,5 @@
 -- What layouts of packets are made of, and what becomes of a sink that takes these parts (SUBSET-026, 7.3 and 7.4).
+-- Widths are bits.
 use Rattle.std.specs.Prelude.{ℕ, ◌+◌, ◌-◌, Bool, List, [], length, take, drop, Option, is_some, Result}
 use Rattle.std.specs.Int.{from_bool}
 use Rattle.std.specs.Option.{option_map_or}

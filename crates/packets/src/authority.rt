@@ -25,7 +25,7 @@ use vars::{
     Variable, has_number,
 };
 
-/// The timer of a section.
+/// The timer of a section (SUBSET-026, 7.4.2; its layout: this project's profile).
 #[derive(Clone, Copy)]
 pub struct SectionTimer {
     /// T_SECTIONTIMER.
@@ -44,7 +44,7 @@ impl Default for SectionTimer {
     }
 }
 
-/// A section of an authority.
+/// A section of an authority (SUBSET-026, 7.4.2; its layout: this project's profile).
 #[derive(Clone, Copy)]
 pub struct Section {
     /// L_SECTION or L_ENDSECTION.
@@ -63,7 +63,7 @@ impl Default for Section {
     }
 }
 
-/// The timer of the end section.
+/// The timer of the end section (SUBSET-026, 7.4.2; its layout: this project's profile).
 #[derive(Clone, Copy)]
 pub struct EndTimer {
     /// T_ENDTIMER.
@@ -82,7 +82,7 @@ impl Default for EndTimer {
     }
 }
 
-/// The danger point behind the end.
+/// The danger point behind the end (SUBSET-026, 7.4.2; its layout: this project's profile).
 #[derive(Clone, Copy)]
 pub struct DangerPoint {
     /// D_DP: from the end.
@@ -101,7 +101,7 @@ impl Default for DangerPoint {
     }
 }
 
-/// The overlap behind the end.
+/// The overlap behind the end (SUBSET-026, 7.4.2; its layout: this project's profile).
 #[derive(Clone, Copy)]
 pub struct Overlap {
     /// D_STARTOL: from the end back to where its timer starts.
@@ -126,7 +126,7 @@ impl Default for Overlap {
     }
 }
 
-/// Packet 12: a movement authority of level 1.
+/// Packet 12: a movement authority of level 1 (SUBSET-026, 7.4.2; its layout: this project's profile).
 #[derive(Drop)]
 pub struct MovementAuthority {
     /// Q_DIR.
@@ -151,7 +151,8 @@ pub struct MovementAuthority {
     pub overlap: Option<Overlap>,
 }
 
-/// Reads packet 12 behind its number, into the place of another packet; answers its L_PACKET.
+/// Reads packet 12 behind its number, into the place of another packet; answers its L_PACKET, in bits. The error is the first
+/// fault in the order of the bits.
 #[tactic(auto, unfolding(crate::specs::Layouts::movement_authority_telling))]
 pub fn read_movement_authority<'a>(
     reader: &mut BitReader<'a>,

@@ -21,7 +21,7 @@ use vars::{
     has_number,
 };
 
-/// A gradient from a place on.
+/// A gradient from a place on (SUBSET-026, 7.4.2).
 #[derive(Clone, Copy)]
 pub struct Gradient {
     /// D_GRADIENT: from the place before, the first from the group.
@@ -89,7 +89,8 @@ pub struct Gradients {
     pub gradients: ArrayVec<Gradient, 32>,
 }
 
-/// Reads packet 21 behind its number, into the place of another packet; answers its L_PACKET.
+/// Reads packet 21 behind its number, into the place of another packet; answers its L_PACKET, in bits. The error is the first
+/// fault in the order of the bits.
 #[tactic(auto, unfolding(crate::specs::Layouts::gradients_telling))]
 pub fn read_gradients<'a>(
     reader: &mut BitReader<'a>,

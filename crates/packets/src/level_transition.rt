@@ -58,7 +58,8 @@ impl Element for StmIdentity {
     }
 }
 
-/// A level that a transition leads to. A train takes the first that it can run in.
+/// A level that a transition leads to (SUBSET-026, 7.4.2; its layout: this project's profile). A train takes the first that it
+/// can run in.
 #[derive(Clone, Copy)]
 pub struct LevelOrder {
     /// M_LEVELTR.
@@ -122,7 +123,7 @@ impl Element for LevelOrder {
     }
 }
 
-/// Packet 41: a change of level is announced.
+/// Packet 41: a change of level is announced (SUBSET-026, 7.4.2; its layout: this project's profile).
 #[derive(Drop)]
 pub struct LevelTransition {
     /// Q_DIR.
@@ -135,7 +136,8 @@ pub struct LevelTransition {
     pub orders: ArrayVec<LevelOrder, 32>,
 }
 
-/// Reads packet 41 behind its number, into the place of another packet; answers its L_PACKET.
+/// Reads packet 41 behind its number, into the place of another packet; answers its L_PACKET, in bits. The error is the first
+/// fault in the order of the bits.
 #[tactic(auto, unfolding(crate::specs::Layouts::level_transition_telling))]
 pub fn read_level_transition<'a>(
     reader: &mut BitReader<'a>,

@@ -21,7 +21,7 @@ use vars::{
     Scale, ValidityDirection, Variable, has_number,
 };
 
-/// A group that packet 5 announces.
+/// A group that packet 5 announces (SUBSET-026, 7.4.2; its layout: this project's profile).
 #[derive(Clone, Copy)]
 pub struct Link {
     /// D_LINK: from the group announced before, the first from this group.
@@ -104,7 +104,7 @@ impl Element for Link {
     }
 }
 
-/// Packet 5: which groups come, and what follows where one doesn't.
+/// Packet 5: which groups come, and what follows where one doesn't (SUBSET-026, 7.4.2; its layout: this project's profile).
 #[derive(Drop)]
 pub struct Linking {
     /// Q_DIR.
@@ -115,7 +115,8 @@ pub struct Linking {
     pub links: ArrayVec<Link, 32>,
 }
 
-/// Reads packet 5 behind its number, into the place of another packet; answers its L_PACKET.
+/// Reads packet 5 behind its number, into the place of another packet; answers its L_PACKET, in bits. The error is the first
+/// fault in the order of the bits.
 #[tactic(auto, unfolding(crate::specs::Layouts::linking_telling))]
 pub fn read_linking<'a>(
     reader: &mut BitReader<'a>,

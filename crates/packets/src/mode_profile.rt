@@ -21,7 +21,7 @@ use vars::{
     has_number,
 };
 
-/// An area in which a mode is asked for.
+/// An area in which a mode is asked for (SUBSET-026, 7.4.2; its layout: this project's profile).
 #[derive(Clone, Copy)]
 pub struct ModeArea {
     /// D_MAMODE: from the start of the area before, the first from the group.
@@ -94,7 +94,7 @@ impl Element for ModeArea {
     }
 }
 
-/// Packet 80: the areas in which On Sight or Shunting is asked for.
+/// Packet 80: the areas in which On Sight or Shunting is asked for (SUBSET-026, 7.4.2; its layout: this project's profile).
 #[derive(Drop)]
 pub struct ModeProfile {
     /// Q_DIR.
@@ -105,7 +105,8 @@ pub struct ModeProfile {
     pub areas: ArrayVec<ModeArea, 32>,
 }
 
-/// Reads packet 80 behind its number, into the place of another packet; answers its L_PACKET.
+/// Reads packet 80 behind its number, into the place of another packet; answers its L_PACKET, in bits. The error is the first
+/// fault in the order of the bits.
 #[tactic(auto, unfolding(crate::specs::Layouts::mode_profile_telling))]
 pub fn read_mode_profile<'a>(
     reader: &mut BitReader<'a>,

@@ -50,7 +50,8 @@ impl Element for Country {
     }
 }
 
-/// Packet 3, in this project's own order: national values and the countries that they are for.
+/// Packet 3, in this project's own order: national values and the countries that they are for (SUBSET-026, 7.4.2 and 3.18.2;
+/// the order: this project's profile).
 #[derive(Drop)]
 pub struct NationalValues {
     /// Q_DIR.
@@ -85,7 +86,8 @@ pub struct NationalValues {
     pub staff_responsible_distance: OpenLength,
 }
 
-/// Reads packet 3 behind its number, into the place of another packet; answers its L_PACKET.
+/// Reads packet 3 behind its number, into the place of another packet; answers its L_PACKET, in bits. The error is the first
+/// fault in the order of the bits.
 #[tactic(auto, unfolding(crate::specs::Layouts::national_values_telling))]
 pub fn read_national_values<'a>(
     reader: &mut BitReader<'a>,

@@ -21,7 +21,7 @@ use vars::{
     PacketNumber, RestrictionNumber, UntestedDirection, ValidityDirection, Variable, has_number,
 };
 
-/// A packet of another number, which is skipped by its length.
+/// A packet of another number, which is skipped by its length (SUBSET-026, 7.4.2).
 #[derive(Drop)]
 pub struct Other<'a> {
     /// NID_PACKET.
@@ -32,7 +32,7 @@ pub struct Other<'a> {
     pub body: Run<'a>,
 }
 
-/// A packet of a telegram.
+/// A packet of a telegram (SUBSET-026, 7.4.2).
 #[derive(Drop)]
 pub enum Packet<'a> {
     /// Packet 3.
@@ -207,9 +207,9 @@ impl<'a> Packet<'a> {
         }
     }
 
-    /// Hands the fields behind NID_PACKET to the sink, and then the bits that are skipped; stops where it takes no more.
-    /// The length is the packet's own (`length`). Where L_PACKET can't hold it, the packet has no spelling, and nothing
-    /// is said of what the sink takes.
+    /// Hands the fields behind NID_PACKET to the sink, and then the bits that are skipped; stops with the sink's error where it
+    /// takes no more. The caller owes the packet's own length in bits (`length`), and room in the sink. Where L_PACKET can't
+    /// hold the length, the packet has no spelling, and nothing is said of what the sink takes.
     pub fn fields<S: FieldSink>(&self, length: u64, sink: &mut S) -> Result<(), S::Error>
         requires length { length ≡ length_of self.now }
         requires room { S.held sink.old + length ≤ S.most + 8 }

@@ -6,7 +6,7 @@ use crate::fault::PacketFault;
 use bits::BitReader;
 use vars::Variable;
 
-/// Reads a variable.
+/// Reads a variable. Truncated where its bits aren't there, Spare or OutOfRange where its number has no value.
 #[inline(always)]
 #[tactic(auto, unfolding(bits::specs::Layout::read_field))]
 pub fn field<V: Variable>(reader: &mut BitReader<'_>) -> Result<V, PacketFault>

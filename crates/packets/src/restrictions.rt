@@ -17,7 +17,7 @@ use vars::{
     ValidityDirection, has_number,
 };
 
-/// Packet 65: a temporary speed restriction.
+/// Packet 65: a temporary speed restriction (SUBSET-026, 7.4.2).
 #[derive(Clone, Copy)]
 pub struct SpeedRestriction {
     /// Q_DIR.
@@ -36,7 +36,7 @@ pub struct SpeedRestriction {
     pub speed: SpeedStep,
 }
 
-/// Packet 66: a temporary speed restriction is revoked.
+/// Packet 66: a temporary speed restriction is revoked (SUBSET-026, 7.4.2).
 #[derive(Clone, Copy)]
 pub struct RestrictionRevocation {
     /// Q_DIR.
@@ -45,7 +45,8 @@ pub struct RestrictionRevocation {
     pub number: RestrictionNumber,
 }
 
-/// Reads packet 65 behind its number, into the place of another packet; answers its L_PACKET.
+/// Reads packet 65 behind its number, into the place of another packet; answers its L_PACKET, in bits. The error is the first
+/// fault in the order of the bits.
 #[tactic(auto, unfolding(crate::specs::Layouts::speed_restriction_telling))]
 pub fn read_restriction<'a>(
     reader: &mut BitReader<'a>,
@@ -71,7 +72,8 @@ pub fn read_restriction<'a>(
     Ok(told)
 }
 
-/// Reads packet 66 behind its number, into the place of another packet; answers its L_PACKET.
+/// Reads packet 66 behind its number, into the place of another packet; answers its L_PACKET, in bits. The error is the first
+/// fault in the order of the bits.
 #[tactic(auto, unfolding(crate::specs::Layouts::restriction_revocation_telling))]
 pub fn read_revocation<'a>(
     reader: &mut BitReader<'a>,

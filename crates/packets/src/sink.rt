@@ -5,7 +5,7 @@ use bits::{BitWriter, Run, VariableName};
 use std::convert::Infallible;
 use vars::Variable;
 
-/// What takes fields, one after another in the order in which they are spelled.
+/// What takes fields, one after another in the order in which they are spelled (this project's profile).
 pub trait FieldSink {
     /// What is said of it.
     ghost Seen: { Type 0 };
@@ -38,7 +38,7 @@ pub trait FieldSink {
         ensures held { OnOk result (held self.new ≤ held self.old + length bits.now) };
 }
 
-/// Hands the value of a variable to a sink.
+/// Hands the value of a variable to a sink. The error is the sink's. The caller owes room in the sink.
 #[inline(always)]
 pub fn put<V: Variable, S: FieldSink>(
     sink: &mut S,

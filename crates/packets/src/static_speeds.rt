@@ -23,7 +23,7 @@ use vars::{
     ValidityDirection, Variable, has_number,
 };
 
-/// A speed for trains of a category.
+/// A speed for trains of a category (SUBSET-026, 7.4.2).
 #[derive(Clone, Copy)]
 pub struct Difference {
     /// NC_DIFF.
@@ -71,7 +71,7 @@ impl Element for Difference {
     }
 }
 
-/// A static speed from a place on.
+/// A static speed from a place on (SUBSET-026, 7.4.2).
 #[derive(Clone, Copy)]
 pub struct StaticStep {
     /// D_STATIC: from the place before, the first from the group.

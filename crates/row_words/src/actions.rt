@@ -6,7 +6,7 @@ use std::str::{FromStr, SplitWhitespace};
 use units::{Length, Mph};
 use vars::{TrainCategory, Variable};
 
-/// The action of a word and what stands behind it; None where it is none.
+/// The action of a word and what follows it; None where it is none.
 pub fn action(word: &str, value: &str) -> Option<Action> {
     let action = match word {
         "enter-identity" => Action::EnterIdentity(DriverIdentity::new(value.as_bytes())?),

@@ -5,7 +5,7 @@ use mode_table::Cold;
 use std::alloc::Global;
 use units::{Movement, Mph, Ms};
 
-/// The event of a word and what stands behind it; None where it is none.
+/// The event of a word and what follows it; None where it is none.
 pub fn event(alloc: Global, word: &str, value: &str) -> Option<Event> {
     match word {
         "power-up" => Some(Event::PowerUp(cold(value)?)),
@@ -13,7 +13,7 @@ pub fn event(alloc: Global, word: &str, value: &str) -> Option<Event> {
     }
 }
 
-/// The input of a word and what stands behind it; None where it is none.
+/// The input of a word and what follows it; None where it is none.
 pub fn input(alloc: Global, word: &str, value: &str) -> Option<Input> {
     match word {
         "hear" => Some(Input::Telegram(bytes(alloc, value)?)),

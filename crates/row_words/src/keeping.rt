@@ -9,13 +9,21 @@ use vars::Variable;
 /// An item that is kept.
 #[derive(Clone, Copy)]
 pub enum Item {
+    /// The driver's identity.
     Identity,
+    /// The running number.
     RunningNumber,
+    /// The train data.
     TrainData,
+    /// The level.
     Level,
+    /// The position, by a group.
     Position,
+    /// The national values in force, with their countries.
     National,
+    /// The outstanding trip.
     Trip,
+    /// The counts of events and lives.
     Counts,
 }
 

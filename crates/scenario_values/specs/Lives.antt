@@ -1,4 +1,5 @@
--- The life that the JSON value of a scenario asks for, or its first fault (this project's profile).
+-- The life that the JSON value of a scenario asks for, or its first fault (this project's profile). Distances are
+-- centimetres, speeds metres per hour, moments milliseconds.
 use Rattle.std.specs.Prelude.{ℕ, ◌&&◌, ℤ, pos, List, [], ◌∷◌, codes, is_some, Bool, if◌then◌else◌, Option, Some, None, Result, Ok, Err}
 use Rattle.std.specs.Ordering.{int_eq}
 use Rattle.serde_json.specs.Data.{Data}

@@ -1,4 +1,4 @@
--- Printing first these and then those.
+-- Printing first these and then those (this project's profile).
 use Rattle.std.proofs.Common.{◌≡◌, ℕ, ◌+◌, suc, zero, List, [], ◌∷◌, ◌++◌, Bool, Option, Some, IsTrue, flat_map, take, append_assoc, append-nil, sym, ap, ◌∙◌, refl, add-one, unwrap_or, subst}
 use Rattle.std.specs.List.{slice_get}
 use Rattle.std.specs.Io.KnownBytes.{Appends}

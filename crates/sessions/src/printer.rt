@@ -26,8 +26,9 @@ fn print<W: Write>(pairs: &[Released], out: &mut W) -> io::Result<()>
 }
 
 /// Prints a line for each release as it comes, and hands the text on at once. After a write that failed it prints nothing more, and has room
-/// for no more: so a life stops before its next flush, and nothing is released that can't be told.
+/// for no more: so a life stops before its next flush, and nothing is released that can't be written.
 pub(crate) struct Printer<W> {
+    /// What the lines are written to.
     pub out: W,
     /// What became of the writes so far.
     pub told: io::Result<()>,

@@ -8,7 +8,7 @@ use scenario_values::{ScenarioFault, life_of};
 use serde_json::Value;
 use std::alloc::Global;
 
-/// A scenario: the bytes of its file.
+/// A scenario: the bytes of its file (this project's profile).
 #[derive(Drop)]
 pub struct Scenario {
     /// The bytes, of a JSON value in UTF-8.

@@ -14,7 +14,7 @@ use braking::{Approach, Brakes, Target};
 use track_store::Profile;
 use units::{Cm, Mph, Permille};
 
-/// What lies ahead of a train, and how it brakes.
+/// What lies ahead of a train, and how it brakes (SUBSET-026, 3.13; this project's profile).
 #[derive(Clone, Copy)]
 pub struct Ahead<'a, S, G> {
     /// The train's greatest front, in centimetres.

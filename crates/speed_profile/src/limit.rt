@@ -11,7 +11,7 @@ use track_store::{Profile, least_over};
 use units::{Cm, Mph, Stretch};
 use vars::TrainCategory;
 
-/// What limits the train's speed wherever it is.
+/// What limits the train's speed wherever it is (SUBSET-026, 3.11).
 #[derive(Clone, Copy)]
 pub struct Bounds {
     /// The train's greatest speed, in metres per hour.

@@ -8,7 +8,7 @@ use track_store::{Piece, Profile};
 use units::{Cm, Mph};
 use vars::{TrainCategory, TrainLengthDelay};
 
-/// At each centimetre the static speed for a train of a category whose least front is at a place.
+/// At each centimetre the static speed for a train of a category whose least front is at a place (SUBSET-026, 3.11.3).
 #[derive(Clone, Copy)]
 pub struct Limiting<'a, S> {
     /// The static speeds.

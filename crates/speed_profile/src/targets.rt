@@ -19,9 +19,9 @@ use std::marker::Model;
 use track_store::Profile;
 use units::Cm;
 
-/// What a train must brake for ahead, one target after another: the start of each piece of the static speeds, the nearest first,
-/// where one without a speed is a stop if it begins before the end of the authority; each restriction and each mode area at the
-/// first centimetre that it covers there; and a last target.
+/// What a train must brake for ahead, one target after another: the start of each piece of the static speeds, the nearest
+/// first, where one without a speed is a stop if it begins before the end of the authority; each restriction and each mode area
+/// at the first centimetre that it covers there; and a last target (SUBSET-026, 3.13; this project's profile).
 #[derive(Drop)]
 pub struct Targets<'a, S: Profile<CategorySpeeds>> {
     speeds: SpeedTargets<'a, S>,

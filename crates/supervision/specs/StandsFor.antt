@@ -1,4 +1,4 @@
--- What is known represents a life (this project's profile).
+-- What is known represents a life (this project's profile). Places are centimetres, moments milliseconds.
 use Rattle.std.specs.Prelude.{◌≡◌, ℕ, ℤ, Option}
 use Rattle.areas.specs.declared.acknowledgement.Acknowledgement.{Acknowledgement}
 use Rattle.driver.specs.declared.action.Action.{Action}

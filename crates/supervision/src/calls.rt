@@ -1,9 +1,10 @@
 use units::Ms;
 
-/// What an event calls for from the driver, of one kind of acknowledgement.
+/// What an event calls for from the driver, of one kind of acknowledgement (SUBSET-026, 5.7, 5.9 and 5.10; when: this project's
+/// profile).
 #[derive(Clone, Copy)]
 pub struct Call {
-    /// The moment of the transition of the kind, where the event is one.
+    /// The moment of the transition of the kind, in milliseconds, where the event is one.
     pub turned: Option<Ms>,
     /// Whether an area or an announcement of the kind asks for it, while its mode doesn't hold.
     pub asks: bool,

@@ -1,6 +1,6 @@
 use driver::{Action, Occasion};
 
-/// An action of the driver that was accepted.
+/// An action of the driver that was accepted (this project's profile).
 #[derive(Clone, Copy)]
 pub struct Deed {
     /// What was done.

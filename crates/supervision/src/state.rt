@@ -15,7 +15,7 @@ use track_store::{ProfileStore, SegmentStore};
 use trackside::TracksideOver;
 use units::{Length, NoMemory, Permille, Stretch};
 
-/// The supervision of a train, with stores for the gradients and the static speeds.
+/// The supervision of a train, with stores for the gradients and the static speeds (this project's profile).
 #[derive(Drop)]
 pub struct SupervisionOver<G, S> {
     pub(crate) parts: Parts,

@@ -1,4 +1,4 @@
--- The telegram of a balise (SUBSET-026, 8.4.2).
+-- The telegram of a balise (SUBSET-026, 8.4.2). Widths are bits.
 use Rattle.std.specs.Prelude.{◌≡◌, ◌⊎◌, ◌<◌, ◌≤◌, ℕ, ◌==◌, nat_lt, Bool, true, false, List, [], ◌∷◌, ◌++◌, length, Option, Some, None, Ok, Err, if◌then◌else◌}
 use Rattle.bits.specs.Bits.{bits_of}
 use Rattle.bits.specs.declared.name.VariableName.{VariableName}

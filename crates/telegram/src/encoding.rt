@@ -10,7 +10,7 @@ use packet_coding::write_packet;
 use packets::Packet;
 use thiserror::Error;
 
-/// The telegram has more than 832 bits, which are those of 104 bytes.
+/// The telegram has more than 832 bits, which are those of 104 bytes (SUBSET-026, 8.4.2).
 #[derive(Clone, Copy, Debug, PartialEq, Eq, Error)]
 #[error("TooLong")]
 pub struct TooLong;
@@ -44,9 +44,9 @@ fn write_packets(packets: &[Packet<'_>], writer: &mut BitWriter<104>) -> Result<
     Ok(())
 }
 
-/// Writes a telegram that has a spelling (SUBSET-026, 8.4.2) into the front of the array, padded with zero bits to whole
-/// bytes, and returns how many bytes these are; decoded again, they give the telegram. Where it has more than 832 bits it
-/// is TooLong, and nothing is written.
+/// Writes a telegram (SUBSET-026, 8.4.2) into the front of the array, padded with zero bits to whole bytes, and returns how
+/// many bytes these are; decoded again, they give the telegram. TooLong where it has more than 832 bits, and then nothing is
+/// written. The caller owes a telegram that has a spelling, as each that was decoded has (`Telegram::has_spelling`).
 pub fn encode(telegram: &Telegram<'_>, out: &mut [u8; 104]) -> Result<usize, TooLong>
     requires { (bits : List Bool) × SpellsTelegram telegram.now bits }
     ensures room { (bits : List Bool) → SpellsTelegram telegram.now bits → (IsOk result ↔ (length bits ≤ 832)) }

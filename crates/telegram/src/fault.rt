@@ -2,7 +2,8 @@ use packets::PacketFault;
 use thiserror::Error;
 use vars::NoValue;
 
-/// Why bytes carry no telegram. The number of a fault is its discriminant.
+/// Why bytes carry no telegram (SUBSET-026, 8.4.2; the numbers: this project's profile). The number of a fault is its
+/// discriminant.
 #[derive(Clone, Copy, Debug, PartialEq, Eq, Error)]
 pub enum TelegramFault {
     /// The bits end within the header or a packet.

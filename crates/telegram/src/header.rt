@@ -13,7 +13,7 @@ use vars::{
     has_number,
 };
 
-/// The header of a telegram. Its direction is up, its version 16 and its medium a balise.
+/// The header of a telegram (SUBSET-026, 8.4.2). Its direction is up, its version 16 and its medium a balise.
 #[derive(Clone, Copy)]
 pub struct Header {
     /// N_PIG: the place of the balise in its group.
@@ -48,7 +48,8 @@ impl Default for Header {
 }
 
 impl Header {
-    /// Hands all fields to the sink, and stops where it takes no more.
+    /// Hands all fields to the sink, 50 bits; stops with the sink's error where it takes no more. The caller owes room in the
+    /// sink.
     #[tactic(auto, unfolding(crate::specs::Telegrams::header))]
     pub fn fields<S: FieldSink>(&self, sink: &mut S) -> Result<(), S::Error>
         requires room { S.held sink.old + 50 ≤ S.most }

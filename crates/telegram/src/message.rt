@@ -10,7 +10,7 @@ use crate::header::Header;
 use arrayvec::ArrayVec;
 use packets::Packet;
 
-/// The telegram of a balise: its header and its packets up to the end mark.
+/// The telegram of a balise: its header and its packets up to the end mark (SUBSET-026, 8.4.2).
 #[derive(Drop)]
 pub struct Telegram<'a> {
     /// The 50 bits in front (SUBSET-026, 8.4.2).
@@ -75,8 +75,8 @@ impl<'a> Telegram<'a> {
 }
 
 impl<'a> Telegram<'a> {
-    /// Appends a packet that has a spelling to a telegram that has one, which it then has still. It is TooLong where there
-    /// are 33 packets already, and then nothing changes.
+    /// Appends a packet. TooLong where there are 33 packets already, and then nothing changes. The caller owes a packet and a
+    /// telegram that have a spelling; the telegram then has one still.
     pub fn push(&mut self, packet: Packet<'a>) -> Result<(), TooLong>
         requires telegram { (bits : List Bool) × SpellsTelegram self.old bits }
         requires packet { (bits : List Bool) × Spells packet_layout packet bits }

@@ -3,7 +3,7 @@ ghost use Rattle.std.specs.Prelude.{◌≡◌, ◌<◌, []};
 use packets::Packet;
 use std::marker::Model;
 
-/// A packet of a telegram, and where its bits lie in the bytes of the telegram.
+/// A packet of a telegram, and where its bits lie in the bytes of the telegram (SUBSET-026, 8.4.2).
 #[derive(Drop)]
 pub struct PacketInPlace<'a> {
     pub(crate) packet: Packet<'a>,

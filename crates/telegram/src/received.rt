@@ -15,7 +15,8 @@ use std::marker::Model;
 /// The bits of a header.
 const HEADER_BITS: u32 = 50;
 
-/// The bytes of a telegram, tested once. Its packets are read again where they lie, each time that they are wanted.
+/// The bytes of a telegram, tested once (SUBSET-026, 8.4.2). Its packets are read again where they lie, each time that they are
+/// wanted.
 #[derive(Drop)]
 pub struct Received {
     bytes: ArrayVec<u8, 104>,

@@ -9,7 +9,7 @@ use crate::place::PacketInPlace;
 use bits::BitReader;
 use std::marker::Model;
 
-/// The packets of a telegram whose bytes were found whole, read one by one where they lie.
+/// The packets of a telegram whose bytes were found whole, read one by one where they lie (SUBSET-026, 8.4.2).
 #[derive(Drop)]
 pub struct Packets<'a> {
     pub(crate) header: Header,

@@ -1,4 +1,4 @@
--- An honest file in memory.
+-- An honest file in memory (this project's profile of tests). Offsets are bytes.
 use Rattle.std.specs.Prelude.{◌-◌, true, false, [], List, length, Option, Some, None, slice_get}
 use Rattle.file_disk.specs.Files.{FileMoment, FileState}
 use Rattle.test_disk.specs.declared.moment.Moment.{Moment}

@@ -1,4 +1,4 @@
--- A file in memory at a moment.
+-- A file in memory at a moment (this project's profile of tests). Offsets are bytes.
 use Rattle.std.specs.Prelude.{ℕ, ◌+◌, ◌*◌, ◌&&◌, nat_lt, Bool, List}
 use Rattle.std.specs.List.{list_any}
 use Rattle.file_disk.specs.Files.{FileMoment}

@@ -5,6 +5,7 @@ use crate::honest::HonestFile;
 use file_disk::{FileDisk, RawFile};
 use std::alloc::Global;
 
+/// A disk over a file in memory, and a file in memory, as rows made them last.
 #[derive(Drop)]
 pub struct Files {
     alloc: Global,
@@ -13,6 +14,7 @@ pub struct Files {
 }
 
 impl Files {
+    /// No disk and no file.
     pub fn new(alloc: Global) -> Files {
         Files {
             alloc,
@@ -21,7 +23,7 @@ impl Files {
         }
     }
 
-    /// Of the disk over a file.
+    /// The answer to a row of the disk over a file; None where it is none.
     pub fn answer(&mut self, words: &[&str]) -> Option<Answer> {
         match *words.first()? {
             "fill" => self.fill(words),
@@ -41,7 +43,7 @@ impl Files {
         Some(Answer::yes_or_no(self.disk.is_some()))
     }
 
-    /// Of the file itself.
+    /// The answer to a row of the file itself; None where it is none.
     pub fn answer_raw(&mut self, words: &[&str]) -> Option<Answer> {
         match *words.first()? {
             "new" => self.make_raw(words),

@@ -6,6 +6,7 @@ use std::alloc::Global;
 use std::mem::swap;
 use units::NoMemory;
 
+/// The disk in memory that rows go to, and the one before.
 #[derive(Drop)]
 pub struct Memories {
     disk: Memory,
@@ -13,6 +14,7 @@ pub struct Memories {
 }
 
 impl Memories {
+    /// Two disks without a sector. NoMemory where memory is refused.
     pub fn new(alloc: Global) -> Result<Memories, NoMemory> {
         Ok(Memories {
             disk: Memory::new(alloc, 0, 0, 0)?,
@@ -20,6 +22,7 @@ impl Memories {
         })
     }
 
+    /// The answer to a row; None where it is none.
     pub fn answer(&mut self, alloc: Global, words: &[&str]) -> Option<Answer> {
         match *words.first()? {
             "new" => self.begin(alloc, words),

@@ -7,14 +7,18 @@ use std::alloc::{AllocError, Global};
 /// So many bytes from an offset on.
 #[derive(Clone, Copy)]
 pub struct Part {
+    /// Where they begin.
     pub offset: usize,
+    /// How many bytes.
     pub count: usize,
 }
 
 /// The bytes of a file, and which were written since the last sync.
 #[derive(Drop)]
 pub struct Moment {
+    /// The bytes of the file.
     pub bytes: Vec<u8>,
+    /// What was written since the last sync, in order.
     pub parts: Vec<Part>,
 }
 

@@ -10,7 +10,9 @@ use std::io::{ErrorKind, Write};
 /// What a writer refuses behind its last byte.
 #[derive(Clone, Copy)]
 pub enum Refusal {
+    /// There is no more room.
     Room,
+    /// Memory is refused.
     Memory,
 }
 

@@ -5,29 +5,48 @@ use blocks::Format;
 /// What an open sector holds after a cut.
 #[derive(Clone, Copy)]
 pub enum Left {
+    /// The bytes as last synced.
     Old,
+    /// The bytes as last handed in.
     New,
+    /// This byte, 512 times.
     All(u8),
 }
 
-/// A row.
+/// A row, which is a call or what befalls the disk (`src/main.rt` has the words).
 #[derive(Clone, Copy)]
 pub enum Row<'a> {
+    /// A blank disk of so many sectors.
     Disk(u64),
+    /// An empty journal of so many slots is made.
     Format(u32),
+    /// The journal is opened.
     Open,
+    /// A batch of so many records is committed, with so many lives kept.
     Commit(u8, u32),
+    /// So many batches of so many records are committed.
     Commits(u64, u8),
+    /// The block of this number is read.
     Block(u64),
+    /// Each block of the run is read.
     Retained,
+    /// The number of the block in each slot.
     Slots,
+    /// The call of this number fails.
     Fail(u64),
+    /// Power is lost in the call of this number.
     Cut(u64),
+    /// Power comes back; the open sectors hold what these words say.
     Settle(&'a [&'a str]),
+    /// The disk is remembered.
     Keep,
+    /// The disk is the remembered one again.
     Again,
+    /// A block is put into its slot: its format, its number, how many events are kept, how many records it has.
     Make(Format, u64, u64, u8),
+    /// Bytes of a sector are overwritten.
     Patch(u64, &'a str),
+    /// The journal is listed, to a writer with so much room.
     List(usize, Refusal),
 }
 

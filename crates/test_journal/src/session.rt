@@ -13,9 +13,11 @@ const CALLS: u64 = 8_192;
 /// A disk, and the journal that was opened on it.
 #[derive(Drop)]
 pub struct Session {
+    /// The disk.
     pub disk: Memory,
     /// What `again` goes back to.
     kept: Memory,
+    /// The journal, while it is open.
     pub journal: Option<Journal>,
 }
 
@@ -29,17 +31,20 @@ impl Session {
         })
     }
 
+    /// Remembers what the disk holds.
     pub fn keep(&mut self, alloc: Global) -> Result<(), NoMemory> {
         self.kept = self.disk.settle(alloc, &[])?;
         Ok(())
     }
 
+    /// The disk is the remembered one again, and no journal is open.
     pub fn go_back(&mut self, alloc: Global) -> Result<(), NoMemory> {
         self.disk = self.kept.settle(alloc, &[])?;
         self.journal = None;
         Ok(())
     }
 
+    /// Plans what is to go wrong.
     pub fn plan(&mut self, plan: Plan) {
         self.disk.plan(plan);
     }
@@ -61,11 +66,13 @@ impl Session {
         Ok(true)
     }
 
+    /// Makes an empty journal of so many slots.
     pub fn format(&mut self, slots: u32) -> Result<(), FormatError> {
         self.journal = None;
         journal::format(&mut self.disk, slots)
     }
 
+    /// Opens the journal.
     pub fn open(&mut self) -> Result<Option<Found>, OpenError> {
         self.journal = None;
         match Journal::open(&mut self.disk) {

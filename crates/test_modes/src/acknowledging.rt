@@ -3,18 +3,21 @@ use crate::answer::Answer;
 use crate::words::Words;
 use areas::Acknowledgement;
 
+/// The acknowledgement that rows go to.
 #[derive(Drop)]
 pub struct Acknowledging {
     kind: Acknowledgement,
 }
 
 impl Acknowledging {
+    /// Nothing is asked for.
     pub fn new() -> Acknowledging {
         Acknowledging {
             kind: Acknowledgement::new(),
         }
     }
 
+    /// The answer to a row.
     pub fn answer(&mut self, words: &mut Words<'_>) -> Answer {
         match words.word() {
             "waits" => return Answer::yes_or_no(self.kind.waits()),

@@ -11,6 +11,7 @@ use packets::{LevelOrder, LevelTransition, ModeArea, ModeProfile};
 use units::{Cm, GroupPlace, Mph, Stretch};
 use vars::{AreaMode, Scale, StartPlace, ValidityDirection};
 
+/// The mode areas and the announced level that rows go to, and the packets being written.
 #[derive(Drop)]
 pub struct AreasTold {
     areas: Areas,
@@ -20,6 +21,7 @@ pub struct AreasTold {
 }
 
 impl AreasTold {
+    /// Nothing is stored or announced.
     pub fn new() -> AreasTold {
         AreasTold {
             areas: Areas::new(),
@@ -38,6 +40,7 @@ impl AreasTold {
         }
     }
 
+    /// The answer to a row.
     pub fn answer(&mut self, words: &mut Words<'_>) -> Answer {
         match words.word() {
             "area" => return self.write_area(words),

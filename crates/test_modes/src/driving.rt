@@ -11,6 +11,7 @@ use mode_table::{Cold, Mode, TrainLevel};
 use units::{Length, Mph, Ms, Reach};
 use vars::{TrainCategory, Variable};
 
+/// The driver that rows go to, with the situation and the occasion.
 #[derive(Drop)]
 pub struct Driving {
     driver: Driver,
@@ -19,6 +20,7 @@ pub struct Driving {
 }
 
 impl Driving {
+    /// Nothing was entered.
     pub fn new() -> Driving {
         Driving {
             driver: Driver::new(&Kept::nothing()),
@@ -39,6 +41,7 @@ impl Driving {
         }
     }
 
+    /// The answer to a row.
     pub fn answer(&mut self, words: &mut Words<'_>) -> Answer {
         match words.word() {
             "at" => self.situation = situation(words),

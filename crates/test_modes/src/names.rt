@@ -2,6 +2,7 @@
 use mode_table::{Cold, Fate, Item, Mode, TrainLevel};
 use vars::{AreaMode, Level};
 
+/// The mode of these letters.
 pub fn mode(word: &str) -> Option<Mode> {
     match word {
         "FS" => Some(Mode::FullSupervision),
@@ -17,6 +18,7 @@ pub fn mode(word: &str) -> Option<Mode> {
     }
 }
 
+/// The letters of a mode.
 pub fn name_of(mode: Mode) -> &'static str {
     match mode {
         Mode::FullSupervision => "FS",
@@ -31,6 +33,7 @@ pub fn name_of(mode: Mode) -> &'static str {
     }
 }
 
+/// The item of this name.
 pub fn item(word: &str) -> Option<Item> {
     match word {
         "identity" => Some(Item::Identity),
@@ -54,6 +57,7 @@ pub fn item(word: &str) -> Option<Item> {
     }
 }
 
+/// The letter of a fate: K, I or D.
 pub fn letter_of(fate: Fate) -> &'static str {
     match fate {
         Fate::Kept => "K",
@@ -62,6 +66,7 @@ pub fn letter_of(fate: Fate) -> &'static str {
     }
 }
 
+/// The word on movements without power.
 pub fn cold(word: &str) -> Option<Cold> {
     match word {
         "unknown" => Some(Cold::Unknown),
@@ -71,6 +76,7 @@ pub fn cold(word: &str) -> Option<Cold> {
     }
 }
 
+/// The level that a train runs in, of this name.
 pub fn train_level(word: &str) -> Option<TrainLevel> {
     match word {
         "0" => Some(TrainLevel::Level0),
@@ -79,6 +85,7 @@ pub fn train_level(word: &str) -> Option<TrainLevel> {
     }
 }
 
+/// The level that may be announced, of this name.
 pub fn announced_level(word: &str) -> Option<Level> {
     match word {
         "0" => Some(Level::Level0),
@@ -90,6 +97,7 @@ pub fn announced_level(word: &str) -> Option<Level> {
     }
 }
 
+/// The mode of an area, of this name.
 pub fn area_mode(word: &str) -> Option<AreaMode> {
     match word {
         "OS" => Some(AreaMode::OnSight),

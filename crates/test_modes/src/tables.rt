@@ -4,6 +4,7 @@ use crate::names::{letter_of, name_of};
 use crate::words::Words;
 use mode_table::{Conditions, next_mode, power_up_status, status_on, uses};
 
+/// The answer to a row of a table.
 pub fn answer(group: &str, words: &mut Words<'_>) -> Answer {
     match group {
         "mode" => {

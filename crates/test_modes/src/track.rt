@@ -14,6 +14,7 @@ use vars::{RestrictionNumber, TrainCategory, TrainLengthDelay, Variable};
 /// Stands for no value.
 const NONE: i64 = -1;
 
+/// A track, and the train on it, as rows told them.
 #[derive(Drop)]
 pub struct Told {
     alloc: Global,

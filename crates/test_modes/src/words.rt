@@ -15,6 +15,7 @@ pub struct Words<'a> {
 }
 
 impl<'a> Words<'a> {
+    /// These words, of which none is taken yet.
     pub fn new(words: &'a [&'a str]) -> Words<'a> {
         Words {
             words,
@@ -33,6 +34,7 @@ impl<'a> Words<'a> {
         self.taken >= self.words.len()
     }
 
+    /// The next word.
     pub fn word(&mut self) -> &'a str {
         let words = self.words;
         match words.get(self.taken) {
@@ -66,6 +68,7 @@ impl<'a> Words<'a> {
         }
     }
 
+    /// The next word as a number.
     pub fn number(&mut self) -> u64 {
         let number = self.word().parse::<u64>().ok();
         self.found(number, 0)
@@ -92,36 +95,43 @@ impl<'a> Words<'a> {
         self.found(value, otherwise)
     }
 
+    /// The next word as centimetres.
     pub fn cm(&mut self) -> Cm {
         let cm = Cm::new(self.signed());
         self.found(cm, Cm::ZERO)
     }
 
+    /// The next word as the place of a group, in centimetres.
     pub fn group_place(&mut self) -> GroupPlace {
         let place = GroupPlace::new(self.signed());
         self.found(place, GroupPlace::new(0).unwrap())
     }
 
+    /// The next word as a length, in centimetres.
     pub fn length(&mut self) -> Length {
         let length = Length::new(self.number());
         self.found(length, Length::ZERO)
     }
 
+    /// The next word as milliseconds.
     pub fn ms(&mut self) -> Ms {
         let ms = Ms::new(self.number());
         self.found(ms, Ms::new(0).unwrap())
     }
 
+    /// The next word as metres per hour.
     pub fn mph(&mut self) -> Mph {
         let mph = Mph::new(self.small());
         self.found(mph, Mph::new(0).unwrap())
     }
 
+    /// The next word as a reach, in centimetres.
     pub fn reach(&mut self) -> Reach {
         let reach = Reach::new(self.small());
         self.found(reach, Reach::new(0).unwrap())
     }
 
+    /// The next word as a byte.
     pub fn byte(&mut self) -> u8 {
         let number = self.word().parse::<u8>().ok();
         self.found(number, 0)
@@ -156,6 +166,7 @@ impl<'a> Words<'a> {
         }
     }
 
+    /// A target: its place in centimetres, and its speed in metres per hour.
     pub fn target(&mut self) -> Target {
         Target {
             place: self.cm(),
@@ -172,26 +183,31 @@ impl<'a> Words<'a> {
         }
     }
 
+    /// The next word as a mode.
     pub fn mode(&mut self) -> Mode {
         let found = mode(self.word());
         self.found(found, Mode::StandBy)
     }
 
+    /// The next word as an item.
     pub fn item(&mut self) -> Item {
         let found = item(self.word());
         self.found(found, Item::Counts)
     }
 
+    /// The next word as one on movements without power.
     pub fn cold(&mut self) -> Cold {
         let found = cold(self.word());
         self.found(found, Cold::Unknown)
     }
 
+    /// The next word as a level that a train runs in.
     pub fn train_level(&mut self) -> TrainLevel {
         let found = train_level(self.word());
         self.found(found, TrainLevel::Level0)
     }
 
+    /// The next word as the mode of an area.
     pub fn area_mode(&mut self) -> AreaMode {
         let found = area_mode(self.word());
         self.found(found, AreaMode::Shunting)

@@ -4,14 +4,19 @@ use arrayvec::ArrayVec;
 use packets::{Difference, Gradient, Gradients, ModeArea, ModeProfile, StaticSpeeds, StaticStep};
 use vars::{Distance, Scale, ValidityDirection, Variable};
 
+/// The packets that rows write.
 #[derive(Drop)]
 pub struct Written {
+    /// Packet 27.
     pub statics: StaticSpeeds,
+    /// Packet 21.
     pub slopes: Gradients,
+    /// Packet 80.
     pub areas: ModeProfile,
 }
 
 impl Written {
+    /// Packets without elements.
     pub fn nothing() -> Written {
         Written {
             statics: no_statics(),
@@ -86,6 +91,7 @@ fn write_mode_area(areas: &mut ModeProfile, words: &mut Words<'_>) -> bool {
     areas.areas.try_push(area).is_ok()
 }
 
+/// A packet 27 to be filled.
 pub fn no_statics() -> StaticSpeeds {
     StaticSpeeds {
         direction: ValidityDirection::Both,
@@ -95,6 +101,7 @@ pub fn no_statics() -> StaticSpeeds {
     }
 }
 
+/// A packet 21 to be filled.
 pub fn no_slopes() -> Gradients {
     Gradients {
         direction: ValidityDirection::Both,
@@ -103,6 +110,7 @@ pub fn no_slopes() -> Gradients {
     }
 }
 
+/// A packet 80 to be filled.
 pub fn no_areas() -> ModeProfile {
     ModeProfile {
         direction: ValidityDirection::Both,

@@ -16,10 +16,12 @@ pub fn opened(alloc: Global, device: Device, cold: Cold) -> Result<Unit, (OpenEr
     Onboard::open(alloc, device, cold)
 }
 
+/// An input is handed in.
 pub fn accepted(alloc: Global, unit: &mut Unit, input: Input) -> Result<(), AcceptError> {
     unit.accept(alloc, input)
 }
 
+/// What is pending is flushed.
 pub fn flushed(unit: &mut Unit) -> Result<ArrayVec<Released, 8>, FlushError> {
     unit.flush()
 }

@@ -11,6 +11,7 @@ pub struct Lists<'a> {
 }
 
 impl<'a> Lists<'a> {
+    /// The lists in this text.
     pub fn new(text: &'a str) -> Lists<'a> {
         Lists { text }
     }

@@ -19,27 +19,40 @@ pub enum Command<'a> {
 /// What the unit does.
 #[derive(Drop)]
 pub enum Act {
+    /// It powers up with this word.
     Open(Cold),
     /// So many openings, with nothing between.
     Openings(u64, Cold),
+    /// It is handed this input.
     Input(Input),
+    /// It flushes.
     Flush,
+    /// Power goes off.
     Close,
+    /// Whether the disk had as many calls as when that was asked last.
     Calls,
+    /// The release before the first event is asked for.
     Default,
+    /// The steps of a life with this word are collected from here on.
     Live(Cold),
+    /// The collected life is lived.
     Run,
 }
 
 /// What is done to the disk.
 #[derive(Drop)]
 pub enum Make<'a> {
+    /// An empty journal of so many slots is made.
     Format(u32),
+    /// The disk loses its last sector.
     Less,
+    /// The disk is remembered.
     Keep,
+    /// The disk is the remembered one again.
     Again,
     /// What each open sector holds.
     Settle(&'a str),
+    /// Something is done to the disk without power.
     Change(Change<'a>),
 }
 
@@ -59,9 +72,13 @@ pub enum Change<'a> {
 /// What is asked of a disk.
 #[derive(Drop)]
 pub enum Tell {
+    /// The numbers of the retained blocks.
     Blocks,
+    /// An item that the newest block keeps.
     Kept(Item),
+    /// The listing of the journal.
     List,
+    /// A digest of the bytes of the retained blocks.
     Bytes,
 }
 

@@ -18,6 +18,7 @@ pub struct Device {
 }
 
 impl Device {
+    /// This disk, with no plan.
     pub fn new(memory: Memory) -> Device {
         Device {
             memory,
@@ -36,6 +37,7 @@ impl Device {
         self.memory.plan(plan);
     }
 
+    /// How many writes and syncs there were.
     pub fn changes(&self) -> u64 {
         self.changes
     }
@@ -45,6 +47,7 @@ impl Device {
         self.memory.clock()
     }
 
+    /// How many calls failed.
     pub fn faults(&self) -> u64 {
         self.memory.faults()
     }

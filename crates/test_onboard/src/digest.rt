@@ -14,18 +14,21 @@ impl Digest {
         }
     }
 
+    /// The digest of these bytes.
     pub fn of(bytes: &[u8]) -> Digest {
         let mut digest = Digest::new();
         digest.take(bytes);
         digest
     }
 
+    /// Goes on with these bytes.
     pub fn take(&mut self, bytes: &[u8]) {
         for byte in bytes {
             self.bits = (self.bits ^ u64::from(*byte)).wrapping_mul(0x100_0000_01B3);
         }
     }
 
+    /// The digest so far.
     pub fn get(&self) -> u64 {
         self.bits
     }

@@ -13,6 +13,7 @@ pub struct Group {
 }
 
 impl Group {
+    /// A group of this name, without lines.
     pub fn new(alloc: Global, name: &str) -> Result<Group, AllocError> {
         Ok(Group {
             name: String::from_str(alloc, name)?,
@@ -34,6 +35,7 @@ impl Group {
         }
     }
 
+    /// Prints the name, the digest of the answers, and how often they change.
     pub fn tell(&self, rt: &impl Print) -> anyhow::Result<()> {
         println!(rt;
             "{}: {} lines, {} answers, digest {:016x}",

@@ -29,6 +29,7 @@ fn read_lists(each: &str) -> Option<(u64, Lists<'_>, Lists<'_>, &str)> {
     ))
 }
 
+/// The rows so far, with the group that is being counted, if one is.
 #[derive(Drop)]
 pub struct Rows {
     alloc: Global,
@@ -36,6 +37,7 @@ pub struct Rows {
 }
 
 impl Rows {
+    /// No rows.
     pub fn new(alloc: Global) -> Rows {
         Rows { alloc, group: None }
     }

@@ -19,7 +19,9 @@ const WRITTEN: u64 = 512;
 enum Station {
     /// Nothing; only while it changes hands.
     Gone,
+    /// The disk alone: power is off.
     Off(Device),
+    /// The unit: power is on.
     On(Unit),
 }
 
@@ -55,6 +57,7 @@ pub fn blank(alloc: Global, sectors: u64) -> Result<Memory, NoMemory> {
 }
 
 impl Session {
+    /// A disk without a sector, and power off.
     pub fn new(alloc: Global) -> Result<Session, NoMemory> {
         let first = blank(alloc, 0)?;
         let kept = blank(alloc, 0)?;
@@ -68,6 +71,7 @@ impl Session {
         })
     }
 
+    /// Gives all of it back.
     pub fn end(self) {
         let Session {
             station,
@@ -142,6 +146,7 @@ impl Session {
         Some(())
     }
 
+    /// The disk is the remembered one again, and power is off.
     pub fn go_back(&mut self, alloc: Global) -> Result<(), NoMemory> {
         let memory = self.kept.settle(alloc, &[])?;
         self.set_disk(memory);
@@ -170,10 +175,12 @@ impl Session {
         self.is_collecting = true;
     }
 
+    /// Whether the steps of a life are being collected.
     pub fn is_collecting(&self) -> bool {
         self.is_collecting
     }
 
+    /// A step more of the life that is collected.
     pub fn push(&mut self, step: Step) -> Result<(), NoMemory> {
         self.steps.push(step)?;
         Ok(())

@@ -1,6 +1,7 @@
 // Answers of the unit, by number and name.
 use onboard::{AcceptError, FlushError, OpenError};
 
+/// Number and name of an error of opening.
 pub fn open_word(error: OpenError) -> &'static str {
     match error {
         OpenError::DeviceFault => "1 DeviceFault",
@@ -11,6 +12,7 @@ pub fn open_word(error: OpenError) -> &'static str {
     }
 }
 
+/// Number and name of an error of accepting.
 pub fn accept_word(error: AcceptError) -> &'static str {
     match error {
         AcceptError::Failed => "13 Failed",
@@ -20,6 +22,7 @@ pub fn accept_word(error: AcceptError) -> &'static str {
     }
 }
 
+/// Number and name of an error of flushing.
 pub fn flush_word(error: FlushError) -> &'static str {
     match error {
         FlushError::Failed => "21 Failed",

@@ -13,12 +13,17 @@ use vars::{Country, OpenLength, OverrideTime, Scale, StartPlace, ValidityDirecti
 /// Packet 3 of a group of country 1, by the numbers of its variables.
 #[derive(Clone, Copy)]
 pub struct Sent {
+    /// Q_SCALE.
     pub scale: Scale,
+    /// D_VALIDNV.
     pub start: u16,
+    /// V_NVSTFF.
     pub staff_responsible: u8,
     /// The countries that it lists.
     pub listed: &'static [u16],
+    /// T_NVOVTRP.
     pub override_time: u8,
+    /// D_NVSTFF.
     pub staff_responsible_distance: u16,
 }
 
@@ -169,6 +174,7 @@ fn copy(national: &National) -> National {
     national.copy()
 }
 
+/// Runs rows; a difference ends the test.
 pub fn rows<R: Abort>(rt: &R, rows: &[Row]) {
     for (row, events) in rows {
         let mut national = National::new();

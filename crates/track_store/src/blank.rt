@@ -6,7 +6,7 @@ use std::alloc::Global;
 use std::marker::Model;
 use units::{Cm, NoMemory};
 
-/// Room for the steps of one fact.
+/// Room for the steps of one fact (this project's profile).
 #[derive(Drop)]
 pub struct Blank<T> {
     steps: Vec<Step<T>>,
@@ -23,14 +23,15 @@ impl<T> Model for Blank<T> {
 }
 
 impl<T: Copy> Blank<T> {
-    /// NoMemory where the room is refused.
+    /// Room for the steps of one packet. NoMemory where memory is refused.
     pub fn new(alloc: Global) -> Result<Self, NoMemory> {
         Ok(Blank {
             steps: Vec::with_capacity(alloc, MOST_STEPS)?,
         })
     }
 
-    /// A profile from a first place on, as steps give it. Takes no memory.
+    /// A profile from a first place on, in centimetres, as steps give it. Takes no memory. The caller owes at most `MOST_STEPS`
+    /// steps.
     pub fn fill(self, start: Cm, steps: &[Step<T>]) -> Fact<T>
         requires { length steps.now ≤ MOST_STEPS }
         ensures { result ≡ record { start = start; steps = steps.now; mark = start } }

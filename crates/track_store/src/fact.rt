@@ -8,7 +8,7 @@ use std::alloc::Global;
 use std::marker::Model;
 use units::{Cm, NoMemory};
 
-/// One message about a profile: its values from a first place on.
+/// One message about a profile (packets 21 and 27; SUBSET-026, 3.11): its values from a first place on.
 #[derive(Drop)]
 pub struct Fact<T> {
     start: Cm,
@@ -26,7 +26,7 @@ impl<T> Model for Fact<T> {
 }
 
 impl<T: Copy> Fact<T> {
-    /// A profile from a first place on, as steps give it. NoMemory where the copy of the steps is refused.
+    /// A profile from a first place on, in centimetres, as steps give it. NoMemory where memory for their copy is refused.
     pub fn new(alloc: Global, start: Cm, steps: &[Step<T>]) -> Result<Self, NoMemory>
         ensures { IfOk result (λ fact. fact ≡ record { start = start; steps = steps.now; mark = start }) }
     {
@@ -44,7 +44,7 @@ impl<T: Copy> Fact<T> {
         }
     }
 
-    /// The first place.
+    /// The first place, in centimetres.
     pub fn start(&self) -> Cm
         ensures { result ≡ self.now.start }
     {
@@ -67,7 +67,7 @@ impl<T: Copy> Fact<T> {
         value
     }
 
-    /// Forgets what lies before a place.
+    /// Forgets what lies before a place, in centimetres.
     pub fn forget(&mut self, mark: Cm)
         ensures { self.new ≡ forgotten mark self.old }
     {
@@ -86,7 +86,7 @@ impl<T: Copy> Fact<T> {
         nearest
     }
 
-    /// An equal fact; NoMemory where it is refused.
+    /// An equal fact; NoMemory where memory is refused.
     pub fn copy(&self, alloc: Global) -> Result<Self, NoMemory>
         ensures { IfOk result (λ copy. copy ≡ self.now) }
     {

@@ -7,7 +7,7 @@ use std::alloc::Global;
 use std::marker::Model;
 use units::{Cm, NoMemory};
 
-/// A profile as the list of all its facts.
+/// A profile as the list of all its facts (SUBSET-026, 3.11). It grows with each replacement.
 #[derive(Drop)]
 pub struct FactStore<T> {
     // The newest first.

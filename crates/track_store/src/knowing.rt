@@ -4,8 +4,8 @@ ghost use Rattle.track_store.specs.Profiles.{is_known, is_known_over, IsKnownThr
 use crate::Profile;
 use units::Cm;
 
-/// Whether a profile has a value at a centimetre from one to another, both included. It goes from change to change, and
-/// takes no memory.
+/// Whether a profile has a value at a centimetre from one to another, both included. It goes from change to change, and takes
+/// no memory.
 pub fn is_known_over<T: Copy, P: Profile<T>>(profile: &P, from: Cm, to: Cm) -> bool
     ensures { result ≡ is_known_over (P.value profile.now) from to }
 {

@@ -33,7 +33,7 @@ impl<T> Default for Step<T> {
 pub struct Piece<T> {
     /// The value; None where there is none.
     pub value: Option<T>,
-    /// Where it ends, that place not included; None where it never does.
+    /// Where it ends, in centimetres, that place not included; None where it never does.
     pub next: Option<Cm>,
     /// What finds the piece behind it sooner.
     pub near: usize,
@@ -79,9 +79,9 @@ pub trait ProfileStore<T>: Profile<T> {
     fn empty(alloc: Global) -> Self
         ensures { (place : ℤ) → Self.value result place ≡ None };
 
-    /// Takes the values from a first place on, in place of all that were there before. The last of the steps at or
-    /// below a centimetre holds there, and nothing where an end mark or no step is at or below it. Where memory is
-    /// refused, nothing changes.
+    /// Takes the values from a first place on, in centimetres, in place of all that were there before. The last of the steps at
+    /// or below a centimetre holds there, and nothing where an end mark or no step is at or below it. NoMemory where memory is
+    /// refused, and then nothing changes.
     fn replace_from(&mut self, start: Cm, steps: &[Step<T>]) -> Result<(), NoMemory>
         ensures ok { OnOk result ((place : ℤ) → Self.value self.new place ≡ replaced (Self.value self.old) start steps.now place) }
         ensures err { OnErr result (self.new ≡ self.old) };
@@ -90,24 +90,26 @@ pub trait ProfileStore<T>: Profile<T> {
     fn room(&self) -> usize
         ensures { result ≡ room self.now };
 
-    /// Makes room for so many replacements, unless there is room for more. Where memory is refused, nothing changes.
+    /// Makes room for so many replacements, unless there is room for more. NoMemory where memory is refused, and then nothing
+    /// changes.
     fn make_room(&mut self, replacements: usize) -> Result<(), NoMemory>
         ensures ok { OnOk result (self.new ≡ with_room (max replacements (room self.old)) self.old) }
         ensures err { OnErr result (self.new ≡ self.old) };
 
-    /// Gives back room: what is left is for so many replacements.
+    /// Gives back room: what is left is for so many replacements. The caller owes no more than there is room for.
     fn limit_room(&mut self, replacements: usize)
         requires { replacements ≤ room self.old }
         ensures { self.new ≡ with_room replacements self.old };
 
-    /// What `replace_from` does, in the room that was made: it takes no memory.
+    /// What `replace_from` does, in the room that was made: it takes no memory. The caller owes at most `MOST_STEPS` steps, and
+    /// room for one replacement.
     fn replace_reserved(&mut self, start: Cm, steps: &[Step<T>])
         requires steps { length steps.now ≤ MOST_STEPS }
         requires room { 1 ≤ room self.old }
         ensures value { (place : ℤ) → Self.value self.new place ≡ replaced (Self.value self.old) start steps.now place }
         ensures room { room self.old ≤ room self.new + 1 };
 
-    /// Drops the values below a place, and no other ones. What comes there later counts.
+    /// Drops the values below a place, in centimetres, and no other ones. What comes there later counts.
     fn drop_behind(&mut self, place: Cm)
         ensures value { (there : ℤ) → Self.value self.new there ≡ from_mark place (Self.value self.old) there }
         ensures room { room self.new ≡ room self.old };
@@ -116,7 +118,7 @@ pub trait ProfileStore<T>: Profile<T> {
     fn clear(&mut self)
         ensures { (place : ℤ) → Self.value self.new place ≡ None };
 
-    /// An equal value: an equal profile, with room for as many replacements.
+    /// An equal value: an equal profile, with room for as many replacements. NoMemory where memory is refused.
     fn copy(&self, alloc: Global) -> Result<Self, NoMemory>
         ensures { IfOk result (λ copy. copy ≡ self.now) };
 

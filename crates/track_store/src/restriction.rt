@@ -11,7 +11,7 @@ pub struct Restriction {
     pub number: RestrictionNumber,
     /// Its first centimetre.
     pub start: Cm,
-    /// How far it reaches from there; it covers nothing where this is 0.
+    /// How far it reaches from there, in centimetres; it covers nothing where this is 0.
     pub length: Reach,
     /// Whether the train's length delays its end, Q_FRONT.
     pub delay: TrainLengthDelay,

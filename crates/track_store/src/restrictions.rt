@@ -52,7 +52,8 @@ impl Restrictions {
         self.room
     }
 
-    /// Makes room for so many restrictions more, unless there is room for more than those. Where memory is refused, nothing changes.
+    /// Makes room for so many restrictions more, unless there is room for more than those. NoMemory where memory is refused,
+    /// and then nothing changes.
     pub fn make_room(&mut self, restrictions: usize) -> Result<(), NoMemory>
         ensures ok { OnOk result (self.new ≡ record self.old { room = max restrictions self.old.room }) }
         ensures err { OnErr result (self.new ≡ self.old) }
@@ -63,7 +64,7 @@ impl Restrictions {
         Ok(())
     }
 
-    /// Gives back room: what is left is for so many restrictions.
+    /// Gives back room: what is left is for so many restrictions. The caller owes no more than there is room for.
     pub fn limit_room(&mut self, restrictions: usize)
         requires { restrictions ≤ self.old.room }
         ensures { self.new ≡ record self.old { room = restrictions } }
@@ -71,8 +72,8 @@ impl Restrictions {
         self.room = restrictions;
     }
 
-    /// Takes a restriction, in place of the one of its number (but for 255). The list holds the allocator that it
-    /// takes memory of. Where memory is refused, nothing changes.
+    /// Takes a restriction, in place of the one of its number (but for 255). NoMemory where memory is refused, and then nothing
+    /// changes. The list holds the allocator that it takes memory of.
     pub fn add(&mut self, _alloc: Global, restriction: Restriction) -> Result<(), NoMemory>
         ensures ok { OnOk result ((entries : List Entry) → self.old.track ≡ in_force entries
             → self.new.track ≡ in_force (Restricted restriction ∷ entries)) }
@@ -83,7 +84,7 @@ impl Restrictions {
         Ok(())
     }
 
-    /// What `add` does, in the room that was made: it takes no memory.
+    /// What `add` does, in the room that was made: it takes no memory. The caller owes room for one.
     pub fn add_reserved(&mut self, restriction: Restriction)
         requires { 1 ≤ self.old.room }
         ensures track { (entries : List Entry) → self.old.track ≡ in_force entries
@@ -130,7 +131,7 @@ impl Restrictions {
         limit
     }
 
-    /// An equal value, with as much room; NoMemory where it is refused.
+    /// An equal value, with as much room; NoMemory where memory is refused.
     pub fn copy(&self, alloc: Global) -> Result<Self, NoMemory>
         ensures { IfOk result (λ copy. copy ≡ self.now) }
     {

@@ -10,7 +10,7 @@ use units::Cm;
 /// (SUBSET-026, 3.11; packets 21 and 27 of 7.4.2 give profiles so).
 #[derive(Clone, Copy)]
 pub struct Segment<T> {
-    /// Where it begins.
+    /// Where it begins, in centimetres.
     pub start: Cm,
     /// The value; None where nothing is known.
     pub value: Option<T>,

@@ -1,4 +1,4 @@
--- The balise groups that a list of links announces (packet 5: SUBSET-026, 7.4.2.2 and 3.4.4).
+-- The balise groups that a list of links announces (packet 5: SUBSET-026, 7.4.2.2 and 3.4.4). Places are centimetres.
 use Rattle.std.specs.Prelude.{ℕ, ◌*◌, ℤ, pos, ◌+ℤ◌, unwrap_or, List, [], ◌∷◌}
 use Rattle.vars.specs.declared.group.GroupIdentity.{GroupIdentity}
 use Rattle.vars.specs.declared.scale.Scale.{Scale}

@@ -1,4 +1,4 @@
--- What is known represents a life (this project's profile).
+-- What is known represents a life (this project's profile). Places are centimetres, moments milliseconds.
 use Rattle.std.specs.Prelude.{◌≡◌, ℕ, min, ℤ, Bool, Option, List, ◌∷◌}
 use Rattle.areas.specs.declared.announcement.Announcement.{Announcement as AnnouncedLevel}
 use Rattle.areas.specs.declared.area.Area.{Area}

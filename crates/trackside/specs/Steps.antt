@@ -1,4 +1,4 @@
--- What lies between the sentences of one event (this project's profile).
+-- What lies between the sentences of one event (this project's profile). Places are centimetres, moments milliseconds.
 use Rattle.std.specs.Prelude.{◌*◌, ℤ, Bool, true, false, if◌then◌else◌, Option, Some, None, is_none, List, []}
 use Rattle.packets.specs.declared.packet.Packet.{Packet}
 use Rattle.linking.specs.declared.announcement.Announcement.{Announcement}

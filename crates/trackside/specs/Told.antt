@@ -1,6 +1,6 @@
 -- What the packets of a message bring to the parts, walk by walk (this project's profile). Packets are taken in rising
 -- number: the revocations (packet 66) come behind the restrictions (packet 65), the mode areas (packet 80) behind the
--- authorities (packet 12), and all others go to parts of their own.
+-- authorities (packet 12), and all others go to parts of their own. Places are centimetres.
 use Rattle.std.specs.Prelude.{◌≡◌, ℤ, Bool, List}
 use Rattle.areas.specs.Areas.{stored}
 use Rattle.areas.specs.Entries as areas

@@ -3,7 +3,7 @@ ghost use Rattle.trackside.specs.Entry.{asking};
 
 use linking::Effect;
 
-/// What an event brings about for the train, beside its packets.
+/// What an event brings about for the train, beside its packets (this project's profile).
 #[derive(Clone, Copy)]
 pub struct Happened {
     /// Whether its movement led too far, and wasn't added.

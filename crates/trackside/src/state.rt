@@ -9,7 +9,7 @@ use std::marker::Model;
 use track_store::{ProfileStore, Restrictions, SegmentStore};
 use units::{NoMemory, Permille};
 
-/// What the track sent and where the train is, with stores for the gradients and the static speeds.
+/// What the track sent and where the train is, with stores for the gradients and the static speeds (this project's profile).
 #[derive(Drop)]
 pub struct TracksideOver<G, S> {
     pub(crate) parts: Parts,
@@ -42,7 +42,7 @@ impl<G: ProfileStore<Permille> + Drop, S: ProfileStore<CategorySpeeds> + Drop> T
         }
     }
 
-    /// An equal value; NoMemory where it is refused.
+    /// An equal value; NoMemory where memory is refused.
     pub fn copy(&self, alloc: Global) -> Result<Self, NoMemory>
         ensures { IfOk result (λ copy. copy ≡ self.now) }
     {

@@ -35,9 +35,9 @@ pub struct Use {
     pub mode: Mode,
     /// Which group it is.
     pub group: GroupIdentity,
-    /// From where its distances count.
+    /// From where its distances count, in centimetres.
     pub place: GroupPlace,
-    /// When it closed.
+    /// When it closed, in milliseconds of the life.
     pub moment: Ms,
     /// The direction in which it was passed, where that is known.
     pub direction: Option<LinkOrientation>,
@@ -115,7 +115,7 @@ fn take_one<T, W: Walk<T>>(state: &mut T, packet: &Packet<'_>, used: &Use)
     }
 }
 
-/// A whole walk.
+/// A whole walk. The caller owes room for as many packets of the walk as the message has.
 pub fn take_all<T, W: Walk<T>>(state: &mut T, packets: &GroupPackets, used: &Use)
     requires { W.HasRoom (length packets.now) 0 state.old }
     ensures told { (told : W.Told) → W.IsTold state.old told → W.IsTold state.new (after_facts W.after (facts used.now packets.now) told) }

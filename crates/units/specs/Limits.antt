@@ -1,4 +1,5 @@
--- The limits of the quantities (this project's profile).
+-- The limits of the quantities (this project's profile). Places, lengths and movements are centimetres, speeds metres
+-- per hour, times milliseconds, gradients per mille.
 use Rattle.std.specs.Prelude.{ℕ, ◌+◌, ◌*◌, ◌<◌, ◌≤◌, ◌^◌, ℤ, pos, neg_ℤ, ◌≤ℤ◌}
 use Rattle.std.specs.Int.RustNames.{unsigned_abs}
 

@@ -5,7 +5,8 @@ ghost use Rattle.units.specs.Limits.{IsCm, HasReach, reach};
 use crate::Reach;
 use std::marker::Model;
 
-/// A distance or a place, in centimetres: from -2^42 to 2^42. Places behind the start of a life are negative.
+/// A distance or a place, in centimetres: from -2^42 to 2^42 (this project's profile). Places behind the start of a life are
+/// negative.
 #[derive(Clone, Copy, Debug, PartialEq, Eq, PartialOrd, Ord)]
 pub struct Cm {
     cm: i64,
@@ -73,7 +74,7 @@ impl Cm {
         Cm::new(self.cm - other.cm)
     }
 
-    /// The place so far ahead.
+    /// The place so far ahead. The caller owes a place so far within the limits that any `Reach` from it is a `Cm`.
     pub fn ahead(self, by: Reach) -> Cm
         requires { HasReach self }
         ensures value { result ≡ self +ℤ pos by }
@@ -82,7 +83,7 @@ impl Cm {
         Cm::new(self.cm + i64::from(by.get())).unwrap()
     }
 
-    /// The place so far behind.
+    /// The place so far behind. The caller owes a place so far within the limits that any `Reach` from it is a `Cm`.
     pub fn behind(self, by: Reach) -> Cm
         requires { HasReach self }
         ensures { result ≡ self -ℤ pos by }

@@ -4,7 +4,8 @@ ghost use Rattle.units.specs.Limits.{IsGroupPlace};
 use crate::{Cm, Reach};
 use std::marker::Model;
 
-/// Where a balise group lies, from which the distances of its packets count, in centimetres: from -3 * 2^40 to 3 * 2^40.
+/// Where a balise group lies, from which the distances of its packets count, in centimetres: from -3 * 2^40 to 3 * 2^40 (this
+/// project's profile).
 #[derive(Clone, Copy)]
 pub struct GroupPlace {
     cm: i64,

@@ -3,7 +3,7 @@ ghost use Rattle.units.specs.Limits.{IsLength};
 
 use std::marker::Model;
 
-/// A length of track, of a train or of a path, in centimetres: from 0 to 2^40.
+/// A length of track, of a train or of a path, in centimetres: from 0 to 2^40 (this project's profile).
 #[derive(Clone, Copy, PartialEq, Eq, PartialOrd, Ord)]
 pub struct Length {
     cm: u64,

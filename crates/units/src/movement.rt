@@ -3,7 +3,8 @@ ghost use Rattle.units.specs.Limits.{IsMovement};
 
 use std::marker::Model;
 
-/// What the odometer moved since its last reading, forward or backward, in centimetres: from -10,000 to 10,000.
+/// What the odometer moved since its last reading, forward or backward, in centimetres: from -10,000 to 10,000 (this project's
+/// profile).
 #[derive(Clone, Copy)]
 pub struct Movement {
     cm: i64,

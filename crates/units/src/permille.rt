@@ -3,7 +3,7 @@ ghost use Rattle.units.specs.Limits.{IsPermille};
 
 use std::marker::Model;
 
-/// A gradient in per mille, uphill positive: from -254 to 254.
+/// A gradient in per mille, uphill positive: from -254 to 254 (this project's profile).
 #[derive(Clone, Copy, PartialEq, Eq)]
 pub struct Permille {
     permille: i16,

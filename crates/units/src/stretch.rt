@@ -5,7 +5,8 @@ ghost use Rattle.units.specs.Limits.{IsCm};
 use crate::Cm;
 use std::marker::Model;
 
-/// The track that a train may cover, in centimetres: from its least rear over its least front to its greatest front.
+/// The track that a train may cover, in centimetres: from its least rear over its least front to its greatest front (this
+/// project's profile).
 #[derive(Clone, Copy)]
 pub struct Stretch {
     rear: Cm,

@@ -1,4 +1,4 @@
--- The variables: how many bits each has, and the values of its numbers (SUBSET-026, 7.5.1).
+-- The variables: how many bits each has, and the values of its numbers (SUBSET-026, 7.5.1). Widths are bits.
 use Rattle.std.specs.Prelude.{ℕ, ◌==◌, Bool, Ok, Err, nat_lt, if◌then◌else◌}
 use Rattle.std.specs.Int.{from_bool}
 use Rattle.bits.specs.Layout.{Codes}

@@ -3,7 +3,7 @@ ghost use Rattle.std.specs.Prelude.{◌≡◌, ◌↔◌, IsTrue};
 use crate::variable::{NoValue, Variable};
 use std::marker::Model;
 
-/// M_MCOUNT: telegrams of a group with one counter belong to one message.
+/// M_MCOUNT: telegrams of a group with one counter belong to one message (SUBSET-026, 7.5.1).
 #[derive(Clone, Copy, PartialEq, Eq)]
 pub struct MessageCounter {
     count: u8,

@@ -6,7 +6,7 @@ use crate::variable::{NoValue, Variable};
 use std::marker::Model;
 use units::Reach;
 
-/// A distance or a length in units of the packet's scale (variables D_ and L_): from 0 to 32,767.
+/// A distance or a length in units of the packet's scale (variables D_ and L_): from 0 to 32,767 (SUBSET-026, 7.5.1).
 #[derive(Clone, Copy)]
 pub struct Distance {
     steps: u16,

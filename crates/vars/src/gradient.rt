@@ -5,7 +5,7 @@ use crate::variable::{NoValue, Variable};
 use std::marker::Model;
 use units::Permille;
 
-/// Q_GDIR: whether the track falls or rises.
+/// Q_GDIR: whether the track falls or rises (SUBSET-026, 7.5.1).
 #[derive(Clone, Copy)]
 pub enum GradientDirection {
     /// It falls.

@@ -1,7 +1,7 @@
 use crate::variable::{NoValue, Variable};
 use std::marker::Model;
 
-/// N_PIG: the place of a balise in its group, from 0 to 7. N_TOTAL is the place of the last balise.
+/// N_PIG: the place of a balise in its group, from 0 to 7 (SUBSET-026, 7.5.1). N_TOTAL is the place of the last balise.
 #[derive(Clone, Copy, PartialEq, Eq, PartialOrd, Ord)]
 pub struct PositionInGroup {
     position: u8,
@@ -49,7 +49,7 @@ impl Variable for PositionInGroup {
     ghost width_small = { Prim.omega arith };
 }
 
-/// M_DUP: whether a balise repeats its neighbour.
+/// M_DUP: whether a balise repeats its neighbour (SUBSET-026, 7.5.1).
 #[derive(Clone, Copy)]
 pub enum Duplicate {
     /// It repeats none.
@@ -99,7 +99,7 @@ impl Variable for Duplicate {
     ghost width_small = { Prim.omega arith };
 }
 
-/// NID_C: a country or region, from 0 to 1,023.
+/// NID_C: a country or region, from 0 to 1,023 (SUBSET-026, 7.5.1).
 #[derive(Clone, Copy, Default, PartialEq, Eq)]
 pub struct Country {
     number: u16,
@@ -147,7 +147,7 @@ impl Variable for Country {
     ghost width_small = { Prim.omega arith };
 }
 
-/// NID_BG: the number of a balise group within its country or region, from 0 to 16,383.
+/// NID_BG: the number of a balise group within its country or region, from 0 to 16,383 (SUBSET-026, 7.5.1).
 #[derive(Clone, Copy, PartialEq, Eq)]
 pub struct GroupNumber {
     number: u16,
@@ -195,7 +195,7 @@ impl Variable for GroupNumber {
     ghost width_small = { Prim.omega arith };
 }
 
-/// Which balise group it is.
+/// Which balise group it is (SUBSET-026, 7.5.1).
 #[derive(Clone, Copy, PartialEq, Eq)]
 pub struct GroupIdentity {
     /// NID_C.

@@ -1,7 +1,7 @@
 use crate::variable::{NoValue, Variable};
 use std::marker::Model;
 
-/// M_LEVELTR: the level that a transition leads to.
+/// M_LEVELTR: the level that a transition leads to (SUBSET-026, 7.5.1).
 #[derive(Clone, Copy)]
 pub enum Level {
     /// Level 0.
@@ -59,7 +59,7 @@ impl Variable for Level {
     ghost width_small = { Prim.omega arith };
 }
 
-/// NID_STM: which specific transmission module.
+/// NID_STM: which specific transmission module (SUBSET-026, 7.5.1).
 #[derive(Clone, Copy, Default)]
 pub struct StmIdentity {
     number: u8,
@@ -105,7 +105,7 @@ impl Variable for StmIdentity {
     ghost width_small = { Prim.omega arith };
 }
 
-/// M_MAMODE: the mode that is asked for in an area.
+/// M_MAMODE: the mode that is asked for in an area (SUBSET-026, 7.5.1).
 #[derive(Clone, Copy)]
 pub enum AreaMode {
     /// On Sight.

@@ -1,5 +1,5 @@
-//! The variables of the ERTMS/ETCS language (SUBSET-026, 7.5.1): one bounded type a variable, with the values that its
-//! numbers stand for.
+//! The variables of the ERTMS/ETCS language (SUBSET-026, 7.5.1): one bounded type a variable, with the values of its
+//! numbers.
 #![tactic(auto)]
 
 mod counter;

@@ -4,7 +4,7 @@ use crate::variable::{NoValue, Variable};
 use std::marker::Model;
 use units::Cm;
 
-/// Q_LINKORIENTATION: the direction in which an announced group will be passed.
+/// Q_LINKORIENTATION: the direction in which an announced group will be passed (SUBSET-026, 7.5.1).
 #[derive(Clone, Copy, Debug, PartialEq, Eq)]
 pub enum LinkOrientation {
     /// In its reverse direction.
@@ -49,7 +49,7 @@ impl Variable for LinkOrientation {
     ghost width_small = { Prim.omega arith };
 }
 
-/// Q_LINKREACTION: what follows where an announced group isn't found.
+/// Q_LINKREACTION: what follows where an announced group isn't found (SUBSET-026, 7.5.1).
 #[derive(Clone, Copy)]
 pub enum LinkReaction {
     /// A trip.
@@ -99,7 +99,7 @@ impl Variable for LinkReaction {
     ghost width_small = { Prim.omega arith };
 }
 
-/// Q_LOCACC: how far an announced group may lie from its announced place, from 0 to 63 metres.
+/// Q_LOCACC: how far an announced group may lie from its announced place, from 0 to 63 metres (SUBSET-026, 7.5.1).
 #[derive(Clone, Copy)]
 pub struct LocationAccuracy {
     metres: u8,

@@ -3,7 +3,7 @@ ghost use Rattle.std.specs.Prelude.{◌≡◌, ◌<◌, ◌^◌};
 use crate::variable::{NoValue, Variable};
 use std::marker::Model;
 
-/// N_ITER: how many elements of a list follow, from 0 to 31.
+/// N_ITER: how many elements of a list follow, from 0 to 31 (SUBSET-026, 7.5.1).
 #[derive(Clone, Copy)]
 pub struct Iterations {
     count: u8,
@@ -61,7 +61,7 @@ impl Variable for Iterations {
     ghost width_small = { Prim.omega arith };
 }
 
-/// NC_DIFF: the category of trains that a speed is for, from 0 to 15.
+/// NC_DIFF: the category of trains that a speed is for, from 0 to 15 (SUBSET-026, 7.5.1).
 #[derive(Clone, Copy)]
 pub struct TrainCategory {
     category: u8,

@@ -3,7 +3,7 @@ ghost use Rattle.std.specs.Prelude.{◌≡◌, ◌<◌, ◌^◌};
 use crate::variable::{NoValue, Variable};
 use std::marker::Model;
 
-/// NID_PACKET: which packet it is.
+/// NID_PACKET: which packet it is (SUBSET-026, 7.5.1).
 #[derive(Clone, Copy)]
 pub struct PacketNumber {
     number: u8,
@@ -58,7 +58,7 @@ impl Variable for PacketNumber {
     ghost width_small = { Prim.omega arith };
 }
 
-/// Q_DIR: the running direction over the group in which a packet is valid.
+/// Q_DIR: the running direction over the group in which a packet is valid (SUBSET-026, 7.5.1).
 #[derive(Clone, Copy)]
 pub enum ValidityDirection {
     /// Only where the group is passed in its reverse direction.
@@ -108,7 +108,7 @@ impl Variable for ValidityDirection {
     ghost width_small = { Prim.omega arith };
 }
 
-/// Q_DIR of a packet that is skipped: any number, the spare one too.
+/// Q_DIR of a packet that is skipped: any number, the spare one too (SUBSET-026, 7.5.1).
 #[derive(Clone, Copy)]
 pub struct UntestedDirection {
     number: u8,
@@ -156,7 +156,7 @@ impl Variable for UntestedDirection {
     ghost width_small = { Prim.omega arith };
 }
 
-/// L_PACKET: the length of a packet in bits, its number included, from 0 to 8,191.
+/// L_PACKET: the length of a packet in bits, its number included, from 0 to 8,191 (SUBSET-026, 7.5.1).
 #[derive(Clone, Copy)]
 pub struct PacketLength {
     bits: u16,

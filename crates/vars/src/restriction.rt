@@ -3,7 +3,7 @@ ghost use Rattle.std.specs.Prelude.{◌≡◌, ◌↔◌, IsTrue};
 use crate::variable::{NoValue, Variable};
 use std::marker::Model;
 
-/// NID_TSR: the number of a temporary speed restriction.
+/// NID_TSR: the number of a temporary speed restriction (SUBSET-026, 7.5.1).
 #[derive(Clone, Copy, PartialEq, Eq)]
 pub struct RestrictionNumber {
     number: u8,
@@ -58,7 +58,7 @@ impl Variable for RestrictionNumber {
     ghost width_small = { Prim.omega arith };
 }
 
-/// Q_FRONT: whether a speed stays in force until the rear of the train has left its stretch.
+/// Q_FRONT: whether a speed stays in force until the rear of the train has left its stretch (SUBSET-026, 7.5.1).
 #[derive(Clone, Copy, PartialEq, Eq)]
 pub enum TrainLengthDelay {
     /// Until the rear has left the stretch.

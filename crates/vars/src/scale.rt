@@ -3,7 +3,7 @@ ghost use Rattle.vars.specs.Meanings.{centimetres_of};
 
 use crate::variable::{NoValue, Variable};
 
-/// Q_SCALE: the unit of the distances and lengths of a packet.
+/// Q_SCALE: the unit of the distances and lengths of a packet (SUBSET-026, 7.5.1).
 #[derive(Clone, Copy)]
 pub enum Scale {
     /// 10 cm.

@@ -1,7 +1,7 @@
 use crate::distance::Distance;
 use crate::variable::{NoValue, Variable};
 
-/// D_VALIDNV and D_LEVELTR: where an announcement comes into force.
+/// D_VALIDNV and D_LEVELTR: where an announcement comes into force (SUBSET-026, 7.5.1).
 #[derive(Clone, Copy)]
 pub enum StartPlace {
     /// So far behind the group.
@@ -52,7 +52,7 @@ impl Variable for StartPlace {
     ghost width_small = { Prim.omega arith };
 }
 
-/// L_MAMODE and D_NVSTFF: a length that may have no end.
+/// L_MAMODE and D_NVSTFF: a length that may have no end (SUBSET-026, 7.5.1).
 #[derive(Clone, Copy)]
 pub enum OpenLength {
     /// This length.

@@ -1,7 +1,7 @@
 use crate::speed::SpeedStep;
 use crate::variable::{NoValue, Variable};
 
-/// V_RELEASEDP and V_RELEASEOL: the speed at which a train may approach the end of its authority.
+/// V_RELEASEDP and V_RELEASEOL: the speed at which a train may approach the end of its authority (SUBSET-026, 7.5.1).
 #[derive(Clone, Copy)]
 pub enum ReleaseSpeed {
     /// This speed.
@@ -56,7 +56,7 @@ impl Variable for ReleaseSpeed {
     ghost width_small = { Prim.omega arith };
 }
 
-/// V_STATIC: the static speed from a place on.
+/// V_STATIC: the static speed from a place on (SUBSET-026, 7.5.1).
 #[derive(Clone, Copy)]
 pub enum StaticSpeed {
     /// This speed.
@@ -107,7 +107,7 @@ impl Variable for StaticSpeed {
     ghost width_small = { Prim.omega arith };
 }
 
-/// V_MAMODE: the speed in a mode area.
+/// V_MAMODE: the speed in a mode area (SUBSET-026, 7.5.1).
 #[derive(Clone, Copy)]
 pub enum AreaSpeed {
     /// This speed.

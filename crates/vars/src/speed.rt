@@ -4,7 +4,7 @@ use crate::variable::{NoValue, Variable};
 use std::marker::Model;
 use units::Mph;
 
-/// A speed in steps of 5 km/h (variables V_): from 0 to 120. A number above 120 is no speed.
+/// A speed in steps of 5 km/h (variables V_): from 0 to 120 (SUBSET-026, 7.5.1). A number above 120 is no speed.
 #[derive(Clone, Copy)]
 pub struct SpeedStep {
     steps: u8,

@@ -4,7 +4,7 @@ use crate::variable::{NoValue, Variable};
 use std::marker::Model;
 use units::Ms;
 
-/// T_LOA, T_SECTIONTIMER, T_ENDTIMER and T_OL: seconds, from 0 to 1,022; 1,023 has no expiry.
+/// T_LOA, T_SECTIONTIMER, T_ENDTIMER and T_OL: seconds, from 0 to 1,022; 1,023 has no expiry (SUBSET-026, 7.5.1).
 #[derive(Clone, Copy)]
 pub struct Timer {
     seconds: u16,
@@ -65,7 +65,7 @@ impl Variable for Timer {
     ghost width_small = { Prim.omega arith };
 }
 
-/// T_NVOVTRP: seconds, from 0 to 254; 255 has no end.
+/// T_NVOVTRP: seconds, from 0 to 254; 255 has no end (SUBSET-026, 7.5.1).
 #[derive(Clone, Copy)]
 pub struct OverrideTime {
     seconds: u8,

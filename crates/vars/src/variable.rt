@@ -5,7 +5,7 @@ ghost use Rattle.vars.specs.declared.variable.NoValue.{NoValue};
 
 use thiserror::Error;
 
-/// Why a number has no value of a variable.
+/// Why a number has no value of a variable (SUBSET-026, 7.5.1).
 #[derive(Clone, Copy, Debug, PartialEq, Eq, Error)]
 pub enum NoValue {
     /// The language keeps the number for later use.
@@ -16,7 +16,7 @@ pub enum NoValue {
     OutOfRange,
 }
 
-/// A variable of the language: a number of so many bits, with a value.
+/// A variable of the language: a number of so many bits, with a value (SUBSET-026, 7.5.1).
 pub trait Variable: Sized {
     /// How its values are spelled in bits.
     ghost codes: { Codes NoValue Self };

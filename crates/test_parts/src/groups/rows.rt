@@ -12,12 +12,19 @@ use vars::{LinkOrientation, Variable};
 /// infill (136), and have no more than a head.
 #[derive(Clone, Copy)]
 pub struct Balise {
+    /// NID_BG.
     pub group: u64,
+    /// N_PIG.
     pub place: u64,
+    /// N_TOTAL.
     pub total: u64,
+    /// M_DUP.
     pub duplicate: u64,
+    /// M_MCOUNT.
     pub counter: u64,
+    /// Q_LINK.
     pub linked: u64,
+    /// The numbers of its packets.
     pub packets: &'static [u64],
 }
 
@@ -53,11 +60,17 @@ pub enum Step {
 /// What a message tells; its place by the sums of the movements and of the path there.
 #[derive(Clone, Copy)]
 pub struct Told {
+    /// NID_BG.
     pub group: u64,
+    /// The direction of passing, where it is known.
     pub direction: Option<LinkOrientation>,
+    /// The sum of the movements, in centimetres.
     pub moved: i64,
+    /// The path, in centimetres.
     pub path: u64,
+    /// Whether balise 1 was missed.
     pub missed: bool,
+    /// The numbers of its packets.
     pub packets: &'static [u64],
 }
 
@@ -74,8 +87,11 @@ pub const TOLD: Told = Told {
 /// What closes.
 #[derive(Drop)]
 pub enum End {
+    /// No group closes.
     Nothing,
+    /// A group closes with this message.
     Whole(Told),
+    /// The group of this number closes broken.
     Broken(u64, Cause),
 }
 
@@ -169,6 +185,7 @@ fn happens<R: Abort>(rt: &R, groups: &mut Assembler, place: &mut Place, step: &S
     }
 }
 
+/// Runs rows; a difference ends the test.
 pub fn rows<R: Abort>(rt: &R, rows: &[Row]) {
     for (row, steps) in rows {
         let mut groups = Assembler::new();

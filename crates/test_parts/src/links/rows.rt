@@ -10,12 +10,16 @@ use vars::{
     Country, GroupIdentity, GroupNumber, LinkOrientation, LinkReaction, LocationAccuracy, Variable,
 };
 
+/// Linking asks for nothing.
 pub const NONE: Effect = Effect::NONE;
 
+/// Linking asks for a trip.
 pub const TRIP: Effect = Effect::TRIP;
 
+/// Linking asks for the service brake.
 pub const SERVICE: Effect = Effect::SERVICE;
 
+/// Linking asks for both.
 pub const BOTH: Effect = Effect {
     trip: true,
     service: true,
@@ -23,9 +27,13 @@ pub const BOTH: Effect = Effect {
 
 /// What becomes of a group, with the number of the announcement that was meant.
 pub enum Told {
+    /// It is accepted, and isn't announced.
     Accepted,
+    /// It is accepted as this announcement.
     AcceptedAs(u8),
+    /// It is ignored.
     Ignored,
+    /// It is refused as this announcement.
     Reacted(u8),
 }
 
@@ -38,10 +46,15 @@ pub type Announced = (u8, i64, u8, LinkReaction);
 /// A group that is read.
 #[derive(Clone, Copy)]
 pub struct Group {
+    /// NID_BG.
     pub number: u8,
+    /// Q_LINK.
     pub linked: bool,
+    /// The direction of passing, where it is known.
     pub direction: Option<LinkOrientation>,
+    /// Where the front is thought to be, in centimetres.
     pub front: i64,
+    /// How far that may be wrong, in centimetres.
     pub uncertainty: i64,
 }
 
@@ -58,6 +71,7 @@ pub const GROUP: Group = Group {
 pub enum Event {
     /// A list of links comes in place of the one before.
     Announce(&'static [Announced]),
+    /// A group is read; what becomes of it, and what is asked for.
     Read(Group, Told, Effect),
     /// A group breaks, of a number; whether it may be announced.
     Break(u8, bool, Effect),
@@ -149,6 +163,7 @@ fn copy(links: &Links) -> Links {
     links.copy()
 }
 
+/// Runs rows; a difference ends the test.
 pub fn rows<R: Abort>(rt: &R, rows: &[Row]) {
     for (row, events) in rows {
         let mut links = Links::new();

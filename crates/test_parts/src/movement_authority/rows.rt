@@ -14,8 +14,11 @@ pub type Part = (u16, Option<(u16, u16)>);
 /// An authority of 160 km/h, by the numbers of its variables.
 #[derive(Clone, Copy)]
 pub struct Granted {
+    /// Q_SCALE.
     pub scale: Scale,
+    /// The sections before the end section.
     pub before: &'static [Part],
+    /// The end section.
     pub end_section: Part,
     /// V_LOA and T_LOA.
     pub end_speed: (u8, u16),
@@ -101,6 +104,7 @@ fn bare_packet<R: Abort>(rt: &R, granted: &Granted) -> MovementAuthority {
     }
 }
 
+/// The packet 12 of an authority.
 pub fn packet<R: Abort>(rt: &R, granted: &Granted) -> MovementAuthority {
     let mut packet = bare_packet(rt, granted);
     if let Some((time, start)) = granted.end_timer {
@@ -126,6 +130,7 @@ pub fn packet<R: Abort>(rt: &R, granted: &Granted) -> MovementAuthority {
     packet
 }
 
+/// A moment, in milliseconds.
 pub fn ms<R: Abort>(rt: &R, moment: u64) -> Ms {
     Ms::new(moment).expect(rt, "a moment")
 }
@@ -150,6 +155,7 @@ pub fn tells<R: Abort>(rt: &R, authority: &Authority, told: &Told, row: &str, st
     same(rt, &answer, &wanted, row, step);
 }
 
+/// An event comes, and the authority tells what the row wants.
 pub fn happens<R: Abort>(rt: &R, authority: &mut Authority, event: &Event, row: &str, step: usize) {
     let (moment, least, greatest, told) = event;
     authority.tick(ms(rt, *moment));

@@ -4,10 +4,15 @@ use units::{Cm, Permille};
 /// A gradient that begins at one place, changes at another and ends at a third.
 #[derive(Clone, Copy)]
 pub struct Slope {
+    /// Its first centimetre.
     pub begins: Cm,
+    /// Where it changes, in centimetres.
     pub changes: Cm,
+    /// The first centimetre behind it.
     pub ends: Cm,
+    /// The gradient before the change.
     pub before: Permille,
+    /// The gradient from there on.
     pub after: Permille,
 }
 

@@ -9,10 +9,15 @@ use units::Permille;
 /// A gradient that begins at one place, changes at another and ends at a third, before the change and after it.
 #[derive(Clone, Copy)]
 pub struct Gradient {
+    /// Its first centimetre.
     pub begins: i64,
+    /// Where it changes, in centimetres.
     pub changes: i64,
+    /// The first centimetre behind it.
     pub ends: i64,
+    /// The gradient before the change, per mille.
     pub before: i16,
+    /// The gradient from there on, per mille.
     pub after: i16,
 }
 
@@ -25,9 +30,13 @@ pub type Ahead = (i64, u32);
 /// What the permitted speed depends on.
 #[derive(Clone, Copy)]
 pub struct Asked {
+    /// The maximum safe front, in centimetres.
     pub front: i64,
+    /// The limit, in metres per hour.
     pub limit: u32,
+    /// The gradient ahead.
     pub gradient: Gradient,
+    /// The train.
     pub train: Train,
 }
 
@@ -96,6 +105,7 @@ pub fn is_fitting<R: Abort>(rt: &R, asked: &Asked, ahead: &Ahead, speed: u32) ->
 /// What is asked, the targets ahead, and the permitted speed then.
 pub type Row = (Asked, &'static [Ahead], u32);
 
+/// Runs rows; a difference ends the test.
 pub fn rows<R: Abort>(rt: &R, name: &str, rows: &[Row]) {
     for (row, (asked, ahead, wanted)) in rows.iter().enumerate() {
         same(rt, &speed(rt, asked, ahead), wanted, name, row);

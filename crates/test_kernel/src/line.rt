@@ -6,8 +6,11 @@ use std::alloc::Global;
 /// What happens, or what is asked for.
 #[derive(Drop)]
 pub enum Said {
+    /// An event.
     Event(Event),
+    /// An item of what is kept.
     Kept(Item),
+    /// The estimate and its uncertainty.
     Place,
 }
 

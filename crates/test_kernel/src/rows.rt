@@ -8,6 +8,7 @@ use row_words::output_text;
 use std::alloc::Global;
 use units::NoMemory;
 
+/// The row that is run, in its three ways, and what was counted.
 #[derive(Drop)]
 pub struct Rows {
     alloc: Global,
@@ -18,6 +19,7 @@ pub struct Rows {
 }
 
 impl Rows {
+    /// No line was taken.
     pub fn new(alloc: Global) -> Rows {
         Rows {
             alloc,

@@ -30,6 +30,7 @@ pub enum Way {
 }
 
 impl Way {
+    /// Its word in what is printed.
     pub fn name(self) -> &'static str {
         match self {
             Way::Step => "step",
@@ -39,6 +40,7 @@ impl Way {
     }
 }
 
+/// The three states of a row, one for each way.
 #[derive(Drop)]
 pub struct Runs {
     listing: Listing,

@@ -3,9 +3,13 @@
 /// How many there were.
 #[derive(Clone, Copy)]
 pub struct Tally {
+    /// Rows.
     pub rows: u64,
+    /// Lines that tell an event.
     pub events: u64,
+    /// Answers that were wanted.
     pub answers: u64,
+    /// Lines that say nothing, and answers that were found in place of the wanted ones.
     pub differences: u64,
 }
 
@@ -18,6 +22,7 @@ impl Tally {
         differences: 0,
     };
 
+    /// One row more.
     pub fn count_row(&mut self) {
         self.rows = self.rows.wrapping_add(1);
     }
@@ -28,6 +33,7 @@ impl Tally {
         self.answers = self.answers.wrapping_add(u64::from(is_wanted));
     }
 
+    /// One difference more.
     pub fn count_difference(&mut self) {
         self.differences = self.differences.wrapping_add(1);
     }

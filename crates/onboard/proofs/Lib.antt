@@ -8,4 +8,5 @@ pub mod Opening
 pub mod Pending
 pub mod RunEnds
 pub mod Stepping
+pub mod Stopping
 pub mod WholeLives

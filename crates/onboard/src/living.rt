@@ -1,12 +1,13 @@
 // Whole lives.
-ghost use Rattle.std.specs.Prelude.{◌≡◌, ◌-◌, ◌<◌, [], ◌∷◌, List, IsTrue, IfErr, OnOk, vec_len, vec_capacity};
+ghost use Rattle.std.specs.Prelude.{◌-◌, ◌<◌, [], ◌∷◌, List, IsTrue, IfErr, vec_len, vec_capacity};
 ghost use Rattle.disk.specs.State.{Counted};
 ghost use Rattle.events.specs.declared.input.Event.{Event};
 ghost use Rattle.events.specs.declared.input.Event.TheVariants.{PowerUp};
 ghost use Rattle.mode_table.specs.declared.statuses.Cold.{Cold};
 ghost use Rattle.onboard.specs.Answers.{live_failed, is_full};
 ghost use Rattle.onboard.specs.Lives.{IsReady};
-ghost use Rattle.onboard.specs.Runs.{accepted_by, durable_by, Lives};
+ghost use Rattle.onboard.specs.Runs.{Lives};
+ghost use Rattle.onboard.specs.Stops.{LifeEnds, IsDone};
 ghost use Rattle.onboard.specs.declared.released.Released.{Released};
 
 use crate::errors::LiveError;
@@ -34,11 +35,14 @@ pub fn live_into<D: Disk, S: ReleaseSink>(
     // NoMemory comes only where the sink has no room for what a flush may release.
     ensures full { IfErr result.1 (λ e. IsTrue (is_full e) → S.room sink.new < 8) }
 
+    // The error names the first step that isn't carried out, or the opening, and its cause.
+    ensures stopped { LifeEnds (D.state disk) steps.now result.1 }
+
     // Where power is lost and what is released, for every list of events that the disk represents.
     ensures life { (d a : List Event) → IsTrue (D.state disk).honest → IsReady d a (D.state disk) →
         (p : List Event) × (word : Cold) × (given : List Released) × S.Gave sink.old given sink.new
         × (it : Lives d a p cold word steps.now (D.state disk) (D.state result.0) [] given)
-        × OnOk result.1 (it.after ≡ accepted_by (PowerUp word ∷ p) steps.now) × OnOk result.1 (it.before ≡ durable_by (PowerUp word ∷ p) steps.now) }
+        × IsDone (PowerUp word ∷ p) steps.now result.1 it.before it.after it.given }
 {
     match Onboard::open(alloc, disk, cold) {
         Ok(unit) => {
@@ -63,10 +67,13 @@ pub fn live<D: Disk>(
     // NoMemory comes only where the list has no room for what a flush may release.
     ensures full { IfErr result.1 (λ e. IsTrue (is_full e) → vec_capacity out.new - vec_len out.new < 8) }
 
+    // The error names the first step that isn't carried out, or the opening, and its cause.
+    ensures stopped { LifeEnds (D.state disk) steps.now result.1 }
+
     // Where power is lost and what is released, for every list of events that the disk represents.
     ensures life { (d a : List Event) → IsTrue (D.state disk).honest → IsReady d a (D.state disk) →
         (p : List Event) × (word : Cold) × (it : Lives d a p cold word steps.now (D.state disk) (D.state result.0) out.old.items out.new.items)
-        × OnOk result.1 (it.after ≡ accepted_by (PowerUp word ∷ p) steps.now) × OnOk result.1 (it.before ≡ durable_by (PowerUp word ∷ p) steps.now) }
+        × IsDone (PowerUp word ∷ p) steps.now result.1 it.before it.after it.given }
 {
     live_into(alloc, disk, cold, steps, out)
 }

@@ -1,12 +1,13 @@
 // The steps of a life.
-ghost use Rattle.std.specs.Prelude.{◌≡◌, false, ◌-◌, ◌<◌, [], ◌∷◌, List, IsTrue, IfErr, OnOk, OnErr, vec_len, vec_capacity};
+ghost use Rattle.std.specs.Prelude.{◌≡◌, false, ◌-◌, ◌<◌, [], ◌∷◌, List, IsTrue, IfErr, OnOk, OnErr, Some, vec_len, vec_capacity};
 ghost use Rattle.disk.specs.State.{Counted};
 ghost use Rattle.events.specs.declared.input.Event.{Event};
 ghost use Rattle.events.specs.declared.input.Event.TheVariants.{Input as an_input};
 ghost use Rattle.journal.specs.Journals.{IsOpen};
 ghost use Rattle.onboard.specs.Answers.{live_failed, is_full};
 ghost use Rattle.onboard.specs.Events.{account_of, IsAhead};
-ghost use Rattle.onboard.specs.Runs.{accepted_by, durable_by, IsStepped, Took, Ran};
+ghost use Rattle.onboard.specs.Runs.{IsStepped, Took, Ran};
+ghost use Rattle.onboard.specs.Stops.{progress_of, go_on, step_of, Stands, StopsAt, StepsEnd, IsDone};
 ghost use Rattle.onboard.specs.declared.released.Released.{Released};
 ghost use Rattle.life_steps.specs.declared.step.Step.TheVariants as a_step;
 
@@ -34,6 +35,10 @@ fn flush_into<D: Disk, S: ReleaseSink>(
     ensures released { OnOk result (S.Gave sink.old unit.old.life.pairs sink.new) }
     ensures nothing { OnErr result (S.Gave sink.old [] sink.new) }
     ensures full { IfErr result (λ e. IsTrue (is_full e) → S.room sink.new < 8) }
+    ensures named { IfErr result (λ e. step_of e ≡ Some k) }
+    ensures stood { OnOk result (Stands (progress_of unit.old.journal unit.old.life) a_step.Flush
+        × (progress_of unit.new.journal unit.new.life ≡ go_on (progress_of unit.old.journal unit.old.life) a_step.Flush)) }
+    ensures stopped { IfErr result (StopsAt (progress_of unit.old.journal unit.old.life) k a_step.Flush) }
 {
     if sink.make_room().is_err() {
         return Err(LiveError::NoMemory(k));
@@ -61,6 +66,10 @@ fn accept_one<D: Disk>(
         × OnOk result (IsOpen unit.new.journal (account_of durable) (D.state unit.new.disk)
         × IsAhead durable (an_input input.now ∷ accepted) unit.new.life) }
     ensures roomy { IfErr result (λ e. is_full e ≡ false) }
+    ensures named { IfErr result (λ e. step_of e ≡ Some k) }
+    ensures stood { OnOk result (Stands (progress_of unit.old.journal unit.old.life) (a_step.Accept input.now)
+        × (progress_of unit.new.journal unit.new.life ≡ go_on (progress_of unit.old.journal unit.old.life) (a_step.Accept input.now))) }
+    ensures stopped { IfErr result (StopsAt (progress_of unit.old.journal unit.old.life) k (a_step.Accept input.now)) }
 {
     match unit.accept(alloc, copy_of(input)) {
         Ok(()) => Ok(()),
@@ -82,6 +91,10 @@ fn take<D: Disk, S: ReleaseSink>(
         × OnOk result ((its : List Released) × S.Gave sink.old its sink.new × Took durable accepted step.now unit.new.journal unit.new.life (D.state unit.new.disk) its) }
     ensures nothing { OnErr result (S.Gave sink.old [] sink.new) }
     ensures full { IfErr result (λ e. IsTrue (is_full e) → S.room sink.new < 8) }
+    ensures named { IfErr result (λ e. step_of e ≡ Some k) }
+    ensures stood { OnOk result (Stands (progress_of unit.old.journal unit.old.life) step.now
+        × (progress_of unit.new.journal unit.new.life ≡ go_on (progress_of unit.old.journal unit.old.life) step.now)) }
+    ensures stopped { IfErr result (StopsAt (progress_of unit.old.journal unit.old.life) k step.now) }
 {
     match step {
         Step::Accept(input) => match accept_one(alloc, unit, k, input) {
@@ -105,11 +118,12 @@ pub fn run_into<D: Disk, S: ReleaseSink>(
 ) -> Result<(), LiveError>
     ensures counted { Counted (live_failed result) (D.state unit.old.disk) (D.state unit.new.disk) }
     ensures full { IfErr result (λ e. IsTrue (is_full e) → S.room sink.new < 8) }
+    ensures stopped { StepsEnd (progress_of unit.old.journal unit.old.life) steps.now result }
     ensures ran { (s : List Event) → IsTrue (D.state unit.old.disk).honest →
         IsOpen unit.old.journal (account_of s) (D.state unit.old.disk) → IsAhead s s unit.old.life →
         (given : List Released) × S.Gave sink.old given sink.new
         × (it : Ran s steps.now (D.state unit.old.disk) (D.state unit.new.disk) [] given)
-        × OnOk result (it.after ≡ accepted_by s steps.now) × OnOk result (it.before ≡ durable_by s steps.now) }
+        × IsDone s steps.now result it.before it.after it.given }
 {
     for k in 0..steps.len() {
         match take(alloc, unit, k, &steps[k], sink) {
@@ -129,10 +143,11 @@ pub fn run<D: Disk>(
 ) -> Result<(), LiveError>
     ensures counted { Counted (live_failed result) (D.state unit.old.disk) (D.state unit.new.disk) }
     ensures full { IfErr result (λ e. IsTrue (is_full e) → vec_capacity out.new - vec_len out.new < 8) }
+    ensures stopped { StepsEnd (progress_of unit.old.journal unit.old.life) steps.now result }
     ensures ran { (s : List Event) → IsTrue (D.state unit.old.disk).honest →
         IsOpen unit.old.journal (account_of s) (D.state unit.old.disk) → IsAhead s s unit.old.life →
         (it : Ran s steps.now (D.state unit.old.disk) (D.state unit.new.disk) out.old.items out.new.items)
-        × OnOk result (it.after ≡ accepted_by s steps.now) × OnOk result (it.before ≡ durable_by s steps.now) }
+        × IsDone s steps.now result it.before it.after it.given }
 {
     run_into(alloc, unit, steps, out)
 }

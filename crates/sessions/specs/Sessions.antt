@@ -1,5 +1,5 @@
 -- What the program does with a disk, and what it writes (this project's profile).
-use Rattle.std.specs.Prelude.{◌≡◌, ◌⊎◌, ℕ, ◌+◌, ◌*◌, List, [], ◌∷◌, ◌++◌, Bool, true, false, IsTrue, Option, Some, None, Result, OnOk, IfOk, codes, decimal}
+use Rattle.std.specs.Prelude.{◌≡◌, ◌⊎◌, ℕ, ◌+◌, ◌*◌, List, [], ◌∷◌, ◌++◌, Bool, true, false, IsTrue, Option, Some, None, Result, IfOk, codes, decimal}
 use Rattle.std.specs.Io.KnownBytes.{Appends}
 use Rattle.disk.specs.State.{State}
 use Rattle.events.specs.declared.input.Event.{Event}
@@ -12,7 +12,8 @@ use Rattle.mode_table.specs.declared.statuses.Cold.{Cold}
 use Rattle.onboard.specs.declared.errors.LiveError.{LiveError}
 use Rattle.onboard.specs.declared.released.Released.{Released}
 use Rattle.onboard.specs.Lives.{IsReady}
-use Rattle.onboard.specs.Runs.{accepted_by, Lives}
+use Rattle.onboard.specs.Runs.{Lives}
+use Rattle.onboard.specs.Stops.{LifeEnds, IsDone}
 use Rattle.reader.specs.Listings.{AddsListing, IsListingRefusal}
 use Rattle.reader.specs.declared.errors.ListingError.{ListingError}
 use Rattle.scenario_values.specs.declared.fault.ScenarioFault.{ScenarioFault}
@@ -39,15 +40,16 @@ is_device Device = true
 abbrev pub report_of : {T : Type 0} → List Released → Result T LiveError → List ℕ
 report_of given ended = lines_of given ++ ending_of ended
 
--- A life on a disk whose images each represented d or a. Where all writes succeeded, just the report of what was released came behind the
--- text, and the status is that of the end.
+-- A life on a disk whose images each represented d or a. Where it stopped, that is at the first step that isn't carried out, for its cause.
+-- Where all writes succeeded, just the report of what was released came behind the text, and the status is that of the end.
 pub record Session {E : Type 0} (d a : List Event) (cold : Cold) (steps : List Step) (old new : State) (before after : Option (List ℕ)) (answer : Result Status E) : Type 0 where
   pub p : List Event
   pub word : Cold
   pub given : List Released
   pub ended : Result (Unit {0}) LiveError
   pub life : Lives d a p cold word steps old new [] given
-  pub whole : OnOk ended (life.after ≡ accepted_by (PowerUp word ∷ p) steps)
+  pub done : IsDone (PowerUp word ∷ p) steps ended life.before life.after life.given
+  pub stopped : LifeEnds old steps ended
   pub told : Says (status_of ended) (report_of given ended) before after answer
 
 -- ---- from the bytes of a scenario to what is written

@@ -8,6 +8,10 @@ use Rattle.onboard.specs.Events.{account_of, IsAhead}
 use Rattle.onboard.specs.Runs.{IsStepped}
 use Rattle.life_steps.specs.declared.step.Step.TheVariants.{Accept}
 use Rattle.onboard.proofs.Stepping.{quiet_step}
+use Rattle.onboard.proofs.Stopping.{no_cause, accept_stops}
+use Rattle.onboard.specs.Answers.{refusal_of}
+use Rattle.onboard.specs.Stops.{Progress, progress_of, go_on, Stands}
+use Rattle.onboard.specs.declared.errors.AcceptError.TheVariants.{NoMemory}
 use Rattle.onboard.proofs.steps.accept_one.Goals as goal
 
 pub returns-in-Ok-clause-stepped : goal.returns-in-Ok-clause-stepped
@@ -28,3 +32,13 @@ returns-in-Err-clause-stepped g c = λ durable accepted honest opened ahead.
     let same : g.D.Disk.state c.accept.new.self.disk ≡ old = ap g.D.Disk.state c.accept.ensures.device.0 in
     let S : State → Type 0 = λ d. IsStepped (Accept c.args.input.now) durable accepted old d in
     (subst S (sym same) (quiet_step (Accept c.args.input.now) c.args.unit.now.journal durable accepted ahead.more old opened ahead.accepted_is), tt)
+
+pub returns-in-Ok-clause-stood : goal.returns-in-Ok-clause-stood
+returns-in-Ok-clause-stood g c =
+    let so : Progress = progress_of c.args.unit.now.journal c.args.unit.now.life in
+    let S : Input → Type 0 = λ x. Stands so (Accept x) × (progress_of c.accept.new.self.journal c.accept.new.self.life ≡ go_on so (Accept x)) in
+    subst S c.copy_of.ensures (no_cause (refusal_of so.failed so.pending so.moment c.copy_of.result) c.accept.result _ (λ e. e ≡ NoMemory) c.in-Ok.is c.accept.ensures.exact, c.in-Ok.ensures.gone_on)
+
+pub returns-in-Err-clause-stopped : goal.returns-in-Err-clause-stopped
+returns-in-Err-clause-stopped g c =
+    accept_stops (progress_of c.args.unit.now.journal c.args.unit.now.life) c.args.k c.args.input.now c.copy_of.result c.accept.result c.in-Err.error c.in-Err.is c.copy_of.ensures c.accept.ensures.exact

@@ -1,7 +1,12 @@
-use Rattle.std.proofs.Common.{◌∙◌, [], List, subst}
+use Rattle.std.proofs.Common.{◌≡◌, ◌∙◌, [], List, inl, refl, ap, subst}
 use Rattle.life_steps.specs.declared.step.Step.TheVariants.{Flush}
 use Rattle.onboard.specs.declared.released.Released.{Released}
 use Rattle.onboard.proofs.Stepping.{quiet_step, flush_step}
+use Rattle.onboard.proofs.Stopping.{no_cause, flush_stops}
+use Rattle.onboard.specs.Answers.{flush_refusal}
+use Rattle.onboard.specs.Stops.{Progress, progress_of}
+use Rattle.onboard.specs.UnitState.{UnitState}
+use Rattle.onboard.specs.declared.errors.FlushError.TheVariants.{DeviceFault}
 use Rattle.onboard.proofs.steps.flush_into.Goals as goal
 
 pub returns-then-is_err-clause-stepped : goal.returns-then-is_err-clause-stepped
@@ -25,3 +30,16 @@ returns-in-Ok-clause-released g c =
     let G : List Released → Type 0 = λ l. g.S.ReleaseSink.Gave c.make_room.new.self l c.give.new.self in
     let gave = subst G (c.as_slice.ensures.value ∙ c.in-Ok.ensures.released) c.give.ensures.given in
     g.met.S.ReleaseSink.more c.args.sink.now c.make_room.new.self c.give.new.self [] c.args.unit.now.life.pairs c.make_room.ensures.given gave
+
+pub returns-then-is_err-clause-stopped : goal.returns-then-is_err-clause-stopped
+returns-then-is_err-clause-stopped g c = inl refl
+
+pub returns-in-Ok-clause-stood : goal.returns-in-Ok-clause-stood
+returns-in-Ok-clause-stood g c =
+    let so : Progress = progress_of c.args.unit.now.journal c.args.unit.now.life in
+    (no_cause (flush_refusal so.failed so.pending so.newest) c.flush.result _ (λ e. e ≡ DeviceFault) c.in-Ok.is c.flush.ensures.exact, c.in-Ok.ensures.gone_on)
+
+pub returns-in-Err-clause-stopped : goal.returns-in-Err-clause-stopped
+returns-in-Err-clause-stopped g c =
+    flush_stops (progress_of c.args.unit.now.journal c.args.unit.now.life) c.args.k c.flush.result c.in-Err.error g.D.Disk.state c.args.unit.now.disk c.flush.new.self.disk c.in-Err.is c.flush.ensures.exact c.flush.ensures.counted
+    (λ none. ap (λ (u : UnitState _). u.disk) (c.flush.ensures.nothing none))

@@ -1,8 +1,10 @@
-use Rattle.std.proofs.Common.{◌≡◌, List, IsTrue}
+use Rattle.std.proofs.Common.{◌≡◌, List, IsTrue, take}
+use Rattle.std.specs.Prelude.{fold}
 use Rattle.events.specs.declared.input.Event.{Event}
 use Rattle.journal.specs.Journals.{IsOpen}
 use Rattle.onboard.specs.Events.{account_of, IsAhead}
 use Rattle.onboard.specs.Runs.{Going}
+use Rattle.onboard.specs.Stops.{progress_of, go_on, AllStand}
 use Rattle.onboard.specs.declared.released.Released.{Released}
 use Rattle.onboard.proofs.steps.run_into.Given as goal
 
@@ -11,6 +13,8 @@ invariant-loop-k g l = record {
   sectors : (g.D.Disk.state l.unit.disk).sectors ≡ (g.D.Disk.state l.fn.unit.disk).sectors;
   honest : (g.D.Disk.state l.unit.disk).honest ≡ (g.D.Disk.state l.fn.unit.disk).honest;
   faults : (g.D.Disk.state l.unit.disk).faults ≡ (g.D.Disk.state l.fn.unit.disk).faults;
+  stood : AllStand (progress_of l.fn.unit.journal l.fn.unit.life) (take l.k l.steps)
+      × (progress_of l.unit.journal l.unit.life ≡ fold go_on (progress_of l.fn.unit.journal l.fn.unit.life) (take l.k l.steps));
   going : (s : List Event) → IsTrue (g.D.Disk.state l.fn.unit.disk).honest → IsOpen l.fn.unit.journal (account_of s) (g.D.Disk.state l.fn.unit.disk) →
       IsAhead s s l.fn.unit.life → (given : List Released) × g.S.ReleaseSink.Gave l.fn.sink given l.sink
       × Going s l.steps l.k (g.D.Disk.state l.fn.unit.disk) (g.D.Disk.state l.unit.disk) l.unit.journal l.unit.life given;

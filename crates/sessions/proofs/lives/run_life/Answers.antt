@@ -12,7 +12,8 @@ returns-in-Ok-clause-session g c d a honest ready =
       given = it.2;
       ended = c.live_into-disk.result.1;
       life = it.4;
-      whole = it.5;
+      done = it.5;
+      stopped = c.live_into-disk.ensures.stopped;
       told = told_whole c.tell_end-status.result c.live_into-disk.result.1 _ _ _ it.2
           (all_printed _ _ c.in-Ok.is _ _ _ it.2 it.3) c.tell_end-status.ensures.status c.tell_end-status.ensures.line;
     }
@@ -26,6 +27,7 @@ returns-in-Err-clause-session g c d a honest ready =
       given = it.2;
       ended = c.live_into-disk.result.1;
       life = it.4;
-      whole = it.5;
+      done = it.5;
+      stopped = c.live_into-disk.ensures.stopped;
       told = tt;
     }

@@ -1,11 +1,11 @@
 -- Which events take no memory (this project's profile).
-use Rattle.std.specs.Prelude.{Bool, true}
+use Rattle.std.specs.Prelude.{ℕ, ⊤}
 use Rattle.events.specs.declared.input.Event.{Event}
 use Rattle.events.specs.declared.input.Event.TheVariants.{PowerUp, Input}
-use Rattle.trackside.specs.Steps.{is_quiet}
+use Rattle.trackside.specs.Steps as track
 use Rattle.kernel.specs.StandsFor.{Knowledge}
 
--- a power-up, and each input by which no group can close
-abbrev pub is_quiet_event : {G S : Type 0} → Knowledge G S → Event → Bool
-is_quiet_event known (PowerUp cold) = true
-is_quiet_event known (Input input) = is_quiet known.supervision.track.parts input
+-- there is room for all packets that may be used by an event; none are by a power-up
+abbrev pub HasRoomFor : {G S : Type 0} → (G → ℕ) → (S → ℕ) → Knowledge G S → Event → Type 0
+HasRoomFor gradients_room speeds_room known (PowerUp cold) = ⊤
+HasRoomFor gradients_room speeds_room known (Input input) = track.HasRoomFor gradients_room speeds_room known.supervision.track input

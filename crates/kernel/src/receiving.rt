@@ -1,16 +1,16 @@
 //! What an event does.
-ghost use Rattle.std.specs.Prelude.{◌≡◌, true, List, ◌∷◌, IsOk, OnOk, OnErr};
+ghost use Rattle.std.specs.Prelude.{◌≡◌, List, ◌∷◌, IsOk, OnOk, OnErr};
 ghost use Rattle.events.specs.declared.input.Event.{Event};
 ghost use Rattle.events.specs.declared.input.Event.TheVariants as event;
 ghost use Rattle.kernel.specs.Brake.{sight_at};
 ghost use Rattle.kernel.specs.Lives.{counted};
-ghost use Rattle.kernel.specs.Quiet.{is_quiet_event};
+ghost use Rattle.kernel.specs.Quiet.{HasRoomFor};
 ghost use Rattle.kernel.specs.StandsFor.{StandsForLife, StandsFor, parts_of};
 ghost use Rattle.supervision.specs.Entry.{Entry};
 ghost use Rattle.supervision.specs.Life.{Life, grown};
 ghost use Rattle.supervision.specs.Sentences.{entry_of};
 ghost use Rattle.supervision.specs.StandsFor.{StandsForLife as SupervisionStandsForLife};
-ghost use Rattle.trackside.specs.Steps.{is_quiet};
+ghost use Rattle.trackside.specs.Steps.{HasRoomFor as TrackHasRoomFor};
 
 use crate::parts::Parts;
 use crate::sight::{Sight, backward_by, reading_of, stands};
@@ -56,7 +56,7 @@ fn sight_of<G: ProfileStore<Permille> + Drop, S: ProfileStore<CategorySpeeds> + 
 impl<G: ProfileStore<Permille> + Drop, S: ProfileStore<CategorySpeeds> + Drop> StateOver<G, S> {
     // All that an input does. Where memory is refused, nothing changes.
     fn receive(&mut self, input: &Input) -> Result<(), NoMemory>
-        ensures quiet { is_quiet self.old.supervision.track.parts input.now ≡ true → IsOk result }
+        ensures quiet { TrackHasRoomFor G.room S.room self.old.supervision.track input.now → IsOk result }
         ensures life { OnOk result ((life : Life) → StandsForLife G.profile S.profile self.old life
             → StandsForLife G.profile S.profile self.new (grown life (entry_of life input.now))) }
         ensures counts { OnOk result (self.new.counts ≡ counted self.old.counts (event.Input input.now)) }
@@ -78,9 +78,9 @@ impl<G: ProfileStore<Permille> + Drop, S: ProfileStore<CategorySpeeds> + Drop> S
         *self = StateOver::begin(alloc, self.kept(), cold);
     }
 
-    /// All that an event does. Where memory is refused, nothing changes; a quiet event is never refused any.
+    /// All that an event does. Where memory is refused, nothing changes; none is refused where there is room for the event.
     pub(crate) fn take(&mut self, alloc: Global, event: &Event) -> Result<(), NoMemory>
-        ensures quiet { is_quiet_event self.old event.now ≡ true → IsOk result }
+        ensures quiet { HasRoomFor G.room S.room self.old event.now → IsOk result }
         ensures stands { OnOk result ((events : List Event) → StandsFor G.profile S.profile self.old events
             → StandsFor G.profile S.profile self.new (event.now ∷ events)) }
         ensures err { OnErr result (self.new ≡ self.old) }

@@ -1,6 +1,7 @@
-ghost use Rattle.std.specs.Prelude.{◌≡◌, List, ◌∷◌, IfOk, OnOk, OnErr};
+ghost use Rattle.std.specs.Prelude.{◌≡◌, List, ◌∷◌, IsOk, IfOk, OnOk, OnErr};
 ghost use Rattle.events.specs.declared.input.Event.{Event};
 ghost use Rattle.kernel.specs.Output.{output_after};
+ghost use Rattle.kernel.specs.Quiet.{HasRoomFor};
 ghost use Rattle.kernel.specs.StandsFor.{StandsFor};
 
 use crate::state::StateOver;
@@ -30,9 +31,11 @@ pub fn step<G: ProfileStore<Permille> + Drop, S: ProfileStore<CategorySpeeds> + 
 }
 
 impl<G: ProfileStore<Permille> + Drop, S: ProfileStore<CategorySpeeds> + Drop> StateOver<G, S> {
-    /// The same in place. NoMemory where memory is refused, and then nothing changes. Room is made first for all that the event
-    /// can add, so that nothing is copied. An event by which no group can close takes no memory.
+    /// The same in place; NoMemory where memory is refused, and then nothing changes. Room is made first for all that the event can add,
+    /// so that nothing is copied. None is refused where there is room for it: there always is for a power-up, a moment, an action, and
+    /// for a reading while no group is being read.
     pub fn apply(&mut self, alloc: Global, event: &Event) -> Result<Output, NoMemory>
+        ensures quiet { HasRoomFor G.room S.room self.old event.now → IsOk result }
         ensures stands { OnOk result ((events : List Event) → StandsFor G.profile S.profile self.old events
             → StandsFor G.profile S.profile self.new (event.now ∷ events)) }
         ensures output { IfOk result (λ output. (events : List Event) → StandsFor G.profile S.profile self.old events

@@ -1,10 +1,10 @@
 //! What an input does, sentence by sentence in the order of one event.
-ghost use Rattle.std.specs.Prelude.{◌≡◌, true, IsOk, OnOk, OnErr, Option, Some};
+ghost use Rattle.std.specs.Prelude.{◌≡◌, IsOk, OnOk, OnErr, Option, Some};
 ghost use Rattle.mode_table.specs.declared.level.TrainLevel.{TrainLevel as Level};
 ghost use Rattle.mode_table.specs.declared.mode.Mode.{Mode};
 ghost use Rattle.units.specs.Stretches.{Span};
 ghost use Rattle.trackside.specs.Entry.{Begun, Used, turned};
-ghost use Rattle.trackside.specs.Steps.{is_quiet};
+ghost use Rattle.trackside.specs.Steps.{HasRoomFor};
 ghost use Rattle.supervision.specs.declared.calls.Calls.{Calls};
 ghost use Rattle.supervision.specs.declared.calls.Left.{Left};
 ghost use Rattle.supervision.specs.declared.deed.Deed.{Deed};
@@ -25,7 +25,7 @@ impl<G: ProfileStore<Permille> + Drop, S: ProfileStore<CategorySpeeds> + Drop> S
 > {
     // What the input itself brings, and the groups that it closes.
     fn begin(&mut self, input: &Input) -> Result<(), NoMemory>
-        ensures quiet { is_quiet self.old.track.parts input.now ≡ true → IsOk result }
+        ensures quiet { HasRoomFor G.room S.room self.old.track input.now → IsOk result }
         ensures stands { OnOk result ((life : Life) → StandsForLife G.profile S.profile self.old life
             → StandsForLife G.profile S.profile self.new (grown life (begun (told life input.now) (deed_of life input.now)))) }
         ensures err { OnErr result (self.new ≡ self.old) }
@@ -46,9 +46,9 @@ impl<G: ProfileStore<Permille> + Drop, S: ProfileStore<CategorySpeeds> + Drop> S
         self.track.forget(self.parts.length());
     }
 
-    /// All that an input does. Where memory is refused, nothing changes; a quiet input is never refused any.
+    /// All that an input does. Where memory is refused, nothing changes; none is refused where there is room for what the input may use.
     pub fn receive(&mut self, input: &Input) -> Result<(), NoMemory>
-        ensures quiet { is_quiet self.old.track.parts input.now ≡ true → IsOk result }
+        ensures quiet { HasRoomFor G.room S.room self.old.track input.now → IsOk result }
         ensures stands { OnOk result ((life : Life) → StandsForLife G.profile S.profile self.old life
             → StandsForLife G.profile S.profile self.new (grown life (entry_of life input.now))) }
         ensures err { OnErr result (self.new ≡ self.old) }

@@ -1,17 +1,20 @@
 -- What lies between the sentences of one event (this project's profile). Places are centimetres, moments milliseconds.
-use Rattle.std.specs.Prelude.{◌*◌, ℤ, Bool, true, false, if◌then◌else◌, Option, Some, None, is_none, List, []}
+use Rattle.std.specs.Prelude.{ℕ, ◌+◌, ◌*◌, ◌≤◌, ℤ, Bool, if◌then◌else◌, Option, Some, None, is_none, List, [], length}
+use Rattle.std.specs.Option.{option_map_or}
 use Rattle.packets.specs.declared.packet.Packet.{Packet}
 use Rattle.linking.specs.declared.announcement.Announcement.{Announcement}
 use Rattle.trackside.specs.declared.fixing.Wanted.{Wanted}
 use Rattle.balise_groups.specs.declared.message.Closed.{Closed}
+use Rattle.balise_groups.specs.Rooms.{packets_in}
 use Rattle.events.specs.declared.input.Input.{Input}
 use Rattle.events.specs.declared.input.Input.TheVariants.{Telegram, Odometer, Clock, Driver}
 use Rattle.events.specs.declared.input.Reading.{Reading}
 use Rattle.trackside.specs.declared.using.Use.{Use}
+use Rattle.trackside.specs.Bytes.{telegram_in}
 use Rattle.trackside.specs.Entry.{Entry, Fact, Used}
 use Rattle.trackside.specs.History.{groups_of}
 use Rattle.trackside.specs.Sentences.{facts_of, moved, happened_by, closed_by}
-use Rattle.trackside.specs.StandsFor.{Life, Known, parts_of, grown_so_far}
+use Rattle.trackside.specs.StandsFor.{Life, Known, Knowledge, parts_of, grown_so_far, room_in}
 
 -- the group that a movement leaves
 abbrev pub left_by : List Entry → Reading → Option Closed
@@ -38,9 +41,13 @@ abbrev pub fix_wanted : Bool → ℤ → Option Announcement → Option Wanted
 fix_wanted free own (Some a) = Some (record { place = a.place; accuracy = 100 * a.accuracy })
 fix_wanted free own None = if free then Some (record { place = own; accuracy = 0 }) else None
 
--- no group can close by it: a moment of the clock, an action of the driver, and a reading while no group is being read
-abbrev pub is_quiet : Known → Input → Bool
-is_quiet known (Telegram bytes) = false
-is_quiet known (Odometer reading) = is_none known.groups.current
-is_quiet known (Clock moment) = true
-is_quiet known (Driver action) = true
+-- how many packets may be used by an input: those of the group being read, which may close by it, and of a telegram its own
+abbrev pub packets_by : Known → Input → ℕ
+packets_by known (Telegram bytes) = option_map_or (λ t. packets_in known.groups.readings + length t.packets.items) (telegram_in bytes) 0
+packets_by known (Odometer reading) = if is_none known.groups.current then 0 else packets_in known.groups.readings
+packets_by known (Clock moment) = 0
+packets_by known (Driver action) = 0
+
+-- there is room for them
+abbrev pub HasRoomFor : {G S : Type 0} → (G → ℕ) → (S → ℕ) → Knowledge G S → Input → Type 0
+HasRoomFor gradients_room speeds_room known input = packets_by known.parts input ≤ room_in gradients_room speeds_room known

@@ -1,7 +1,9 @@
 -- What the packets of a message bring to the parts, walk by walk (this project's profile). Packets are taken in rising
 -- number: the revocations (packet 66) come behind the restrictions (packet 65), the mode areas (packet 80) behind the
 -- authorities (packet 12), and all others go to parts of their own. Places are centimetres.
-use Rattle.std.specs.Prelude.{◌≡◌, ℤ, Bool, List}
+use Rattle.std.specs.Prelude.{◌≡◌, ℤ, Bool, ◌||◌, is_some, List}
+use Rattle.packets.specs.declared.packet.Packet.{Packet}
+use Rattle.packets.specs.Packets.{as_revocation, as_mode_profile}
 use Rattle.areas.specs.Areas.{stored}
 use Rattle.areas.specs.Entries as areas
 use Rattle.areas.specs.Levels as levels
@@ -67,7 +69,11 @@ after_earlier fact told =
       speeds = after_speeds fact told.speeds;
     }
 
--- .. and in the second
+-- whether a packet is for the second walk
+abbrev pub comes_later : Packet → Bool
+comes_later packet = is_some (as_revocation packet) || is_some (as_mode_profile packet)
+
+-- what a packet brings in the second walk
 abbrev pub after_later : Fact → Told → Told
 after_later fact told =
     record told { restrictions = after_revocation fact told.restrictions; areas = after_areas fact told.areas }

@@ -60,8 +60,8 @@ impl Parts {
 }
 
 impl<G: ProfileStore<Permille> + Drop, S: ProfileStore<CategorySpeeds> + Drop> TracksideOver<G, S> {
-    // The packets of an accepted group are used: in rising number, equal numbers in the order of the message. There is room for them,
-    // so that no memory is taken; so it is up to `close`.
+    // The packets of an accepted group are used: in rising number, equal numbers in the order of the message. A message without a packet
+    // for the second walk is read once. There is room for them, so that no memory is taken; so it is up to `close`.
     fn take_packets(&mut self, packets: &GroupPackets, used: &Use)
         requires { length packets.now ≤ room_in G.room S.room self.old }
         ensures stands { (life : Life) (begun : Begun) (groups : Used) (message : Message) (announced : Option Announcement) (fix : Option Fix)
@@ -69,8 +69,9 @@ impl<G: ProfileStore<Permille> + Drop, S: ProfileStore<CategorySpeeds> + Drop> T
             → StandsForLife G.profile S.profile self.new (grown_so_far life begun (added (Accepted message announced fix (facts used.now packets.now)) groups)) }
         ensures room { room_in G.room S.room self.old ≤ room_in G.room S.room self.new + length packets.now }
     {
-        take_all::<TracksideOver<G, S>, Earlier>(self, packets, used);
-        take_all::<TracksideOver<G, S>, Later>(self, packets, used);
+        if take_all::<TracksideOver<G, S>, Earlier>(self, packets, used) {
+            take_all::<TracksideOver<G, S>, Later>(self, packets, used);
+        }
     }
 
     // An accepted group is used.

@@ -1,12 +1,14 @@
 //! How the packets of a group that was accepted are used. They are taken in rising number, equal numbers in the order of the
-//! message, and most kinds go to a part of their own: so two walks over the message are enough.
-ghost use Rattle.std.specs.Prelude.{◌≡◌, ◌+◌, ◌≤◌, ℕ, length, if◌then◌else◌};
+//! message, and most kinds go to a part of their own: so two walks over the message are enough, and the second one is made only
+//! where the first met a packet for it.
+ghost use Rattle.std.specs.Prelude.{◌≡◌, ◌+◌, ◌≤◌, ◌||◌, ℕ, length, if◌then◌else◌};
+ghost use Rattle.std.specs.List.{list_any};
 ghost use Rattle.trackside.specs.Entry.{Fact};
 ghost use Rattle.trackside.specs.History.{after_facts};
 ghost use Rattle.trackside.specs.Sentences.{is_passed, valid_in, is_used};
 ghost use Rattle.trackside.specs.StandsFor.{room_in};
 ghost use Rattle.trackside.specs.Steps.{fact_of, facts};
-ghost use Rattle.trackside.specs.Told.{Told as AllTold, IsTold as IsAllTold, known_of, after_earlier, after_later};
+ghost use Rattle.trackside.specs.Told.{Told as AllTold, IsTold as IsAllTold, known_of, comes_later, after_earlier, after_later};
 
 mod gradients;
 mod grants;
@@ -83,6 +85,23 @@ fn is_used(packet: &Packet<'_>, used: &Use) -> bool
     uses(used.mode, packet.number().number() as u8) && is_passed(valid, &used.direction)
 }
 
+// Whether a packet is for the second walk.
+fn comes_later(packet: &Packet<'_>) -> bool
+    ensures { result ≡ comes_later packet.now }
+{
+    matches!(
+        packet,
+        Packet::RestrictionRevocation(_) | Packet::ModeProfile(_)
+    )
+}
+
+// Whether such a packet was met, with one packet more.
+fn met_later(before: bool, packet: &Packet<'_>) -> bool
+    ensures { result ≡ (before || comes_later packet.now) }
+{
+    before || comes_later(packet)
+}
+
 /// A walk over the packets of a message, and what a state takes of them one after another. It takes no memory, in the room that was
 /// made for so many packets of the walk, and for more behind them.
 pub trait Walk<T> {
@@ -115,15 +134,20 @@ fn take_one<T, W: Walk<T>>(state: &mut T, packet: &Packet<'_>, used: &Use)
     }
 }
 
-/// A whole walk. The caller owes room for as many packets of the walk as the message has.
-pub fn take_all<T, W: Walk<T>>(state: &mut T, packets: &GroupPackets, used: &Use)
+/// A whole walk. Answers whether it met a packet for the second one. The caller owes room for as many packets of the walk as the
+/// message has.
+pub fn take_all<T, W: Walk<T>>(state: &mut T, packets: &GroupPackets, used: &Use) -> bool
     requires { W.HasRoom (length packets.now) 0 state.old }
     ensures told { (told : W.Told) → W.IsTold state.old told → W.IsTold state.new (after_facts W.after (facts used.now packets.now) told) }
     ensures room { (behind : ℕ) → W.HasRoom (length packets.now) behind state.old → W.HasRoom 0 behind state.new }
+    ensures later { result ≡ list_any comes_later packets.now }
 {
+    let mut later = false;
     for item in packets.iter() {
         take_one::<T, W>(state, item.packet(), used);
+        later = met_later(later, item.packet());
     }
+    later
 }
 
 impl Parts {

@@ -1,9 +1,16 @@
-use Rattle.std.proofs.Common.{◌≡◌, ℕ, ◌+◌, List, ◌∷◌, length, ap, sym, subst, add-one, ◌∙◌}
+use Rattle.std.proofs.Common.{◌≡◌, ℕ, ◌+◌, Bool, true, false, List, ◌∷◌, length, refl, ap, sym, subst, add-one, ◌∙◌}
+use Rattle.std.specs.Prelude.{◌||◌}
+use Rattle.std.specs.List.{list_any}
 use Rattle.packets.specs.declared.packet.Packet.{Packet}
 use Rattle.trackside.specs.History.{after_facts}
 use Rattle.trackside.specs.Steps.{facts}
+use Rattle.trackside.specs.Told.{comes_later}
 use Rattle.trackside.proofs.Walking.{one_packet}
 use Rattle.trackside.proofs.using.take_all.Goals as goal
+
+or_next : (a b c : Bool) → (a || (b || c)) ≡ ((a || b) || c)
+or_next true b c = refl
+or_next false b c = refl
 
 -- one packet more is still to come
 pub take_one-requires : goal.take_one-requires
@@ -27,4 +34,11 @@ loop-item-preserved g c =
           )),
       λ behind room. c.take_one.ensures.room (length c.next.new.self) behind
           (subst (λ (n : ℕ). g.W.Walk.HasRoom n behind c.loop-item.state) one (c.loop-item.invariant.1 behind room)),
+      (let rest = c.next.new.self in
+          let packet = c.packet-in-loop-item.result.now in
+          c.loop-item.invariant.2
+          ∙ ap (λ (ps : List Packet). c.loop-item.later || list_any comes_later ps) c.in-Some.ensures.steps
+          ∙ ap (λ (p : Packet). c.loop-item.later || (comes_later p || list_any comes_later rest)) (sym c.packet-in-loop-item.ensures)
+          ∙ or_next c.loop-item.later (comes_later packet) (list_any comes_later rest)
+          ∙ ap (λ (b : Bool). b || list_any comes_later rest) (sym c.met_later-later.ensures)),
     )

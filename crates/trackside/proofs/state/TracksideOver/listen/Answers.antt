@@ -1,12 +1,13 @@
-use Rattle.std.proofs.Common.{Option, refl, sym, subst}
-use Rattle.std.specs.Option.{option_map}
+use Rattle.std.proofs.Common.{◌+◌, ◌≤◌, Option, length, refl, sym, subst}
+use Rattle.std.specs.Option.{option_map, option_map_or}
 use Rattle.std.proofs.lemmas.Result.{on_ok_weaker}
 use Rattle.telegram.specs.declared.message.Telegram.{Telegram}
 use Rattle.balise_groups.specs.Groups.Entry.{Read}
+use Rattle.balise_groups.specs.Rooms.{packets_in}
 use Rattle.trackside.specs.Entry.{Begun, nothing_happened}
 use Rattle.trackside.specs.History.{place_of}
 use Rattle.trackside.specs.Sentences.{nothing, with_groups}
-use Rattle.trackside.specs.StandsFor.{Life, StandsForLife, grown_so_far}
+use Rattle.trackside.specs.StandsFor.{Life, StandsForLife, grown_so_far, room_in}
 use Rattle.trackside.proofs.Carrying.{carried_in, refused_none}
 use Rattle.trackside.proofs.Standing.{seen}
 use Rattle.trackside.proofs.state.TracksideOver.listen.Goals as goal
@@ -16,6 +17,13 @@ returns-in-Ok-clause-stands g c =
     on_ok_weaker c.read.result
     (λ taken life s. taken life c.args.bytes.now s (carried_in _ _ ((c.in-Ok.ensures.found _).0 refl)))
     c.read.ensures.stands
+
+pub returns-in-Ok-clause-quiet : goal.returns-in-Ok-clause-quiet
+returns-in-Ok-clause-quiet g c room =
+    let packets = packets_in c.args.self.now.parts.groups.readings in
+    let most = room_in g.G.ProfileStore.room g.S.ProfileStore.room c.args.self.now in
+    c.read.ensures.quiet
+    (subst (λ (o : Option Telegram). option_map_or (λ t. packets + length t.packets.items) o 0 ≤ most) (carried_in _ _ ((c.in-Ok.ensures.found _).0 refl)) room)
 
 abbrev with_telegram : Life → Option Telegram → Begun
 with_telegram life o = record nothing { heard = option_map (λ t. Read (record { telegram = t; sums = (place_of life.entries).sums })) o }

@@ -1,6 +1,6 @@
 use Rattle.std.proofs.Common.{◌≡◌}
 use Rattle.sessions.specs.Sessions.{Session}
-use Rattle.sessions.proofs.Telling.{all_printed, told_whole}
+use Rattle.sessions.proofs.Telling.{all_printed, told_whole, no_want}
 use Rattle.sessions.proofs.lives.run_life.Goals as goal
 
 pub returns-in-Ok-clause-session : goal.returns-in-Ok-clause-session
@@ -15,6 +15,7 @@ returns-in-Ok-clause-session g c d a honest ready =
       whole = it.5;
       told = told_whole c.tell_end-status.result c.live_into-disk.result.1 _ _ _ it.2
           (all_printed _ _ c.in-Ok.is _ _ _ it.2 it.3) c.tell_end-status.ensures.status c.tell_end-status.ensures.line;
+      roomy = no_want c.tell_end-status.result c.live_into-disk.result.1 _ _ c.in-Ok.is c.live_into-disk.ensures.full;
     }
 
 pub returns-in-Err-clause-session : goal.returns-in-Err-clause-session
@@ -28,4 +29,5 @@ returns-in-Err-clause-session g c d a honest ready =
       life = it.4;
       whole = it.5;
       told = tt;
+      roomy = tt;
     }

@@ -11,6 +11,7 @@
 #![tactic(auto)]
 
 mod bytes;
+mod records;
 mod rows;
 mod telling;
 

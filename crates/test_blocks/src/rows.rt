@@ -1,11 +1,12 @@
 // The rows, one a line.
-ghost use Rattle.std.specs.Prelude.{length};
+ghost use Rattle.std.specs.Prelude.{◌≡◌, length};
 ghost use Rattle.blocks.specs.Blocks.{HasLimits};
 
 use crate::bytes::patched;
 use crate::telling::tell;
 use blocks::{
-    Block, Record, read_block, read_first_sector, valid_number, write_block_in, write_first_sector,
+    Block, BlockRecord, Record, read_block, read_first_sector, valid_number, write_block_in,
+    write_first_sector,
 };
 use events::{Estimate, Output};
 use std::alloc::Global;
@@ -116,13 +117,19 @@ fn refused(alloc: Global, words: &[&str]) -> Option<Answer> {
     };
     let mut bytes = [0; 3_072];
     patched(alloc, &mut bytes, patches)?;
+    let from = from.parse::<u16>().ok()?;
+    let to = to.parse::<u16>().ok()?;
+    Some(Answer::Count(count_refused(&mut bytes, from, to)))
+}
+
+fn count_refused(bytes: &mut [u8; 3_072], from: u16, to: u16) -> u32 {
     let mut count: u32 = 0;
-    for offset in from.parse::<u16>().ok()?..to.parse::<u16>().ok()? {
-        if is_refused_at(&mut bytes, usize::from(offset)) {
+    for offset in from..to {
+        if is_refused_at(bytes, usize::from(offset)) {
             count = count.wrapping_add(1);
         }
     }
-    Some(Answer::Count(count))
+    count
 }
 
 fn is_refused_at(bytes: &mut [u8; 3_072], offset: usize) -> bool {
@@ -149,6 +156,13 @@ fn block(rt: &impl Print, alloc: Global, line: &str, patches: &[&str]) -> io::Re
     }
     println!(rt; "{line}:")?;
     tell(rt, alloc, &block)?;
+    tell_again(rt, &mut block, &bytes)
+}
+
+// Says of a block with one record whether it is written again as it was.
+fn tell_again(rt: &impl Print, block: &mut Block, bytes: &[u8; 3_072]) -> io::Result<()>
+    requires { HasLimits block.old.number block.old.kept.events (length block.old.records.items) }
+{
     if block.records.len() != 1 {
         return Ok(());
     }
@@ -158,8 +172,8 @@ fn block(rt: &impl Print, alloc: Global, line: &str, patches: &[&str]) -> io::Re
 }
 
 // Writes a block of one record in its own format.
-fn write_again(mut block: Block, out: &mut [u8; 3_072])
-    requires { HasLimits block.number block.kept.events (length block.records.items) }
+fn write_again(block: &mut Block, out: &mut [u8; 3_072])
+    requires { HasLimits block.old.number block.old.kept.events (length block.old.records.items) }
 {
     let Some(told) = block.records.pop() else {
         return;
@@ -167,6 +181,13 @@ fn write_again(mut block: Block, out: &mut [u8; 3_072])
     if told.number != block.kept.events - 1 || block.format.most_records() == 0 {
         return;
     }
+    let records = [record_of(told)];
+    write_block_in(block.format, block.number, &records, &block.kept, out);
+}
+
+fn record_of(told: BlockRecord) -> Record
+    ensures { result.number ≡ told.number }
+{
     let (estimate, uncertainty, limit) = match &told.situation {
         Some(situation) => (situation.estimate, situation.uncertainty, situation.limit),
         None => (Estimate::new(0).unwrap(), 0, Mph::new(0).unwrap()),
@@ -178,13 +199,12 @@ fn write_again(mut block: Block, out: &mut [u8; 3_072])
         limit,
         indications: told.indications,
     };
-    let records = [Record {
+    Record {
         number: told.number,
         event: told.event,
         moment: told.moment,
         output,
         estimate,
         uncertainty,
-    }];
-    write_block_in(block.format, block.number, &records, &block.kept, out);
+    }
 }

@@ -37,8 +37,12 @@ pub fn make(disk: &mut Memory, format: Format, number: u64, events: u64, count: 
 /// Writes bytes, OFFSET:HEX, into a sector. None where they reach past it.
 pub fn patch(alloc: Global, disk: &mut Memory, sector: u64, text: &str) -> Option<()> {
     let (offset, digits) = text.split_once(':')?;
-    let at = offset.parse::<usize>().ok()?;
     let part = hex::decode(alloc, digits).ok()?;
+    patch_sector(disk, sector, offset, part.as_slice())
+}
+
+fn patch_sector(disk: &mut Memory, sector: u64, offset: &str, part: &[u8]) -> Option<()> {
+    let at = offset.parse::<usize>().ok()?;
     if at > SECTOR_BYTES || part.len() > SECTOR_BYTES - at {
         return None;
     }
@@ -48,7 +52,7 @@ pub fn patch(alloc: Global, disk: &mut Memory, sector: u64, text: &str) -> Optio
     }
     disk.read(sector, &mut bytes).ok()?;
     let end = at + part.len();
-    bytes[at..end].copy_from_slice(part.as_slice());
+    bytes[at..end].copy_from_slice(part);
     disk::put(disk, sector, &bytes).ok()
 }
 

@@ -27,6 +27,7 @@
 mod batches;
 mod images;
 mod pages;
+mod questions;
 mod rows;
 mod session;
 mod telling;
@@ -34,22 +35,42 @@ mod telling;
 use crate::rows::read_row;
 use crate::session::Session;
 use crate::telling::answer;
+use std::alloc::Global;
+use std::io;
+use std::io::ErrorKind;
 
-fn main(rt: HostRuntime) -> anyhow::Result<()> {
+fn main(rt: HostRuntime) -> io::Result<()> {
     let alloc = rt.alloc();
-    let mut session = Session::new(alloc, 0)?;
+    let Ok(mut session) = Session::new(alloc, 0) else {
+        return Err(io::Error::from(ErrorKind::OutOfMemory));
+    };
     for line in rt.lines(alloc) {
         let line = line?;
-        let words: Vec<&str> = line.split_whitespace().collect(alloc)?;
-        print!(rt; "{line}")?;
-        if words.is_empty() {
-            session = Session::new(alloc, 0)?;
-        } else if let Some(row) = read_row(&words) {
-            answer(&rt, alloc, &mut session, row)?;
-        } else if words.first() != Some(&"#") {
-            print!(rt; ": no row")?;
-        }
-        println!(rt; "")?;
+        tell_line(&rt, alloc, &mut session, line.as_str())?;
     }
     Ok(())
+}
+
+// Prints a line again, with what comes of it.
+fn tell_line(rt: &impl Print, alloc: Global, session: &mut Session, line: &str) -> io::Result<()> {
+    let words: Vec<&str> = line.split_whitespace().collect(alloc)?;
+    print!(rt; "{line}")?;
+    tell_words(rt, alloc, session, words.as_slice())?;
+    println!(rt; "")
+}
+
+fn tell_words(
+    rt: &impl Print,
+    alloc: Global,
+    session: &mut Session,
+    words: &[&str],
+) -> io::Result<()> {
+    match words.first() {
+        None => telling::tell_done(rt, session.start(alloc, 0)),
+        Some(&"#") => Ok(()),
+        Some(_) => match read_row(words) {
+            Some(row) => answer(rt, alloc, session, row),
+            None => print!(rt; ": no row"),
+        },
+    }
 }

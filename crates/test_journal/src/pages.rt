@@ -1,7 +1,6 @@
 // The listing of a disk.
 use crate::session::Session;
-use anyhow::Result;
-use disk::Disk;
+use crate::telling::{Calls, tell_calls};
 use reader::{ListingError, listing};
 use std::alloc::Global;
 use std::io;
@@ -56,7 +55,7 @@ impl Write for Page {
     }
 }
 
-fn word(done: std::result::Result<(), ListingError>) -> &'static str {
+fn word(done: Result<(), ListingError>) -> &'static str {
     match done {
         Ok(()) => "listed",
         Err(ListingError::DeviceFault) => "30 DeviceFault",
@@ -74,23 +73,20 @@ pub fn tell_listing(
     session: &mut Session,
     room: usize,
     refusal: Refusal,
-) -> Result<()> {
-    let calls = session.disk.clock();
-    let faults = session.disk.faults();
+    before: Calls,
+) -> io::Result<()> {
     let mut page = Page::new(alloc, room, refusal);
     let done = listing(&mut session.disk, &mut page);
-    print!(rt;
-        ": {}, calls {}",
-        word(done),
-        session.disk.clock().wrapping_sub(calls)
-    )?;
-    if session.disk.faults() != faults {
-        print!(rt; ", faults {faults} to {}", session.disk.faults())?;
-    }
-    if done.is_err() {
+    print!(rt; ": {}", word(done))?;
+    tell_calls(rt, session, before)?;
+    tell_lines(rt, done.is_ok(), page.bytes.as_slice())
+}
+
+fn tell_lines(rt: &impl Print, all: bool, bytes: &[u8]) -> io::Result<()> {
+    if !all {
         return Ok(());
     }
-    for line in str::from_utf8(page.bytes.as_slice())?.lines() {
+    for line in str::from_utf8(bytes).unwrap_or("no text").lines() {
         print!(rt; "\n{line}")?;
     }
     Ok(())

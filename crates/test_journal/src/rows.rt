@@ -2,17 +2,6 @@
 use crate::pages::Refusal;
 use blocks::Format;
 
-/// What an open sector holds after a cut.
-#[derive(Clone, Copy)]
-pub enum Left {
-    /// The bytes as last synced.
-    Old,
-    /// The bytes as last handed in.
-    New,
-    /// This byte, 512 times.
-    All(u8),
-}
-
 /// A row, which is a call or what befalls the disk (`src/main.rt` has the words).
 #[derive(Clone, Copy)]
 pub enum Row<'a> {
@@ -59,11 +48,6 @@ pub fn read_row<'a>(words: &'a [&'a str]) -> Option<Row<'a>> {
         ["keep"] => Some(Row::Keep),
         ["again"] => Some(Row::Again),
         ["list"] => Some(Row::List(usize::MAX, Refusal::Room)),
-        ["disk", sectors] => Some(Row::Disk(sectors.parse().ok()?)),
-        ["format", slots] => Some(Row::Format(slots.parse().ok()?)),
-        ["block", number] => Some(Row::Block(number.parse().ok()?)),
-        ["fail", call] => Some(Row::Fail(call.parse().ok()?)),
-        ["cut", call] => Some(Row::Cut(call.parse().ok()?)),
         _ => read_longer(words),
     }
 }
@@ -71,18 +55,53 @@ pub fn read_row<'a>(words: &'a [&'a str]) -> Option<Row<'a>> {
 fn read_longer<'a>(words: &'a [&'a str]) -> Option<Row<'a>> {
     match words {
         ["settle", left @ ..] => Some(Row::Settle(left)),
-        ["commit", count, lives] => Some(Row::Commit(count.parse().ok()?, lives.parse().ok()?)),
-        ["commits", times, count] => Some(Row::Commits(times.parse().ok()?, count.parse().ok()?)),
-        ["list", room, refusal] => Some(Row::List(room.parse().ok()?, read_refusal(refusal)?)),
-        ["patch", sector, patch] => Some(Row::Patch(sector.parse().ok()?, patch)),
-        ["make", format, number, events, count] => Some(Row::Make(
-            read_format(format)?,
-            number.parse().ok()?,
-            events.parse().ok()?,
-            count.parse().ok()?,
-        )),
+        [word, number] => read_numbered(word, number.parse().ok()?),
+        ["list", room, refusal] => read_listing(room, refusal),
+        ["patch", sector, patch] => read_patch(sector, patch),
+        [word, first, second] => read_commits(word, first.parse().ok()?, second.parse().ok()?),
+        ["make", format, number, events, count] => read_made(format, number, events, count),
         _ => None,
     }
+}
+
+// A word with a number.
+fn read_numbered<'a>(word: &str, number: u64) -> Option<Row<'a>> {
+    match word {
+        "disk" => Some(Row::Disk(number)),
+        "block" => Some(Row::Block(number)),
+        "fail" => Some(Row::Fail(number)),
+        "cut" => Some(Row::Cut(number)),
+        "format" => Some(Row::Format(u32::try_from(number).ok()?)),
+        _ => None,
+    }
+}
+
+fn read_commits<'a>(word: &str, first: u64, second: u32) -> Option<Row<'a>> {
+    match word {
+        "commit" => Some(Row::Commit(u8::try_from(first).ok()?, second)),
+        "commits" => Some(Row::Commits(first, u8::try_from(second).ok()?)),
+        _ => None,
+    }
+}
+
+fn read_listing<'a>(room: &str, refusal: &str) -> Option<Row<'a>> {
+    let room = room.parse().ok()?;
+    match refusal {
+        "room" => Some(Row::List(room, Refusal::Room)),
+        "memory" => Some(Row::List(room, Refusal::Memory)),
+        _ => None,
+    }
+}
+
+fn read_patch<'a>(sector: &str, patch: &'a str) -> Option<Row<'a>> {
+    Some(Row::Patch(sector.parse().ok()?, patch))
+}
+
+fn read_made<'a>(format: &str, number: &str, events: &str, count: &str) -> Option<Row<'a>> {
+    let format = read_format(format)?;
+    let number = number.parse().ok()?;
+    let events = events.parse().ok()?;
+    Some(Row::Make(format, number, events, count.parse().ok()?))
 }
 
 fn read_format(word: &str) -> Option<Format> {
@@ -90,25 +109,6 @@ fn read_format(word: &str) -> Option<Format> {
         "1" => Some(Format::One),
         "2" => Some(Format::Two),
         "3" => Some(Format::Three),
-        _ => None,
-    }
-}
-
-fn read_refusal(word: &str) -> Option<Refusal> {
-    match word {
-        "room" => Some(Refusal::Room),
-        "memory" => Some(Refusal::Memory),
-        _ => None,
-    }
-}
-
-/// What is left of a sector; None where the word says nothing of it.
-pub fn read_left(word: &str) -> Option<Left> {
-    match word {
-        "old" => Some(Left::Old),
-        "new" => Some(Left::New),
-        "ff" => Some(Left::All(0xFF)),
-        "zeros" => Some(Left::All(0)),
         _ => None,
     }
 }

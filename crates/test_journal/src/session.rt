@@ -1,6 +1,5 @@
 // A disk, and the journal that was opened on it.
 use crate::batches::{batch, kept_of};
-use crate::rows::{Left, read_left};
 use blocks::Block;
 use disk::{Choice, Disk, Memory, Plan, SECTOR_BYTES};
 use journal::{BlockError, CommitError, FormatError, Found, Journal, OpenError, Run};
@@ -31,6 +30,12 @@ impl Session {
         })
     }
 
+    /// Begins again with a disk of so many sectors.
+    pub fn start(&mut self, alloc: Global, sectors: u64) -> Result<(), NoMemory> {
+        *self = Session::new(alloc, sectors)?;
+        Ok(())
+    }
+
     /// Remembers what the disk holds.
     pub fn keep(&mut self, alloc: Global) -> Result<(), NoMemory> {
         self.kept = self.disk.settle(alloc, &[])?;
@@ -51,17 +56,10 @@ impl Session {
 
     /// The power comes back; what the words say stands in the open sectors. False where a word says nothing.
     pub fn settle(&mut self, alloc: Global, words: &[&str]) -> Result<bool, NoMemory> {
-        let mut choices = Vec::new(alloc);
-        for word in words {
-            let choice = match read_left(word) {
-                Some(Left::Old) => Choice::Old,
-                Some(Left::New) => Choice::New,
-                Some(Left::All(byte)) => Choice::Given([byte; SECTOR_BYTES]),
-                None => return Ok(false),
-            };
-            choices.push(choice)?;
-        }
-        self.disk = self.disk.settle(alloc, &choices)?;
+        let Some(choices) = choices(alloc, words)? else {
+            return Ok(false);
+        };
+        self.disk = self.disk.settle(alloc, choices.as_slice())?;
         self.journal = None;
         Ok(true)
     }
@@ -111,5 +109,27 @@ impl Session {
     pub fn run(&self) -> Option<Run> {
         let journal = self.journal.as_ref()?;
         Some(journal.blocks())
+    }
+}
+
+// What the words say of the open sectors. None where one says nothing.
+fn choices(alloc: Global, words: &[&str]) -> Result<Option<Vec<Choice>>, NoMemory> {
+    let mut choices = Vec::new(alloc);
+    for word in words {
+        let Some(choice) = choice_of(word) else {
+            return Ok(None);
+        };
+        choices.push(choice)?;
+    }
+    Ok(Some(choices))
+}
+
+fn choice_of(word: &str) -> Option<Choice> {
+    match word {
+        "old" => Some(Choice::Old),
+        "new" => Some(Choice::New),
+        "ff" => Some(Choice::Given([0xFF; SECTOR_BYTES])),
+        "zeros" => Some(Choice::Given([0; SECTOR_BYTES])),
+        _ => None,
     }
 }

@@ -2,7 +2,7 @@ use thiserror::Error;
 use vars::NoValue;
 
 /// Why bits begin with no packet. The number of a fault is its discriminant.
-#[derive(Clone, Copy, Debug, PartialEq, Eq, Error)]
+#[derive(Clone, Copy, Debug, Error)]
 pub enum PacketFault {
     /// The bits end within the packet.
     #[error("Truncated")]

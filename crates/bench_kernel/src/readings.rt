@@ -1,6 +1,6 @@
 //! The outputs of a life: the driver's entries, the telegrams of balises, and then events of one kind.
 use crate::FAULT;
-use braking::{Brakes, Deceleration, Reaction};
+use brakes::{Brakes, Deceleration, Reaction};
 use driver::{Action, DriverIdentity, RunningNumber, TrainData};
 use events::{Event, Input, Reading, TelegramBytes};
 use kernel::State;

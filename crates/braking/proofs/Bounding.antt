@@ -4,10 +4,11 @@ use Rattle.std.specs.Prelude.{nat_le, Option}
 use Rattle.std.proofs.lemmas.Bool.Decides.{nat_tests}
 use Rattle.std.proofs.lemmas.Int.{ints, clamps, by_lt_z}
 use Rattle.units.specs.Stretches.{natural}
-use Rattle.braking.specs.declared.brakes.Brakes.{Brakes}
+use Rattle.brakes.specs.declared.brakes.Brakes.{Brakes}
 use Rattle.braking.specs.declared.target.Target.{Target}
 use Rattle.braking.specs.declared.summed.Summed.{Summed}
-use Rattle.braking.specs.Braking.{braked, reaction_way, fits, greatest, IsSummed}
+use Rattle.brakes.specs.Brakes.{reaction_way}
+use Rattle.braking.specs.Braking.{braked, fits, greatest, IsSummed}
 use Rattle.braking.specs.Sums.{IsSummedWhole, IsRoot}
 use Rattle.braking.proofs.Naturals.{none_between}
 use Rattle.braking.proofs.Braked.{braked_over}

@@ -3,7 +3,8 @@ use Rattle.std.proofs.Common.{◌≡◌, ℕ, zero, suc, ◌+◌, ◌*◌, ◌�
 use Rattle.std.specs.Prelude.{Option}
 use Rattle.std.proofs.lemmas.Int.{ints}
 use Rattle.units.specs.Stretches.{natural}
-use Rattle.braking.specs.Braking.{slowing_on, braked}
+use Rattle.brakes.specs.Brakes.{slowing_on}
+use Rattle.braking.specs.Braking.{braked}
 use Rattle.braking.proofs.Naturals.{natural_is, parts}
 
 module _ (gradient : ℤ → Option ℤ) (deceleration : ℕ) where

@@ -3,10 +3,11 @@ use Rattle.std.proofs.Common.{◌≡◌, ℕ, ℤ, pos, ◌+ℤ◌, ◌-ℤ◌, 
 use Rattle.std.specs.Prelude.{Option, None, Some}
 use Rattle.std.proofs.lemmas.Int.{ints, by_lt_z}
 use Rattle.units.specs.Stretches.{natural}
-use Rattle.braking.specs.declared.brakes.Brakes.{Brakes}
+use Rattle.brakes.specs.declared.brakes.Brakes.{Brakes}
 use Rattle.braking.specs.declared.target.Target.{Target}
 use Rattle.braking.specs.declared.summed.Summed.{Summed}
-use Rattle.braking.specs.Braking.{braked, reaction_way, fits, greatest, IsSummed}
+use Rattle.brakes.specs.Brakes.{reaction_way}
+use Rattle.braking.specs.Braking.{braked, fits, greatest, IsSummed}
 use Rattle.braking.specs.Sums.{IsStopping}
 use Rattle.braking.specs.Approaches.{IsStop}
 use Rattle.braking.proofs.Naturals.{none_between}

@@ -1,7 +1,7 @@
 -- A train that comes nearer to what lies ahead, and the greatest speed from which it can brake for what it met so far
 -- (this project's profile). Places are centimetres, speeds metres per hour.
 use Rattle.std.specs.Prelude.{ℕ, ◌≡◌, true, ℤ, ◌≤ℤ◌, Option, List, IfSome}
-use Rattle.braking.specs.declared.brakes.Brakes.{Brakes}
+use Rattle.brakes.specs.declared.brakes.Brakes.{Brakes}
 use Rattle.braking.specs.declared.target.Target.{Target}
 use Rattle.braking.specs.declared.summed.Summed.{Summed}
 use Rattle.braking.specs.Braking.{fits, fits_all, greatest, IsSummed}

@@ -1,19 +1,12 @@
 -- The speeds from which a train can still brake for what lies ahead (this project's profile). Places are in centimetres,
 -- speeds in metres per hour, decelerations in cm/s^2, gradients in per mille, uphill positive.
-use Rattle.std.specs.Prelude.{◌≡◌, ℕ, zero, suc, ◌≤◌, ◌+◌, ◌-◌, ◌*◌, ℤ, pos, ◌+ℤ◌, ◌-ℤ◌, ◌*ℤ◌, ◌≤ℤ◌, Bool, ◌&&◌, ◌||◌, nat_le, nat_lt, if◌then◌else◌, Option, None, Some, List}
-use Rattle.std.specs.Int.{div_ceil, int_div_euclid}
+use Rattle.std.specs.Prelude.{◌≡◌, ℕ, zero, suc, ◌≤◌, ◌+◌, ◌-◌, ◌*◌, ℤ, pos, ◌+ℤ◌, ◌-ℤ◌, ◌≤ℤ◌, Bool, ◌&&◌, ◌||◌, nat_le, nat_lt, if◌then◌else◌, Option, List}
 use Rattle.std.specs.List.{list_all}
 use Rattle.units.specs.Stretches.{natural}
-use Rattle.braking.specs.declared.brakes.Brakes.{Brakes}
+use Rattle.brakes.specs.declared.brakes.Brakes.{Brakes}
+use Rattle.brakes.specs.Brakes.{slowing_on, reaction_way}
 use Rattle.braking.specs.declared.target.Target.{Target}
 use Rattle.braking.specs.declared.summed.Summed.{Summed}
-
--- the deceleration on a gradient, which 1 per mille changes by 0.981 cm/s^2, rounded down; never below 0, and 0 where no
--- gradient is known
-abbrev pub slowing_on : ℕ → Option ℤ → ℕ
-slowing_on deceleration None = 0
-slowing_on deceleration (Some gradient) =
-    natural (pos deceleration +ℤ int_div_euclid (pos 981 *ℤ gradient) (pos 1000))
 
 -- what so many centimetres from a place on take off the square of the speed: twice the deceleration a centimetre, and
 -- 1 cm/s is 36 m/h, whose square is 1296. It doesn't unfold by itself: a way has
@@ -29,10 +22,6 @@ IsSummed gradient deceleration summed =
     (summed.from ≤ℤ summed.to)
     × (summed.taken_off ≡ braked gradient deceleration summed.from (natural (summed.to -ℤ summed.from)))
     × (summed.taken_off ≤ 1_423_008 * natural (summed.to -ℤ summed.from))
-
--- the way that a train runs before its brakes act, rounded up: 36,000 m/h in 1 ms are 1 cm
-abbrev pub reaction_way : ℕ → ℕ → ℕ
-reaction_way reaction speed = div_ceil (speed * reaction) 36_000
 
 -- how far a target lies ahead of the front
 abbrev pub distance_to : ℤ → Target → ℕ

@@ -1,4 +1,3 @@
-pub mod Limits
 pub mod Braking
 pub mod Sums
 pub mod Approaches

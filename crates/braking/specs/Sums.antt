@@ -2,10 +2,11 @@
 -- metres per hour.
 use Rattle.std.specs.Prelude.{◌≡◌, ℕ, ◌+◌, ◌-◌, ◌*◌, ◌<◌, ◌≤◌, ◌^◌, ℤ, pos, ◌+ℤ◌, ◌≤ℤ◌, ◌<ℤ◌, ◌⊎◌, Option}
 use Rattle.std.specs.Int.{int_min}
-use Rattle.braking.specs.declared.brakes.Brakes.{Brakes}
+use Rattle.brakes.specs.declared.brakes.Brakes.{Brakes}
 use Rattle.braking.specs.declared.target.Target.{Target}
 use Rattle.braking.specs.declared.summed.Summed.{Summed}
-use Rattle.braking.specs.Braking.{reaction_way, IsSummed}
+use Rattle.brakes.specs.Brakes.{reaction_way}
+use Rattle.braking.specs.Braking.{IsSummed}
 
 -- where the brakes act at a speed, if that is before a target, is at or before another place
 abbrev pub ActsBy : ℤ → ℕ → ℤ → ℤ → ℕ → Type 0

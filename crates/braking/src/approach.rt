@@ -3,10 +3,11 @@ ghost use Rattle.std.specs.Prelude.{◌≡◌, ◌<◌, false, IsTrue};
 ghost use Rattle.braking.specs.Braking.{fits, fits_all, greatest, IsSummed};
 ghost use Rattle.braking.specs.Approaches.{lowered};
 
+use crate::Target;
 use crate::seeking::permitted_before;
 use crate::speeds::{fits_summed, stops_within};
 use crate::summed::Summed;
-use crate::{Brakes, Target};
+use brakes::Brakes;
 use std::marker::Model;
 use track_store::Profile;
 use units::{Cm, Mph, Permille};

@@ -2,7 +2,6 @@
 #![tactic(auto)]
 
 mod approach;
-mod brakes;
 mod seeking;
 mod slowing;
 mod speeds;

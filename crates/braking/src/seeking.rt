@@ -2,9 +2,10 @@ ghost use Rattle.std.specs.Prelude.{◌≡◌, ◌+◌, ◌-◌, ◌^◌, ◌<�
 ghost use Rattle.braking.specs.Braking.{fits, greatest, IsSummed};
 ghost use Rattle.braking.specs.Sums.{ActsBy, IsSummedWhole, IsRoot};
 
-use crate::speeds::{brakes_act, lacking, reaction_way, summed_before};
+use crate::Target;
+use crate::speeds::{brakes_act, lacking, summed_before};
 use crate::summed::Summed;
-use crate::{Brakes, Target};
+use brakes::{Brakes, reaction_way};
 use track_store::Profile;
 use units::{Cm, Mph, Permille};
 

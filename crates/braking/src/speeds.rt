@@ -1,10 +1,12 @@
 ghost use Rattle.std.specs.Prelude.{◌≡◌, ℕ, ◌*◌, ◌-◌, ◌^◌, ◌<◌, ◌≤◌, ℤ, pos, ◌+ℤ◌, ◌-ℤ◌, ◌≤ℤ◌, ◌<ℤ◌, ◌↔◌, IsTrue, IsSome, IfSome, MatchOption};
 ghost use Rattle.units.specs.Stretches.{natural};
-ghost use Rattle.braking.specs.Braking.{fits, reaction_way, IsSummed};
+ghost use Rattle.brakes.specs.Brakes.{reaction_way};
+ghost use Rattle.braking.specs.Braking.{fits, IsSummed};
 ghost use Rattle.braking.specs.Sums.{IsSummedBefore, IsStopping};
 
+use crate::Target;
 use crate::summed::Summed;
-use crate::{Brakes, Reaction, Target};
+use brakes::{Brakes, reaction_way};
 use track_store::Profile;
 use units::{Cm, Mph, Permille};
 
@@ -98,14 +100,6 @@ pub fn lacking(from: Mph, to: Mph) -> u64
 {
     let (from, to) = (u64::from(from.get()), u64::from(to.get()));
     from * from - to * to
-}
-
-/// The way that a train runs before its brakes act, in centimetres, rounded up.
-pub fn reaction_way(reaction: Reaction, speed: Mph) -> u32
-    ensures value { result ≡ reaction_way reaction speed }
-    ensures small { result ≤ 166_667 }
-{
-    (u64::from(speed.get()) * u64::from(reaction.get())).div_ceil(36_000) as u32
 }
 
 /// Where the brakes act after a way from the front, all in centimetres; None where this isn't before a place. The caller owes a

@@ -2,8 +2,8 @@ ghost use Rattle.std.specs.Prelude.{◌≡◌, ℕ, ◌^◌, ◌≤◌, Option, 
 ghost use Rattle.units.specs.Stretches.{natural};
 ghost use Rattle.braking.specs.Braking.{IsSummed};
 
-use crate::Deceleration;
-use crate::slowing::{end_of_stretch, slowing, taken_off_evenly};
+use crate::slowing::{end_of_stretch, taken_off_evenly};
+use brakes::{Deceleration, slowing};
 use track_store::Profile;
 use units::{Cm, Permille};
 

@@ -1,7 +1,7 @@
 -- The limits of what is entered (this project's profile). Lengths are centimetres, speeds metres per hour.
 use Rattle.std.specs.Prelude.{◌≡◌, ℕ, ◌-◌, ◌≤◌, List, ◌++◌, length, replicate}
 use Rattle.std.specs.List.{All}
-use Rattle.braking.specs.declared.brakes.Brakes.{Brakes}
+use Rattle.brakes.specs.declared.brakes.Brakes.{Brakes}
 
 -- an identity has 1 to 16 printable characters
 abbrev pub IsIdentity : List ℕ → Type 0

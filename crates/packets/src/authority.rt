@@ -34,16 +34,6 @@ pub struct SectionTimer {
     pub stop: Distance,
 }
 
-/// Fills room that isn't in use.
-impl Default for SectionTimer {
-    fn default() -> SectionTimer {
-        SectionTimer {
-            time: Timer::of_number(0).unwrap(),
-            stop: Distance::of_number(0).unwrap(),
-        }
-    }
-}
-
 /// A section of an authority (SUBSET-026, 7.4.2; its layout: this project's profile).
 #[derive(Clone, Copy)]
 pub struct Section {
@@ -72,16 +62,6 @@ pub struct EndTimer {
     pub start: Distance,
 }
 
-/// Fills room that isn't in use.
-impl Default for EndTimer {
-    fn default() -> EndTimer {
-        EndTimer {
-            time: Timer::of_number(0).unwrap(),
-            start: Distance::of_number(0).unwrap(),
-        }
-    }
-}
-
 /// The danger point behind the end (SUBSET-026, 7.4.2; its layout: this project's profile).
 #[derive(Clone, Copy)]
 pub struct DangerPoint {
@@ -89,16 +69,6 @@ pub struct DangerPoint {
     pub distance: Distance,
     /// V_RELEASEDP.
     pub release: ReleaseSpeed,
-}
-
-/// Fills room that isn't in use.
-impl Default for DangerPoint {
-    fn default() -> DangerPoint {
-        DangerPoint {
-            distance: Distance::of_number(0).unwrap(),
-            release: ReleaseSpeed::National,
-        }
-    }
 }
 
 /// The overlap behind the end (SUBSET-026, 7.4.2; its layout: this project's profile).
@@ -112,18 +82,6 @@ pub struct Overlap {
     pub distance: Distance,
     /// V_RELEASEOL.
     pub release: ReleaseSpeed,
-}
-
-/// Fills room that isn't in use.
-impl Default for Overlap {
-    fn default() -> Overlap {
-        Overlap {
-            start: Distance::of_number(0).unwrap(),
-            time: Timer::of_number(0).unwrap(),
-            distance: Distance::of_number(0).unwrap(),
-            release: ReleaseSpeed::National,
-        }
-    }
 }
 
 /// Packet 12: a movement authority of level 1 (SUBSET-026, 7.4.2; its layout: this project's profile).

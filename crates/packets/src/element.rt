@@ -14,7 +14,7 @@ use bits::BitReader;
 use vars::Iterations;
 
 /// A part of a packet that has a layout of its own: an element of a list, or what a qualifier says is there.
-pub(crate) trait Element: Copy + Default {
+pub(crate) trait Element: Copy {
     /// How it is spelled in bits.
     ghost layout: { Layout PacketFault Self Self };
 
@@ -39,7 +39,7 @@ pub(crate) trait Element: Copy + Default {
 }
 
 /// Reads so many more elements of a list.
-pub(crate) fn read_list<T: Element, const N: usize>(
+pub(crate) fn read_list<T: Element + Default, const N: usize>(
     reader: &mut BitReader<'_>,
     list: &mut ArrayVec<T, N>,
     count: u8,
@@ -57,7 +57,7 @@ pub(crate) fn read_list<T: Element, const N: usize>(
 
 /// Reads a list of at least one element: the first, N_ITER and the others.
 #[inline(always)]
-pub(crate) fn read_from_first<T: Element>(
+pub(crate) fn read_from_first<T: Element + Default>(
     reader: &mut BitReader<'_>,
     list: &mut ArrayVec<T, 32>,
 ) -> Result<(), PacketFault>

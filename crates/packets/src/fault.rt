@@ -3,7 +3,7 @@ use vars::NoValue;
 
 /// Why bits begin with no packet (SUBSET-026, 7.4.2; the numbers: this project's profile). The number of a fault is its
 /// discriminant.
-#[derive(Clone, Copy, Debug, PartialEq, Eq, Error)]
+#[derive(Clone, Copy, Debug, Error)]
 pub enum PacketFault {
     /// The bits end within the packet.
     #[error("Truncated")]

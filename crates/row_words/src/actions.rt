@@ -1,5 +1,5 @@
 // The driver's actions by name.
-use braking::{Brakes, Deceleration, Reaction};
+use brakes::{Brakes, Deceleration, Reaction};
 use driver::{Acknowledged, Action, Confirmed, DriverIdentity, RunningNumber, TrainData};
 use mode_table::TrainLevel;
 use std::str::{FromStr, SplitWhitespace};

@@ -6,7 +6,7 @@ ghost use Rattle.scenario_values.specs.Actions.{level, confirmed, acknowledged, 
 
 use crate::ScenarioFault;
 use crate::values::{text_item, whole_item, within};
-use braking::{Brakes, Deceleration, Reaction};
+use brakes::{Brakes, Deceleration, Reaction};
 use driver::{Acknowledged, Action, Confirmed, DriverIdentity, RunningNumber, TrainData};
 use mode_table::TrainLevel;
 use serde_json::Value;

@@ -4,7 +4,7 @@ use Rattle.std.specs.Prelude.{Option, None, Some, is_some, ◌&&◌}
 use Rattle.std.specs.Iterator.{Yields, Drains}
 use Rattle.units.proofs.Gathering.{IsIn}
 use Rattle.track_store.specs.Profiles.{listed}
-use Rattle.braking.specs.declared.brakes.Brakes.{Brakes}
+use Rattle.brakes.specs.declared.brakes.Brakes.{Brakes}
 use Rattle.braking.specs.declared.target.Target.{Target}
 use Rattle.braking.specs.Braking.{fits, fits_all, greatest}
 use Rattle.braking.specs.Approaches.{Course, at_speed, lowered, lowered_by}

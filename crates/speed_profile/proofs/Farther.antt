@@ -4,9 +4,10 @@ use Rattle.std.specs.Prelude.{nat_le, nat_lt, ◌&&◌, ◌||◌, Option}
 use Rattle.std.proofs.lemmas.Bool.Decides.{nat_tests}
 use Rattle.std.proofs.lemmas.Int.{ints}
 use Rattle.units.specs.Stretches.{natural}
-use Rattle.braking.specs.declared.brakes.Brakes.{Brakes}
+use Rattle.brakes.specs.declared.brakes.Brakes.{Brakes}
 use Rattle.braking.specs.declared.target.Target.{Target}
-use Rattle.braking.specs.Braking.{braked, reaction_way, distance_to, fits}
+use Rattle.brakes.specs.Brakes.{reaction_way}
+use Rattle.braking.specs.Braking.{braked, distance_to, fits}
 use Rattle.braking.proofs.Braked.{braked_parts}
 use Rattle.braking.proofs.Roots.{square_less}
 

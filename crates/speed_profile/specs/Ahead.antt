@@ -4,13 +4,13 @@
 use Rattle.std.specs.Prelude.{ℕ, ◌^◌, ℤ, pos, ◌+ℤ◌, int_lt, Bool, not, ◌&&◌, if◌then◌else◌, Option, None, Some, List, ◌++◌, filter, map}
 use Rattle.units.specs.Stretches.{over}
 use Rattle.track_store.specs.Profiles.{listed}
-use Rattle.track_store.specs.declared.restriction.Restriction.{Restriction}
-use Rattle.track_store.specs.Restrictions.{covers}
+use Rattle.restriction.specs.declared.restriction.Restriction.{Restriction}
+use Rattle.restriction.specs.Covering.{covers}
 use Rattle.authority.specs.declared.answers.End.{End}
 use Rattle.areas.specs.declared.area.Area.{Area}
 use Rattle.areas.specs.declared.area.NationalSpeeds.{NationalSpeeds}
 use Rattle.areas.specs.Areas.{is_before, speed_in}
-use Rattle.braking.specs.declared.brakes.Brakes.{Brakes}
+use Rattle.brakes.specs.declared.brakes.Brakes.{Brakes}
 use Rattle.braking.specs.declared.target.Target.{Target}
 use Rattle.braking.specs.Braking.{fits_all, greatest}
 use Rattle.braking.specs.Approaches.{Course}

@@ -1,7 +1,7 @@
 -- Targets that come one by one, in place of those of each centimetre (this project's profile). Places are centimetres,
 -- speeds metres per hour.
 use Rattle.std.specs.Prelude.{◌≡◌, ℕ, ℤ, true, Option, None, Some, List, [], ◌∷◌}
-use Rattle.braking.specs.declared.brakes.Brakes.{Brakes}
+use Rattle.brakes.specs.declared.brakes.Brakes.{Brakes}
 use Rattle.braking.specs.declared.target.Target.{Target}
 use Rattle.braking.specs.Braking.{fits, fits_all}
 

@@ -1,6 +1,9 @@
 //! What the rows of the mode table ask for.
-ghost use Rattle.std.specs.Prelude.{◌≡◌};
+ghost use Rattle.std.specs.Prelude.{◌≡◌, Bool, false};
+ghost use Rattle.mode_table.specs.declared.conditions.Conditions.{Conditions as Asked};
+ghost use Rattle.mode_table.specs.Rows.{next_mode};
 ghost use Rattle.supervision.specs.Conditions.{is_level_0, is_level_1, is_full_to, is_full, is_overridden, is_beyond, is_beyond_end, trips, is_beyond_staff_distance, is_start, is_shunting_choice, is_leaving, is_override, is_desk_closing, is_trip_acknowledging, conditions};
+ghost use Rattle.supervision.specs.History.{mode_of};
 ghost use Rattle.supervision.specs.Life.{Life};
 ghost use Rattle.supervision.specs.StandsFor.{StandsForLife};
 
@@ -8,7 +11,7 @@ use crate::knowing::is_known;
 use crate::state::SupervisionOver;
 use authority::End;
 use driver::{Acknowledged, Action, Datum};
-use mode_table::{Conditions, TrainLevel};
+use mode_table::{Conditions, Mode, TrainLevel, next_mode};
 use speed_profile::CategorySpeeds;
 use track_store::ProfileStore;
 use units::{Cm, Permille, Stretch};
@@ -61,6 +64,16 @@ fn is_trip_acknowledging(done: &Option<Action>) -> bool
     ensures { result ≡ is_trip_acknowledging done.now }
 {
     matches!(done, Some(Action::Acknowledge(Acknowledged::Trip)))
+}
+
+// Whether rows of the mode table that start from a mode may ask for the track ahead to be known up to the end of authority.
+fn asks_for_full(mode: Mode) -> bool
+    ensures { result ≡ false → (c : Asked) (full : Bool) → next_mode mode (record c { full = full }) ≡ next_mode mode c }
+{
+    matches!(
+        mode,
+        Mode::OnSight | Mode::StaffResponsible | Mode::Unfitted | Mode::StandBy
+    )
 }
 
 // Whether the least front is above the end of authority while no speed is allowed there.
@@ -134,9 +147,9 @@ impl<G: ProfileStore<Permille> + Drop, S: ProfileStore<CategorySpeeds> + Drop> S
         }
     }
 
-    /// All conditions, where the train is there.
-    pub(crate) fn conditions(&self, train: &Stretch) -> Conditions
-        ensures { (life : Life) → StandsForLife G.profile S.profile self.now life → result ≡ conditions life train.now }
+    // All conditions, where the train is there, but whether the track ahead is known, which is told.
+    fn conditions(&self, full: bool, train: &Stretch) -> Conditions
+        ensures { (life : Life) → StandsForLife G.profile S.profile self.now life → result ≡ record (conditions life train.now) { full = full } }
     {
         let level = self.parts.driver.level();
         let done = &self.parts.done;
@@ -147,7 +160,7 @@ impl<G: ProfileStore<Permille> + Drop, S: ProfileStore<CategorySpeeds> + Drop> S
             beyond_staff_distance: self.is_beyond_staff_distance(),
             level_0: is_level_0(&level),
             level_1: is_level_1(&level),
-            full: self.is_full(train),
+            full,
             on_sight_area: self.track.areas().is_met(AreaMode::OnSight, train),
             shunting_area: self.track.areas().is_met(AreaMode::Shunting, train),
             trip_acknowledged: is_trip_acknowledging(done),
@@ -156,5 +169,15 @@ impl<G: ProfileStore<Permille> + Drop, S: ProfileStore<CategorySpeeds> + Drop> S
             shunting_left: is_leaving(done),
             started: is_start(done),
         }
+    }
+
+    /// The mode behind the event, where the train is there. Whether the track ahead is known up to the end of authority is looked for
+    /// only where rows ask for it: in Full Supervision none does.
+    pub(crate) fn mode_behind(&self, train: &Stretch) -> Mode
+        ensures { (life : Life) → StandsForLife G.profile S.profile self.now life → result ≡ next_mode (mode_of life.entries) (conditions life train.now) }
+    {
+        let mode = self.parts.mode;
+        let full = asks_for_full(mode) && self.is_full(train);
+        next_mode(mode, &self.conditions(full, train))
     }
 }

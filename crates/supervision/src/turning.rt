@@ -22,7 +22,7 @@ use crate::parts::Parts;
 use crate::seeing::Seen;
 use crate::state::SupervisionOver;
 use driver::Driver;
-use mode_table::{Mode, TrainLevel, next_mode};
+use mode_table::{Mode, TrainLevel};
 use speed_profile::CategorySpeeds;
 use track_store::ProfileStore;
 use trackside::TracksideOver;
@@ -140,8 +140,7 @@ impl<G: ProfileStore<Permille> + Drop, S: ProfileStore<CategorySpeeds> + Drop> S
     fn entered(&self, train: &Stretch) -> Option<Mode>
         ensures { (life : Life) → StandsForLife G.profile S.profile self.now life → result ≡ entered_in life train.now }
     {
-        let old = self.parts.mode;
-        changed(old, next_mode(old, &self.conditions(train)))
+        changed(self.parts.mode, self.mode_behind(train))
     }
 
     // What is called for by the areas of a kind that has its own mode.

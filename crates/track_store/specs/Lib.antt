@@ -1,5 +1,4 @@
 pub mod Restrictions
-pub mod Meeting
 pub mod Profiles
 pub mod Facts
 pub mod Remembered

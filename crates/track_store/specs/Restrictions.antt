@@ -1,14 +1,13 @@
 -- Temporary speed restrictions, read off what one life brought (SUBSET-026, 3.11.5; the forgetting mark and what the
 -- lengths of trains have to do with it: this project's profile). Lists of entries have the newest first. Places are
 -- centimetres, speeds metres per hour.
-use Rattle.std.specs.Prelude.{ℕ, ℤ, pos, neg_ℤ, ◌+ℤ◌, Bool, false, not, ◌==◌, ◌&&◌, if◌then◌else◌, int_lt, List, [], ◌∷◌, ◌++◌, filter, map}
+use Rattle.std.specs.Prelude.{ℕ, ℤ, pos, neg_ℤ, Bool, false, if◌then◌else◌, List, [], ◌∷◌, ◌++◌, filter, map}
 use Rattle.std.specs.Int.{int_max}
 use Rattle.std.specs.List.{list_any}
 use Rattle.units.specs.Limits.{outermost}
 use Rattle.units.specs.Stretches.{Span, over, least}
-use Rattle.vars.specs.declared.restriction.TrainLengthDelay.{TrainLengthDelay}
-use Rattle.vars.specs.declared.restriction.TrainLengthDelay.TheVariants.{Applied, NotApplied}
-use Rattle.track_store.specs.declared.restriction.Restriction.{Restriction}
+use Rattle.restriction.specs.declared.restriction.Restriction.{Restriction}
+use Rattle.restriction.specs.Covering.{is_ended_by, reaches_past, limits_at}
 
 -- what bears on restrictions: a restriction (packet 65), a revocation of those of a number (packet 66), a forgetting mark
 pub data Entry : Type 0 where
@@ -18,8 +17,8 @@ pub data Entry : Type 0 where
 
 -- an entry ends the restrictions that came before it under its number; number 255 is never replaced nor revoked
 abbrev pub ends : Entry → Restriction → Bool
-ends (Restricted by) restriction = (by.number == restriction.number) && not (restriction.number == 255)
-ends (Revoked number) restriction = (number == restriction.number) && not (restriction.number == 255)
+ends (Restricted by) restriction = is_ended_by by.number restriction
+ends (Revoked number) restriction = is_ended_by number restriction
 ends (Forgotten mark) restriction = false
 
 -- of these entries the restrictions that no later entry ends, the oldest first
@@ -41,10 +40,6 @@ mark_of (Restricted restriction ∷ entries) = mark_of entries
 mark_of (Revoked number ∷ entries) = mark_of entries
 mark_of (Forgotten mark ∷ entries) = int_max mark (mark_of entries)
 
--- the first centimetre behind a restriction
-abbrev pub end_of : Restriction → ℤ
-end_of restriction = restriction.start +ℤ pos restriction.length
-
 -- the forgetting mark, and the restrictions in force that aren't wholly forgotten
 pub record InForce : Type 0 where
   pub mark : ℤ
@@ -55,25 +50,8 @@ pub record Held : Type 0 where
   pub track : InForce
   pub room : ℕ
 
-abbrev pub reaches_past : ℤ → Restriction → Bool
-reaches_past mark restriction = int_lt mark (end_of restriction)
-
 abbrev pub in_force : List Entry → InForce
 in_force entries = record { mark = mark_of entries; restrictions = filter (reaches_past (mark_of entries)) (standing entries) }
-
--- a restriction covers its length from its start on, without what lies before the mark
-abbrev pub covers : ℤ → ℤ → Restriction → Bool
-covers mark place restriction = not (int_lt place mark) && not (int_lt place restriction.start) && int_lt place (end_of restriction)
-
--- where the train begins for a restriction: at its least rear with the train length delay, else at its least front
-abbrev pub train_start : ℤ → ℤ → TrainLengthDelay → ℤ
-train_start rear min_front Applied = rear
-train_start rear min_front NotApplied = min_front
-
--- a restriction limits a train at a centimetre
-abbrev pub limits_at : ℤ → Span → ℤ → Restriction → Bool
-limits_at mark train place restriction =
-    covers mark place restriction && not (int_lt place (train_start train.rear train.min_front restriction.delay))
 
 -- the speeds of the restrictions that limit a train at a centimetre
 abbrev pub speeds_at : InForce → Span → ℤ → List ℕ

@@ -7,7 +7,6 @@ mod fact;
 mod fact_store;
 mod knowing;
 mod profile;
-mod restriction;
 mod restrictions;
 mod same;
 mod segment_store;

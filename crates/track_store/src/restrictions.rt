@@ -1,11 +1,12 @@
 ghost use Rattle.std.specs.Prelude.{◌≡◌, ◌≤◌, ◌+◌, List, [], ◌∷◌, filter, not, min, max, if◌then◌else◌, OnOk, OnErr, IfOk, vec_len, vec_capacity};
-ghost use Rattle.track_store.specs.Restrictions.{Entry, ends, in_force, least_speed, reaches_past};
+ghost use Rattle.restriction.specs.Covering.{is_ended_by, reaches_past};
+ghost use Rattle.restriction.specs.Meeting.{meets};
+ghost use Rattle.track_store.specs.Restrictions.{Entry, in_force, least_speed};
 ghost use Rattle.track_store.specs.Restrictions.Entry.{Restricted, Revoked, Forgotten};
-ghost use Rattle.track_store.specs.Meeting.{meets};
 
 mod walk;
 
-use crate::Restriction;
+use restriction::Restriction;
 use std::alloc::Global;
 use std::marker::Model;
 use units::{Cm, Mph, NoMemory, Stretch};
@@ -148,11 +149,11 @@ impl Restrictions {
 // Drops the restrictions of a number, but for 255.
 fn drop_number(items: &mut Vec<Restriction>, number: RestrictionNumber)
     ensures kept { items.new.items
-        ≡ filter (λ restriction. not (ends (Revoked number) restriction)) items.old.items }
+        ≡ filter (λ restriction. not (is_ended_by number restriction)) items.old.items }
     ensures len { vec_len items.new ≤ vec_len items.old }
     ensures capacity { vec_capacity items.new ≡ vec_capacity items.old }
 {
-    items.retain(|restriction| !is_ended(restriction, number));
+    items.retain(|restriction| !restriction.is_ended_by(number));
 }
 
 // Drops the restrictions that lie wholly before a forgetting mark.
@@ -162,13 +163,6 @@ fn drop_forgotten(items: &mut Vec<Restriction>, mark: Cm)
     ensures capacity { vec_capacity items.new ≡ vec_capacity items.old }
 {
     items.retain(|restriction| restriction.reaches_past(mark));
-}
-
-// Whether a later entry of this number ends a restriction.
-fn is_ended(restriction: &Restriction, number: RestrictionNumber) -> bool
-    ensures { result ≡ ends (Revoked number) restriction.now }
-{
-    restriction.number == number && !number.is_irrevocable()
 }
 
 // The limit once a restriction is counted in, where no track before a first centimetre counts.

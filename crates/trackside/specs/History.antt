@@ -39,7 +39,7 @@ use Rattle.odometry.specs.declared.fix.Fix.{Fix}
 use Rattle.odometry.specs.Place.Entry.{Fixed}
 use Rattle.speed_profile.specs.declared.told.CategorySpeeds.{CategorySpeeds}
 use Rattle.speed_profile.specs.Told.{gradient_fact, speed_fact}
-use Rattle.track_store.specs.declared.restriction.Restriction.{Restriction}
+use Rattle.restriction.specs.declared.restriction.Restriction.{Restriction}
 use Rattle.track_store.specs.Facts as profiles
 use Rattle.track_store.specs.Profiles.{Profile}
 use Rattle.track_store.specs.Restrictions as track

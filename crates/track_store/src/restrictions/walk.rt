@@ -1,7 +1,8 @@
 //! What a walk over the restrictions reads.
 ghost use Rattle.std.specs.Prelude.{◌≡◌};
 
-use crate::{Restriction, Restrictions};
+use crate::Restrictions;
+use restriction::Restriction;
 use units::Cm;
 
 impl Restrictions {

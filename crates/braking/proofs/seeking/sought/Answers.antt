@@ -1,6 +1,6 @@
 use Rattle.std.proofs.Common.{ℤ, pos, ◌+ℤ◌, ◌≤ℤ◌, ◌<ℤ◌, ◌≡◌, true, false, refl, arith}
 use Rattle.std.proofs.lemmas.Int.{ints, by_lt_z}
-use Rattle.braking.specs.Braking.{reaction_way}
+use Rattle.brakes.specs.Brakes.{reaction_way}
 use Rattle.braking.proofs.Bounding.{starts_sooner, root_fits, late_greatest, next_fails}
 use Rattle.braking.proofs.seeking.sought.Goals as goal
 

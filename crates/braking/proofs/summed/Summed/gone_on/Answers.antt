@@ -4,7 +4,7 @@ use Rattle.std.proofs.lemmas.Int.{ints}
 use Rattle.std.proofs.Math.Nat.{mul-le-mul_right}
 use Rattle.units.specs.Stretches.{natural}
 use Rattle.track_store.specs.Profiles.{Lasts}
-use Rattle.braking.specs.Braking.{slowing_on}
+use Rattle.brakes.specs.Brakes.{slowing_on}
 use Rattle.braking.proofs.Naturals.{parts}
 use Rattle.braking.proofs.Braked.{braked_over, braked_even}
 use Rattle.braking.proofs.summed.Summed.gone_on.Goals as goal

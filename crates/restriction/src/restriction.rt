@@ -20,8 +20,8 @@ pub struct Restriction {
 }
 
 impl Restriction {
-    ghost use Rattle.track_store.specs.Restrictions.{end_of, reaches_past};
-    ghost use Rattle.track_store.specs.Meeting.{meets};
+    ghost use Rattle.restriction.specs.Covering.{end_of, is_ended_by, reaches_past};
+    ghost use Rattle.restriction.specs.Meeting.{meets};
 
     // The first centimetre behind it.
     fn end(&self) -> i64
@@ -31,15 +31,22 @@ impl Restriction {
         self.start.get() + i64::from(self.length.get())
     }
 
+    /// Whether a later restriction or revocation of a number ends it; for 255 none does.
+    pub fn is_ended_by(&self, number: RestrictionNumber) -> bool
+        ensures { result ≡ is_ended_by number self.now }
+    {
+        self.number == number && !number.is_irrevocable()
+    }
+
     /// Whether some of it lies at or ahead of a forgetting mark.
-    pub(crate) fn reaches_past(&self, mark: Cm) -> bool
+    pub fn reaches_past(&self, mark: Cm) -> bool
         ensures { result ≡ reaches_past mark self.now }
     {
         mark.get() < self.end()
     }
 
     /// Whether it limits a train somewhere, where no track before a first centimetre counts.
-    pub(crate) fn meets(&self, first: Cm, train: &Stretch) -> bool
+    pub fn meets(&self, first: Cm, train: &Stretch) -> bool
         ensures { result ≡ meets first train.now self.now }
     {
         let from = match self.delay {

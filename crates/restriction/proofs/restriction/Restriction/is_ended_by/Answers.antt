@@ -1,5 +1,5 @@
 use Rattle.std.proofs.Common.{rules}
-use Rattle.track_store.proofs.restrictions.is_ended.Goals as goal
+use Rattle.restriction.proofs.restriction.Restriction.is_ended_by.Goals as goal
 
 pub returns-then-eq : goal.returns-then-eq
 returns-then-eq c = search rules

@@ -4,7 +4,7 @@ use Rattle.std.specs.Int.RustNames.{unsigned_abs}
 use Rattle.std.proofs.lemmas.Int.{ints}
 use Rattle.units.specs.Stretches.{natural}
 use Rattle.units.specs.Limits.{IsPermille}
-use Rattle.braking.proofs.slowing.slowing_at.Goals as goal
+use Rattle.brakes.proofs.deceleration.slowing_at.Goals as goal
 
 at_least_none : (z : ℤ) → unsigned_abs (int_max z (pos 0)) ≡ natural z
 at_least_none (pos n) = grind (arith, ints)

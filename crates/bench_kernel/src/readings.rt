@@ -2,7 +2,7 @@
 use crate::FAULT;
 use brakes::{Brakes, Deceleration, Reaction};
 use driver::{Action, DriverIdentity, RunningNumber, TrainData};
-use events::{Event, Input, Reading, TelegramBytes};
+use events::{Event, Input, Output, Reading, TelegramBytes};
 use kernel::State;
 use mode_table::{Cold, TrainLevel};
 use std::alloc::Global;
@@ -48,27 +48,30 @@ fn act(action: Action) -> Event {
     Event::Input(Input::Driver(action))
 }
 
+/// One event.
+fn apply(alloc: Global, state: &mut State, event: &Event) -> Result<Output, NoMemory> {
+    state.apply(alloc, event)
+}
+
 /// The telegrams that lie in these bytes, each in its room.
-fn telegrams_in(alloc: Global, bytes: &[u8]) -> Result<Vec<Event>, NoMemory> {
-    let mut events = Vec::new(alloc);
+fn hear_all(alloc: Global, state: &mut State, bytes: &[u8]) -> Result<(), NoMemory> {
     for bytes in bytes.chunks_exact(TELEGRAM) {
         if let Some(bytes) = TelegramBytes::new(bytes) {
-            events.push(Event::Input(Input::Telegram(bytes)))?;
+            apply(alloc, state, &Event::Input(Input::Telegram(bytes)))?;
         }
     }
-    Ok(events)
+    Ok(())
 }
 
 /// The driver's entries of a life.
-fn entries(alloc: Global, train: TrainData) -> Result<Vec<Event>, NoMemory> {
-    let mut events = Vec::new(alloc);
-    events.push(Event::PowerUp(Cold::Unknown))?;
+fn enter_all(alloc: Global, state: &mut State, train: &TrainData) -> Result<(), NoMemory> {
+    apply(alloc, state, &Event::PowerUp(Cold::Unknown))?;
     if let Some(identity) = DriverIdentity::new(b"A") {
-        events.push(act(Action::EnterIdentity(identity)))?;
+        apply(alloc, state, &act(Action::EnterIdentity(identity)))?;
     }
-    events.push(act(Action::ChooseLevel(TrainLevel::Level1)))?;
-    events.push(act(Action::EnterTrainData(train)))?;
-    Ok(events)
+    apply(alloc, state, &act(Action::ChooseLevel(TrainLevel::Level1)))?;
+    apply(alloc, state, &act(Action::EnterTrainData(*train)))?;
+    Ok(())
 }
 
 /// The event of a number, of those that are counted; the telegrams come in turn.
@@ -90,27 +93,26 @@ fn event_of(counted: &Counted, number: u32, telegrams: &[u8]) -> Option<Event> {
 
 #[inline(never)]
 fn output_after(alloc: Global, state: &mut State, event: &Event) -> Result<u64, NoMemory> {
-    let output = state.apply(alloc, event)?;
+    let output = apply(alloc, state, event)?;
     Ok(u64::from(output.limit.get()))
 }
 
-/// The state of a life behind the driver's entries and these telegrams. An action is counted before the driver's start, each other
-/// kind behind it.
-fn state_before(alloc: Global, before: &[u8], counted: &Counted) -> Result<State, NoMemory> {
-    let mut state = State::empty(alloc);
+/// A life up to the driver's entries and these telegrams. An action is counted before the driver's start, each other kind behind it.
+fn begin(
+    alloc: Global,
+    state: &mut State,
+    before: &[u8],
+    counted: &Counted,
+) -> Result<(), NoMemory> {
     let Some(train) = train() else {
-        return Ok(state);
+        return Ok(());
     };
-    for event in &entries(alloc, train)? {
-        state.apply(alloc, event)?;
-    }
-    for event in &telegrams_in(alloc, before)? {
-        state.apply(alloc, event)?;
-    }
+    enter_all(alloc, state, &train)?;
+    hear_all(alloc, state, before)?;
     if counted.kind != ACTION {
-        state.apply(alloc, &act(Action::Start))?;
+        apply(alloc, state, &act(Action::Start))?;
     }
-    Ok(state)
+    Ok(())
 }
 
 /// A sum over the limits after the events that are counted.
@@ -120,7 +122,8 @@ fn sum_of_limits(
     telegrams: &[u8],
     counted: &Counted,
 ) -> Result<u64, NoMemory> {
-    let mut state = state_before(alloc, before, counted)?;
+    let mut state = State::empty(alloc);
+    begin(alloc, &mut state, before, counted)?;
     let mut sum = 0u64;
     for number in 0..counted.number {
         let Some(event) = event_of(counted, number, telegrams) else {

@@ -40,7 +40,7 @@ pub fn write_all<F: RawFile>(file: &mut F, first: u64, bytes: &[u8]) -> Result<(
     while done < bytes.len() {
         let count = file.write_at(offset + done as u64, &bytes[done..])?;
         if count == 0 {
-            return Err(DiskFault);
+            return Err(DiskFault); // It takes no more.
         }
         done += count;
     }

@@ -11,13 +11,18 @@ returns-in_err-count-clause-only g c = λ honest within.
     only_more c.args.first at c.loop-done.done c.args.bytes.now (g.F.RawFile.state c.args.file.now) (g.F.RawFile.state c.loop-done.file) (g.F.RawFile.state c.write_at.new.self) place c.loop-done.invariant.within so_far
     (c.write_at.ensures.only (c.loop-done.invariant.honest ∙ honest) (rest_within c.args.first at c.loop-done.done _ _ c.args.bytes.now place c.loop-done.invariant.within within so_far.size))
 
-pub returns-then-count-eq0-clause-only : goal.returns-then-count-eq0-clause-only
-returns-then-count-eq0-clause-only g c = λ honest within.
-    let at : ℕ = c.args.first * 512 + c.loop-done.done in
-    let place : at ≡ 512 * c.args.first + c.loop-done.done = omega arith in
-    let so_far = c.loop-done.invariant.only honest within in
-    only_more c.args.first at c.loop-done.done c.args.bytes.now (g.F.RawFile.state c.args.file.now) (g.F.RawFile.state c.loop-done.file) (g.F.RawFile.state c.write_at.new.self) place c.loop-done.invariant.within so_far
-    (c.write_at.ensures.only (c.loop-done.invariant.honest ∙ honest) (rest_within c.args.first at c.loop-done.done _ _ c.args.bytes.now place c.loop-done.invariant.within within so_far.size))
+pub returns-then-count-eq0 : goal.returns-then-count-eq0
+returns-then-count-eq0 g c = record {
+  honest = c.write_at.ensures.honest ∙ c.loop-done.invariant.honest;
+  only = λ honest within.
+      let at : ℕ = c.args.first * 512 + c.loop-done.done in
+      let place : at ≡ 512 * c.args.first + c.loop-done.done = omega arith in
+      let so_far = c.loop-done.invariant.only honest within in
+      only_more c.args.first at c.loop-done.done c.args.bytes.now (g.F.RawFile.state c.args.file.now) (g.F.RawFile.state c.loop-done.file) (g.F.RawFile.state c.write_at.new.self) place c.loop-done.invariant.within so_far
+      (c.write_at.ensures.only (c.loop-done.invariant.honest ∙ honest) (rest_within c.args.first at c.loop-done.done _ _ c.args.bytes.now place c.loop-done.invariant.within within so_far.size));
+  written = λ honest within. tt;
+  opened = λ honest within. tt;
+}
 
 pub loop-done-preserved : goal.loop-done-preserved
 loop-done-preserved g c =

@@ -1,3 +1,10 @@
+ghost use Rattle.std.specs.Prelude.{◌≡◌, ◌⊎◌, IfOk};
+ghost use Rattle.exit_status.specs.declared.status.Status.TheVariants as a_status;
+ghost use Rattle.telegram.specs.Telegrams.{Carries, RefusesBytes};
+ghost use Rattle.telegram.specs.declared.fault.TelegramFault.{TelegramFault};
+ghost use Rattle.telegram.specs.declared.message.Telegram.{Telegram};
+ghost use Rattle.decoding.specs.Showing.{IsShown};
+
 use crate::report::print_telegram;
 use exit_status::{Status, tell};
 use hex::FromHexError;
@@ -6,7 +13,10 @@ use std::io;
 use std::io::Write;
 use telegram::{Telegram, decode_into};
 
-fn show<W: Write>(bytes: &[u8], out: &mut W) -> io::Result<Status> {
+fn show<W: Write>(bytes: &[u8], out: &mut W) -> io::Result<Status>
+    ensures { IfOk result (λ status. ((status ≡ a_status.Done) × (telegram : Telegram) × Carries bytes.now telegram)
+        ⊎ ((status ≡ a_status.Refused) × (fault : TelegramFault) × RefusesBytes fault bytes.now)) }
+{
     let mut telegram = Telegram::new();
     match decode_into(bytes, &mut telegram) {
         Ok(()) => {
@@ -21,8 +31,11 @@ fn show<W: Write>(bytes: &[u8], out: &mut W) -> io::Result<Status> {
     }
 }
 
-/// Tells the telegram that hex digits carry, or why they carry none. The error is that of a write.
-pub fn decode_text<W: Write>(alloc: Global, text: &str, out: &mut W) -> io::Result<Status> {
+/// Tells the telegram that hex digits carry, or why they carry none. It answers the status that goes with it: Done exactly where they carry one,
+/// unless memory is refused. The error is that of a write.
+pub fn decode_text<W: Write>(alloc: Global, text: &str, out: &mut W) -> io::Result<Status>
+    ensures shown { IfOk result (IsShown text.now (W.contents out.old) (W.contents out.new)) }
+{
     match hex::decode(alloc, text) {
         Ok(bytes) => show(bytes.as_slice(), out),
         Err(FromHexError::OutOfMemory) => tell(out, "refused memory", Status::Refused),

@@ -1,8 +1,10 @@
 -- What is written, piece by piece.
-use Rattle.std.proofs.Common.{◌≡◌, ◌⊎◌, inr, ℕ, List, ◌++◌, Bool, Option, Result, Ok, Err, IsTrue, IfOk, OnOk, is_ok, refl, sym, subst}
+use Rattle.std.proofs.Common.{◌≡◌, inr, ℕ, ◌<◌, List, ◌++◌, Bool, true, false, Option, Result, Ok, Err, IsTrue, IfOk, IfErr, OnOk, is_ok, refl, sym, subst, arith}
+use Rattle.std.specs.Prelude.{if◌then◌else◌}
 use Rattle.std.specs.Io.KnownBytes.{Appends}
 use Rattle.std.proofs.KnownBytes.{Appends-trans}
 use Rattle.exit_status.specs.declared.status.Status.{Status}
+use Rattle.onboard.specs.Answers.{is_full}
 use Rattle.onboard.specs.declared.errors.LiveError.{LiveError}
 use Rattle.onboard.specs.declared.released.Released.{Released}
 use Rattle.sessions.specs.Lines.{lines_of, Printed}
@@ -23,6 +25,19 @@ pub told_whole : {E : Type 0} (answer : Result Status E) (ended : Result (Unit {
 told_whole (Ok status) ended before here after given lines status_is line = (status_is, Appends-trans before here after _ _ lines line)
 told_whole (Err error) ended before here after given lines status_is line = tt
 
+full_or_not : (full : Bool) → (IsTrue full → 8 < 8) → full ≡ false
+full_or_not true want = absurd (omega (arith, want refl))
+full_or_not false want = refl
+
+-- where all writes succeeded, there was room for each release
+pub no_want : {E : Type 0} (answer : Result Status E) (ended : Result (Unit {0}) LiveError) (told : Result (Unit {0}) E) (x : Unit {0}) → told ≡ Ok x
+    → IfErr ended (λ e. IsTrue (is_full e) → (if is_ok told then 8 else 0) < 8) → IfOk answer (λ status. IfErr ended (λ e. is_full e ≡ false))
+no_want (Ok status) (Ok y) told x is want = tt
+no_want {E} (Ok status) (Err e) told x is want =
+    let W : Result (Unit {0}) E → Type 0 = λ r. IsTrue (is_full e) → (if is_ok r then 8 else 0) < 8 in
+    full_or_not (is_full e) (subst W is want)
+no_want (Err error) ended told x is want = tt
+
 -- a status and a text, from the two clauses of a call
 pub said : {E : Type 0} (wanted : Status) (answer : Result Status E) (text : List ℕ) (before after : Option (List ℕ))
     → IfOk answer (λ status. status ≡ wanted) → OnOk answer (Appends before after text) → Says wanted text before after answer
@@ -31,7 +46,7 @@ said wanted (Err error) text before after status_is line = tt
 
 -- the line of a refusal behind what a listing wrote
 pub listed_refusal : {E : Type 0} (answer : Result Status E) (error : ListingError) (sectors : ℕ) (image : ℕ → List ℕ) (before mid after : Option (List ℕ))
-    → IsListingRefusal sectors image error → IfOk answer (λ status. status ≡ listing_status error)
+    → IsListingRefusal sectors image before mid error → IfOk answer (λ status. status ≡ listing_status error)
     → OnOk answer (Appends mid after (refusal_of (listing_reason error))) → IfOk answer (IsListed sectors image before after)
-listed_refusal (Ok status) error sectors image before mid after cause status_is line = inr (error, status_is, cause, mid, line)
+listed_refusal (Ok status) error sectors image before mid after cause status_is line = inr (error, status_is, mid, cause, line)
 listed_refusal (Err e) error sectors image before mid after cause status_is line = tt

@@ -1,16 +1,17 @@
 -- What the program does with a disk, and what it writes (this project's profile).
-use Rattle.std.specs.Prelude.{◌≡◌, ◌⊎◌, ℕ, ◌+◌, ◌*◌, List, [], ◌∷◌, ◌++◌, Bool, true, false, IsTrue, Option, Some, None, Result, IfOk, codes, decimal}
+use Rattle.std.specs.Prelude.{◌≡◌, ◌⊎◌, ℕ, ◌+◌, ◌*◌, List, [], ◌∷◌, ◌++◌, Bool, true, false, IsTrue, Option, Some, None, Result, IfOk, IfErr, codes, decimal}
 use Rattle.std.specs.Io.KnownBytes.{Appends}
-use Rattle.disk.specs.State.{State}
+use Rattle.disk.specs.State.{State, Counted}
 use Rattle.events.specs.declared.input.Event.{Event}
 use Rattle.events.specs.declared.input.Event.TheVariants.{PowerUp}
 use Rattle.exit_status.specs.declared.status.Status.{Status}
 use Rattle.exit_status.specs.declared.status.Status.TheVariants.{Done, Refused, Usage, Device}
-use Rattle.journal.specs.declared.errors.FormatError.{FormatError}
+use Rattle.journal.specs.declared.errors.FormatError.TheVariants.{DeviceFault}
 use Rattle.life_steps.specs.declared.step.Step.{Step}
 use Rattle.mode_table.specs.declared.statuses.Cold.{Cold}
 use Rattle.onboard.specs.declared.errors.LiveError.{LiveError}
 use Rattle.onboard.specs.declared.released.Released.{Released}
+use Rattle.onboard.specs.Answers.{is_full}
 use Rattle.onboard.specs.Lives.{IsReady}
 use Rattle.onboard.specs.Runs.{Lives}
 use Rattle.onboard.specs.Stops.{LifeEnds, IsDone}
@@ -22,7 +23,7 @@ use Rattle.simulator.specs.Scenarios.{Tells, FaultOf}
 use Rattle.sessions.specs.declared.images.Image.{Image}
 use Rattle.sessions.specs.declared.images.Image.TheVariants.{Unopened, Missing, Opened}
 use Rattle.sessions.specs.Lines.{lines_of}
-use Rattle.sessions.specs.Reasons.{ending_of, status_of, format_reason, format_status, listing_reason, listing_status, fault_reason, refusal_of}
+use Rattle.sessions.specs.Reasons.{ending_of, status_of, format_reason, listing_reason, listing_status, fault_reason, refusal_of}
 
 -- where the write succeeded, just this text came behind what was written, and the status is this one
 abbrev pub Says : {E : Type 0} → Status → List ℕ → Option (List ℕ) → Option (List ℕ) → Result Status E → Type 0
@@ -41,7 +42,8 @@ abbrev pub report_of : {T : Type 0} → List Released → Result T LiveError →
 report_of given ended = lines_of given ++ ending_of ended
 
 -- A life on a disk whose images each represented d or a. Where it stopped, that is at the first step that isn't carried out, for its cause.
--- Where all writes succeeded, just the report of what was released came behind the text, and the status is that of the end.
+-- Where all writes succeeded, just the report of what was released came behind the text, the status is that of the end, and there was room
+-- for each release.
 pub record Session {E : Type 0} (d a : List Event) (cold : Cold) (steps : List Step) (old new : State) (before after : Option (List ℕ)) (answer : Result Status E) : Type 0 where
   pub p : List Event
   pub word : Cold
@@ -51,6 +53,7 @@ pub record Session {E : Type 0} (d a : List Event) (cold : Cold) (steps : List S
   pub done : IsDone (PowerUp word ∷ p) steps ended life.before life.after life.given
   pub stopped : LifeEnds old steps ended
   pub told : Says (status_of ended) (report_of given ended) before after answer
+  pub roomy : IfOk answer (λ status. IfErr ended (λ e. is_full e ≡ false))
 
 -- ---- from the bytes of a scenario to what is written
 
@@ -59,8 +62,9 @@ abbrev pub TellsOne : List ℕ → (Cold → List Step → Type 0) → Type 0
 TellsOne bytes P = (cold : Cold) × (steps : List Step) × Tells bytes cold steps × P cold steps
 
 -- A scenario and an image, end to end: by what became of the image. It was not opened, for the scenario has a fault, or memory was refused;
--- it is missing; or it was opened, and on an honest disk the session is that of the life which the scenario tells. The image is opened by a
--- call, which `gives` relates to its answers, and `state` is how contracts see a disk.
+-- it is missing; or it was opened, and on an honest disk the session is that of the life which the scenario tells. Whatever the disk does, the
+-- status is that of a device exactly where the device failed. The image is opened by a call, which `gives` relates to its answers, and
+-- `state` is how contracts see a disk.
 abbrev pub Plays : {D O E : Type 0} → (D → State) → (O → Option D → Type 0) → List ℕ → O → Image D O → Option (List ℕ) → Option (List ℕ) → Result Status E → Type 0
 Plays state gives bytes opener (Unopened same) before after answer =
     (same ≡ opener) × (fault : ScenarioFault) × ((fault ≡ NoMemory) ⊎ FaultOf bytes fault) × Says Refused (refusal_of (fault_reason fault)) before after answer
@@ -68,6 +72,7 @@ Plays state gives bytes opener Missing before after answer =
     TellsOne bytes (λ cold steps. gives opener None × Says Device (codes "device\n") before after answer)
 Plays {D} state gives bytes opener (Opened new) before after answer =
     TellsOne bytes (λ cold steps. (old : D) × gives opener (Some old)
+    × IfOk answer (λ status. Counted (is_device status) (state old) (state new))
     × ((d a : List Event) → IsTrue (state old).honest → IsReady d a (state old) → Session d a cold steps (state old) (state new) before after answer))
 
 -- ---- an image is made
@@ -76,19 +81,18 @@ Plays {D} state gives bytes opener (Opened new) before after answer =
 abbrev pub formatted_line : ℕ → List ℕ
 formatted_line blocks = codes "formatted " ++ decimal blocks ++ codes " blocks " ++ decimal (512 * (1 + 6 * blocks)) ++ codes " bytes\n"
 
--- why none was made
-abbrev pub IsUnformatted : Option (List ℕ) → Option (List ℕ) → Status → Type 0
-IsUnformatted before after status = (error : FormatError) × (status ≡ format_status error) × Appends before after (refusal_of (format_reason error))
-
--- What the status tells is what was written: Done the line of the image, else the line of a refusal.
-abbrev pub IsFormatReport : ℕ → Option (List ℕ) → Option (List ℕ) → Status → Type 0
-IsFormatReport blocks before after status = ((status ≡ Done) × Appends before after (formatted_line blocks)) ⊎ IsUnformatted before after status
+-- Nothing speaks against it before the first write: the image was made, and its line written, or the device failed, and the line of that.
+abbrev pub IsMade : ℕ → Option (List ℕ) → Option (List ℕ) → Status → Type 0
+IsMade blocks before after status =
+    ((status ≡ Done) × Appends before after (formatted_line blocks))
+    ⊎ ((status ≡ Device) × Appends before after (refusal_of (format_reason DeviceFault)))
 
 -- ---- a journal is listed
 
--- At Done just the listing of the image was written. Else the last line is that of a refusal, which has its cause.
+-- At Done just the listing of the image was written. Else the last line is that of a refusal, which has its cause, and before it stands what
+-- the refused listing wrote.
 abbrev pub IsListed : ℕ → (ℕ → List ℕ) → Option (List ℕ) → Option (List ℕ) → Status → Type 0
 IsListed sectors image before after status =
     ((status ≡ Done) × AddsListing sectors image before after)
-    ⊎ ((error : ListingError) × (status ≡ listing_status error) × IsListingRefusal sectors image error
-    × (mid : Option (List ℕ)) × Appends mid after (refusal_of (listing_reason error)))
+    ⊎ ((error : ListingError) × (status ≡ listing_status error)
+    × (mid : Option (List ℕ)) × IsListingRefusal sectors image before mid error × Appends mid after (refusal_of (listing_reason error)))

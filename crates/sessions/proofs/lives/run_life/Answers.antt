@@ -1,6 +1,6 @@
 use Rattle.std.proofs.Common.{◌≡◌}
 use Rattle.sessions.specs.Sessions.{Session}
-use Rattle.sessions.proofs.Telling.{all_printed, told_whole}
+use Rattle.sessions.proofs.Telling.{all_printed, told_whole, no_want}
 use Rattle.sessions.proofs.lives.run_life.Goals as goal
 
 pub returns-in-Ok-clause-session : goal.returns-in-Ok-clause-session
@@ -16,6 +16,7 @@ returns-in-Ok-clause-session g c d a honest ready =
       stopped = c.live_into-disk.ensures.stopped;
       told = told_whole c.tell_end-status.result c.live_into-disk.result.1 _ _ _ it.2
           (all_printed _ _ c.in-Ok.is _ _ _ it.2 it.3) c.tell_end-status.ensures.status c.tell_end-status.ensures.line;
+      roomy = no_want c.tell_end-status.result c.live_into-disk.result.1 _ _ c.in-Ok.is c.live_into-disk.ensures.full;
     }
 
 pub returns-in-Err-clause-session : goal.returns-in-Err-clause-session
@@ -30,4 +31,5 @@ returns-in-Err-clause-session g c d a honest ready =
       done = it.5;
       stopped = c.live_into-disk.ensures.stopped;
       told = tt;
+      roomy = tt;
     }

@@ -1,5 +1,6 @@
 // What is released.
-ghost use Rattle.std.specs.Prelude.{◌≡◌};
+ghost use Rattle.std.specs.Prelude.{◌≡◌, true};
+ghost use Rattle.events.specs.declared.output.Brake.TheVariants.{Emergency};
 
 use events::{Brake, Indications, Output};
 use mode_table::Mode;
@@ -48,6 +49,8 @@ impl Released {
 }
 
 impl Default for Released {
+    ghost is_default = { λ it. (it.number ≡ 0) × (it.output.brake ≡ Emergency) × (it.output.indications.not_revalidated ≡ true) };
+
     /// Before the first event: the emergency brake, and nothing revalidated.
     fn default() -> Released {
         Released {

@@ -8,4 +8,4 @@ mod outputs;
 
 pub use events_said::{cold, event, input};
 pub use keeping::{Item, kept_text};
-pub use outputs::{brake_name, level_name, mode_name, output_text};
+pub use outputs::output_text;

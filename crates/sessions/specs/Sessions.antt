@@ -82,8 +82,8 @@ abbrev pub formatted_line : ℕ → List ℕ
 formatted_line blocks = codes "formatted " ++ decimal blocks ++ codes " blocks " ++ decimal (512 * (1 + 6 * blocks)) ++ codes " bytes\n"
 
 -- Nothing speaks against it before the first write: the image was made, and its line written, or the device failed, and the line of that.
-abbrev pub IsMade : ℕ → Option (List ℕ) → Option (List ℕ) → Status → Type 0
-IsMade blocks before after status =
+abbrev pub IsFormatReport : ℕ → Option (List ℕ) → Option (List ℕ) → Status → Type 0
+IsFormatReport blocks before after status =
     ((status ≡ Done) × Appends before after (formatted_line blocks))
     ⊎ ((status ≡ Device) × Appends before after (refusal_of (format_reason DeviceFault)))
 

@@ -65,5 +65,5 @@ json.dump({'groups': [], 'steps': steps}, open('scenario', 'w'))"
     "$etcs" format image $((2 * blocks)) >&2
     printf 'etcs run: %d blocks, %d ms\n' $((blocks + 1)) "$(milliseconds "$etcs" run scenario image)"
 fi
-printf 'plain Rust: %d blocks, %d ms\n' "$blocks" "$(milliseconds ./plain_journal "$blocks" image $((2 * blocks)))"
+printf 'plain Rust: %d blocks, %d ms\n' "$blocks" "$(milliseconds ./plain_journal "$blocks" image $((2 * blocks)) 1)"
 rm -f image scenario

@@ -1,0 +1,94 @@
+#!/bin/sh
+# Prints what an event of a life costs over a disk in memory, in batches of eight, by crates/test_onboard: the instructions within
+# `Onboard::accept` and within an eighth of `Onboard::flush`, and how often memory is asked for in an accept. What callgrind counts for
+# 48 batches less what it counts for 24, by their events: all on slots that are used again. Beside them an eighth of a commit in plain Rust,
+# which makes the same calls of the disk (bench/plain_journal.rs). Then the events a second of `live` in memory, with the printing of the
+# released pairs; and those of `etcs run` and of plain Rust over a file, with the syncs of each batch. The program must be there
+# (./etcs --prove). Builds all else first; what the builds have to say goes to standard error.
+#
+#     bench/onboard.sh [BATCHES]
+set -e
+top=$(cd "$(dirname "$0")/.." && pwd)
+out=$top/bench/out
+batches=${1:-10000}
+mkdir -p "$out"
+(cd "$top/crates/test_onboard" && rt run <stdin) >"$out/rows"
+cmp "$out/rows" "$top/crates/test_onboard/stdout" >&2
+program=$top/crates/test_onboard/out/test_onboard
+rustc -O -C target-cpu=x86-64-v2 -g "$top/bench/plain_journal.rs" -o "$out/plain_journal" >&2
+cd "$out"
+
+# The start of a life in Full Supervision, on a track of one gradient and one speed.
+start='hear 90007F802001432024A8007FE007D002B00D900010000DC03A400020801FE0; enter-identity A; choose-level 1; enter-train-data 20000 160000 70 0 15; start; flush'
+
+# life START INPUT BATCHES [RUN]: a row
+life() {
+    awk -v start="$1" -v input="$2" -v batches="$3" -v run="$4" 'BEGIN {
+        printf "format 4; live unknown; %s", start
+        for (i = 0; i < batches; i++) { for (j = 0; j < 8; j++) printf "; %s", input; printf "; flush" }
+        print run }'
+}
+
+# collected FUNCTION PROGRAM [ARGUMENT]: the instructions within the function, with all that it calls
+collected() {
+    within=$1
+    shift
+    env -i PATH="$PATH" valgrind --tool=callgrind --callgrind-out-file=callgrind --collect-atstart=no \
+        --toggle-collect="$within" "$@" 2>&1 >/dev/null | sed -n 's/^==[0-9]*== Collected : //p'
+}
+
+# asked: how often the functions of the last profile were called that take memory
+asked() {
+    awk '/^c?fn=/ { match($0, /\([0-9]+\)/); id = substr($0, RSTART, RLENGTH)
+                    rest = substr($0, RSTART + RLENGTH + 1); if (rest != "") names[id] = rest }
+         /^cfn=/ { callee = id }
+         /^calls=/ { split(substr($0, 7), part, " "); number[callee] += part[1] }
+         END { for (id in number) if (names[id] ~ /^rattle_(re)?alloc/) all += number[id]; print all + 0 }' callgrind
+}
+
+# row TITLE FEW MANY EVENTS
+row() {
+    printf '%-60s %10d\n' "$1" $((($3 - $2 + $4 / 2) / $4))
+}
+
+# unit TITLE START INPUT: an event of such a life
+unit() {
+    life "$2" "$3" 24 '; run' >few
+    life "$2" "$3" 48 '; run' >many
+    for within in accept flush; do
+        first=$(collected "onboard::onboard::Onboard::$within*" "$program" <few)
+        memory=$(asked)
+        second=$(collected "onboard::onboard::Onboard::$within*" "$program" <many)
+        row "$1: $within" "$first" "$second" 192
+        printf '%-60s %10d\n' "memory asked for in 192 of them" $(($(asked) - memory))
+    done
+}
+
+unit 'a moment of the clock in Stand By' flush 'clock 0'
+unit 'a reading of 1 cm in Full Supervision' "$start" 'move 1'
+row 'plain Rust: an eighth of a commit' "$(collected '*plain_journal::commit*' ./plain_journal 24)" \
+    "$(collected '*plain_journal::commit*' ./plain_journal 48)" 192
+
+# milliseconds COMMAND ..: how long it takes
+milliseconds() {
+    started=$(date +%s%N)
+    "$@" >answers
+    echo $((($(date +%s%N) - started) / 1000000))
+}
+
+# 200 lives of 70 batches, and the same with nothing lived
+for run in '; run' ''; do
+    { echo 'group lives'; printf 'for 1 200: '; life "$start" 'move 1' 70 "$run"; echo end; } >rows
+    echo "200 lives of 560 readings, '$run': $(milliseconds "$program" <rows) ms"
+done
+
+etcs=$top/crates/etcs/out/etcs
+if [ -x "$etcs" ]; then
+    python3 -c "import json
+json.dump({'groups': [], 'steps': [{'clock': moment} for moment in range(8 * $batches)]}, open('scenario', 'w'))"
+    "$etcs" format image $((2 * batches)) >&2
+    printf 'etcs run over a file: %d events, %d ms\n' $((8 * batches)) "$(milliseconds "$etcs" run scenario image)"
+    rm -f image
+fi
+printf 'plain Rust over a file: %d events, %d ms\n' $((8 * batches)) "$(milliseconds ./plain_journal "$batches" image $((2 * batches)) 8)"
+rm -f image scenario

@@ -7,7 +7,7 @@ ghost use Rattle.mode_table.specs.declared.statuses.Cold.{Cold};
 ghost use Rattle.onboard.specs.Answers.{live_failed, is_full};
 ghost use Rattle.onboard.specs.Lives.{IsReady};
 ghost use Rattle.onboard.specs.Runs.{Lives};
-ghost use Rattle.onboard.specs.Stops.{LifeEnds, IsDone};
+ghost use Rattle.onboard.specs.Stops.{LifeEnds, OnlyOpens, IsDone};
 ghost use Rattle.onboard.specs.declared.released.Released.{Released};
 
 use crate::errors::LiveError;
@@ -42,7 +42,7 @@ pub fn live_into<D: Disk, S: ReleaseSink>(
     ensures life { (d a : List Event) → IsTrue (D.state disk).honest → IsReady d a (D.state disk) →
         (p : List Event) × (word : Cold) × (given : List Released) × S.Gave sink.old given sink.new
         × (it : Lives d a p cold word steps.now (D.state disk) (D.state result.0) [] given)
-        × IsDone (PowerUp word ∷ p) steps.now result.1 it.before it.after it.given }
+        × IsDone (PowerUp word ∷ p) steps.now (OnlyOpens d a p word (D.state disk) (D.state result.0)) result.1 it.before it.after it.given }
 {
     match Onboard::open(alloc, disk, cold) {
         Ok(unit) => {
@@ -73,7 +73,7 @@ pub fn live<D: Disk>(
     // Where power is lost and what is released, for every list of events that the disk represents.
     ensures life { (d a : List Event) → IsTrue (D.state disk).honest → IsReady d a (D.state disk) →
         (p : List Event) × (word : Cold) × (it : Lives d a p cold word steps.now (D.state disk) (D.state result.0) out.old.items out.new.items)
-        × IsDone (PowerUp word ∷ p) steps.now result.1 it.before it.after it.given }
+        × IsDone (PowerUp word ∷ p) steps.now (OnlyOpens d a p word (D.state disk) (D.state result.0)) result.1 it.before it.after it.given }
 {
     live_into(alloc, disk, cold, steps, out)
 }

@@ -123,7 +123,7 @@ pub fn run_into<D: Disk, S: ReleaseSink>(
         IsOpen unit.old.journal (account_of s) (D.state unit.old.disk) → IsAhead s s unit.old.life →
         (given : List Released) × S.Gave sink.old given sink.new
         × (it : Ran s steps.now (D.state unit.old.disk) (D.state unit.new.disk) [] given)
-        × IsDone s steps.now result it.before it.after it.given }
+        × IsDone s steps.now ⊥ result it.before it.after it.given }
 {
     for k in 0..steps.len() {
         match take(alloc, unit, k, &steps[k], sink) {
@@ -147,7 +147,7 @@ pub fn run<D: Disk>(
     ensures ran { (s : List Event) → IsTrue (D.state unit.old.disk).honest →
         IsOpen unit.old.journal (account_of s) (D.state unit.old.disk) → IsAhead s s unit.old.life →
         (it : Ran s steps.now (D.state unit.old.disk) (D.state unit.new.disk) out.old.items out.new.items)
-        × IsDone s steps.now result it.before it.after it.given }
+        × IsDone s steps.now ⊥ result it.before it.after it.given }
 {
     run_into(alloc, unit, steps, out)
 }

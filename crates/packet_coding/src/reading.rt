@@ -45,6 +45,7 @@ fn read_other<'a>(
     Ok(told)
 }
 
+#[inline(always)]
 #[tactic(auto, unfolding(packets::specs::Packets::body_of))]
 fn read_body<'a>(
     reader: &mut BitReader<'a>,

@@ -14,7 +14,7 @@ use Rattle.onboard.specs.declared.released.Released.{Released}
 use Rattle.onboard.specs.Answers.{is_full}
 use Rattle.onboard.specs.Lives.{IsReady}
 use Rattle.onboard.specs.Runs.{Lives}
-use Rattle.onboard.specs.Stops.{LifeEnds, IsDone}
+use Rattle.onboard.specs.Stops.{LifeEnds, OnlyOpens, IsDone}
 use Rattle.reader.specs.Listings.{AddsListing, IsListingRefusal}
 use Rattle.reader.specs.declared.errors.ListingError.{ListingError}
 use Rattle.scenario_values.specs.declared.fault.ScenarioFault.{ScenarioFault}
@@ -50,7 +50,7 @@ pub record Session {E : Type 0} (d a : List Event) (cold : Cold) (steps : List S
   pub given : List Released
   pub ended : Result (Unit {0}) LiveError
   pub life : Lives d a p cold word steps old new [] given
-  pub done : IsDone (PowerUp word ∷ p) steps ended life.before life.after life.given
+  pub done : IsDone (PowerUp word ∷ p) steps (OnlyOpens d a p word old new) ended life.before life.after life.given
   pub stopped : LifeEnds old steps ended
   pub told : Says (status_of ended) (report_of given ended) before after answer
   pub roomy : IfOk answer (λ status. IfErr ended (λ e. is_full e ≡ false))

@@ -1,5 +1,5 @@
 -- Each spelling of a packet is what is appended for it, and the length that it tells is that of the packet.
-use Rattle.std.proofs.Common.{◌≡◌, ap, refl, arith, length, List, Bool, ◌+◌, ◌-◌, ◌<◌, ◌^◌, ◌++◌, ℕ, []}
+use Rattle.std.proofs.Common.{◌≡◌, ap, refl, arith, length, List, Bool, ◌+◌, ◌<◌, ◌^◌, ◌++◌, ℕ, []}
 use Rattle.std.specs.Prelude.{Some}
 use Rattle.bits.specs.Fitting.{Fits}
 use Rattle.bits.specs.Layout.{Layout, Spells}

@@ -1,5 +1,5 @@
 -- Each value that is read of an element is found in it again.
-use Rattle.std.proofs.Common.{refl, ◌-◌}
+use Rattle.std.proofs.Common.{refl}
 use Rattle.bits.specs.Layout.{Codes}
 use Rattle.bits.specs.declared.name.VariableName.{VariableName}
 use Rattle.bits.proofs.Found.{Back, Appends, element}

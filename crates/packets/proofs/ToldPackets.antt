@@ -1,5 +1,5 @@
 -- What is to be shown of the layouts of packets 3, 5, 12, 21 and 27.
-use Rattle.std.proofs.Common.{◌≡◌, ◌∙◌, refl, sym, subst, arith, ◌-◌, ◌<◌, ◌^◌, length-append}
+use Rattle.std.proofs.Common.{◌≡◌, ◌∙◌, refl, sym, subst, arith, ◌<◌, ◌^◌, length-append}
 use Rattle.std.proofs.lemmas.List.{take_at}
 use Rattle.bits.specs.Fitting.{HasNumber, Fits}
 use Rattle.bits.specs.declared.name.VariableName.TheVariants as names

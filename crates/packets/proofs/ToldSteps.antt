@@ -1,5 +1,5 @@
 -- What is read of a static speed profile goes on from what was read before, and is found in the whole again.
-use Rattle.std.proofs.Common.{◌≡◌, ◌∙◌, ap, refl, sym, arith, zero, suc, length, List, ◌∷◌, ◌+◌, ◌-◌, ◌≤◌, take, ◌++◌, ℕ, [], length-append, append_assoc}
+use Rattle.std.proofs.Common.{◌≡◌, ◌∙◌, ap, refl, sym, arith, zero, suc, length, List, ◌∷◌, ◌+◌, ◌≤◌, take, ◌++◌, ℕ, [], length-append, append_assoc}
 use Rattle.std.specs.List.{AllByRecursion as Each}
 use Rattle.std.specs.Prelude.{slice_index_or, Some}
 use Rattle.std.proofs.lemmas.Bool.{ltb-false}

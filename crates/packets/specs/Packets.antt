@@ -4,7 +4,7 @@ use Rattle.bits.specs.Layout.{Layout, unless, choice, kind, measured, ◌>>=◌}
 use Rattle.bits.specs.Writing.{Shown, taken, size, shown}
 use Rattle.bits.specs.declared.name.VariableName.TheVariants as names
 use Rattle.vars.specs.Variables.{nid_packet}
-use Rattle.packets.specs.Parts.{variable, telling}
+use Rattle.packets.specs.Parts.{variable}
 use Rattle.packets.specs.declared.fault.PacketFault.{PacketFault}
 use Rattle.packets.specs.declared.fault.PacketFault.TheVariants.{WrongLength, OutOfRange}
 use Rattle.packets.specs.declared.authority.MovementAuthority.{MovementAuthority}

@@ -118,14 +118,14 @@ pub fn read_movement_authority<'a>(
 ) -> Result<PacketLength, PacketFault>
     ensures { Gives (λ told. (told, out.new)) result reader.new (read (kind (as_packet packets.MovementAuthority) as_movement_authority movement_authority) reader.old) }
 {
-    let (direction, told, scale) = read_head(reader)?;
-    let speed = field(reader)?;
-    let end_speed = field(reader)?;
-    let end_time = field(reader)?;
-    let count: Iterations = field(reader)?;
+    let (direction, told, scale) = ok!(read_head(reader));
+    let speed = ok!(field(reader));
+    let end_speed = ok!(field(reader));
+    let end_time = ok!(field(reader));
+    let count: Iterations = ok!(field(reader));
     let mut sections: ArrayVec<Section, 31> = ArrayVec::new();
-    read_list(reader, &mut sections, count.count())?;
-    let end = read_end(reader)?;
+    ok!(read_list(reader, &mut sections, count.count()));
+    let end = ok!(read_end(reader));
     *out = Packet::MovementAuthority(MovementAuthority {
         direction,
         scale,
@@ -171,12 +171,12 @@ impl MovementAuthority {
         requires room { S.held sink.old + size (movement_authority_telling (λ _. 0)) self.now ≤ S.most }
         ensures { OnOk result (S.seen sink.new ≡ taken S.took (movement_authority_telling (λ _. told)) self.now (S.seen sink.old)) }
     {
-        put_head(sink, &self.direction, told, &self.scale)?;
-        put(sink, VariableName::VMain, &self.speed)?;
-        put(sink, VariableName::VLoa, &self.end_speed)?;
-        put(sink, VariableName::TLoa, &self.end_time)?;
-        sink.field(VariableName::NIter, 5, self.sections.len() as u64)?;
-        all(&self.sections, sink)?;
+        ok!(put_head(sink, &self.direction, told, &self.scale));
+        ok!(put(sink, VariableName::VMain, &self.speed));
+        ok!(put(sink, VariableName::VLoa, &self.end_speed));
+        ok!(put(sink, VariableName::TLoa, &self.end_time));
+        ok!(sink.field(VariableName::NIter, 5, self.sections.len() as u64));
+        ok!(all(&self.sections, sink));
         self.end_fields(sink)
     }
 }

@@ -49,7 +49,7 @@ pub(crate) fn read_list<T: Element + Default, const N: usize>(
     ensures len { OnOk result (length list.new.items ≡ length list.old.items + count) }
 {
     for i in 0..count {
-        let element = T::read(reader)?;
+        let element = ok!(T::read(reader));
         list.push(element);
     }
     Ok(())
@@ -64,8 +64,8 @@ pub(crate) fn read_from_first<T: Element + Default>(
     requires { list.old.items ≡ [] }
     ensures { Gives (λ _. list.new.items) result reader.new (from_first_read T.layout reader.old) }
 {
-    read_list(reader, list, 1)?;
-    let more: Iterations = field(reader)?;
+    ok!(read_list(reader, list, 1));
+    let more: Iterations = ok!(field(reader));
     read_list(reader, list, more.count())
 }
 
@@ -80,7 +80,7 @@ pub(crate) fn read_part<T: Element>(
     if !given {
         return Ok(None);
     }
-    let part = T::read(reader)?;
+    let part = ok!(T::read(reader));
     Ok(Some(part))
 }
 
@@ -91,6 +91,6 @@ pub(crate) fn read_qualified<T: Element>(
 ) -> Result<Option<T>, PacketFault>
     ensures { Gives (λ x. x) result reader.new (qualified_read T.layout reader.old) }
 {
-    let given: bool = field(reader)?;
+    let given: bool = ok!(field(reader));
     read_part(reader, given)
 }

@@ -50,9 +50,9 @@ impl Element for Gradient {
 
     #[tactic(auto, unfolding(crate::specs::Elements::gradient))]
     fn read(reader: &mut BitReader<'_>) -> Result<Gradient, PacketFault> {
-        let distance = field(reader)?;
-        let direction = field(reader)?;
-        let steepness = field(reader)?;
+        let distance = ok!(field(reader));
+        let direction = ok!(field(reader));
+        let steepness = ok!(field(reader));
         Ok(Gradient {
             distance,
             direction,
@@ -62,8 +62,8 @@ impl Element for Gradient {
 
     #[tactic(auto, unfolding(crate::specs::Elements::gradient))]
     fn fields<S: FieldSink>(&self, sink: &mut S) -> Result<(), S::Error> {
-        put(sink, VariableName::DGradient, &self.distance)?;
-        put(sink, VariableName::QGdir, &self.direction)?;
+        ok!(put(sink, VariableName::DGradient, &self.distance));
+        ok!(put(sink, VariableName::QGdir, &self.direction));
         put(sink, VariableName::GA, &self.steepness)
     }
 
@@ -98,9 +98,9 @@ pub fn read_gradients<'a>(
 ) -> Result<PacketLength, PacketFault>
     ensures { Gives (λ told. (told, out.new)) result reader.new (read (kind (as_packet packets.Gradients) as_gradients gradients_layout) reader.old) }
 {
-    let (direction, told, scale) = read_head(reader)?;
+    let (direction, told, scale) = ok!(read_head(reader));
     let mut gradients: ArrayVec<Gradient, 32> = ArrayVec::new();
-    read_from_first(reader, &mut gradients)?;
+    ok!(read_from_first(reader, &mut gradients));
     *out = Packet::Gradients(Gradients {
         direction,
         scale,
@@ -134,7 +134,7 @@ impl Gradients {
         requires room { S.held sink.old + size (gradients_telling (λ _. 0)) self.now ≤ S.most }
         ensures { OnOk result (S.seen sink.new ≡ taken S.took (gradients_telling (λ _. told)) self.now (S.seen sink.old)) }
     {
-        put_head(sink, &self.direction, told, &self.scale)?;
+        ok!(put_head(sink, &self.direction, told, &self.scale));
         from_first(self.gradients.as_slice(), sink)
     }
 }

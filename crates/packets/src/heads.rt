@@ -16,9 +16,9 @@ pub(crate) fn read_head(
 ) -> Result<(ValidityDirection, PacketLength, Scale), PacketFault>
     ensures { Gives (λ head. head) result reader.new (head_read reader.old) }
 {
-    let direction = field(reader)?;
-    let told = field(reader)?;
-    let scale = field(reader)?;
+    let direction = ok!(field(reader));
+    let told = ok!(field(reader));
+    let scale = ok!(field(reader));
     Ok((direction, told, scale))
 }
 
@@ -35,8 +35,8 @@ pub(crate) fn put_head<S: FieldSink>(
     ensures value { OnOk result (S.seen sink.new ≡ head_taken S.took direction.now told scale.now (S.seen sink.old)) }
     ensures held { OnOk result (S.held sink.new ≤ S.held sink.old + 17) }
 {
-    put(sink, VariableName::QDir, direction)?;
-    sink.field(VariableName::LPacket, 13, told)?;
+    ok!(put(sink, VariableName::QDir, direction));
+    ok!(sink.field(VariableName::LPacket, 13, told));
     put(sink, VariableName::QScale, scale)
 }
 

@@ -88,9 +88,9 @@ impl Element for LevelOrder {
 
     #[tactic(auto, unfolding(crate::specs::Elements::level_order))]
     fn read(reader: &mut BitReader<'_>) -> Result<LevelOrder, PacketFault> {
-        let level: Level = field(reader)?;
-        let stm = read_part(reader, has_stm(level))?;
-        let acknowledgement = field(reader)?;
+        let level: Level = ok!(field(reader));
+        let stm = ok!(read_part(reader, has_stm(level)));
+        let acknowledgement = ok!(field(reader));
         Ok(LevelOrder {
             level,
             stm,
@@ -100,9 +100,9 @@ impl Element for LevelOrder {
 
     #[tactic(auto, unfolding(crate::specs::Elements::level_order))]
     fn fields<S: FieldSink>(&self, sink: &mut S) -> Result<(), S::Error> {
-        put(sink, VariableName::MLeveltr, &self.level)?;
+        ok!(put(sink, VariableName::MLeveltr, &self.level));
         if let Some(stm) = &self.stm {
-            stm.fields(sink)?;
+            ok!(stm.fields(sink));
         }
         put(sink, VariableName::LAckleveltr, &self.acknowledgement)
     }
@@ -145,10 +145,10 @@ pub fn read_level_transition<'a>(
 ) -> Result<PacketLength, PacketFault>
     ensures { Gives (λ told. (told, out.new)) result reader.new (read (kind (as_packet packets.LevelTransition) as_level_transition level_transition) reader.old) }
 {
-    let (direction, told, scale) = read_head(reader)?;
-    let start = field(reader)?;
+    let (direction, told, scale) = ok!(read_head(reader));
+    let start = ok!(field(reader));
     let mut orders: ArrayVec<LevelOrder, 32> = ArrayVec::new();
-    read_from_first(reader, &mut orders)?;
+    ok!(read_from_first(reader, &mut orders));
     *out = Packet::LevelTransition(LevelTransition {
         direction,
         scale,
@@ -185,8 +185,8 @@ impl LevelTransition {
         requires room { S.held sink.old + size (level_transition_telling (λ _. 0)) self.now ≤ S.most }
         ensures { OnOk result (S.seen sink.new ≡ taken S.took (level_transition_telling (λ _. told)) self.now (S.seen sink.old)) }
     {
-        put_head(sink, &self.direction, told, &self.scale)?;
-        put(sink, VariableName::DLeveltr, &self.start)?;
+        ok!(put_head(sink, &self.direction, told, &self.scale));
+        ok!(put(sink, VariableName::DLeveltr, &self.start));
         from_first(self.orders.as_slice(), sink)
     }
 }

@@ -1,6 +1,17 @@
 //! The packets of a balise telegram, read from its bits (SUBSET-026, 7.4.2).
 #![tactic(auto)]
 
+/// What was answered. An error ends the calling function with it: as `?` does, which takes a proof half as long again.
+#[macro_export]
+macro_rules! ok {
+    ($answer:expr) => {
+        match $answer {
+            Ok(value) => value,
+            Err(error) => return Err(error),
+        }
+    };
+}
+
 mod authority;
 mod element;
 mod fault;

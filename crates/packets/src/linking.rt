@@ -59,12 +59,12 @@ impl Element for Link {
 
     #[tactic(auto, unfolding(crate::specs::Elements::link))]
     fn read(reader: &mut BitReader<'_>) -> Result<Link, PacketFault> {
-        let distance = field(reader)?;
-        let country = read_qualified(reader)?;
-        let group = field(reader)?;
-        let orientation = field(reader)?;
-        let reaction = field(reader)?;
-        let accuracy = field(reader)?;
+        let distance = ok!(field(reader));
+        let country = ok!(read_qualified(reader));
+        let group = ok!(field(reader));
+        let orientation = ok!(field(reader));
+        let reaction = ok!(field(reader));
+        let accuracy = ok!(field(reader));
         Ok(Link {
             distance,
             country,
@@ -77,11 +77,11 @@ impl Element for Link {
 
     #[tactic(auto, unfolding(crate::specs::Elements::link))]
     fn fields<S: FieldSink>(&self, sink: &mut S) -> Result<(), S::Error> {
-        put(sink, VariableName::DLink, &self.distance)?;
-        qualified(sink, VariableName::QNewcountry, &self.country)?;
-        put(sink, VariableName::NidBg, &self.group)?;
-        put(sink, VariableName::QLinkorientation, &self.orientation)?;
-        put(sink, VariableName::QLinkreaction, &self.reaction)?;
+        ok!(put(sink, VariableName::DLink, &self.distance));
+        ok!(qualified(sink, VariableName::QNewcountry, &self.country));
+        ok!(put(sink, VariableName::NidBg, &self.group));
+        ok!(put(sink, VariableName::QLinkorientation, &self.orientation));
+        ok!(put(sink, VariableName::QLinkreaction, &self.reaction));
         put(sink, VariableName::QLocacc, &self.accuracy)
     }
 
@@ -124,9 +124,9 @@ pub fn read_linking<'a>(
 ) -> Result<PacketLength, PacketFault>
     ensures { Gives (λ told. (told, out.new)) result reader.new (read (kind (as_packet packets.Linking) as_linking linking_layout) reader.old) }
 {
-    let (direction, told, scale) = read_head(reader)?;
+    let (direction, told, scale) = ok!(read_head(reader));
     let mut links: ArrayVec<Link, 32> = ArrayVec::new();
-    read_from_first(reader, &mut links)?;
+    ok!(read_from_first(reader, &mut links));
     *out = Packet::Linking(Linking {
         direction,
         scale,
@@ -160,7 +160,7 @@ impl Linking {
         requires room { S.held sink.old + size (linking_telling (λ _. 0)) self.now ≤ S.most }
         ensures { OnOk result (S.seen sink.new ≡ taken S.took (linking_telling (λ _. told)) self.now (S.seen sink.old)) }
     {
-        put_head(sink, &self.direction, told, &self.scale)?;
+        ok!(put_head(sink, &self.direction, told, &self.scale));
         from_first(self.links.as_slice(), sink)
     }
 }

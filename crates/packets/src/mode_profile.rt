@@ -56,11 +56,11 @@ impl Element for ModeArea {
 
     #[tactic(auto, unfolding(crate::specs::Elements::mode_area))]
     fn read(reader: &mut BitReader<'_>) -> Result<ModeArea, PacketFault> {
-        let distance = field(reader)?;
-        let mode = field(reader)?;
-        let speed = field(reader)?;
-        let length = field(reader)?;
-        let acknowledgement = field(reader)?;
+        let distance = ok!(field(reader));
+        let mode = ok!(field(reader));
+        let speed = ok!(field(reader));
+        let length = ok!(field(reader));
+        let acknowledgement = ok!(field(reader));
         Ok(ModeArea {
             distance,
             mode,
@@ -72,10 +72,10 @@ impl Element for ModeArea {
 
     #[tactic(auto, unfolding(crate::specs::Elements::mode_area))]
     fn fields<S: FieldSink>(&self, sink: &mut S) -> Result<(), S::Error> {
-        put(sink, VariableName::DMamode, &self.distance)?;
-        put(sink, VariableName::MMamode, &self.mode)?;
-        put(sink, VariableName::VMamode, &self.speed)?;
-        put(sink, VariableName::LMamode, &self.length)?;
+        ok!(put(sink, VariableName::DMamode, &self.distance));
+        ok!(put(sink, VariableName::MMamode, &self.mode));
+        ok!(put(sink, VariableName::VMamode, &self.speed));
+        ok!(put(sink, VariableName::LMamode, &self.length));
         put(sink, VariableName::LAckmamode, &self.acknowledgement)
     }
 
@@ -114,9 +114,9 @@ pub fn read_mode_profile<'a>(
 ) -> Result<PacketLength, PacketFault>
     ensures { Gives (λ told. (told, out.new)) result reader.new (read (kind (as_packet packets.ModeProfile) as_mode_profile mode_profile) reader.old) }
 {
-    let (direction, told, scale) = read_head(reader)?;
+    let (direction, told, scale) = ok!(read_head(reader));
     let mut areas: ArrayVec<ModeArea, 32> = ArrayVec::new();
-    read_from_first(reader, &mut areas)?;
+    ok!(read_from_first(reader, &mut areas));
     *out = Packet::ModeProfile(ModeProfile {
         direction,
         scale,
@@ -150,7 +150,7 @@ impl ModeProfile {
         requires room { S.held sink.old + size (mode_profile_telling (λ _. 0)) self.now ≤ S.most }
         ensures { OnOk result (S.seen sink.new ≡ taken S.took (mode_profile_telling (λ _. told)) self.now (S.seen sink.old)) }
     {
-        put_head(sink, &self.direction, told, &self.scale)?;
+        ok!(put_head(sink, &self.direction, told, &self.scale));
         from_first(self.areas.as_slice(), sink)
     }
 }

@@ -95,15 +95,15 @@ pub fn read_national_values<'a>(
 ) -> Result<PacketLength, PacketFault>
     ensures { Gives (λ told. (told, out.new)) result reader.new (read (kind (as_packet packets.NationalValues) as_national_values national_values) reader.old) }
 {
-    let (direction, told, scale) = read_head(reader)?;
-    let start = field(reader)?;
-    let count: Iterations = field(reader)?;
+    let (direction, told, scale) = ok!(read_head(reader));
+    let start = ok!(field(reader));
+    let count: Iterations = ok!(field(reader));
     let mut countries: ArrayVec<Country, 31> = ArrayVec::new();
-    read_list(reader, &mut countries, count.count())?;
-    let speeds = read_mode_speeds(reader)?;
-    let roll = field(reader)?;
-    let changed = read_override_values(reader)?;
-    let staff_responsible_distance = field(reader)?;
+    ok!(read_list(reader, &mut countries, count.count()));
+    let speeds = ok!(read_mode_speeds(reader));
+    let roll = ok!(field(reader));
+    let changed = ok!(read_override_values(reader));
+    let staff_responsible_distance = ok!(field(reader));
     *out = Packet::NationalValues(NationalValues {
         direction,
         scale,
@@ -155,13 +155,13 @@ impl NationalValues {
         requires room { S.held sink.old + size (national_values_telling (λ _. 0)) self.now ≤ S.most }
         ensures { OnOk result (S.seen sink.new ≡ taken S.took (national_values_telling (λ _. told)) self.now (S.seen sink.old)) }
     {
-        put_head(sink, &self.direction, told, &self.scale)?;
-        put(sink, VariableName::DValidnv, &self.start)?;
-        sink.field(VariableName::NIter, 5, self.countries.len() as u64)?;
-        all(&self.countries, sink)?;
-        self.mode_speed_fields(sink)?;
-        put(sink, VariableName::DNvroll, &self.roll)?;
-        self.override_fields(sink)?;
+        ok!(put_head(sink, &self.direction, told, &self.scale));
+        ok!(put(sink, VariableName::DValidnv, &self.start));
+        ok!(sink.field(VariableName::NIter, 5, self.countries.len() as u64));
+        ok!(all(&self.countries, sink));
+        ok!(self.mode_speed_fields(sink));
+        ok!(put(sink, VariableName::DNvroll, &self.roll));
+        ok!(self.override_fields(sink));
         put(
             sink,
             VariableName::DNvstff,

@@ -102,8 +102,8 @@ impl<'a> Other<'a> {
         requires room { S.held sink.old + size (skipped_telling self.now.number (λ _. 0)) self.now ≤ S.most }
         ensures { OnOk result (S.seen sink.new ≡ taken S.took (skipped_telling self.now.number (λ _. told)) self.now (S.seen sink.old)) }
     {
-        put(sink, VariableName::QDir, &self.direction)?;
-        sink.field(VariableName::LPacket, 13, told)?;
+        ok!(put(sink, VariableName::QDir, &self.direction));
+        ok!(sink.field(VariableName::LPacket, 13, told));
         sink.run(&self.body)
     }
 }

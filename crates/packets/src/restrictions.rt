@@ -54,12 +54,12 @@ pub fn read_restriction<'a>(
 ) -> Result<PacketLength, PacketFault>
     ensures { Gives (λ told. (told, out.new)) result reader.new (read (kind (as_packet packets.SpeedRestriction) as_speed_restriction speed_restriction) reader.old) }
 {
-    let (direction, told, scale) = read_head(reader)?;
-    let number = field(reader)?;
-    let start = field(reader)?;
-    let length = field(reader)?;
-    let delay = field(reader)?;
-    let speed = field(reader)?;
+    let (direction, told, scale) = ok!(read_head(reader));
+    let number = ok!(field(reader));
+    let start = ok!(field(reader));
+    let length = ok!(field(reader));
+    let delay = ok!(field(reader));
+    let speed = ok!(field(reader));
     *out = Packet::SpeedRestriction(SpeedRestriction {
         direction,
         scale,
@@ -81,9 +81,9 @@ pub fn read_revocation<'a>(
 ) -> Result<PacketLength, PacketFault>
     ensures { Gives (λ told. (told, out.new)) result reader.new (read (kind (as_packet packets.RestrictionRevocation) as_revocation restriction_revocation) reader.old) }
 {
-    let direction = field(reader)?;
-    let told: PacketLength = field(reader)?;
-    let number = field(reader)?;
+    let direction = ok!(field(reader));
+    let told: PacketLength = ok!(field(reader));
+    let number = ok!(field(reader));
     *out = Packet::RestrictionRevocation(RestrictionRevocation { direction, number });
     Ok(told)
 }
@@ -118,11 +118,11 @@ impl SpeedRestriction {
         requires room { S.held sink.old + size (speed_restriction_telling (λ _. 0)) self.now ≤ S.most }
         ensures { OnOk result (S.seen sink.new ≡ taken S.took (speed_restriction_telling (λ _. told)) self.now (S.seen sink.old)) }
     {
-        put_head(sink, &self.direction, told, &self.scale)?;
-        put(sink, VariableName::NidTsr, &self.number)?;
-        put(sink, VariableName::DTsr, &self.start)?;
-        put(sink, VariableName::LTsr, &self.length)?;
-        put(sink, VariableName::QFront, &self.delay)?;
+        ok!(put_head(sink, &self.direction, told, &self.scale));
+        ok!(put(sink, VariableName::NidTsr, &self.number));
+        ok!(put(sink, VariableName::DTsr, &self.start));
+        ok!(put(sink, VariableName::LTsr, &self.length));
+        ok!(put(sink, VariableName::QFront, &self.delay));
         put(sink, VariableName::VTsr, &self.speed)
     }
 }
@@ -152,8 +152,8 @@ impl RestrictionRevocation {
         requires room { S.held sink.old + size (restriction_revocation_telling (λ _. 0)) self.now ≤ S.most }
         ensures { OnOk result (S.seen sink.new ≡ taken S.took (restriction_revocation_telling (λ _. told)) self.now (S.seen sink.old)) }
     {
-        put(sink, VariableName::QDir, &self.direction)?;
-        sink.field(VariableName::LPacket, 13, told)?;
+        ok!(put(sink, VariableName::QDir, &self.direction));
+        ok!(sink.field(VariableName::LPacket, 13, told));
         put(sink, VariableName::NidTsr, &self.number)
     }
 }

@@ -49,14 +49,14 @@ impl Element for Difference {
 
     #[tactic(auto, unfolding(crate::specs::Elements::difference))]
     fn read(reader: &mut BitReader<'_>) -> Result<Difference, PacketFault> {
-        let category = field(reader)?;
-        let speed = field(reader)?;
+        let category = ok!(field(reader));
+        let speed = ok!(field(reader));
         Ok(Difference { category, speed })
     }
 
     #[tactic(auto, unfolding(crate::specs::Elements::difference))]
     fn fields<S: FieldSink>(&self, sink: &mut S) -> Result<(), S::Error> {
-        put(sink, VariableName::NcDiff, &self.category)?;
+        ok!(put(sink, VariableName::NcDiff, &self.category));
         put(sink, VariableName::VDiff, &self.speed)
     }
 
@@ -199,8 +199,8 @@ impl StaticSpeeds {
         requires room { S.held sink.old + size (static_speeds_telling (λ _. 0)) self.now ≤ S.most }
         ensures { OnOk result (S.seen sink.new ≡ taken S.took (static_speeds_telling (λ _. told)) self.now (S.seen sink.old)) }
     {
-        put_head(sink, &self.direction, told, &self.scale)?;
-        profile_fields(self.steps.as_slice(), self.differences.as_slice(), sink)?;
+        ok!(put_head(sink, &self.direction, told, &self.scale));
+        ok!(profile_fields(self.steps.as_slice(), self.differences.as_slice(), sink));
         Ok(())
     }
 }

@@ -49,7 +49,7 @@ pub(crate) fn list<T: Element, S: FieldSink>(elements: &[T], sink: &mut S) -> Re
     ensures held { OnOk result (S.held sink.new ≤ S.held sink.old + total (λ x. size T.layout x) elements.now) }
 {
     for element in elements {
-        element.fields(sink)?;
+        ok!(element.fields(sink));
     }
     Ok(())
 }
@@ -77,13 +77,10 @@ pub(crate) fn from_first<T: Element, S: FieldSink>(
     ensures held { OnOk result (S.held sink.new ≤ S.held sink.old + from_first_size T.layout elements.now) }
 {
     let first = elements.len().min(1);
-    list(&elements[..first], sink)?;
-    sink.field(
-        VariableName::NIter,
-        5,
-        (elements.len() as u64).saturating_sub(1),
-    )?;
-    list(&elements[first..], sink)?;
+    ok!(list(&elements[..first], sink));
+    let more = (elements.len() as u64).saturating_sub(1);
+    ok!(sink.field(VariableName::NIter, 5, more));
+    ok!(list(&elements[first..], sink));
     Ok(())
 }
 
@@ -99,7 +96,7 @@ pub(crate) fn qualified<T: Element, S: FieldSink>(
 {
     match part {
         Some(part) => {
-            sink.field(name, 1, 1)?;
+            ok!(sink.field(name, 1, 1));
             part.fields(sink)
         }
         None => sink.field(name, 1, 0),

@@ -1,7 +1,6 @@
 -- Printing first these and then those (this project's profile).
-use Rattle.std.proofs.Common.{◌≡◌, ℕ, ◌+◌, suc, zero, List, [], ◌∷◌, ◌++◌, Bool, Option, Some, IsTrue, flat_map, take, append_assoc, append-nil, sym, ap, ◌∙◌, refl, add-one, unwrap_or, subst}
+use Rattle.std.proofs.Common.{◌≡◌, ℕ, ◌+◌, suc, zero, List, [], ◌∷◌, ◌++◌, Bool, Option, Some, take, append_assoc, append-nil, sym, ap, ◌∙◌, refl, add-one, unwrap_or}
 use Rattle.std.specs.List.{slice_get}
-use Rattle.std.specs.Io.KnownBytes.{Appends}
 use Rattle.std.proofs.KnownBytes.{Appends-nil, Appends-trans}
 use Rattle.onboard.specs.declared.released.Released.{Released}
 use Rattle.sessions.specs.Lines.{line_of, lines_of, Printed}

@@ -1,5 +1,5 @@
 -- Which telegrams have a spelling.
-use Rattle.std.proofs.Common.{◌≡◌, ◌↔◌, Bool, List, [], ◌∷◌, ◌++◌, Some, None, Ok, refl, sym, ap, arith}
+use Rattle.std.proofs.Common.{◌↔◌, Bool, List, [], ◌∷◌, ◌++◌, None, Ok, refl, sym, ap, arith}
 use Rattle.std.specs.List.{AllByRecursion as Each}
 use Rattle.std.proofs.lemmas.List.{append-nil}
 use Rattle.bits.specs.Bits.{number_bits}

@@ -7,7 +7,7 @@ ghost use Rattle.telegram.specs.Telegrams.{header as header_layout, only};
 
 use crate::fault::TelegramFault;
 use bits::{BitReader, VariableName};
-use packets::{FieldSink, put};
+use packets::{FieldSink, ok, put};
 use vars::{
     Country, Duplicate, GroupIdentity, GroupNumber, MessageCounter, PositionInGroup, Variable,
     has_number,
@@ -55,15 +55,15 @@ impl Header {
         requires room { S.held sink.old + 50 ≤ S.most }
         ensures { OnOk result (S.seen sink.new ≡ taken S.took header_layout self.now (S.seen sink.old)) }
     {
-        sink.field(VariableName::QUpdown, 1, 1)?;
-        sink.field(VariableName::MVersion, 7, 16)?;
-        sink.field(VariableName::QMedia, 1, 0)?;
-        put(sink, VariableName::NPig, &self.position)?;
-        put(sink, VariableName::NTotal, &self.last_position)?;
-        put(sink, VariableName::MDup, &self.duplicate)?;
-        put(sink, VariableName::MMcount, &self.counter)?;
-        put(sink, VariableName::NidC, &self.group.country)?;
-        put(sink, VariableName::NidBg, &self.group.number)?;
+        ok!(sink.field(VariableName::QUpdown, 1, 1));
+        ok!(sink.field(VariableName::MVersion, 7, 16));
+        ok!(sink.field(VariableName::QMedia, 1, 0));
+        ok!(put(sink, VariableName::NPig, &self.position));
+        ok!(put(sink, VariableName::NTotal, &self.last_position));
+        ok!(put(sink, VariableName::MDup, &self.duplicate));
+        ok!(put(sink, VariableName::MMcount, &self.counter));
+        ok!(put(sink, VariableName::NidC, &self.group.country));
+        ok!(put(sink, VariableName::NidBg, &self.group.number));
         put(sink, VariableName::QLink, &self.linked)
     }
 }
@@ -129,19 +129,19 @@ fn variable<V: Variable>(reader: &mut BitReader<'_>) -> Result<V, TelegramFault>
 pub(crate) fn read_header(reader: &mut BitReader<'_>) -> Result<Header, TelegramFault>
     ensures { Gives (λ x. x) result reader.new (read header_layout reader.old) }
 {
-    fixed(reader, 1, 1, TelegramFault::NotUplink)?;
-    fixed(reader, 7, 16, TelegramFault::WrongVersion)?;
-    fixed(reader, 1, 0, TelegramFault::NotBalise)?;
-    let position: PositionInGroup = variable(reader)?;
-    let last_position: PositionInGroup = variable(reader)?;
+    ok!(fixed(reader, 1, 1, TelegramFault::NotUplink));
+    ok!(fixed(reader, 7, 16, TelegramFault::WrongVersion));
+    ok!(fixed(reader, 1, 0, TelegramFault::NotBalise));
+    let position: PositionInGroup = ok!(variable(reader));
+    let last_position: PositionInGroup = ok!(variable(reader));
     if last_position < position {
         return Err(TelegramFault::OutOfRange);
     }
-    let duplicate: Duplicate = variable(reader)?;
-    let counter: MessageCounter = variable(reader)?;
-    let country: Country = variable(reader)?;
-    let number: GroupNumber = variable(reader)?;
-    let linked: bool = variable(reader)?;
+    let duplicate: Duplicate = ok!(variable(reader));
+    let counter: MessageCounter = ok!(variable(reader));
+    let country: Country = ok!(variable(reader));
+    let number: GroupNumber = ok!(variable(reader));
+    let linked: bool = ok!(variable(reader));
     Ok(Header {
         position,
         last_position,

@@ -23,14 +23,14 @@ impl Element for EndTimer {
 
     #[tactic(auto, unfolding(crate::specs::Elements::end_timer))]
     fn read(reader: &mut BitReader<'_>) -> Result<EndTimer, PacketFault> {
-        let time = field(reader)?;
-        let start = field(reader)?;
+        let time = ok!(field(reader));
+        let start = ok!(field(reader));
         Ok(EndTimer { time, start })
     }
 
     #[tactic(auto, unfolding(crate::specs::Elements::end_timer))]
     fn fields<S: FieldSink>(&self, sink: &mut S) -> Result<(), S::Error> {
-        put(sink, VariableName::TEndtimer, &self.time)?;
+        ok!(put(sink, VariableName::TEndtimer, &self.time));
         put(sink, VariableName::DEndtimerstartloc, &self.start)
     }
 
@@ -52,14 +52,14 @@ impl Element for DangerPoint {
 
     #[tactic(auto, unfolding(crate::specs::Elements::danger_point))]
     fn read(reader: &mut BitReader<'_>) -> Result<DangerPoint, PacketFault> {
-        let distance = field(reader)?;
-        let release = field(reader)?;
+        let distance = ok!(field(reader));
+        let release = ok!(field(reader));
         Ok(DangerPoint { distance, release })
     }
 
     #[tactic(auto, unfolding(crate::specs::Elements::danger_point))]
     fn fields<S: FieldSink>(&self, sink: &mut S) -> Result<(), S::Error> {
-        put(sink, VariableName::DDp, &self.distance)?;
+        ok!(put(sink, VariableName::DDp, &self.distance));
         put(sink, VariableName::VReleasedp, &self.release)
     }
 
@@ -81,10 +81,10 @@ impl Element for Overlap {
 
     #[tactic(auto, unfolding(crate::specs::Elements::overlap))]
     fn read(reader: &mut BitReader<'_>) -> Result<Overlap, PacketFault> {
-        let start = field(reader)?;
-        let time = field(reader)?;
-        let distance = field(reader)?;
-        let release = field(reader)?;
+        let start = ok!(field(reader));
+        let time = ok!(field(reader));
+        let distance = ok!(field(reader));
+        let release = ok!(field(reader));
         Ok(Overlap {
             start,
             time,
@@ -95,9 +95,9 @@ impl Element for Overlap {
 
     #[tactic(auto, unfolding(crate::specs::Elements::overlap))]
     fn fields<S: FieldSink>(&self, sink: &mut S) -> Result<(), S::Error> {
-        put(sink, VariableName::DStartol, &self.start)?;
-        put(sink, VariableName::TOl, &self.time)?;
-        put(sink, VariableName::DOl, &self.distance)?;
+        ok!(put(sink, VariableName::DStartol, &self.start));
+        ok!(put(sink, VariableName::TOl, &self.time));
+        ok!(put(sink, VariableName::DOl, &self.distance));
         put(sink, VariableName::VReleaseol, &self.release)
     }
 
@@ -130,10 +130,10 @@ pub(crate) struct AuthorityEnd {
 pub(crate) fn read_end(reader: &mut BitReader<'_>) -> Result<AuthorityEnd, PacketFault>
     ensures { Gives (λ x. x) result reader.new (read authority_end reader.old) }
 {
-    let end_section = read_end_section(reader)?;
-    let end_timer = read_qualified(reader)?;
-    let danger_point = read_qualified(reader)?;
-    let overlap = read_qualified(reader)?;
+    let end_section = ok!(read_end_section(reader));
+    let end_timer = ok!(read_qualified(reader));
+    let danger_point = ok!(read_qualified(reader));
+    let overlap = ok!(read_qualified(reader));
     Ok(AuthorityEnd {
         end_section,
         end_timer,
@@ -172,9 +172,9 @@ impl MovementAuthority {
         requires room { S.held sink.old + size authority_end self.now ≤ S.most }
         ensures { OnOk result (S.seen sink.new ≡ taken S.took authority_end self.now (S.seen sink.old)) }
     {
-        section_fields(&self.end_section, VariableName::LEndsection, sink)?;
-        qualified(sink, VariableName::QEndtimer, &self.end_timer)?;
-        qualified(sink, VariableName::QDangerpoint, &self.danger_point)?;
+        ok!(section_fields(&self.end_section, VariableName::LEndsection, sink));
+        ok!(qualified(sink, VariableName::QEndtimer, &self.end_timer));
+        ok!(qualified(sink, VariableName::QDangerpoint, &self.danger_point));
         qualified(sink, VariableName::QOverlap, &self.overlap)
     }
 }

@@ -23,14 +23,14 @@ impl Element for SectionTimer {
 
     #[tactic(auto, unfolding(crate::specs::Elements::section_timer))]
     fn read(reader: &mut BitReader<'_>) -> Result<SectionTimer, PacketFault> {
-        let time = field(reader)?;
-        let stop = field(reader)?;
+        let time = ok!(field(reader));
+        let stop = ok!(field(reader));
         Ok(SectionTimer { time, stop })
     }
 
     #[tactic(auto, unfolding(crate::specs::Elements::section_timer))]
     fn fields<S: FieldSink>(&self, sink: &mut S) -> Result<(), S::Error> {
-        put(sink, VariableName::TSectiontimer, &self.time)?;
+        ok!(put(sink, VariableName::TSectiontimer, &self.time));
         put(sink, VariableName::DSectiontimerstoploc, &self.stop)
     }
 
@@ -52,8 +52,8 @@ impl Element for Section {
 
     #[tactic(auto, unfolding(crate::specs::Elements::section))]
     fn read(reader: &mut BitReader<'_>) -> Result<Section, PacketFault> {
-        let length = field(reader)?;
-        let timer = read_qualified(reader)?;
+        let length = ok!(field(reader));
+        let timer = ok!(read_qualified(reader));
         Ok(Section { length, timer })
     }
 
@@ -102,6 +102,6 @@ pub(crate) fn section_fields<S: FieldSink>(
     ensures value { OnOk result (S.seen sink.new ≡ taken S.took (section_layout name) section.now (S.seen sink.old)) }
     ensures held { OnOk result (S.held sink.new ≤ S.held sink.old + size (section_layout name) section.now) }
 {
-    put(sink, name, &section.length)?;
+    ok!(put(sink, name, &section.length));
     qualified(sink, VariableName::QSectiontimer, &section.timer)
 }

@@ -36,11 +36,11 @@ pub(crate) struct OverrideValues {
 pub(crate) fn read_mode_speeds(reader: &mut BitReader<'_>) -> Result<ModeSpeeds, PacketFault>
     ensures { Gives (λ x. x) result reader.new (read mode_speeds reader.old) }
 {
-    let shunting = field(reader)?;
-    let staff_responsible = field(reader)?;
-    let on_sight = field(reader)?;
-    let unfitted = field(reader)?;
-    let release = field(reader)?;
+    let shunting = ok!(field(reader));
+    let staff_responsible = ok!(field(reader));
+    let on_sight = ok!(field(reader));
+    let unfitted = ok!(field(reader));
+    let release = ok!(field(reader));
     Ok(ModeSpeeds {
         shunting,
         staff_responsible,
@@ -57,10 +57,10 @@ pub(crate) fn read_override_values(
 ) -> Result<OverrideValues, PacketFault>
     ensures { Gives (λ x. x) result reader.new (read override_values reader.old) }
 {
-    let allowed = field(reader)?;
-    let speed = field(reader)?;
-    let distance = field(reader)?;
-    let time = field(reader)?;
+    let allowed = ok!(field(reader));
+    let speed = ok!(field(reader));
+    let distance = ok!(field(reader));
+    let time = ok!(field(reader));
     Ok(OverrideValues {
         allowed,
         speed,
@@ -100,10 +100,10 @@ impl NationalValues {
         ensures value { OnOk result (S.seen sink.new ≡ taken S.took mode_speeds self.now (S.seen sink.old)) }
         ensures held { OnOk result (S.held sink.new ≤ S.held sink.old + 35) }
     {
-        put(sink, VariableName::VNvshunt, &self.shunting)?;
-        put(sink, VariableName::VNvstff, &self.staff_responsible)?;
-        put(sink, VariableName::VNvonsight, &self.on_sight)?;
-        put(sink, VariableName::VNvunfit, &self.unfitted)?;
+        ok!(put(sink, VariableName::VNvshunt, &self.shunting));
+        ok!(put(sink, VariableName::VNvstff, &self.staff_responsible));
+        ok!(put(sink, VariableName::VNvonsight, &self.on_sight));
+        ok!(put(sink, VariableName::VNvunfit, &self.unfitted));
         put(sink, VariableName::VNvrel, &self.release)
     }
 
@@ -114,9 +114,9 @@ impl NationalValues {
         ensures value { OnOk result (S.seen sink.new ≡ taken S.took override_values self.now (S.seen sink.old)) }
         ensures held { OnOk result (S.held sink.new ≤ S.held sink.old + 37) }
     {
-        put(sink, VariableName::VNvallowovtrp, &self.override_allowed)?;
-        put(sink, VariableName::VNvsupovtrp, &self.override_speed)?;
-        put(sink, VariableName::DNvovtrp, &self.override_distance)?;
+        ok!(put(sink, VariableName::VNvallowovtrp, &self.override_allowed));
+        ok!(put(sink, VariableName::VNvsupovtrp, &self.override_speed));
+        ok!(put(sink, VariableName::DNvovtrp, &self.override_distance));
         put(sink, VariableName::TNvovtrp, &self.override_time)
     }
 }

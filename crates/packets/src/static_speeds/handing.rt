@@ -42,10 +42,10 @@ fn step_fields<S: FieldSink>(
     ensures value { OnOk result (S.seen sink.new ≡ step_taken S.took step.now own.now (S.seen sink.old)) }
     ensures held { OnOk result (S.held sink.new ≤ S.held sink.old + step_size own.now) }
 {
-    put(sink, VariableName::DStatic, &step.distance)?;
-    put(sink, VariableName::VStatic, &step.speed)?;
-    put(sink, VariableName::QFront, &step.delay)?;
-    put(sink, VariableName::NIter, &step.differences)?;
+    ok!(put(sink, VariableName::DStatic, &step.distance));
+    ok!(put(sink, VariableName::VStatic, &step.speed));
+    ok!(put(sink, VariableName::QFront, &step.delay));
+    ok!(put(sink, VariableName::NIter, &step.differences));
     list(own, sink)
 }
 
@@ -61,7 +61,7 @@ fn steps_fields<S: FieldSink>(
     let mut left = differences;
     for step in steps {
         let (own, others) = split_own(step, left);
-        step_fields(step, own, sink)?;
+        ok!(step_fields(step, own, sink));
         left = others;
     }
     Ok(())
@@ -80,11 +80,8 @@ pub(crate) fn profile_fields<S: FieldSink>(
     let none = StaticStep::default();
     let first = first_step(steps, &none);
     let (own, left) = split_own(first, differences);
-    step_fields(first, own, sink)?;
-    sink.field(
-        VariableName::NIter,
-        5,
-        (steps.len() as u64).saturating_sub(1),
-    )?;
+    ok!(step_fields(first, own, sink));
+    let more = (steps.len() as u64).saturating_sub(1);
+    ok!(sink.field(VariableName::NIter, 5, more));
     steps_fields(other_steps(steps), left, sink)
 }

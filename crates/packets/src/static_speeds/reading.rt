@@ -23,14 +23,14 @@ fn read_step(reader: &mut BitReader<'_>, speeds: &mut StaticSpeeds) -> Result<()
     ensures len { OnOk result (length speeds.new.steps.items ≡ length speeds.old.steps.items + 1) }
     ensures room { OnOk result (length speeds.new.differences.items ≤ 70) }
 {
-    let distance = field(reader)?;
-    let speed = field(reader)?;
-    let delay = field(reader)?;
-    let differences: Iterations = field(reader)?;
+    let distance = ok!(field(reader));
+    let speed = ok!(field(reader));
+    let delay = ok!(field(reader));
+    let differences: Iterations = ok!(field(reader));
     if speeds.differences.len() + usize::from(differences.count()) > 70 {
         return Err(PacketFault::OutOfRange);
     }
-    read_list(reader, &mut speeds.differences, differences.count())?;
+    ok!(read_list(reader, &mut speeds.differences, differences.count()));
     speeds.steps.push(StaticStep {
         distance,
         speed,
@@ -50,7 +50,7 @@ fn read_steps(
     ensures { Gives (λ _. speeds.new) result reader.new (read (folded static_step count speeds.old) reader.old) }
 {
     for i in 0..count {
-        read_step(reader, speeds)?;
+        ok!(read_step(reader, speeds));
     }
     Ok(())
 }
@@ -64,16 +64,16 @@ pub fn read_static_speeds<'a>(
 ) -> Result<PacketLength, PacketFault>
     ensures { Gives (λ told. (told, out.new)) result reader.new (read (kind (as_packet packets.StaticSpeeds) as_static_speeds static_speeds) reader.old) }
 {
-    let (direction, told, scale) = read_head(reader)?;
+    let (direction, told, scale) = ok!(read_head(reader));
     let mut speeds = StaticSpeeds {
         direction,
         scale,
         steps: ArrayVec::new(),
         differences: ArrayVec::new(),
     };
-    read_step(reader, &mut speeds)?;
-    let more: Iterations = field(reader)?;
-    read_steps(reader, &mut speeds, more.count())?;
+    ok!(read_step(reader, &mut speeds));
+    let more: Iterations = ok!(field(reader));
+    ok!(read_steps(reader, &mut speeds, more.count()));
     *out = Packet::StaticSpeeds(speeds);
     Ok(told)
 }

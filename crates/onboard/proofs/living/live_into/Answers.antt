@@ -1,4 +1,4 @@
-use Rattle.std.proofs.Common.{◌≡◌, ◌∷◌, inl, inr, [], List, refl, sym, subst, ap, IsTrue}
+use Rattle.std.proofs.Common.{◌∷◌, inl, inr, [], List, refl, sym, subst, ap, IsTrue}
 use Rattle.disk.specs.State.{State}
 use Rattle.events.specs.declared.input.Event.{Event}
 use Rattle.events.specs.declared.input.Event.TheVariants.{PowerUp}

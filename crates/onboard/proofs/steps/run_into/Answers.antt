@@ -1,4 +1,4 @@
-use Rattle.std.proofs.Common.{rules, ◌∙◌, [], ◌++◌, sym, subst, ap, refl, IsTrue, take, List}
+use Rattle.std.proofs.Common.{rules, [], ◌++◌, sym, subst, refl, IsTrue, take, List}
 use Rattle.std.proofs.lemmas.List.{take_all, append-nil}
 use Rattle.life_steps.specs.declared.step.Step.{Step}
 use Rattle.onboard.specs.Runs.{accepted_by}

@@ -5,4 +5,4 @@ use Rattle.packets.proofs.restrictions.read_restriction.Goals as goal
 pub returns : goal.returns
 unfolding speed_restriction_telling
 returns c =
-    rw (c.in_ok-direction.ensures, c.in_ok-number.ensures, c.in_ok-start.ensures, c.in_ok-length.ensures, c.in_ok-delay.ensures, c.in_ok-speed.ensures) refl
+    rw (c.in-Ok.ensures, c.in-Ok-field.ensures, c.in-Ok-field-2.ensures, c.in-Ok-field-3.ensures, c.in-Ok-field-4.ensures, c.in-Ok-field-5.ensures) refl

@@ -1,5 +1,3 @@
-use Rattle.std.proofs.Common.{◌≡◌}
-use Rattle.sessions.specs.Sessions.{Session}
 use Rattle.sessions.proofs.Telling.{all_printed, told_whole, no_want}
 use Rattle.sessions.proofs.lives.run_life.Goals as goal
 

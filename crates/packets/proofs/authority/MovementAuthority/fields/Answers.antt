@@ -4,4 +4,4 @@ use Rattle.packets.proofs.authority.MovementAuthority.fields.Goals as goal
 pub returns : goal.returns
 unfolding movement_authority_telling authority_end
 returns g c =
-    rw (← c.in_ok-put_head.ensures.value, ← c.in_ok-put.ensures.value, ← c.in_ok-put-2.ensures.value, ← c.in_ok-put-3.ensures.value, ← c.len.ensures.value, ← c.in_ok-field.ensures.value, ← c.in_ok-all.ensures.value) c.end_fields.ensures
+    rw (← c.in-Ok.ensures.value, ← c.in-Ok-put.ensures.value, ← c.in-Ok-put-2.ensures.value, ← c.in-Ok-put-3.ensures.value, ← c.len.ensures.value, ← c.in-Ok-field.ensures.value, ← c.in-Ok-all.ensures.value) c.end_fields.ensures

@@ -4,4 +4,4 @@ use Rattle.packets.proofs.national.NationalValues.fields.Goals as goal
 pub returns : goal.returns
 unfolding national_values_telling mode_speeds override_values
 returns g c =
-    rw (← c.in_ok-put_head.ensures.value, ← c.in_ok-put.ensures.value, ← c.len.ensures.value, ← c.in_ok-field.ensures.value, ← c.in_ok-all.ensures.value, ← c.in_ok-mode_speed_fields.ensures.value, ← c.in_ok-put-2.ensures.value, ← c.in_ok-override_fields.ensures.value) c.put-3.ensures.value
+    rw (← c.in-Ok.ensures.value, ← c.in-Ok-put.ensures.value, ← c.len.ensures.value, ← c.in-Ok-field.ensures.value, ← c.in-Ok-all.ensures.value, ← c.in-Ok-mode_speed_fields.ensures.value, ← c.in-Ok-put-2.ensures.value, ← c.in-Ok-override_fields.ensures.value) c.put-3.ensures.value

@@ -4,4 +4,4 @@ use Rattle.packets.proofs.restrictions.SpeedRestriction.fields.Goals as goal
 pub returns : goal.returns
 unfolding speed_restriction_telling
 returns g c =
-    rw (← c.in_ok-put_head.ensures.value, ← c.in_ok-put.ensures.value, ← c.in_ok-put-2.ensures.value, ← c.in_ok-put-3.ensures.value, ← c.in_ok-put-4.ensures.value) c.put-5.ensures.value
+    rw (← c.in-Ok.ensures.value, ← c.in-Ok-put.ensures.value, ← c.in-Ok-put-2.ensures.value, ← c.in-Ok-put-3.ensures.value, ← c.in-Ok-put-4.ensures.value) c.put-5.ensures.value

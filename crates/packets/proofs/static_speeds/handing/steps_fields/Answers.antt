@@ -8,8 +8,8 @@ step_fields-requires g c =
 
 pub loop-step-preserved : goal.loop-step-preserved
 loop-step-preserved g c = record {
-  so_far = steps_more _ c.args.steps.now c.loop-step.step-index c.step-item.result _ c.loop-step.left.now _ _ _ _ _ c.loop-step-test.true c.step-item.is c.split_own.ensures.own c.split_own.ensures.others c.in_ok-step_fields.ensures.value c.loop-step.invariant.so_far;
-  room = omega (arith, size_more c.args.steps.now c.loop-step.step-index c.step-item.result _ c.loop-step.left.now _ _ c.loop-step-test.true c.step-item.is c.split_own.ensures.own c.split_own.ensures.others, c.in_ok-step_fields.ensures.held, c.loop-step.invariant.room);
+  so_far = steps_more _ c.args.steps.now c.loop-step.step-index c.step-item.result _ c.loop-step.left.now _ _ _ _ _ c.loop-step-test.true c.step-item.is c.split_own.ensures.own c.split_own.ensures.others c.in-Ok.ensures.value c.loop-step.invariant.so_far;
+  room = omega (arith, size_more c.args.steps.now c.loop-step.step-index c.step-item.result _ c.loop-step.left.now _ _ c.loop-step-test.true c.step-item.is c.split_own.ensures.own c.split_own.ensures.others, c.in-Ok.ensures.held, c.loop-step.invariant.room);
 }
 
 pub returns : goal.returns

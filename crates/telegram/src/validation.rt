@@ -13,6 +13,7 @@ use bits::BitReader;
 use packets::Packet;
 
 /// Reads packets up to the end mark, and answers how many there are.
+#[inline(always)]
 fn count_packets<'a>(reader: &mut BitReader<'a>) -> Result<u32, TelegramFault>
     requires small { length reader.old ≤ 782 }
     ensures ok { IfOk result (λ n. (ps : List Packet) × (length ps ≡ n) × BeginsPackets ps reader.old reader.new) }

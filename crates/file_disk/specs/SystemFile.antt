@@ -1,6 +1,7 @@
 -- A file of the operating system (this project's profile).
 use Rattle.std.specs.Prelude.{◌≡◌, Bool, false, [], refl}
 use Rattle.std.specs.declared.fs.File.{File}
+use Rattle.file_disk.specs.declared.readonly.ReadOnlyFile.{ReadOnlyFile}
 use Rattle.file_disk.specs.Files.{FileState}
 
 -- Whether it keeps to the model. No call of the system shows that, so nothing is promised by it: it is told false
@@ -16,3 +17,7 @@ not_shown file = refl
 -- what contracts see of it (this project's profile)
 abbrev pub system_state : File → FileState
 system_state file = record { honest = keeps_to_model file; clock = 0; at = λ _. record { bytes = []; is_open = λ _. false } }
+
+-- of one that is only read the same (this project's profile)
+abbrev pub read_only_state : ReadOnlyFile → FileState
+read_only_state only = system_state only.file

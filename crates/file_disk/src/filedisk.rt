@@ -3,11 +3,12 @@ ghost use Rattle.std.specs.Prelude.{◌≡◌, ◌+◌, ◌*◌, ◌/◌, ◌%�
 ghost use Rattle.disk.specs.State.{contents_of, IsSynced, HoldsZeros};
 ghost use Rattle.file_disk.specs.Files.{bytes_of, disk_over, whole_disk};
 
-use crate::RawFile;
 use crate::whole::{read_all, write_all};
+use crate::{RawFile, ReadOnlyFile};
 use disk::{Disk, DiskFault, SECTOR_BYTES};
 use std::fs::{File, OpenOptions};
 use std::io::ErrorKind;
+use std::os::unix::fs::FileTypeExt;
 use std::rt::Files;
 
 // A file has fewer than 2^63 bytes.
@@ -28,9 +29,11 @@ pub struct FileDisk<F: RawFile = File> {
 }
 
 impl FileDisk {
-    /// Makes the file, or empties the one that is there, and fills it with so many sectors of zeros. DiskFault where it
-    /// can't be made, and before the file is touched where no file has so many bytes. The zeros are a hole in the file, and
-    /// take no time: that the device has no room left shows at a write.
+    /// Makes the file, or empties the one that is there, and fills it with so many sectors of zeros; a block device of just so many
+    /// sectors stays as it is. The zeros are a hole in the file, and take no time: that the device has no room left shows at a write.
+    ///
+    /// The file is locked for this handle alone before it is touched, until the disk is dropped. DiskFault where it can't be made or
+    /// locked, where another handle holds a lock on it, and before it is touched where no file has so many bytes.
     pub fn create<R: Files<File = File>>(
         rt: &R,
         path: &str,
@@ -45,18 +48,42 @@ impl FileDisk {
         }
         let mut options = OpenOptions::new();
         options.read(true).write(true).create(true);
-        match options.open(rt, path) {
-            Ok(file) => FileDisk::fill(file, sectors),
-            Err(_) => Err(DiskFault),
+        let file = options.open(rt, path).map_err(|_| DiskFault)?;
+        locked(&file)?;
+        if is_device(&file)? {
+            FileDisk::of_size(file, sectors)
+        } else {
+            FileDisk::fill(file, sectors)
         }
     }
 
-    /// Opens the file; its sectors are its whole 512-byte parts. DiskFault where it can't be opened. A file that may only be
-    /// read opens too, and answers DiskFault to each write.
+    /// Opens the file to read and to write; its sectors are its whole 512-byte parts. A file that may only be read opens too, and
+    /// answers DiskFault to each write.
+    ///
+    /// The file is locked for this handle alone until the disk is dropped. DiskFault where it can't be opened or locked, and where
+    /// another handle holds a lock on it.
     pub fn open<R: Files<File = File>>(rt: &R, path: &str) -> Result<FileDisk, DiskFault>
         ensures faults { IfOk result (λ disk. (⟦<FileDisk<File> as Disk>⟧.state disk).faults ≡ 0) }
     {
-        FileDisk::over(open_file(rt, path)?)
+        let file = open_file(rt, path)?;
+        locked(&file)?;
+        FileDisk::over(file)
+    }
+}
+
+impl FileDisk<ReadOnlyFile> {
+    /// Opens the file for reading alone; its sectors are its whole 512-byte parts. The disk answers DiskFault to each write, and
+    /// nothing that is called of it writes to the file.
+    ///
+    /// The file is locked for handles that read until the disk is dropped. DiskFault where it can't be opened or locked, where
+    /// another handle holds the lock to write, and where it is a folder.
+    pub fn open_to_read<R: Files<File = File>>(
+        rt: &R,
+        path: &str,
+    ) -> Result<FileDisk<ReadOnlyFile>, DiskFault>
+        ensures faults { IfOk result (λ disk. (⟦<FileDisk<ReadOnlyFile> as Disk>⟧.state disk).faults ≡ 0) }
+    {
+        FileDisk::over(ReadOnlyFile::open(rt, path)?)
     }
 }
 
@@ -76,6 +103,19 @@ fn open_file<R: Files<File = File>>(rt: &R, path: &str) -> Result<File, DiskFaul
     }
 }
 
+// Locks a file for its handle alone.
+fn locked(file: &File) -> Result<(), DiskFault> {
+    file.try_lock().map_err(|_| DiskFault)
+}
+
+// Whether a file is a block device, whose size is its own.
+fn is_device(file: &File) -> Result<bool, DiskFault> {
+    match file.metadata() {
+        Ok(metadata) => Ok(metadata.file_type().is_block_device()),
+        Err(_) => Err(DiskFault),
+    }
+}
+
 impl<F: RawFile + Drop> FileDisk<F> {
     /// A disk over the whole sectors of a file, with no fault counted. DiskFault where its length can't be read.
     pub fn over(file: F) -> Result<FileDisk<F>, DiskFault>
@@ -89,6 +129,18 @@ impl<F: RawFile + Drop> FileDisk<F> {
             sectors,
             faults: 0,
         })
+    }
+
+    // A disk over a file that has just so many sectors, and else DiskFault.
+    fn of_size(file: F, sectors: u64) -> Result<FileDisk<F>, DiskFault>
+        ensures sectors { IfOk result (λ disk. (⟦<FileDisk<F> as Disk>⟧.state disk).sectors ≡ sectors) }
+        ensures faults { IfOk result (λ disk. (⟦<FileDisk<F> as Disk>⟧.state disk).faults ≡ 0) }
+    {
+        let disk = FileDisk::over(file)?;
+        if disk.sectors != sectors {
+            return Err(DiskFault);
+        }
+        Ok(disk)
     }
 
     /// Empties a file, fills it with so many sectors of zeros, and syncs it. DiskFault where one of these fails: then the file

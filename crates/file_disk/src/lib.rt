@@ -3,8 +3,10 @@
 
 mod filedisk;
 mod raw;
+mod readonly;
 mod system;
 mod whole;
 
 pub use filedisk::FileDisk;
 pub use raw::RawFile;
+pub use readonly::ReadOnlyFile;

@@ -4,15 +4,17 @@ ghost use Rattle.file_disk.specs.SystemFile.{system_state};
 use crate::RawFile;
 use disk::DiskFault;
 use std::fs::File;
-use std::io::ErrorKind;
+use std::io::{ErrorKind, Seek, SeekFrom};
 use std::os::unix::fs::FileExt;
 
 impl RawFile for File {
     ghost state = { system_state };
 
     fn length(&self) -> Result<u64, DiskFault> {
-        match self.metadata() {
-            Ok(metadata) => Ok(metadata.len()),
+        // The end that a seek finds, since the system tells no length of a device. Reads and writes are at offsets of their own.
+        let mut handle = self;
+        match handle.seek(SeekFrom::End(0)) {
+            Ok(end) => Ok(end),
             Err(_) => Err(DiskFault),
         }
     }

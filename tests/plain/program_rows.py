@@ -16,13 +16,23 @@ A file has cases, each in a folder of its own that is empty at its start, but fo
     only-read NAME           takes the right to write a file
     keep NAME                remembers a file
     same NAME                the file is as it was then
+    equal NAME OTHER         both files have the same bytes
     none NAME                there is no such file
+    lock NAME                locks a file, as one that writes does
+    share NAME               locks a file, as one that reads does
+    unlock NAME              gives the lock back
     $ WORDS                  runs the program; the lines below, up to one with `= STATUS`, are what it is to print
     full $ WORDS             the same, but nothing can be written
     closed $ WORDS           the same, but nobody reads
+    without DIGITS $ WORDS   the same, but the standard streams of these numbers are closed
+    into NAME $ WORDS        the same, but what it prints becomes a file
+    begin NAME $ WORDS       starts the program, and goes on once it has printed something: nobody reads, and a page of 4,096 bytes is all that
+                             it can print, so it waits if it has more
+    end                      reads what it prints, which becomes the file NAME, to its end and `= STATUS`
 
 Words are split as by a shell. Where files are named none, those of tests/programs and examples are taken.
 """
+import fcntl
 import json
 import os
 import re
@@ -31,6 +41,8 @@ import shutil
 import subprocess
 import sys
 import tempfile
+import termios
+import time
 from collections import namedtuple
 from pathlib import Path
 
@@ -39,11 +51,16 @@ from program import Image
 
 TOP = Path(__file__).resolve().parents[2]
 NOBODY = 65534
+PAGE = 4096
+F_SETPIPE_SZ = 1031
 
-Line = namedtuple("Line", "number word rest output status")
+Line = namedtuple("Line", "number word given rest output status")
 # The name of a telegram in a comment and its bytes, and below them its fields.
 NAMED = re.compile(r"^#     (\S.*): ([0-9A-F]+)\n((?:#       .*\n)+)", re.M)
-RUNS = {"$": "", "full": "full", "closed": "closed"}
+# The words with an exit status, and those with words for the program behind a `$`.
+RUNS = {"$", "full", "closed", "without", "into", "end"}
+GIVEN = {"full", "closed", "without", "into", "begin"}
+LOCKS = {"lock": fcntl.LOCK_EX, "share": fcntl.LOCK_SH}
 
 
 class Case:
@@ -62,15 +79,16 @@ def read(path):
             name, by_hand, _ = rest.partition(" by hand")
             cases.append(Case(path, name, bool(by_hand)))
             continue
-        output, status = [], None
+        output, status, given = [], None, ""
+        if word in GIVEN:
+            given, _, rest = rest.partition("$ ")
         if word in RUNS:
-            rest = rest.removeprefix("$ ") if RUNS[word] else rest
             for _, line in lines:
                 if re.fullmatch(r"= \d+", line):
                     status = int(line[2:])
                     break
                 output.append(line)
-        cases[-1].lines.append(Line(number, word, rest, output, status))
+        cases[-1].lines.append(Line(number, word, given.strip(), rest, output, status))
     return [case for case in cases if case.lines]
 
 
@@ -84,7 +102,7 @@ class Room:
     """A folder in which a case runs, as a user without rights where this one has all."""
 
     def __init__(self, program, case):
-        self.program, self.kept = program, {}
+        self.program, self.kept, self.locks, self.begun = program, {}, {}, None
         self.top = Path(tempfile.mkdtemp(prefix="etcs-rows-", dir="/dev/shm" if os.access("/dev/shm", os.W_OK) else None))
         self.user = {"user": NOBODY, "group": NOBODY, "extra_groups": []} if os.geteuid() == 0 else {}
         for scenario in case.path.parent.glob("*.json"):
@@ -97,11 +115,41 @@ class Room:
                 os.chown(path, NOBODY, NOBODY)
 
     def close(self):
+        if self.begun:
+            self.begun.kill()
+            self.begun.communicate()
+        for file in self.locks.values():
+            file.close()
         shutil.rmtree(self.top)
+
+    def begin(self, line):
+        """Starts the program, and waits until it has printed something."""
+        reading, writing = os.pipe()
+        fcntl.fcntl(writing, F_SETPIPE_SZ, PAGE)
+        self.name = line.given
+        call = {"cwd": self.top, "stdin": subprocess.DEVNULL, "stdout": writing, "stderr": subprocess.PIPE, **self.user}
+        self.begun = subprocess.Popen([self.program, *shlex.split(line.rest)], **call)
+        os.close(writing)
+        self.begun.stdout = open(reading, "rb")
+        for _ in range(6000):
+            printed = int.from_bytes(fcntl.ioctl(reading, termios.FIONREAD, bytes(4)), sys.byteorder)
+            if printed or self.begun.poll() is not None:
+                break
+            time.sleep(0.01)
+        if self.begun.poll() is not None:
+            raise OSError("it came to its end")
+
+    def end(self):
+        begun, self.begun = self.begun, None
+        output, error = begun.communicate(timeout=60)
+        (self.top / self.name).write_bytes(output)
+        return b"", error, begun.returncode
 
     def run(self, line):
         call = {"cwd": self.top, "stdin": subprocess.DEVNULL, "stderr": subprocess.PIPE, "timeout": 60, **self.user}
         words = [self.program, *shlex.split(line.rest)]
+        if line.word == "end":
+            return self.end()
         if line.word == "full":
             with open("/dev/full", "wb") as full:
                 ran = subprocess.run(words, stdout=full, **call)
@@ -112,9 +160,16 @@ class Room:
             ran = subprocess.run(words, stdout=writing, **call)
             os.close(writing)
             output = b""
+        elif line.word == "without":
+            close = lambda: [os.close(int(digit)) for digit in line.given]
+            ran = subprocess.run(words, stdout=subprocess.PIPE, preexec_fn=close, **call)
+            output = ran.stdout
         else:
             ran = subprocess.run(words, stdout=subprocess.PIPE, **call)
             output = ran.stdout
+        if line.word == "into":
+            (self.top / line.given).write_bytes(output)
+            output = b""
         return output, ran.stderr, ran.returncode
 
     def does(self, line):
@@ -126,6 +181,8 @@ class Room:
             wanted = "".join(text + "\n" for text in line.output).encode()
             if (output, error, status) != (wanted, b"", line.status):
                 return f"printed\n{output.decode(errors='replace')}{error.decode(errors='replace')}= {status}"
+        elif line.word == "begin":
+            self.begin(line)
         elif line.word == "file":
             path.write_text(text_of(rest))
         elif line.word == "bytes":
@@ -145,6 +202,13 @@ class Room:
             self.kept[name] = path.read_bytes()
         elif line.word == "same":
             return None if path.read_bytes() == self.kept[name] else "the file is another one"
+        elif line.word == "equal":
+            return None if path.read_bytes() == (self.top / rest).read_bytes() else "the files differ"
+        elif line.word in LOCKS:
+            self.locks[name] = open(path, "rb")
+            fcntl.flock(self.locks[name], LOCKS[line.word] | fcntl.LOCK_NB)
+        elif line.word == "unlock":
+            self.locks.pop(name).close()
         elif line.word == "none":
             return "there is such a file" if path.exists() else None
         else:

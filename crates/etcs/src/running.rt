@@ -1,5 +1,6 @@
 use crate::program::{etcs_main, status_of};
 use exit_status::{Status, tell};
+use standard_streams::take_standard_streams;
 use std::alloc::{AllocError, Global};
 use std::fs::File;
 use std::io::{BufWriter, Write};
@@ -37,8 +38,12 @@ fn run_into<R: Env + Files<File = File> + AllocGlobal, W: Write>(rt: &R, out: &m
     }
 }
 
-/// Does what the words of the process behind the program's name ask, over standard output, and answers the exit status.
+/// Does what the words of the process behind the program's name ask, over standard output, and answers the exit status. Before it opens a file
+/// it takes the standard streams that are closed. Where it can't, it writes nothing, and opens no file.
 pub(crate) fn run<R: Env + Files<File = File> + Print + AllocGlobal>(rt: &R) -> u8 {
+    if take_standard_streams(rt).is_err() {
+        return Status::Device as u8;
+    }
     let Ok(mut out) = BufWriter::new(rt.alloc(), io::writer(rt)) else {
         return status_of(tell(&mut io::writer(rt), "refused memory", Status::Refused));
     };

@@ -43,8 +43,8 @@ pub fn play<D: Disk, O: FnOnce() -> Option<D>, W: Write>(
     (Image::Opened(disk), out, status)
 }
 
-/// One life, by the steps of a scenario in a file, on an image in a file. Where the scenario's file can't be read, `device` is written. The
-/// error is that of a write.
+/// One life, by the steps of a scenario in a file, on an image in a file, which is held for this life alone. Where the scenario's file can't be
+/// read, and where the image can't be opened or another program holds it, `device` is written. The error is that of a write.
 pub fn run_scenario<R: Files<File = File> + AllocGlobal, W: Write>(
     rt: &R,
     scenario: &str,

@@ -1,30 +1,37 @@
 #!/bin/bash
 # The built programs under hostile use: every request for memory refused in turn, power cut at each write of an image file, altered bytes,
-# random telegrams and scenarios. What they must answer stands in the plain programs, or in the tests themselves.
+# the bytes and the calls of image files over random lives, random telegrams and scenarios. What they must answer stands in the plain
+# programs, or in the tests themselves.
 #
 #     tests/hostile.sh                                        all parts, side by side
 #     tests/hostile.sh memory | cuts | bytes                  one part
+#     tests/hostile.sh files [LIVES [SEED]]                   lives on image files, more or others
 #     tests/hostile.sh inputs [TELEGRAMS SCENARIOS [SEED]]    random inputs, more or others
+#
+# ETCS=PROGRAM names another program than the one that the gate leaves behind, and TESTS=FOLDER where other test_onboard and test_kernel are.
+[ -z "$ETCS" ] || ETCS=$(realpath "$ETCS") || exit 1
+[ -z "$TESTS" ] || TESTS=$(realpath "$TESTS") || exit 1
 cd "$(dirname "$0")" || exit 1
 export PYTHONDONTWRITEBYTECODE=1
 memory() { ./refuse_memory.sh 2>&1; }
 cuts() { python3 hostile/cut_files.py 2>&1; }
 bytes() { python3 hostile/altered_bytes.py 2>&1; }
+files() { python3 hostile/lives_in_files.py "$@" 2>&1; }
 inputs() { python3 hostile/random_inputs.py "$@" 2>&1; }
 case ${1:-all} in
-    memory | cuts | bytes | inputs) "$@"; exit ;;
+    memory | cuts | bytes | files | inputs) "$@"; exit ;;
     all) ;;
-    *) echo "there is no part $1: memory, cuts, bytes, inputs"; exit 1 ;;
+    *) echo "there is no part $1: memory, cuts, bytes, files, inputs"; exit 1 ;;
 esac
 said=$(mktemp -d) || exit 1
 trap 'rm -rf "$said"' EXIT
 parts=()
-for part in memory cuts bytes inputs; do
+for part in memory cuts bytes files inputs; do
     "$part" >"$said/$part" & parts+=($!)
 done
 status=0
 for part in "${parts[@]}"; do
     wait "$part" || status=1
 done
-cat "$said"/{memory,cuts,bytes,inputs}
+cat "$said"/{memory,cuts,bytes,files,inputs}
 exit $status

@@ -1,31 +1,17 @@
 #!/usr/bin/env python3
-"""Alters the bytes of an image file, one at a time: of its first sector, of the head of the block that is found, and of gates. Every run
-of the program ends, and answers what the bytes ask for.
+"""Alters the bytes of an image file, one at a time: of its first sector, of the head of the newest block, and of gates. Each listing, each
+next life and the bytes that this life leaves are compared: with those of the image as it was, where an open gate was altered, since what
+it holds is never compared; with what the plain unit answers over the same bytes, everywhere else.
 """
 import json
 import sys
-import tempfile
 from pathlib import Path
 
-from built import SECTOR, SLOT, STAFF_RESPONSIBLE, Failures, formatted, ran
+from built import SECTOR, SLOT, STAFF_RESPONSIBLE, Failures, formatted, ran, room
+from plain_images import bytes_of, disk_of, listed, lived
 
 SLOTS = 4
-NOT_FORMATTED, DAMAGED = (1, "refused 31 NotFormatted\n"), (1, "refused 32 Damaged\n")
-STOPPED = {NOT_FORMATTED: (1, "stopped 2 NotFormatted\n"), DAMAGED: (1, "stopped 3 Damaged\n")}
-
-# In the first sector: mark, layout, number of slots, zeros.
-MARK, LAYOUT, NUMBER = range(0, 8), range(8, 12), range(12, 16)
-# In a head: the count of records, and where zeros begin.
-COUNT, ZEROS = 29 - 1, 198
-
-
-def first_sector(altered, at):
-    """What a listing answers; None where it is the one of the image as it was."""
-    if at in LAYOUT:
-        return None if int.from_bytes(altered[8:12], "big") in (1, 2) else NOT_FORMATTED
-    if at in NUMBER:
-        return DAMAGED if 2 <= int.from_bytes(altered[12:16], "big") <= 1 << 20 else NOT_FORMATTED
-    return NOT_FORMATTED
+NEXT = {"groups": [], "steps": [{"clock": 5}]}
 
 
 def values(byte):
@@ -33,54 +19,76 @@ def values(byte):
     return sorted({byte ^ 0xFF, byte ^ 1, (byte + 1) % 256, 0, 1, 2} - {byte})
 
 
+def wanted_by_plain(data):
+    disk = disk_of(data)
+    return listed(data), lived(disk, NEXT), bytes_of(disk) + data[len(disk.held) * SECTOR:]
+
+
+class Altered:
+    """An image file, and the answers over other bytes in it."""
+
+    def __init__(self, folder, failures):
+        self.image, self.next, self.failures = folder / "image", folder / "next", failures
+        scenario = folder / "scenario"
+        scenario.write_text(json.dumps(STAFF_RESPONSIBLE))
+        self.next.write_text(json.dumps(NEXT))
+        formatted(self.image, SLOTS)
+        for _ in range(2):
+            ran(["run", scenario, self.image])
+        self.whole = self.image.read_bytes()
+
+    def with_byte(self, at, value):
+        return self.whole[:at] + bytes([value]) + self.whole[at + 1:]
+
+    def answers(self, data):
+        """What a listing answers, what the next life answers, and the bytes behind it."""
+        self.image.write_bytes(data)
+        return ran(["journal", self.image]), ran(["run", self.next, self.image]), self.image.read_bytes()
+
+    def compare(self, data, wanted, said):
+        for found, one, name in zip(self.answers(data), wanted, ("the listing", "the next life", "the bytes behind it")):
+            self.failures.unless(found == one, f"{said}: {name} {'' if name.endswith('it') else found}")
+
+    def compare_with_plain(self, data, said):
+        self.compare(data, wanted_by_plain(data), said)
+
+
 def main():
     failures = Failures()
-    with tempfile.TemporaryDirectory() as name:
-        folder = Path(name)
-        image, scenario, short = folder / "image", folder / "scenario", folder / "next"
-        scenario.write_text(json.dumps(STAFF_RESPONSIBLE))
-        short.write_text(json.dumps({"groups": [], "steps": [{"clock": 5}]}))
-        formatted(image, SLOTS)
-        for _ in range(2):
-            ran(["run", scenario, image])
-        whole = image.read_bytes()
-        undisturbed, run = ran(["journal", image]), None
-
-        def answers(data, wanted, said):
-            """The listing and the next life, over altered bytes."""
-            image.write_bytes(data)
-            listing = ran(["journal", image])
-            life = ran(["run", short, image])
-            failures.unless(wanted is None or listing == wanted, f"{said}: {listing}")
-            failures.unless(wanted not in STOPPED or life == STOPPED[wanted], f"{said}: {life}")
-            failures.unless(listing[0] in (0, 1) and life[0] in (0, 1), f"{said}: {listing} {life}")
-
-        def altered(at, value):
-            return whole[:at] + bytes([value]) + whole[at + 1:]
+    with room() as name:
+        altered = Altered(Path(name), failures)
+        whole = altered.whole
+        undisturbed = listing, life, behind = altered.answers(whole)
+        altered.compare_with_plain(whole, "nothing is altered")
 
         for at in range(SECTOR):
             for value in values(whole[at]):
-                data = altered(at, value)
-                answers(data, first_sector(data, at) or undisturbed, f"byte {at} of the first sector is {value}")
-        answers(whole[:-SECTOR], DAMAGED, "one sector less")
+                altered.compare_with_plain(altered.with_byte(at, value), f"byte {at} of the first sector is {value}")
+        altered.compare_with_plain(whole[:-SECTOR], "one sector less")
+        altered.compare_with_plain(whole + bytes(SECTOR), "one sector more")
+        altered.compare_with_plain(whole + b"\xff" * (SECTOR - 1), "bytes behind the last sector")
 
-        # Each life makes a block of its power-up and two of its nine events, so the sixth block is found; it stands in slot 2.
-        newest = int(undisturbed[1].splitlines()[-1].split()[1])
-        begin = SECTOR + SLOT * (newest % SLOTS)
-        head = begin + SECTOR
+        # Each life makes a block of its power-up and two of its nine events, so the sixth block is the newest; it stands in slot 2.
+        newest = int(listing[1].splitlines()[-1].split()[1])
+        gate = SECTOR + SLOT * (newest % SLOTS)
         for at in range(SECTOR):
-            for value in values(whole[head + at]):
-                wanted = None
-                if at == COUNT and not 1 <= value <= 8 or at >= ZEROS:
-                    wanted = DAMAGED
-                answers(altered(head + at, value), wanted, f"byte {at} of the head is {value}")
+            for value in values(whole[gate + SECTOR + at]):
+                altered.compare_with_plain(altered.with_byte(gate + SECTOR + at, value), f"byte {at} of the head is {value}")
+
+        # What an open gate holds is never compared. The next life closes the gate of the oldest block, whatever it holds.
+        oldest = SECTOR + SLOT * ((newest + 1) % SLOTS)
         for at in range(SECTOR):
-            data = altered(begin + at, whole[begin + at] ^ 0x55)
-            answers(data, undisturbed, f"byte {at} of an open gate is altered")
-        closed = whole[:begin] + bytes(SECTOR) + whole[begin + SECTOR:]
+            value = whole[gate + at] ^ 0x55
+            kept = behind[:gate + at] + bytes([value]) + behind[gate + at + 1:]
+            altered.compare(altered.with_byte(gate + at, value), (listing, life, kept), f"byte {at} of an open gate is {value}")
+            altered.compare(altered.with_byte(oldest + at, whole[oldest + at] ^ 0x55), undisturbed, f"byte {at} of the oldest gate is altered")
+        closed = whole[:gate] + bytes(SECTOR) + whole[gate + SECTOR:]
+        altered.compare_with_plain(closed, "a gate is closed")
         for at in range(SECTOR):
-            answers(closed[:begin + at] + b"\x01" + closed[begin + at + 1:], None, f"byte {at} of a closed gate is altered")
-    return failures.end(f"altered bytes: {failures.tried} answers")
+            opened = closed[:gate + at] + b"\x01" + closed[gate + at + 1:]
+            kept = behind[:gate] + opened[gate:gate + SECTOR] + behind[gate + SECTOR:]
+            altered.compare(opened, (listing, life, kept), f"a gate has 1 in byte {at} alone")
+    return failures.end(f"altered bytes: {failures.tried} comparisons")
 
 
 if __name__ == "__main__":

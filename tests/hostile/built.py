@@ -1,12 +1,24 @@
-"""The built program, as tests run it, and what is given to it."""
+"""The built programs, as tests run them, and what is given to them.
+
+`ETCS` names another program than the one that the gate leaves behind, `TESTS` a folder with other test programs.
+"""
 import os
+import struct
 import subprocess
 import sys
+import tempfile
 from pathlib import Path
 
 HERE = Path(__file__).resolve().parent
 TOP = HERE.parents[1]
 PROGRAM = os.environ.get("ETCS") or str(TOP / "crates/etcs/out/etcs")
+
+
+def test_program(name):
+    folder = os.environ.get("TESTS")
+    return Path(folder) / name if folder else TOP / f"crates/{name}/out/{name}"
+
+
 sys.path.insert(0, str(TOP / "tests/plain"))
 
 SECTOR = 512
@@ -32,11 +44,39 @@ def ran(words, preload=None, **environment):
     return done.returncode, done.stdout.decode()
 
 
-def built(name, folder):
+LIBRARIES = tempfile.TemporaryDirectory()
+
+
+def built(name):
     """The library that one of the C files makes, to be loaded before the program."""
-    out = Path(folder) / f"{name}.so"
+    out = Path(LIBRARIES.name) / f"{name}.so"
     subprocess.run(["gcc", "-Wall", "-O1", "-shared", "-fPIC", "-o", out, HERE / f"{name}.c"], check=True)
     return str(out)
+
+
+def room():
+    """A folder for images and scenarios, in memory where there is one."""
+    return tempfile.TemporaryDirectory(dir="/dev/shm" if os.access("/dev/shm", os.W_OK) else None)
+
+
+def recorded_by(record, image, words):
+    """Status and text of a run, and the calls of an image file and of standard output that it made: letter, place, bytes (record.c)."""
+    to = Path(f"{image}.calls")
+    to.unlink(missing_ok=True)
+    answer = ran(words, record, RECORD_OF=str(image), RECORD_TO=str(to))
+    data, at, calls = to.read_bytes() if to.exists() else b"", 0, []
+    while at < len(data):
+        kind, place, length = struct.unpack_from("<cQQ", data, at)
+        at += 17
+        body = data[at:at + length] if kind in b"wo" else b""
+        at += len(body)
+        calls.append((kind.decode(), place, body))
+    return answer, calls
+
+
+def sectors_of(place, body):
+    """The sectors of a write, each with its bytes; the program writes whole sectors."""
+    return {(place + k) // SECTOR: body[k:k + SECTOR] for k in range(0, len(body), SECTOR)}
 
 
 def formatted(path, slots):

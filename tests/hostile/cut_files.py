@@ -1,36 +1,21 @@
 #!/usr/bin/env python3
 """Cuts the power of a run of the program over an image file: records its writes and syncs, makes the images that a cut before each of
 them, or within it, may leave (each sector since the last sync old, new, 512 bytes of 0xFF, or torn), and takes each of them up again.
-All that was printed before the cut is found, and the next life stands in Stand By under the emergency brake.
+
+What each image must list is known without reading its blocks: the plain program tells what each block holds, the recorded calls which block
+was synced behind each gate, and the image which gates are open. The listing is just that, it has all that was printed before the cut, and
+the next life and the listing behind it are those of the plain program behind the same blocks.
 """
 import json
 import random
-import struct
 import sys
-import tempfile
 from pathlib import Path
 
-from built import ENTRIES, FULL_SUPERVISION, SECTOR, STAFF_RESPONSIBLE, Failures, built, formatted, ran
-from refused_memory import found
+from built import ENTRIES, FULL_SUPERVISION, SECTOR, STAFF_RESPONSIBLE, Failures, built, formatted, ran, recorded_by, room, sectors_of
+from program import Image, listed
 
 NEXT = {"groups": [], "steps": [{"driver": [5, 1]}]}
 MIXED = 3  # so many images beside those of one choice for all open sectors
-
-
-def entries(path):
-    """The calls that were recorded: letter, place, bytes."""
-    data, at = path.read_bytes(), 0
-    while at < len(data):
-        kind, place, length = struct.unpack_from("<cQQ", data, at)
-        at += 17
-        body = data[at:at + length] if kind in b"wo" else b""
-        at += len(body)
-        yield kind.decode(), place, body
-
-
-def sectors_of(place, body):
-    """The sectors of a write, each with its bytes; the program writes whole sectors."""
-    return {(place + k) // SECTOR: body[k:k + SECTOR] for k in range(0, len(body), SECTOR)}
 
 
 def images(settled, written, numbers):
@@ -52,8 +37,32 @@ def images(settled, written, numbers):
             yield made(lambda old, handed: numbers.choice(ways)(old, handed))
 
 
-def cuts(before, recorded, numbers):
-    """Each image that a cut may leave, with what was printed by then."""
+class Ring:
+    """The number of the block whose sectors were synced last in each slot, by the calls of a run."""
+
+    def __init__(self, slots, newest):
+        self.slots, self.next = slots, newest + 1
+        self.held = {number % slots: number for number in range(max(1, newest - slots + 1), newest + 1)}
+
+    def sync(self, written):
+        """A sync of what lies behind a gate: a block is there."""
+        if any((sector - 1) % 6 for sector in written):
+            self.held[self.next % self.slots] = self.next
+            self.next += 1
+
+    def run_in(self, image):
+        """The first and the last number of the blocks that an image has: the longest unbroken run up to the greatest. A gate that isn't zeros is open."""
+        gates = {slot: (1 + 6 * slot) * SECTOR for slot in self.held}
+        numbers = {number for slot, number in self.held.items() if any(image[gates[slot]:gates[slot] + SECTOR])}
+        newest = max(numbers, default=0)
+        first = newest + 1
+        while first - 1 in numbers:
+            first -= 1
+        return first, newest
+
+
+def cuts(before, recorded, ring, numbers):
+    """Each image that a cut may leave, with the numbers of its first and its last block, and with what was printed by then."""
     settled, written, printed = bytearray(before), {}, ""
     seen = set()
     for kind, place, body in [*recorded, ("end", 0, b"")]:
@@ -63,8 +72,9 @@ def cuts(before, recorded, numbers):
         for image in images(settled, written, numbers):
             if (image, printed) not in seen:
                 seen.add((image, printed))
-                yield image, printed
+                yield image, ring.run_in(image), printed
         if kind == "s":
+            ring.sync(written)
             for sector, handed in written.items():
                 settled[sector * SECTOR:(sector + 1) * SECTOR] = handed[-1]
             written = {}
@@ -72,35 +82,57 @@ def cuts(before, recorded, numbers):
             printed += body.decode()
 
 
+def up_to(plain, newest):
+    """What the plain program knows of the blocks up to this number."""
+    image = Image(plain.slots)
+    image.blocks = plain.blocks[:newest]
+    left = image.events = sum(map(len, image.blocks))
+    for cold, taken in plain.lives:
+        if left > 0:
+            image.lives.append((cold, taken[:left - 1]))
+            left -= 1 + len(taken)
+    return image
+
+
+def text_of(lines):
+    return "".join(line + "\n" for line in lines)
+
+
 def cut_run(name, scenario, slots, lives, folder, record, failures, numbers):
-    image, recorded = folder / "image", folder / "recorded"
+    image, plain = folder / "image", Image(slots)
     (folder / "scenario").write_text(json.dumps(scenario))
     (folder / "next").write_text(json.dumps(NEXT))
     formatted(image, slots)
     for _ in range(lives):
         ran(["run", folder / "scenario", image])
-    before = image.read_bytes()
-    recorded.unlink(missing_ok=True)
-    ran(["run", folder / "scenario", image], record, RECORD_OF=str(image), RECORD_TO=str(recorded))
-    count = 0
-    for data, printed in cuts(before, list(entries(recorded)), numbers):
-        count += 1
+        plain.run(scenario)
+    before, ring = image.read_bytes(), Ring(slots, len(plain.blocks))
+    _, recorded = recorded_by(record, image, ["run", folder / "scenario", image])
+    whole, undisturbed = image.read_bytes(), text_of(plain.run(scenario)[0])
+    count, settled = 0, None
+    for data, (first, newest), printed in cuts(before, recorded, ring, numbers):
+        count, settled, said = count + 1, data, f"{name}, cut {count + 1}"
         image.write_bytes(data)
-        failures.unless(found(image, printed), f"{name}, cut {count}: what was printed isn't found")
-        _, listing = ran(["journal", image])
-        lines = listing.splitlines()
-        number = int(lines[-1].split()[3]) + 2 if lines else 1
-        status, text = ran(["run", folder / "next", image])
-        is_held = text.count("\n") == 1 and text.startswith(f"event {number} mode SB level ") and " brake emergency " in text
-        failures.unless(status == 0 and is_held, f"{name}, cut {count}: the next life answers {status} {text!r} behind {len(lines)} records")
+        listing = text_of(listed(number, record) for number in range(first, newest + 1) for record in plain.blocks[number - 1])
+        failures.unless(ran(["journal", image]) == (0, listing), f"{said}: the listing isn't that of the blocks {first} to {newest}")
+        found = up_to(plain, newest)
+        released = printed.splitlines()
+        is_there = undisturbed.startswith(printed) and (not released or int(released[-1].split()[1]) < found.events)
+        failures.unless(is_there, f"{said}: what was printed isn't in the blocks up to {newest}")
+        lines, status = found.run(NEXT)
+        answer = ran(["run", folder / "next", image])
+        failures.unless(answer == (status, text_of(lines)), f"{said}: the next life answers {answer} behind block {newest}")
+        failures.unless(all(" mode SB " in line and " brake emergency " in line for line in lines), f"{said}: {lines}")
+        failures.unless(ran(["journal", image]) == (0, text_of(found.listing())), f"{said}: the listing behind the next life is another one")
+    failures.unless(settled == whole and ring.next == len(plain.blocks) + 1, f"{name}: the recorded calls don't make the file as it is")
     print(f"{name}: {count} images")
 
 
 def main():
     failures, numbers = Failures(), random.Random(2026)
-    with tempfile.TemporaryDirectory() as name:
+    with room() as name:
         folder = Path(name)
-        record = built("record", folder)
+        record = built("record")
         flushing = {"groups": [], "steps": [step for one in [{"clock": 1000}, *ENTRIES] for step in (one, {"flush": True})]}
         cut_run("a first life", STAFF_RESPONSIBLE, 8, 0, folder, record, failures, numbers)
         cut_run("a second life, over used slots", FULL_SUPERVISION, 4, 3, folder, record, failures, numbers)

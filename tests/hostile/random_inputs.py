@@ -6,10 +6,9 @@
 import json
 import random
 import sys
-import tempfile
 from pathlib import Path
 
-from built import Failures, formatted, ran
+from built import Failures, formatted, ran, room
 import decoded
 import pools
 import program
@@ -165,7 +164,7 @@ def judge(name, text, path, folder, failures):
 def main(words):
     given = [int(word) for word in words] + [10_000, 2_000, 2026][len(words):]
     failures = Failures()
-    with tempfile.TemporaryDirectory() as name:
+    with room() as name:
         read = telegrams(given[0], random.Random(given[2]), failures)
         scenarios(given[1], Numbers(given[2]), Path(name), failures)
     return failures.end(f"random inputs: {given[0]} telegrams, {read} of which can be read, {given[1]} scenarios")

@@ -1,6 +1,6 @@
-// Records, in the file that RECORD_TO names, each write and sync of the file that RECORD_OF names and each write to standard output of
-// the program that it is loaded before, in their order. An entry is a letter (w: a write to the file, s: a sync of it, l: its length
-// was set, o: a write to standard output), two numbers of 8 bytes (where it begins; its length) and the bytes written.
+// Records, in the file that RECORD_TO names, each read, write and sync of the file that RECORD_OF names and each write to standard output
+// of the program that it is loaded before, in their order. An entry is a letter (r: a read of the file, w: a write to it, s: a sync of it,
+// l: its length was set, o: a write to standard output), two numbers of 8 bytes (where it begins; its length) and the bytes written.
 #define _GNU_SOURCE
 #include <fcntl.h>
 #include <stdint.h>
@@ -40,6 +40,23 @@ static void tell(char kind, uint64_t at, uint64_t length, const void *bytes) {
     put(&length, 8);
     if (bytes)
         put(bytes, length);
+}
+
+ssize_t pread64(int file, void *bytes, size_t length, off64_t at) {
+    ssize_t done = syscall(SYS_pread64, file, bytes, length, at);
+    if (done > 0 && is_recorded(file))
+        tell('r', (uint64_t)at, (uint64_t)done, NULL);
+    return done;
+}
+
+ssize_t pread(int file, void *bytes, size_t length, off_t at) { return pread64(file, bytes, length, at); }
+
+ssize_t read(int file, void *bytes, size_t length) {
+    off_t at = lseek(file, 0, SEEK_CUR);
+    ssize_t done = syscall(SYS_read, file, bytes, length);
+    if (done > 0 && is_recorded(file))
+        tell('r', (uint64_t)at, (uint64_t)done, NULL);
+    return done;
 }
 
 ssize_t pwrite64(int file, const void *bytes, size_t length, off64_t at) {

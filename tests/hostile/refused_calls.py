@@ -15,7 +15,7 @@ import sys
 import tempfile
 from pathlib import Path
 
-from built import AUTHORITY, RESTRICTION, TOP, Failures, built
+from built import AUTHORITY, RESTRICTION, TOP, Failures, built, test_program
 from onboard_lives import RINGS, Made
 
 MOST = 1_000_000
@@ -43,13 +43,13 @@ class Calls:
     """The programs, with a request that is refused."""
 
     def __init__(self, folder):
-        self.refuse, self.said, self.counted = built("refuse", folder), Path(folder) / "said", Path(folder) / "counted"
+        self.refuse, self.said, self.counted = built("refuse"), Path(folder) / "said", Path(folder) / "counted"
 
     def ran(self, name, lines, at):
         """Status and lines of a run, and whether a request was refused."""
         self.said.unlink(missing_ok=True)
         env = dict(os.environ, LD_PRELOAD=self.refuse, REFUSE_AT=str(at), REFUSE_SAYS=str(self.said), REFUSE_COUNTS=str(self.counted))
-        done = subprocess.run([TOP / f"crates/{name}/out/{name}"], input="".join(line + "\n" for line in lines).encode(), capture_output=True,
+        done = subprocess.run([test_program(name)], input="".join(line + "\n" for line in lines).encode(), capture_output=True,
                               env=env, timeout=60)
         return done.returncode, done.stdout.decode().splitlines(), self.said.exists()
 
@@ -78,7 +78,7 @@ def is_beginning(lines, undisturbed):
 def opens_without_memory(row, calls, begin, failures):
     """A power-up, and a line without meaning that is as long as it and as its answer, have as many requests."""
     counts = [calls.requests("test_onboard", [*begin, line]) for line in ("open unknown", "open-unknown")]
-    failures.unless(counts[0] == counts[1], f"{row}: {counts} requests with a power-up and without one")
+    failures.unless(0 < counts[0] == counts[1], f"{row}: {counts} requests with a power-up and without one")
 
 
 def unit(row, calls, begin, lines, failures):

@@ -1,17 +1,17 @@
 #!/usr/bin/env python3
 """Refuses the program's requests for memory, each in turn, until a run meets no refusal. A refused run says so, by one line in the
 place of what it had no memory for, and ends with status 1; what it printed before is what the undisturbed run prints, and the image
-holds every event that it printed.
+holds every event that it printed. A series in which nothing is refused fails: each run asks for memory at least for its words, so there
+refusing does not work.
 
     tests/hostile/refused_memory.py [FILE ..]    over the rows below, and over these scenarios
 """
 import json
 import shutil
 import sys
-import tempfile
 from pathlib import Path
 
-from built import AUTHORITY, FULL_SUPERVISION, RESTRICTION, STAFF_RESPONSIBLE, Failures, built, formatted, ran
+from built import AUTHORITY, FULL_SUPERVISION, RESTRICTION, STAFF_RESPONSIBLE, Failures, built, formatted, ran, room
 
 # What a run without memory says: words, decoding, a scenario, an opening, a step, a listing.
 SAYS = ("refused memory", "refused 5 NoMemory", "stopped 4 NoMemory", "stopped 12 NoMemory", "refused 34 NoMemory")
@@ -60,28 +60,30 @@ def series(name, words, folder, refuse, failures, image=None):
             failures.unless(found(image, text), f"{name}, request {at}: what was printed isn't in the journal")
             again = ran(words)
             failures.unless(again[0] == undisturbed[0], f"{name}, request {at}: the next run ends with {again[0]}")
+    failures.unless(count, f"{name}: no request was refused")
     print(f"{name}: {count} requests refused")
+    return count
 
 
 def main(paths):
-    failures = Failures()
-    with tempfile.TemporaryDirectory() as name:
+    failures, counts = Failures(), []
+    with room() as name:
         folder = Path(name)
-        refuse = built("refuse", folder)
+        refuse = built("refuse")
         for data in (RESTRICTION, AUTHORITY):
-            series(f"decode {data}", ["decode", data], folder, refuse, failures)
+            counts.append(series(f"decode {data}", ["decode", data], folder, refuse, failures))
         image = folder / "image"
         formatted(image, 4)
-        series("format", ["format", image, 4], folder, refuse, failures)
+        counts.append(series("format", ["format", image, 4], folder, refuse, failures))
         rows = [("staff responsible", STAFF_RESPONSIBLE), ("full supervision", FULL_SUPERVISION)]
         rows += [(path, json.loads(Path(path).read_text())) for path in paths]
         for row, scenario in rows:
             (folder / "scenario").write_text(json.dumps(scenario))
             formatted(image, 4)
             ran(["run", folder / "scenario", image])
-            series(f"run, {row}", ["run", folder / "scenario", image], folder, refuse, failures, image)
-            series(f"journal, {row}", ["journal", image], folder, refuse, failures)
-    return failures.end("memory refused")
+            counts.append(series(f"run, {row}", ["run", folder / "scenario", image], folder, refuse, failures, image))
+            counts.append(series(f"journal, {row}", ["journal", image], folder, refuse, failures))
+    return failures.end(f"memory refused: {sum(counts)} requests in {len(counts)} runs")
 
 
 if __name__ == "__main__":

@@ -1,0 +1,130 @@
+#!/usr/bin/env python3
+"""Pseudo-random lives on image files, since no contract speaks of a file of the system: behind each life the file holds the bytes that the
+plain unit leaves on the plain disk, and its calls were right.
+
+Calls are right where the file is synced before anything is read or written; where a sync stands between any write of a gate and a write
+of what lies behind a gate, and before anything is printed and at the end; and where between two syncs just the sectors are written that
+the plain disk is handed there, with their bytes.
+
+    tests/hostile/lives_in_files.py [LIVES [SEED]]    1,000 lives, seed 2026
+"""
+import json
+import sys
+from pathlib import Path
+
+from built import SECTOR, Failures, built, formatted, ran, recorded_by, room, sectors_of
+from disk import SECTOR_BYTES, Disk
+from items import Kept
+from journal import first_sector
+from life import Life
+from plain_images import bytes_of, kept_on, lived
+from random_inputs import Made
+from random_lists import Numbers
+
+LIVES = 10  # so many on one image
+MOST_SLOTS = 8
+FIRST = -1  # in place of a slot
+
+
+class Noting(Disk):
+    """A disk that notes what is written between two syncs."""
+
+    def __init__(self, sectors):
+        super().__init__(sectors)
+        self.noted = [{}]
+
+    def write(self, first, data):
+        super().write(first, data)
+        self.noted[-1].update(sectors_of(first * SECTOR_BYTES, data))
+
+    def sync(self):
+        super().sync()
+        self.noted.append({})
+
+
+class Known:
+    """What stands on an image, as the lives of random scenarios ask for it."""
+
+    def __init__(self, kept):
+        self.kept, self.lives = kept, []
+
+    def begun(self, cold):
+        self.lives.append(cold)
+        return Life(self.kept, cold)
+
+
+def part_of(sector):
+    """The slot of a sector, and whether it is a gate or lies behind one."""
+    slot, at = divmod(sector - 1, 6)
+    return (slot, "what lies behind the gate" if at else "the gate") if sector else (FIRST, "the first sector")
+
+
+def wrong_calls(recorded):
+    """What is wrong in the order of the calls."""
+    is_synced, parts = False, set()
+    for kind, place, body in recorded:
+        if kind in "rw" and not is_synced:
+            yield "the file isn't synced before it is read or written"
+            is_synced = True
+        if kind == "w":
+            if place % SECTOR or len(body) % SECTOR:
+                yield f"{len(body)} bytes at {place} are no whole sectors"
+            parts |= {part_of(sector) for sector in sectors_of(place, body)}
+            if any(slot == FIRST for slot, _ in parts):
+                yield "the first sector is written"
+            if len(parts) > 1:
+                yield "no sync between the writes of " + " and ".join(f"{name} of slot {slot}" for slot, name in sorted(parts, key=str))
+        if kind == "s":
+            is_synced, parts = True, set()
+        if kind == "o" and parts:
+            yield "printed before what was written is synced"
+        if kind == "l":
+            yield "the length is set"
+    if parts:
+        yield "not synced at the end"
+
+
+def between_syncs(recorded):
+    """The sectors that are written between two syncs."""
+    noted = [{}]
+    for kind, place, body in recorded:
+        if kind == "w":
+            noted[-1].update(sectors_of(place, body))
+        if kind == "s":
+            noted.append({})
+    return [one for one in noted if one]
+
+
+def life(name, scenario, disk, folder, record, failures):
+    image, path = folder / "image", folder / "scenario"
+    path.write_text(json.dumps(scenario))
+    disk.noted = [{}]
+    wanted = lived(disk, scenario)
+    found, recorded = recorded_by(record, image, ["run", path, image])
+    failures.unless(found == wanted, f"{name}: printed {found}\n  wanted {wanted}")
+    wrong = list(wrong_calls(recorded))
+    failures.unless(not wrong, f"{name}: {', '.join(wrong[:3])}")
+    failures.unless(between_syncs(recorded) == [one for one in disk.noted if one], f"{name}: between two syncs other sectors are written")
+    failures.unless(image.read_bytes() == bytes_of(disk), f"{name}: the file holds other bytes")
+    return len(recorded)
+
+
+def main(words):
+    count, seed = [int(word) for word in words] + [1_000, 2026][len(words):]
+    failures, numbers, calls = Failures(), Numbers(seed), 0
+    with room() as name:
+        folder = Path(name)
+        record = built("record")
+        for number in range(count):
+            if number % LIVES == 0:
+                slots = 2 + numbers.below(MOST_SLOTS - 1)
+                formatted(folder / "image", slots)
+                disk = Noting([first_sector(slots)] + [bytes(SECTOR)] * 6 * slots)
+                failures.unless((folder / "image").read_bytes() == bytes_of(disk), f"life {number}: an image that was made holds other bytes")
+            scenario = Made(numbers, Known(kept_on(disk) or Kept())).scenario()
+            calls += life(f"life {number}", scenario, disk, folder, record, failures)
+    return failures.end(f"lives in files: {count} lives, {calls} calls of the file and lines")
+
+
+if __name__ == "__main__":
+    sys.exit(main(sys.argv[1:]))

@@ -1,0 +1,54 @@
+"""What the program answers over the bytes of an image, and what it leaves there, worked out by the plain unit over the plain disk."""
+from built import SECTOR
+from disk import Disk
+from journal import Journal, Refused, kept_in, read_block
+from onboard import MOST_PENDING, Unit
+from onboard_rows import record_text
+from program import WORDS, event_of, inputs_of, released
+
+
+def disk_of(data):
+    return Disk([data[at:at + SECTOR] for at in range(0, len(data) - SECTOR + 1, SECTOR)])
+
+
+def bytes_of(disk):
+    return b"".join(disk.held)
+
+
+def listed(data):
+    """Status and text of a listing. It has the longest unbroken run of valid blocks up to the greatest number."""
+    disk = disk_of(data)
+    try:
+        journal = Journal(disk)
+    except Refused as refused:
+        return 1, {"2 NotFormatted": "refused 31 NotFormatted\n", "3 Damaged": "refused 32 Damaged\n"}[str(refused)]
+    text = ""
+    for number in range(journal.first, journal.newest + 1):
+        block = read_block(journal.load(disk, number))
+        if block is None:
+            return 1, text + "refused 32 Damaged\n"
+        text += "".join(record_text(block, record).removeprefix("| ").rstrip() + "\n" for record in block["records"])
+    return 0, text
+
+
+def kept_on(disk):
+    """What the newest block keeps; None where there is no block."""
+    found = Journal(disk_of(bytes_of(disk))).found
+    return found and kept_in(found)
+
+
+def lived(disk, scenario):
+    """Status and text of a life on a disk, which is changed."""
+    lines, end = [], None
+    try:
+        unit = Unit(disk, WORDS[scenario.get("cold", 0)])
+        for asked in inputs_of(scenario):
+            if asked is None or len(unit.pending) == MOST_PENDING:
+                lines += unit.flush()
+            if asked is not None:
+                unit.accept(*event_of(*asked)[1:3])
+        lines += unit.flush()
+    except Refused as refused:
+        end = f"stopped {refused}\n"
+    text = "".join(released((number, None, output, None, None)) + "\n" for number, output in lines)
+    return (1, text + end) if end else (0, text)

@@ -13,7 +13,7 @@ for crate in etcs_c bench_telegram; do
     (cd "$top/crates/$crate" && rt lib) >&2
 done
 mkdir -p "$out"
-gcc -O2 -Wall -Wextra -I "$top/include" "$top/bench/check.c" "$top/crates/etcs_c/out/libetcs_c.a" -o "$out/check" >&2
+gcc -O2 -Wall -Wextra -I "$top/include" "$top/tests/c/check.c" "$top/crates/etcs_c/out/libetcs_c.a" -o "$out/check" >&2
 "$out/check" >&2
 gcc -O2 -Wall -Wextra -I "$top/include" "$top/bench/bench.c" \
     "$top/crates/bench_telegram/out/libbench_telegram.a" "$top/crates/etcs_c/out/libetcs_c.a" -o "$out/bench" >&2

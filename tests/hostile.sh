@@ -18,6 +18,7 @@ cuts() { python3 hostile/cut_files.py 2>&1; }
 bytes() { python3 hostile/altered_bytes.py 2>&1; }
 files() { python3 hostile/lives_in_files.py "$@" 2>&1; }
 inputs() { python3 hostile/random_inputs.py "$@" 2>&1; }
+[ -x "${ETCS:-../crates/etcs/out/etcs}" ] || { echo "there is no program ${ETCS:-crates/etcs/out/etcs}: rt ci or ./etcs --prove makes it"; exit 1; }
 case ${1:-all} in
     memory | cuts | bytes | files | inputs) "$@"; exit ;;
     all) ;;

@@ -2,17 +2,18 @@
 # The rows of the program and the examples, on the program that the gate leaves behind; and each example as ./etcs --example runs it.
 #
 #     tests/programs.sh [PROGRAM]    the rows alone, on another program
+program=
+[ $# -eq 0 ] || program=$(realpath "$1") || exit 1
 cd "$(dirname "$0")" || exit 1
 export PYTHONDONTWRITEBYTECODE=1
-program=${1:-../crates/etcs/out/etcs}
+program=${program:-$PWD/../crates/etcs/out/etcs}
 [ -x "$program" ] || { echo "there is no program $program: rt ci or ./etcs --prove makes it"; exit 1; }
 python3 plain/program_rows.py "$program"
 status=$?
 [ $# -eq 0 ] || exit $status
 
-# Where a source is newer than the program, ./etcs would compile the sources for each command.
-newer=$(find ../crates.txt ../crates -name out -prune -o -type f ! -name README.md -newer "$program" -print | head -n 1)
-[ -z "$newer" ] || { echo "./etcs --example isn't tried: $newer is newer than the program"; exit $status; }
+# Where the program is of other sources, ./etcs would compile these for each command, and run them unproved.
+../etcs --is-proved || { echo "the program isn't of these sources, so ./etcs --example isn't tried: rt ci or ./etcs --prove makes it"; exit 1; }
 
 # The lines of an example's rows, each command as a user types it at the top.
 wanted() {

@@ -1,0 +1,41 @@
+#!/bin/bash
+# The C library as C and C++ programs call it: telegrams whose answers were worked out by hand (check.c), the program of its README, and random
+# telegrams beside the plain decoder. Each program is compiled as C and as C++. It needs gcc, g++ and Python.
+#
+#     tests/c_library.sh [LIBRARY]    proves and builds the library first, or takes this one
+export PYTHONDONTWRITEBYTECODE=1
+top=$(cd "$(dirname "$0")/.." && pwd) || exit 1
+readme=$top/crates/etcs_c/README.md
+library=$top/crates/etcs_c/out/libetcs_c.a
+if [ $# -gt 0 ]; then
+    library=$(realpath "$1") || exit 1
+else
+    (cd "$top/crates/etcs_c" && rt lib) || { echo "the C library isn't built"; exit 1; }
+fi
+made=$(mktemp -d) || exit 1
+trap 'rm -rf "$made"' EXIT
+status=0
+
+fails() { echo "$*"; status=1; }
+
+# compiled NAME FILE: makes NAME.c and NAME.cpp of a file.
+compiled() {
+    gcc -x c -O2 -Wall -Wextra -Werror -I "$top/include" "$2" -x none "$library" -o "$made/$1.c" || fails "$1 doesn't compile as C"
+    g++ -x c++ -O2 -Wall -Wextra -Werror -I "$top/include" "$2" -x none "$library" -o "$made/$1.cpp" || fails "$1 doesn't compile as C++"
+}
+
+sed -n '/^```c$/,/^```$/{/^```/d;p}' "$readme" >"$made/readme"
+wanted=$(sed -n 's/^prints `\(.*\)`\.$/\1/p' "$readme")
+[ -s "$made/readme" ] && [ -n "$wanted" ] || fails "crates/etcs_c/README.md has no program, or no line that it prints"
+compiled check "$top/tests/c/check.c"
+compiled readme "$made/readme"
+compiled answers "$top/tests/c/answers.c"
+for language in c cpp; do
+    [ -x "$made/check.$language" ] && [ -x "$made/readme.$language" ] && [ -x "$made/answers.$language" ] || continue
+    "$made/check.$language" || fails "check.$language: answers that were worked out by hand are others"
+    printed=$("$made/readme.$language") || fails "readme.$language ends with another status than 0"
+    [ "$printed" = "$wanted" ] || fails "readme.$language prints \"$printed\", and crates/etcs_c/README.md says \"$wanted\""
+    "$top/tests/c/random_telegrams.py" "$made/answers.$language" || fails "answers.$language: random telegrams have other answers"
+done
+echo "C library: $([ $status -eq 0 ] && echo "no failure" || echo "failures, see above")"
+exit $status

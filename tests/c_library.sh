@@ -7,13 +7,15 @@ export PYTHONDONTWRITEBYTECODE=1
 top=$(cd "$(dirname "$0")/.." && pwd) || exit 1
 readme=$top/crates/etcs_c/README.md
 library=$top/crates/etcs_c/out/libetcs_c.a
-if [ $# -gt 0 ]; then
-    library=$(realpath "$1") || exit 1
-else
-    (cd "$top/crates/etcs_c" && rt lib) || { echo "the C library isn't built"; exit 1; }
-fi
 made=$(mktemp -d) || exit 1
 trap 'rm -rf "$made"' EXIT
+if [ $# -gt 0 ]; then
+    library=$(realpath "$1") || exit 1
+elif ! (cd "$top/crates/etcs_c" && rt lib) >"$made/said" 2>&1; then
+    cat "$made/said"
+    echo "C library: it isn't built"
+    exit 1
+fi
 status=0
 
 fails() { echo "$*"; status=1; }
@@ -37,5 +39,5 @@ for language in c cpp; do
     [ "$printed" = "$wanted" ] || fails "readme.$language prints \"$printed\", and crates/etcs_c/README.md says \"$wanted\""
     "$top/tests/c/random_telegrams.py" "$made/answers.$language" || fails "answers.$language: random telegrams have other answers"
 done
-echo "C library: $([ $status -eq 0 ] && echo "no failure" || echo "failures, see above")"
+echo "C library: $([ $status -eq 0 ] && echo "no failures" || echo "failures, see above")"
 exit $status

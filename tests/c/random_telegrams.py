@@ -33,7 +33,8 @@ def main(words):
     found = [f"{data.hex()}: {answer}, wanted {one}" for data, answer, one in zip(telegrams, answers, asked) if answer != one]
     if ran.returncode or len(answers) != count:
         found.append(f"status {ran.returncode}, {len(answers)} answers")
-    print(*found[:20], f"{count} telegrams from C, {sum(one.startswith('0 ') for one in asked)} of which can be read, {len(found)} differences", sep="\n")
+    read = sum(one.startswith("0 ") for one in asked)
+    print(*found[:20], f"{count} telegrams from C, {read} of which can be read, {len(found)} differences", sep="\n")
     return 1 if found else 0
 
 

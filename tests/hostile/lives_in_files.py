@@ -3,8 +3,8 @@
 plain unit leaves on the plain disk, and its calls were right.
 
 Calls are right where the file is synced before anything is read or written; where a sync stands between any write of a gate and a write
-of what lies behind a gate, and before anything is printed and at the end; and where between two syncs just the sectors are written that
-the plain disk is handed there, with their bytes.
+of what lies behind a gate, and before anything is printed and at the end; and where they tell the story of the plain unit: between two
+syncs just the sectors that the plain disk is handed there, with their bytes, and between the same two just what is released there.
 
     tests/hostile/lives_in_files.py [LIVES [SEED]]    1,000 lives, seed 2026
 """
@@ -17,7 +17,7 @@ from disk import SECTOR_BYTES, Disk
 from items import Kept
 from journal import first_sector
 from life import Life
-from plain_images import bytes_of, kept_on, lived
+from plain_images import answer_of, bytes_of, kept_on, told
 from random_inputs import Made
 from random_lists import Numbers
 
@@ -26,20 +26,39 @@ MOST_SLOTS = 8
 FIRST = -1  # in place of a slot
 
 
-class Noting(Disk):
-    """A disk that notes what is written between two syncs."""
+class Story:
+    """What a life writes between two syncs, and what it prints, in their order."""
 
-    def __init__(self, sectors):
-        super().__init__(sectors)
-        self.noted = [{}]
+    def __init__(self):
+        self.parts, self.written = [], {}
+
+    def write(self, place, data):
+        self.written.update(sectors_of(place, data))
+
+    def sync(self):
+        if self.written:
+            self.parts.append(self.written)
+        self.written = {}
+
+    def print(self, text):
+        if self.parts and isinstance(self.parts[-1], str):
+            self.parts[-1] += text
+        elif text:
+            self.parts.append(text)
+
+
+class Telling(Disk):
+    """A disk that tells its story."""
+
+    story = Story()
 
     def write(self, first, data):
         super().write(first, data)
-        self.noted[-1].update(sectors_of(first * SECTOR_BYTES, data))
+        self.story.write(first * SECTOR_BYTES, data)
 
     def sync(self):
         super().sync()
-        self.noted.append({})
+        self.story.sync()
 
 
 class Known:
@@ -84,27 +103,30 @@ def wrong_calls(recorded):
         yield "not synced at the end"
 
 
-def between_syncs(recorded):
-    """The sectors that are written between two syncs."""
-    noted = [{}]
+def story_of(recorded):
+    story = Story()
     for kind, place, body in recorded:
         if kind == "w":
-            noted[-1].update(sectors_of(place, body))
+            story.write(place, body)
         if kind == "s":
-            noted.append({})
-    return [one for one in noted if one]
+            story.sync()
+        if kind == "o":
+            story.print(body.decode())
+    return story
 
 
 def life(name, scenario, disk, folder, record, failures):
     image, path = folder / "image", folder / "scenario"
     path.write_text(json.dumps(scenario))
-    disk.noted = [{}]
-    wanted = lived(disk, scenario)
+    disk.story = Story()
+    for text in told(disk, scenario):
+        disk.story.print(text)
+    wanted = answer_of("".join(part for part in disk.story.parts if isinstance(part, str)))
     found, recorded = recorded_by(record, image, ["run", path, image])
     failures.unless(found == wanted, f"{name}: printed {found}\n  wanted {wanted}")
     wrong = list(wrong_calls(recorded))
     failures.unless(not wrong, f"{name}: {', '.join(wrong[:3])}")
-    failures.unless(between_syncs(recorded) == [one for one in disk.noted if one], f"{name}: between two syncs other sectors are written")
+    failures.unless(story_of(recorded).parts == disk.story.parts, f"{name}: between two syncs other sectors are written, or other lines are printed")
     failures.unless(image.read_bytes() == bytes_of(disk), f"{name}: the file holds other bytes")
     return len(recorded)
 
@@ -119,7 +141,7 @@ def main(words):
             if number % LIVES == 0:
                 slots = 2 + numbers.below(MOST_SLOTS - 1)
                 formatted(folder / "image", slots)
-                disk = Noting([first_sector(slots)] + [bytes(SECTOR)] * 6 * slots)
+                disk = Telling([first_sector(slots)] + [bytes(SECTOR)] * 6 * slots)
                 failures.unless((folder / "image").read_bytes() == bytes_of(disk), f"life {number}: an image that was made holds other bytes")
             scenario = Made(numbers, Known(kept_on(disk) or Kept())).scenario()
             calls += life(f"life {number}", scenario, disk, folder, record, failures)

@@ -37,18 +37,28 @@ def kept_on(disk):
     return found and kept_in(found)
 
 
-def lived(disk, scenario):
-    """Status and text of a life on a disk, which is changed."""
-    lines, end = [], None
+def told(disk, scenario):
+    """What a life on a disk prints, text by text; before each of them the disk is changed."""
+    def released_now():
+        return "".join(released((number, None, output, None, None)) + "\n" for number, output in unit.flush())
+
     try:
         unit = Unit(disk, WORDS[scenario.get("cold", 0)])
         for asked in inputs_of(scenario):
             if asked is None or len(unit.pending) == MOST_PENDING:
-                lines += unit.flush()
+                yield released_now()
             if asked is not None:
                 unit.accept(*event_of(*asked)[1:3])
-        lines += unit.flush()
+        yield released_now()
     except Refused as refused:
-        end = f"stopped {refused}\n"
-    text = "".join(released((number, None, output, None, None)) + "\n" for number, output in lines)
-    return (1, text + end) if end else (0, text)
+        yield f"stopped {refused}\n"
+
+
+def answer_of(text):
+    """Status and text of a life."""
+    return 1 if text.splitlines()[-1:] and text.splitlines()[-1].startswith("stopped") else 0, text
+
+
+def lived(disk, scenario):
+    """Status and text of a life on a disk, which is changed."""
+    return answer_of("".join(told(disk, scenario)))

@@ -287,6 +287,9 @@ def main(words):
     program, *paths = words
     paths = [Path(path) for path in paths] or sorted([*TOP.glob("tests/programs/*.row"), *TOP.glob("examples/*/*.row")])
     cases = [case for path in paths for case in read(path)]
+    if not cases:
+        print("there is no case in", *paths)
+        return 1
     return check(paths, cases) if program == "--check" else run_by(program, cases)
 
 

@@ -39,6 +39,9 @@ fn fits(bytes: &[u8]) -> Option<(bool, bool)> {
     let packet = read_packet(&mut BitReader::new(bytes)).ok()?;
     let mut telegram = decode(&ALONE).ok()?;
     telegram.push(packet).ok()?;
+    if !telegram.has_spelling() {
+        return None;
+    }
     let mut array = [BEFORE; 104];
     let fits = encode(&telegram, &mut array).is_ok();
     Some((fits, array == [BEFORE; 104]))

@@ -80,9 +80,11 @@ impl<T: Copy> ProfileStore<T> for FactStore<T> {
     }
 
     fn replace_from(&mut self, start: Cm, steps: &[Step<T>]) -> Result<(), NoMemory> {
+        let Some(more) = self.room.checked_add(1) else {
+            return Err(NoMemory);
+        };
         let fact = Fact::new(*self.facts.allocator(), start, steps)?;
-        self.facts.reserve(1)?;
-        self.room = 0;
+        self.facts.reserve(more)?;
         self.facts.insert(0, fact).unwrap();
         Ok(())
     }

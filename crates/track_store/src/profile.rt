@@ -80,10 +80,11 @@ pub trait ProfileStore<T>: Profile<T> {
         ensures { (place : ℤ) → Self.value result place ≡ None };
 
     /// Takes the values from a first place on, in centimetres, in place of all that were there before. The last of the steps at
-    /// or below a centimetre holds there, and nothing where an end mark or no step is at or below it. NoMemory where memory is
-    /// refused, and then nothing changes.
+    /// or below a centimetre holds there, and nothing where an end mark or no step is at or below it. The room that was made stays.
+    /// NoMemory where memory is refused, and then nothing changes.
     fn replace_from(&mut self, start: Cm, steps: &[Step<T>]) -> Result<(), NoMemory>
         ensures ok { OnOk result ((place : ℤ) → Self.value self.new place ≡ replaced (Self.value self.old) start steps.now place) }
+        ensures room { OnOk result (room self.new ≡ room self.old) }
         ensures err { OnErr result (self.new ≡ self.old) };
 
     /// For how many replacements, of at most `MOST_STEPS` steps each, there is room.

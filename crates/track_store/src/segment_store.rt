@@ -91,8 +91,11 @@ impl<T: Copy + Same> ProfileStore<T> for SegmentStore<T> {
     }
 
     fn replace_from(&mut self, start: Cm, steps: &[Step<T>]) -> Result<(), NoMemory> {
-        self.segments.reserve(steps.len().saturating_add(2))?;
-        self.room = 0;
+        let kept = self.room * MOST_SEGMENTS;
+        let Some(segments) = kept.checked_add(steps.len().saturating_add(2)) else {
+            return Err(NoMemory);
+        };
+        self.segments.reserve(segments)?;
         hold_steps(&mut self.segments, start, steps);
         Ok(())
     }

@@ -1,4 +1,4 @@
-ghost use Rattle.std.specs.Prelude.{◌≤◌, ℤ, Option, OnOk, vec_len};
+ghost use Rattle.std.specs.Prelude.{◌≤◌, ℤ, Option, IsOk, OnOk, vec_len};
 
 use crate::blank::Blank;
 use crate::fact::Fact;
@@ -53,13 +53,15 @@ impl<T: Copy> Profile<T> for FactStore<T> {
 
 impl<T: Copy> ProfileStore<T> for FactStore<T> {
     ghost use Rattle.std.specs.Prelude.{refl};
-    ghost use Rattle.track_store.specs.Remembered.{profile_listed, with_room};
+    ghost use Rattle.track_store.specs.Remembered.{profile_listed, with_room, size_of};
 
     ghost profile = { profile_listed };
 
     ghost room = { λ listed. listed.room };
 
     ghost with_room = { with_room };
+
+    ghost size = { size_of };
 
     ghost profile_is = { λ _. refl };
 
@@ -144,6 +146,7 @@ fn add_blanks<T: Copy>(
     count: usize,
 ) -> Result<(), NoMemory>
     ensures ok { OnOk result (count ≤ vec_len blanks.new) }
+    ensures quiet { count ≤ vec_len blanks.old → IsOk result }
     ensures len { vec_len blanks.old ≤ vec_len blanks.new }
 {
     while blanks.len() < count {

@@ -37,7 +37,7 @@ fn leave_links(links: &mut Links, mode: Mode)
         → links.new ≡ known_links (after_column item.Linking links_deleted (Some mode) entries) }
 {
     if is_deleted(Item::Linking, mode) {
-        links.replace(&[]);
+        links.clear();
     }
 }
 

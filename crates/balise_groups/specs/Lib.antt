@@ -1,4 +1,3 @@
-pub mod Causes
 pub mod Closing
 pub mod Groups
 pub mod Laws

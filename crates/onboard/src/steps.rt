@@ -1,13 +1,13 @@
 // The steps of a life.
-ghost use Rattle.std.specs.Prelude.{◌≡◌, ◌≢◌, false, ◌-◌, ◌<◌, [], ◌∷◌, List, IsTrue, IfErr, OnOk, OnErr, None, Some, vec_len, vec_capacity};
+ghost use Rattle.std.specs.Prelude.{◌≡◌, false, ◌-◌, ◌<◌, [], ◌∷◌, List, IsTrue, IfErr, OnOk, OnErr, Some, vec_len, vec_capacity};
 ghost use Rattle.disk.specs.State.{Counted};
 ghost use Rattle.events.specs.declared.input.Event.{Event};
 ghost use Rattle.events.specs.declared.input.Event.TheVariants.{Input as an_input};
 ghost use Rattle.journal.specs.Journals.{IsOpen};
 ghost use Rattle.onboard.specs.Answers.{live_failed, is_full};
 ghost use Rattle.onboard.specs.Events.{account_of, IsAhead};
-ghost use Rattle.onboard.specs.Runs.{IsStepped, IsOfRun, Took, Ran};
-ghost use Rattle.onboard.specs.Stops.{progress_of, go_on, step_of, Stands, StopsAt, StepsEnd, IsDone, IsUnflushed};
+ghost use Rattle.onboard.specs.Runs.{IsStepped, Took, Ran};
+ghost use Rattle.onboard.specs.Stops.{progress_of, go_on, step_of, Stands, StopsAt, StepsEnd, IsDone};
 ghost use Rattle.onboard.specs.declared.released.Released.{Released};
 ghost use Rattle.life_steps.specs.declared.step.Step.TheVariants as a_step;
 
@@ -34,7 +34,7 @@ fn flush_into<D: Disk, S: ReleaseSink>(
         × OnOk result (IsOpen unit.new.journal (account_of accepted) (D.state unit.new.disk) × IsAhead accepted accepted unit.new.life) }
     ensures released { OnOk result (S.Gave sink.old unit.old.life.pairs sink.new) }
     ensures nothing { OnErr result (S.Gave sink.old [] sink.new) }
-    ensures full { IfErr result (λ e. IsTrue (is_full e) → (S.room sink.new < 8) × (unit.new ≡ unit.old)) }
+    ensures full { IfErr result (λ e. IsTrue (is_full e) → S.room sink.new < 8) }
     ensures named { IfErr result (λ e. step_of e ≡ Some k) }
     ensures stood { OnOk result (Stands (progress_of unit.old.journal unit.old.life) a_step.Flush
         × (progress_of unit.new.journal unit.new.life ≡ go_on (progress_of unit.old.journal unit.old.life) a_step.Flush)) }
@@ -90,7 +90,7 @@ fn take<D: Disk, S: ReleaseSink>(
         IsStepped step.now durable accepted (D.state unit.old.disk) (D.state unit.new.disk)
         × OnOk result ((its : List Released) × S.Gave sink.old its sink.new × Took durable accepted step.now unit.new.journal unit.new.life (D.state unit.new.disk) its) }
     ensures nothing { OnErr result (S.Gave sink.old [] sink.new) }
-    ensures full { IfErr result (λ e. IsTrue (is_full e) → (S.room sink.new < 8) × (unit.new ≡ unit.old)) }
+    ensures full { IfErr result (λ e. IsTrue (is_full e) → S.room sink.new < 8) }
     ensures named { IfErr result (λ e. step_of e ≡ Some k) }
     ensures stood { OnOk result (Stands (progress_of unit.old.journal unit.old.life) step.now
         × (progress_of unit.new.journal unit.new.life ≡ go_on (progress_of unit.old.journal unit.old.life) step.now)) }
@@ -119,13 +119,11 @@ pub fn run_into<D: Disk, S: ReleaseSink>(
     ensures counted { Counted (live_failed result) (D.state unit.old.disk) (D.state unit.new.disk) }
     ensures full { IfErr result (λ e. IsTrue (is_full e) → S.room sink.new < 8) }
     ensures stopped { StepsEnd (progress_of unit.old.journal unit.old.life) steps.now result }
-    ensures named { IfErr result (λ e. step_of e ≢ None) }
     ensures ran { (s : List Event) → IsTrue (D.state unit.old.disk).honest →
         IsOpen unit.old.journal (account_of s) (D.state unit.old.disk) → IsAhead s s unit.old.life →
         (given : List Released) × S.Gave sink.old given sink.new
         × (it : Ran s steps.now (D.state unit.old.disk) (D.state unit.new.disk) [] given)
-        × IsDone s steps.now ⊥ result it.taken it.before it.after it.given
-        × IsUnflushed (IsOfRun (D.state unit.old.disk).sectors s) steps.now result it.before (D.state unit.old.disk) (D.state unit.new.disk) }
+        × IsDone s steps.now ⊥ result it.before it.after it.given }
 {
     for k in 0..steps.len() {
         match take(alloc, unit, k, &steps[k], sink) {
@@ -149,8 +147,7 @@ pub fn run<D: Disk>(
     ensures ran { (s : List Event) → IsTrue (D.state unit.old.disk).honest →
         IsOpen unit.old.journal (account_of s) (D.state unit.old.disk) → IsAhead s s unit.old.life →
         (it : Ran s steps.now (D.state unit.old.disk) (D.state unit.new.disk) out.old.items out.new.items)
-        × IsDone s steps.now ⊥ result it.taken it.before it.after it.given
-        × IsUnflushed (IsOfRun (D.state unit.old.disk).sectors s) steps.now result it.before (D.state unit.old.disk) (D.state unit.new.disk) }
+        × IsDone s steps.now ⊥ result it.before it.after it.given }
 {
     run_into(alloc, unit, steps, out)
 }

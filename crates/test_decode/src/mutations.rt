@@ -4,7 +4,10 @@ use crate::spelled::{bytes_of, number_of};
 use std::alloc::{AllocError, Global};
 use std::io;
 use std::io::Write;
-use telegram::{HEADER_BITS, TelegramFault};
+use telegram::TelegramFault;
+
+/// The bits of a header.
+const HEADER_BITS: u32 = 50;
 
 /// The fewest bytes that hold a header.
 const HEADER_BYTES: u32 = 7;

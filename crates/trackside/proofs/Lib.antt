@@ -4,4 +4,3 @@ pub mod Telling
 pub mod Walking
 pub mod Wanting
 pub mod Marking
-pub mod Idling

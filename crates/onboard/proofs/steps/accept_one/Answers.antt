@@ -41,4 +41,4 @@ returns-in-Ok-clause-stood g c =
 
 pub returns-in-Err-clause-stopped : goal.returns-in-Err-clause-stopped
 returns-in-Err-clause-stopped g c =
-    accept_stops (progress_of c.args.unit.now.journal c.args.unit.now.life) c.args.unit.now.life.state c.args.k c.args.input.now c.copy_of.result c.accept.result c.in-Err.error c.in-Err.is c.copy_of.ensures c.accept.ensures.exact c.accept.ensures.quiet
+    accept_stops (progress_of c.args.unit.now.journal c.args.unit.now.life) c.args.k c.args.input.now c.copy_of.result c.accept.result c.in-Err.error c.in-Err.is c.copy_of.ensures c.accept.ensures.exact

@@ -1,13 +1,12 @@
-use Rattle.std.proofs.Common.{rules, ◌≡◌, Some, None, [], ◌++◌, sym, ◌∙◌, ap, subst, refl, IsTrue, take, List}
+use Rattle.std.proofs.Common.{rules, [], ◌++◌, sym, subst, refl, IsTrue, take, List}
 use Rattle.std.proofs.lemmas.List.{take_all, append-nil}
 use Rattle.life_steps.specs.declared.step.Step.{Step}
 use Rattle.onboard.specs.Runs.{accepted_by}
 use Rattle.onboard.specs.declared.released.Released.{Released}
 use Rattle.onboard.proofs.Onward.{stepped, stopped}
 use Rattle.onboard.proofs.Stopping.{stood_on, stopped_here, done_before}
-use Rattle.onboard.specs.UnitState.{UnitState}
 use Rattle.onboard.specs.Stops.{progress_of, AllStand, AreBehind}
-use Rattle.onboard.proofs.RunEnds.{going_first, finished, unflushed}
+use Rattle.onboard.proofs.RunEnds.{going_first, finished}
 use Rattle.onboard.proofs.steps.run_into.Goals as goal
 
 pub loop-k-init : goal.loop-k-init
@@ -34,9 +33,7 @@ returns-in-Err-clause-ran g c = λ s honest opened ahead.
       so.0,
       subst G (append-nil so.0) (g.met.S.ReleaseSink.more c.args.sink.now c.loop-k.sink c.take.new.sink so.0 [] so.1 c.in-Err.ensures.nothing),
       end.0,
-      done_before s c.args.steps.now c.loop-k.k c.in-Err.error _ _ _ _ c.in-Err.ensures.named end.1 end.2,
-      unflushed s c.args.steps.now c.loop-k.k (g.D.Disk.state c.args.unit.now.disk) (g.D.Disk.state c.loop-k.unit.disk) (g.D.Disk.state c.take.new.unit.disk) c.loop-k.unit.journal c.loop-k.unit.life so.0 c.in-Err.error
-          c.loop-k.invariant.sectors going c.in-Err.ensures.named (λ full. ap (λ (u : UnitState _). g.D.Disk.state u.disk) (c.in-Err.ensures.full full).1) end.0 (end.2.0 ∙ sym going.durable_is),
+      done_before s c.args.steps.now c.loop-k.k c.in-Err.error _ _ _ c.in-Err.ensures.named end.1,
     )
 
 pub loop-k-preserved : goal.loop-k-preserved
@@ -62,7 +59,7 @@ returns-clause-ran g c = λ s honest opened ahead.
     let so = c.loop-k.invariant.going s honest opened ahead in
     let end = finished s c.args.steps.now c.loop-k.k (g.D.Disk.state c.args.unit.now.disk) (g.D.Disk.state c.loop-k.unit.disk) c.loop-k.unit.journal c.loop-k.unit.life so.0 so.2 in
     let all = take_all c.loop-k.k c.args.steps.now (search rules) in
-    (so.0, so.1, end.0, (end.1 ∙ search rules, subst (λ (l : List Step). AreBehind s l end.0.before end.0.after end.0.given) all end.2), tt)
+    (so.0, so.1, end.0, subst (λ (l : List Step). AreBehind s l end.0.before end.0.after end.0.given) all end.1)
 
 pub returns-in-Err-clause-stopped : goal.returns-in-Err-clause-stopped
 returns-in-Err-clause-stopped g c = stopped_here (progress_of c.args.unit.now.journal c.args.unit.now.life) (progress_of c.loop-k.unit.journal c.loop-k.unit.life) c.args.steps.now c.loop-k.k c.loop-k-test.true c.index-steps-k.result _ c.index-steps-k.is
@@ -72,9 +69,3 @@ pub returns-clause-stopped : goal.returns-clause-stopped
 returns-clause-stopped g c =
     let A : List Step → Type 0 = λ l. AllStand (progress_of c.args.unit.now.journal c.args.unit.now.life) l in
     subst A (take_all c.loop-k.k c.args.steps.now (search rules)) c.loop-k.invariant.stood.0
-
-pub returns-in-Err-clause-full : goal.returns-in-Err-clause-full
-returns-in-Err-clause-full g c = λ full. (c.in-Err.ensures.full full).0
-
-pub returns-in-Err-clause-named : goal.returns-in-Err-clause-named
-returns-in-Err-clause-named g c = λ none. (let clash : Some c.loop-k.k ≡ None = sym c.in-Err.ensures.named ∙ none in absurd cc)

@@ -22,6 +22,9 @@
 extern "C" {
 #endif
 
+/* The bytes of a telegram, at most. */
+#define ETCS_TELEGRAM_BYTES 104
+
 /* Why bytes carry no telegram. TOO_LONG comes before all others; else the fault that is told is the first one in the
  * order of the bits. */
 enum etcs_fault {
@@ -34,7 +37,7 @@ enum etcs_fault {
     ETCS_NOT_UPLINK = 6,    /* Q_UPDOWN is not 1 */
     ETCS_NOT_BALISE = 7,    /* Q_MEDIA is not 0 */
     ETCS_NO_END = 8,        /* the bits end before the end mark */
-    ETCS_TOO_LONG = 9       /* there are more than 104 bytes */
+    ETCS_TOO_LONG = 9       /* there are more than ETCS_TELEGRAM_BYTES bytes */
 };
 
 /* Whether the bytes carry a telegram (SUBSET-026, 8.4.2): ETCS_OK, or the number of the fault (enum etcs_fault).

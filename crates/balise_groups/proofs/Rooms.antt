@@ -1,5 +1,5 @@
 -- A group that closes has no more packets than its telegrams.
-use Rattle.std.proofs.Common.{◌≡◌, ℕ, zero, suc, ◌+◌, ◌≤◌, length, List, [], ◌∷◌, ◌++◌, Bool, true, false, Option, Some, None, cond, refl, ap, sym, subst, ◌∙◌, arith}
+use Rattle.std.proofs.Common.{◌≡◌, ℕ, zero, suc, ◌+◌, ◌≤◌, length, List, [], ◌∷◌, ◌++◌, Bool, true, false, Option, Some, None, cond, refl, ap, arith}
 use Rattle.std.specs.Prelude.{◌==◌}
 use Rattle.std.proofs.lemmas.List.{length-append}
 use Rattle.packets.specs.declared.packet.Packet.{Packet}
@@ -120,6 +120,13 @@ joined rs r =
     let k = one_more rs r in
     let cases : (b : Bool) → packets_in (cond b rs (rs ++ r ∷ [])) ≤ packets_in rs + packets_at r = elim [ true ↦ omega arith | false ↦ omega arith ] in
     cases (is_read rs r.telegram.header.position)
+
+-- what closes, and where one more reading makes a group whole
+pub closing_room : (closed : Option Closed) (rs : List Reading) → closed ≡ close_of rs → packets_of_closed closed ≤ packets_in rs
+closing_room closed rs same = omega (arith, ap packets_of_closed same, closed_room rs)
+
+pub joined_room : (closed : Option Closed) (rs : List Reading) (r : Reading) → closed ≡ close_if_whole (with_reading rs r) → packets_of_closed closed ≤ packets_in rs + packets_at r
+joined_room closed rs r same = omega (arith, ap packets_of_closed same, whole_room (with_reading rs r), joined rs r)
 
 -- .. what closes at a reading
 abbrev pub IsWithin : ℕ → Taken → Type 0

@@ -1,3 +1,4 @@
+pub mod Causes
 pub mod Closing
 pub mod Groups
 pub mod Laws

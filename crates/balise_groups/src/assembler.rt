@@ -1,8 +1,8 @@
-ghost use Rattle.std.specs.Prelude.{◌≡◌, ◌≤◌, ◌^◌, ℕ, List, [], ◌∷◌, None, is_none, false};
+ghost use Rattle.std.specs.Prelude.{◌≡◌, ◌+◌, ◌≤◌, ℕ, List, [], ◌∷◌, None, is_none, false};
 ghost use Rattle.balise_groups.specs.Closing.{close_of};
 ghost use Rattle.balise_groups.specs.Groups.{Entry, Groups, Known, seen_at, is_close, is_left, goes_on, ended, ended_if_whole, joined_by, close_if_whole, with_reading, known_of, known, taken_by, ended_by};
 ghost use Rattle.balise_groups.specs.Groups.Entry.{Read, Went};
-ghost use Rattle.balise_groups.specs.Rooms.{packets_in};
+ghost use Rattle.balise_groups.specs.Rooms.{most_packets, packets_at, packets_in, packets_of_closed, packets_of_taken};
 
 use crate::message::Closed;
 use crate::reading::Reading;
@@ -102,10 +102,11 @@ impl Assembler {
         }
     }
 
-    /// Takes a reading, and answers what closes at it. The caller owes the readings of a life in order, each with the sums of
-    /// its moment, and each movement to `moved`.
+    /// Takes a reading, and answers what closes at it: no more packets than `packets` counts and the reading's own. The caller
+    /// owes the readings of a life in order, each with the sums of its moment, and each movement to `moved`.
     pub fn take(&mut self, reading: Reading) -> Taken
         ensures answer { result ≡ taken_by reading self.old }
+        ensures few { packets_of_taken result ≤ packets_in self.old.readings + packets_at reading }
         ensures stands { (entries : List Entry) → self.old ≡ known entries → self.new ≡ known (Read reading ∷ entries) }
     {
         if goes_on(&reading, &self.last) {
@@ -145,19 +146,19 @@ impl Assembler {
         self.current.is_none()
     }
 
-    /// How many packets the telegrams of the group being read have; no group that closes by a movement has more, and by a
-    /// telegram no more than those and its own.
+    /// How many packets the telegrams of the group being read have, at most 264.
     pub fn packets(&self) -> usize
         ensures number { result ≡ packets_in self.now.readings }
-        ensures few { result ≤ 2 ^ 35 }
+        ensures few { result ≤ most_packets }
     {
         self.readings.packets()
     }
 
-    /// Takes the path of the life after a movement, in centimetres, and answers the group that is left by it, if one is. The
-    /// caller owes each movement.
+    /// Takes the path of the life after a movement, in centimetres, and answers the group that is left by it, if one is: no
+    /// more packets than `packets` counts. The caller owes each movement.
     pub fn moved(&mut self, path: Length) -> Option<Closed>
         ensures answer { result ≡ ended_by path self.old }
+        ensures few { packets_of_closed result ≤ packets_in self.old.readings }
         ensures stands { (entries : List Entry) → self.old ≡ known entries → self.new ≡ known (Went path ∷ entries) }
     {
         if !self.is_leaving(path) {

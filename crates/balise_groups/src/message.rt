@@ -1,3 +1,6 @@
+ghost use Rattle.std.specs.Prelude.{◌≡◌};
+ghost use Rattle.balise_groups.specs.Causes.{cause_number};
+
 use crate::group_packets::GroupPackets;
 use odometry::Sums;
 use vars::{GroupIdentity, LinkOrientation};
@@ -20,16 +23,25 @@ pub struct Message {
     pub packets: GroupPackets,
 }
 
-/// Why a group gives no message (SUBSET-026, 3.16.2; the order: this project's profile). Where more than one holds, Mixed comes
-/// before Counter, and Counter before Missing.
+/// Why a group gives no message (SUBSET-026, 3.16.2; the order and the numbers: this project's profile). Where more than one
+/// holds, Mixed comes before Counter, and Counter before Missing. The number of a cause is its discriminant.
 #[derive(Clone, Copy, Debug, PartialEq, Eq, Drop)]
 pub enum Cause {
     /// A balise wasn't read, and no neighbour that was read repeats it.
-    Missing,
+    Missing = 1,
     /// The message counters don't fit one another.
-    Counter,
+    Counter = 2,
     /// The telegrams don't agree in N_TOTAL or in Q_LINK.
-    Mixed,
+    Mixed = 3,
+}
+
+impl Cause {
+    /// The number by which a refusal is told.
+    pub fn number(self) -> u32
+        ensures { result ≡ cause_number self }
+    {
+        self as u32
+    }
 }
 
 /// A group that gave no message (SUBSET-026, 3.16.2).

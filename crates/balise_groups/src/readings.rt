@@ -1,7 +1,7 @@
-ghost use Rattle.std.specs.Prelude.{◌≡◌, ◌≤◌, ◌^◌, List, [], false};
+ghost use Rattle.std.specs.Prelude.{◌≡◌, ◌≤◌, List, [], false};
 ghost use Rattle.balise_groups.specs.Closing.{is_whole, close_of};
 ghost use Rattle.balise_groups.specs.Groups.{with_reading};
-ghost use Rattle.balise_groups.specs.Rooms.{packets_in};
+ghost use Rattle.balise_groups.specs.Rooms.{most_packets, packets_in};
 
 use crate::closing::{are_all_read, close, was_read};
 use crate::message::Closed;
@@ -59,7 +59,7 @@ impl Readings {
     /// How many packets their telegrams have together.
     pub fn packets(&self) -> usize
         ensures number { result ≡ packets_in self.now }
-        ensures few { result ≤ 2 ^ 35 }
+        ensures few { result ≤ most_packets }
     {
         let mut packets = 0;
         for reading in self.items.as_slice() {

@@ -5,7 +5,7 @@
 ghost use Rattle.std.specs.Prelude.{List, Bool};
 ghost use Rattle.telegram.specs.Telegrams.{SpellsTelegram};
 
-use packets::Packet;
+use packets::{Packet, TELEGRAM_BYTES};
 use telegram::{PacketInPlace, Telegram, TelegramFault};
 
 /// What is added for a fault.
@@ -98,7 +98,7 @@ pub extern "C" fn bench_walk_into(bytes: &[u8]) -> u64 {
 }
 
 #[inline(never)]
-fn encoded(telegram: &Telegram<'_>, out: &mut [u8; 104]) -> u64
+fn encoded(telegram: &Telegram<'_>, out: &mut [u8; TELEGRAM_BYTES]) -> u64
     requires { (bits : List Bool) × SpellsTelegram telegram.now bits }
 {
     match telegram::encode(telegram, out) {
@@ -114,7 +114,7 @@ pub extern "C" fn bench_encode(bytes: &[u8], runs: u32) -> u64 {
     let Ok(()) = telegram::decode_into(bytes, &mut telegram) else {
         return FAULT;
     };
-    let mut out = [0u8; 104];
+    let mut out = [0u8; TELEGRAM_BYTES];
     let mut sum = 0u64;
     for _ in 0..runs {
         sum = sum.wrapping_add(encoded(&telegram, &mut out));

@@ -4,9 +4,11 @@ ghost use Rattle.bits.specs.Bits.{bits_of, number_bits};
 use crate::reader::{BitReader, Run};
 use arrayvec::ArrayVec;
 use std::marker::Model;
+use thiserror::Error;
 
 /// The bits do not fit.
-#[derive(Clone, Copy, Debug, PartialEq, Eq)]
+#[derive(Clone, Copy, Debug, PartialEq, Eq, Error)]
+#[error("Full")]
 pub struct Full;
 
 /// Bits that are written into at most N bytes, the highest of each byte first.

@@ -3,7 +3,7 @@ use Rattle.std.proofs.Common.{◌≡◌, ◌==◌, ◌↔◌, ◌<◌, ◌+◌, 
 use Rattle.etcs_c.specs.Numbers.{fault_number}
 use Rattle.packets.specs.Packets.{length_of}
 use Rattle.packets.specs.declared.packet.Packet.{Packet}
-use Rattle.telegram.specs.Telegrams.{Carries}
+use Rattle.telegram.specs.Telegrams.{header_bits, Carries}
 use Rattle.telegram.specs.Walks.{Walk, IsWalkOf, located_from}
 use Rattle.telegram.specs.declared.fault.TelegramFault.{TelegramFault}
 use Rattle.telegram.specs.declared.fault.TelegramFault.TheVariants.{Truncated, WrongLength, Spare, OutOfRange, WrongVersion, NotUplink, NotBalise, NoEnd, TooLong}
@@ -48,7 +48,7 @@ length-located bytes start [] = refl
 length-located bytes start (p ∷ ps) = ap suc (length-located bytes (start + length_of p) ps)
 
 abbrev pub walk_of : List ℕ → Telegram → Walk
-walk_of bytes t = record { header = t.header; items = located_from bytes 50 t.packets.items }
+walk_of bytes t = record { header = t.header; items = located_from bytes header_bits t.packets.items }
 
 abbrev made : Walk → Result Walk TelegramFault
 made w = Ok w
@@ -57,4 +57,4 @@ walk_once : (v w : Walk) → made v ≡ made w → v ≡ w
 walk_once v w same = cc
 
 pub walk_length : (bytes : List ℕ) (w : Walk) (t : Telegram) → ((v : Walk) → (made w ≡ made v) ↔ IsWalkOf bytes v) → Carries bytes t → length w.items ≡ length t.packets.items
-walk_length bytes w t found c = ap (λ (v : Walk). length v.items) (walk_once w _ ((found (walk_of bytes t)).1 (t, c, refl))) ∙ length-located bytes 50 t.packets.items
+walk_length bytes w t found c = ap (λ (v : Walk). length v.items) (walk_once w _ ((found (walk_of bytes t)).1 (t, c, refl))) ∙ length-located bytes header_bits t.packets.items

@@ -2,10 +2,11 @@
 use Rattle.std.specs.Prelude.{ℕ, ◌*◌, ◌≤◌, ℤ, List, length}
 use Rattle.std.specs.Int.RustNames.{unsigned_abs}
 use Rattle.units.specs.Limits.{farthest}
+use Rattle.packets.specs.Limits.{telegram_bytes}
 
--- the bytes of a telegram: at least one, and at most the 832 bits that a balise sends
+-- the bytes of a telegram: at least one, and at most what a balise sends
 abbrev pub AreOfATelegram : List ℕ → Type 0
-AreOfATelegram bytes = (1 ≤ length bytes) × (length bytes ≤ 104)
+AreOfATelegram bytes = (1 ≤ length bytes) × (length bytes ≤ telegram_bytes)
 
 -- an estimated place
 abbrev pub IsEstimate : ℤ → Type 0

@@ -2,15 +2,13 @@ ghost use Rattle.std.specs.Prelude.{◌≡◌, ◌↔◌, IsSome, IfSome};
 ghost use Rattle.events.specs.Limits.{AreOfATelegram};
 
 use arrayvec::ArrayVec;
+use packets::TELEGRAM_BYTES;
 use std::marker::Model;
 
-/// How many bytes a balise sends at most.
-pub const MOST_BYTES: usize = 104;
-
-/// The bytes that a balise sent, from 1 to 104; they need not carry a telegram (SUBSET-026, 8.4.2).
+/// The bytes that a balise sent, from 1 to `TELEGRAM_BYTES`; they need not carry a telegram (SUBSET-026, 8.4.2).
 #[derive(Drop)]
 pub struct TelegramBytes {
-    bytes: ArrayVec<u8, MOST_BYTES>,
+    bytes: ArrayVec<u8, TELEGRAM_BYTES>,
 }
 
 impl Model for TelegramBytes {
@@ -30,7 +28,7 @@ impl TelegramBytes {
         ensures found { IsSome result ↔ AreOfATelegram bytes.now }
         ensures value { IfSome result (λ t. t ≡ bytes.now) }
     {
-        if bytes.is_empty() || bytes.len() > MOST_BYTES {
+        if bytes.is_empty() || bytes.len() > TELEGRAM_BYTES {
             return None;
         }
         Some(TelegramBytes {

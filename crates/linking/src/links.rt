@@ -44,13 +44,19 @@ impl Links {
     }
 
     /// Takes a list of links in place of the one before, and numbers it from 0; an empty one deletes linking. Whether one was
-    /// missed stays. The caller owes at most 32 announcements.
-    pub fn replace(&mut self, announcements: &[Announcement])
-        requires { length announcements.now ≤ MOST_ANNOUNCED }
+    /// missed stays.
+    pub fn replace(&mut self, announcements: &ArrayVec<Announcement, MOST_ANNOUNCED>)
         ensures { (entries : List Entry) → self.old ≡ known entries
-            → self.new ≡ known (Announced announcements.now ∷ entries) }
+            → self.new ≡ known (Announced announcements.now.items ∷ entries) }
     {
-        self.left = numbered(announcements);
+        self.left = numbered(announcements.as_slice());
+    }
+
+    /// Deletes linking, as an empty list of links does. Whether one was missed stays.
+    pub fn clear(&mut self)
+        ensures { (entries : List Entry) → self.old ≡ known entries → self.new ≡ known (Announced [] ∷ entries) }
+    {
+        self.left.clear();
     }
 
     /// Judges a whole group that was read. An accepted group takes its announcement and all before it out of the list. One that

@@ -1,5 +1,5 @@
 -- The packets that so many readings give.
-use Rattle.std.proofs.Common.{◌≡◌, ◌↔◌, ℕ, zero, suc, ◌+◌, ◌-◌, ◌<◌, Bool, List, [], ◌∷◌, length, drop, Some, None, Ok, Err, refl, sym, ap, subst, ◌∙◌, arith}
+use Rattle.std.proofs.Common.{◌≡◌, ◌↔◌, ℕ, zero, suc, ◌+◌, ◌-◌, ◌<◌, ◌≤◌, Bool, List, [], ◌∷◌, length, drop, Some, None, Ok, Err, refl, sym, ap, subst, ◌∙◌, arith}
 use Rattle.bits.specs.Bits.{bits_of}
 use Rattle.bits.specs.Layout.{read}
 use Rattle.bits.proofs.Bytes.{length-bits_of}
@@ -7,12 +7,12 @@ use Rattle.bits.proofs.Laws.{begun, found}
 use Rattle.packets.specs.Packets.{length_of}
 use Rattle.packets.specs.declared.packet.Packet.{Packet}
 use Rattle.telegram.specs.Sequences.{BeginsPackets}
-use Rattle.telegram.specs.Telegrams.{next_packet, Carries, RefusesBytes}
+use Rattle.telegram.specs.Telegrams.{header_bits, next_packet, Carries, RefusesBytes}
 use Rattle.telegram.specs.Walks.{Walk, IsWalkOf, packets_of, located_from, packets_in, received, HoldPackets}
 use Rattle.telegram.specs.declared.header.Header.{Header}
 use Rattle.telegram.specs.declared.message.Telegram.{Telegram}
 use Rattle.telegram.proofs.Answering.{made, failed, ok_same, carried, carried_once, not_refused}
-use Rattle.telegram.proofs.Lengths.{packet_length, header_takes}
+use Rattle.telegram.proofs.Lengths.{packet_length, packets_take, header_takes}
 use Rattle.telegram.proofs.Places.{behind_front}
 use Rattle.telegram.specs.declared.fault.TelegramFault.{TelegramFault}
 
@@ -48,7 +48,7 @@ taken p bits next e = packet_length p bits next (found next_packet _ _ _ e)
 -- ---- answers
 
 abbrev walk_of : List ℕ → Telegram → Walk
-walk_of bytes t = record { header = t.header; items = located_from bytes 50 t.packets.items }
+walk_of bytes t = record { header = t.header; items = located_from bytes header_bits t.packets.items }
 
 -- as many packets as there are
 pub packets_in-all : (ps : List Packet) (n : ℕ) (bits rest : List Bool) → length ps ≡ n → BeginsPackets ps bits rest → packets_in n bits ≡ ps
@@ -76,14 +76,20 @@ located_count bytes start [] = refl
 located_count bytes start (p ∷ ps) = let more = located_count bytes (start + length_of p) ps in omega (arith, more)
 
 -- behind its header the packets of a telegram are read
-packets_behind : (bytes : List ℕ) (t : Telegram) → Carries bytes t → packets_in (length t.packets.items) (drop 50 (bits_of bytes)) ≡ t.packets.items
+packets_behind : (bytes : List ℕ) (t : Telegram) → Carries bytes t → packets_in (length t.packets.items) (drop header_bits (bits_of bytes)) ≡ t.packets.items
 packets_behind bytes t c =
     let b = carried bytes t c in
     let long = header_takes t.header (bits_of bytes) b.behind b.header_first in
-    rw (behind_front b.header_first.front b.behind (bits_of bytes) 50 b.header_first.parts long) (packets_in-begins t.packets.items b.behind c.rest b.packets_then)
+    rw (behind_front b.header_first.front b.behind (bits_of bytes) header_bits b.header_first.parts long) (packets_in-begins t.packets.items b.behind c.rest b.packets_then)
 
-pub all_behind : (bytes : List ℕ) (t : Telegram) (n : ℕ) → Carries bytes t → n ≡ length t.packets.items → packets_in n (drop 50 (bits_of bytes)) ≡ t.packets.items
-all_behind bytes t n c e = subst (λ (k : ℕ). packets_in k (drop 50 (bits_of bytes)) ≡ t.packets.items) (sym e) (packets_behind bytes t c)
+pub all_behind : (bytes : List ℕ) (t : Telegram) (n : ℕ) → Carries bytes t → n ≡ length t.packets.items → packets_in n (drop header_bits (bits_of bytes)) ≡ t.packets.items
+all_behind bytes t n c e = subst (λ (k : ℕ). packets_in k (drop header_bits (bits_of bytes)) ≡ t.packets.items) (sym e) (packets_behind bytes t c)
+
+-- what has room behind the header and before the end mark
+pub few_packets : (bytes : List ℕ) (t : Telegram) → Carries bytes t → length t.packets.items ≤ 33
+few_packets bytes t c =
+    let b = carried bytes t c in
+    omega (arith, c.small, length-bits_of bytes, header_takes _ _ _ b.header_first, packets_take _ _ _ b.packets_then)
 
 pub held : (bytes : List ℕ) (t : Telegram) (n : ℕ) → Carries bytes t → n ≡ length t.packets.items → HoldPackets n bytes
 held bytes t n c e =
@@ -92,13 +98,14 @@ held bytes t n c e =
     record {
       small = c.small;
       header_first = omega (arith, long, length-bits_of bytes);
+      few = omega (arith, e, few_packets bytes t c);
       counted = ap length (all_behind bytes t n c e) ∙ sym e;
     }
 
 -- what is kept of the bytes of a walk: a copy of them, the header and the number of the packets
 module _ (bytes copy : List ℕ) (w : Walk) (walk : IsWalkOf bytes w) (h : Header) (n : ℕ) (h_is : h ≡ w.header) (n_is : n ≡ length w.items) (copy_is : copy ≡ bytes) where
   count_is : n ≡ length walk.0.packets.items
-  count_is = n_is ∙ ap (λ (v : Walk). length v.items) walk.2 ∙ located_count bytes 50 walk.0.packets.items
+  count_is = n_is ∙ ap (λ (v : Walk). length v.items) walk.2 ∙ located_count bytes header_bits walk.0.packets.items
 
   pub copy_held : HoldPackets n copy
   copy_held = subst (λ (b : List ℕ). HoldPackets n b) (sym copy_is) (held bytes walk.0 n walk.1 count_is)

@@ -6,6 +6,7 @@ use Rattle.bits.specs.declared.name.VariableName.TheVariants as names
 use Rattle.bits.specs.Layout.{Codes, Layout, done, unless, field, choice, kind, told_as, ◌>>=◌, Spells, Begins, Refuses}
 use Rattle.vars.specs.declared.variable.NoValue.{NoValue}
 use Rattle.vars.specs.Variables.{position_in_group, m_dup, m_mcount, nid_c, nid_bg, flag, nid_packet}
+use Rattle.packets.specs.Limits.{telegram_bytes}
 use Rattle.packets.specs.Packets.{packet_of, number_of}
 use Rattle.packets.specs.declared.packet.Packet.{Packet}
 use Rattle.telegram.specs.Faults.{value_fault, telegram_fault}
@@ -24,6 +25,10 @@ only n v other = record { width = n; value = λ x. if x == v then Ok tt else Err
 
 abbrev pub fixed : VariableName → ℕ → ℕ → TelegramFault → Layout TelegramFault Header (Unit {0})
 fixed name n v other = field name Truncated (λ e. e) (only n v other) (λ _. tt)
+
+-- the bits of the header
+abbrev pub header_bits : ℕ
+header_bits = 50
 
 -- The header: Q_UPDOWN, M_VERSION and Q_MEDIA have one value each, and N_PIG is at most N_TOTAL.
 unfoldable pub header : Layout TelegramFault Header Header
@@ -63,7 +68,7 @@ SpellsTelegram t bits = (front rest : List Bool) × (bits ≡ front ++ rest) × 
 
 -- The bytes carry the telegram: a front of their bits spells it, and what follows the end mark is free.
 pub record Carries (bytes : List ℕ) (t : Telegram) : Type 0 where
-  pub small : length bytes ≤ 104
+  pub small : length bytes ≤ telegram_bytes
   pub front : List Bool
   pub rest : List Bool
   pub parts : bits_of bytes ≡ front ++ rest
@@ -80,7 +85,7 @@ RefusesTelegram e bits = Refuses header e bits ⊎ ((h : Header) × (rest : List
 
 -- The bytes carry no telegram, and this is the fault: too many bytes before all others.
 abbrev pub RefusesBytes : TelegramFault → List ℕ → Type 0
-RefusesBytes e bytes = ((104 < length bytes) × (e ≡ TooLong)) ⊎ ((length bytes ≤ 104) × RefusesTelegram e (bits_of bytes))
+RefusesBytes e bytes = ((telegram_bytes < length bytes) × (e ≡ TooLong)) ⊎ ((length bytes ≤ telegram_bytes) × RefusesTelegram e (bits_of bytes))
 
 -- what was written over a packet, where one was
 abbrev pub told : {A : Type 0} → A → Bool → Option A

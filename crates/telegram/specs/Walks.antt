@@ -3,12 +3,13 @@ use Rattle.std.specs.Prelude.{◌≡◌, ◌<◌, ◌≤◌, ◌*◌, ℕ, zero,
 use Rattle.std.specs.List.{slice_range}
 use Rattle.bits.specs.Bits.{bits_of}
 use Rattle.bits.specs.Layout.{Begins, read}
+use Rattle.packets.specs.Limits.{telegram_bytes}
 use Rattle.packets.specs.Packets.{packet, length_of}
 use Rattle.packets.specs.declared.packet.Packet.{Packet}
 use Rattle.telegram.specs.declared.fault.TelegramFault.{TelegramFault}
 use Rattle.telegram.specs.declared.header.Header.{Header}
 use Rattle.telegram.specs.declared.message.Telegram.{Telegram}
-use Rattle.telegram.specs.Telegrams.{next_packet, Carries}
+use Rattle.telegram.specs.Telegrams.{header_bits, next_packet, Carries}
 
 -- A packet, the fewest bytes that hold its bits, and the place of its first bit in the first of these bytes, from 0 to 7.
 pub record Located : Type 0 where
@@ -27,9 +28,9 @@ located_from bytes start [] = []
 located_from bytes start (p ∷ ps) =
     record { packet = p; bytes = slice_range bytes (start / 8) ((start + length_of p + 7) / 8); offset = start % 8 } ∷ located_from bytes (start + length_of p) ps
 
--- The walk from the first packet of the telegram that the bytes carry; its header has 50 bits.
+-- The walk from the first packet of the telegram that the bytes carry, which stands behind its header.
 abbrev pub IsWalkOf : List ℕ → Walk → Type 0
-IsWalkOf bytes w = (t : Telegram) × Carries bytes t × (w ≡ record { header = t.header; items = located_from bytes 50 t.packets.items })
+IsWalkOf bytes w = (t : Telegram) × Carries bytes t × (w ≡ record { header = t.header; items = located_from bytes header_bits t.packets.items })
 
 -- what a walk has still to come, without the places
 abbrev pub packets_of : List Located → List Packet
@@ -56,10 +57,11 @@ packets_in (suc n) bits = before_those_of (read next_packet bits) (packets_in n)
 
 -- the telegram with this header and so many packets, which are spelled in these bytes behind the header
 abbrev pub received : Header → ℕ → List ℕ → Telegram
-received h count bytes = record { header = h; packets = record { items = packets_in count (drop 50 (bits_of bytes)) } }
+received h count bytes = record { header = h; packets = record { items = packets_in count (drop header_bits (bits_of bytes)) } }
 
--- Behind a header so many packets can be read in the bytes.
+-- Behind a header so many packets can be read in the bytes, and no telegram has more than 33.
 pub record HoldPackets (count : ℕ) (bytes : List ℕ) : Type 0 where
-  pub small : length bytes ≤ 104
-  pub header_first : 50 ≤ 8 * length bytes
-  pub counted : length (packets_in count (drop 50 (bits_of bytes))) ≡ count
+  pub small : length bytes ≤ telegram_bytes
+  pub header_first : header_bits ≤ 8 * length bytes
+  pub few : count ≤ 33
+  pub counted : length (packets_in count (drop header_bits (bits_of bytes))) ≡ count

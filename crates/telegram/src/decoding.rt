@@ -1,4 +1,4 @@
-ghost use Rattle.std.specs.Prelude.{◌≡◌, ◌≤◌, ◌↔◌, ℕ, [], List, Bool, Ok, Err, length, IfOk, OnOk, IfErr, OnErr, Option};
+ghost use Rattle.std.specs.Prelude.{◌≡◌, ◌+◌, ◌*◌, ◌≤◌, ◌↔◌, ℕ, [], List, Bool, Ok, Err, length, IfOk, OnOk, IfErr, OnErr, Option};
 ghost use Rattle.bits.specs.Bits.{bits_of};
 ghost use Rattle.bits.specs.Layout.{Begins, Gives, read};
 ghost use Rattle.packets.specs.declared.packet.Packet.{Packet};
@@ -8,12 +8,12 @@ ghost use Rattle.telegram.specs.declared.fault.TelegramFault.{TelegramFault};
 ghost use Rattle.telegram.specs.declared.message.Telegram.{Telegram};
 
 use crate::fault::TelegramFault;
-use crate::header::{field, read_header};
+use crate::header::{HEADER_BITS, field, read_header};
 use crate::message::Telegram;
 use arrayvec::ArrayVec;
 use bits::BitReader;
 use packet_coding::read_numbered;
-use packets::Packet;
+use packets::{Packet, TELEGRAM_BYTES};
 use vars::PacketNumber;
 
 /// Reads the next packet into the place of another one; false at the end mark.
@@ -33,14 +33,14 @@ pub(crate) fn read_next<'a>(
     Ok(true)
 }
 
-/// Reads packets up to the end mark. Behind the header of at most 104 bytes there are at most 34 of them, and 34 leave
+/// Reads packets up to the end mark. Behind the header of at most `TELEGRAM_BYTES` there are at most 34 of them, and 34 leave
 /// no room for the end mark.
 fn read_packets<'a>(
     reader: &mut BitReader<'a>,
     packets: &mut ArrayVec<Packet<'a>, 33>,
 ) -> Result<(), TelegramFault>
     requires empty { packets.old.items ≡ [] }
-    requires small { length reader.old ≤ 782 }
+    requires small { length reader.old + HEADER_BITS ≤ 8 * TELEGRAM_BYTES }
     ensures ok { OnOk result (BeginsPackets packets.new.items reader.old reader.new) }
     ensures err { IfErr result (λ e. (ps : List Packet) × RefusesPackets e ps reader.old) }
 {
@@ -63,7 +63,7 @@ fn fill<'a>(bytes: &'a [u8], telegram: &mut Telegram<'a>) -> Result<(), Telegram
     ensures ok { OnOk result (Carries bytes.now telegram.new) }
     ensures err { IfErr result (λ e. RefusesBytes e bytes.now) }
 {
-    if bytes.len() > 104 {
+    if bytes.len() > TELEGRAM_BYTES {
         return Err(TelegramFault::TooLong);
     }
     let mut reader = BitReader::new(bytes);
@@ -73,7 +73,7 @@ fn fill<'a>(bytes: &'a [u8], telegram: &mut Telegram<'a>) -> Result<(), Telegram
 }
 
 /// Puts the telegram that the bytes carry (SUBSET-026, 8.4.2) in the place of another: their bits begin with its header,
-/// its packets and the end mark; what follows the end mark is free. A fault is TooLong for more than 104 bytes, else the
+/// its packets and the end mark; what follows the end mark is free. A fault is TooLong for more than `TELEGRAM_BYTES`, else the
 /// first one in the order of the bits. After a fault the telegram has no packets, and its header means nothing.
 pub fn decode_into<'a>(bytes: &'a [u8], telegram: &mut Telegram<'a>) -> Result<(), TelegramFault>
     ensures ok { OnOk result (Carries bytes.now telegram.new) }
@@ -91,7 +91,7 @@ pub fn decode_into<'a>(bytes: &'a [u8], telegram: &mut Telegram<'a>) -> Result<(
 }
 
 /// The telegram that the bytes carry (SUBSET-026, 8.4.2): their bits begin with its header, its packets and the end
-/// mark; what follows the end mark is free. A fault is TooLong for more than 104 bytes, else the first one in the order
+/// mark; what follows the end mark is free. A fault is TooLong for more than `TELEGRAM_BYTES`, else the first one in the order
 /// of the bits.
 pub fn decode<'a>(bytes: &'a [u8]) -> Result<Telegram<'a>, TelegramFault>
     ensures found { (t : Telegram) → (result ≡ Ok t) ↔ Carries bytes.now t }

@@ -3,14 +3,14 @@ ghost use Rattle.bits.specs.Writing.{appended};
 ghost use Rattle.telegram.specs.Encodings.{Encoded};
 ghost use Rattle.telegram.specs.Telegrams.{header as header_layout, Carries, SpellsPackets, SpellsTelegram};
 
-use crate::header::Header;
+use crate::header::{HEADER_BITS, Header};
 use crate::message::Telegram;
 use bits::{BitWriter, Full};
 use packet_coding::write_packet;
-use packets::Packet;
+use packets::{Packet, TELEGRAM_BYTES};
 use thiserror::Error;
 
-/// The telegram has more than 832 bits, which are those of 104 bytes (SUBSET-026, 8.4.2).
+/// The telegram has more bits than `TELEGRAM_BYTES` have, which are 832 (SUBSET-026, 8.4.2).
 #[derive(Clone, Copy, Debug, PartialEq, Eq, Error)]
 #[error("TooLong")]
 pub struct TooLong;
@@ -22,8 +22,8 @@ impl From<Full> for TooLong {
 }
 
 /// Writes the header.
-fn write_header(header: &Header, writer: &mut BitWriter<104>)
-    requires { length writer.old + 50 ≤ 832 }
+fn write_header(header: &Header, writer: &mut BitWriter<TELEGRAM_BYTES>)
+    requires { length writer.old + HEADER_BITS ≤ 8 * TELEGRAM_BYTES }
     ensures { writer.new ≡ appended header_layout header.now writer.old }
 {
     match header.fields(writer) {
@@ -32,9 +32,9 @@ fn write_header(header: &Header, writer: &mut BitWriter<104>)
 }
 
 /// Writes packets that have a spelling, and the end mark.
-fn write_packets(packets: &[Packet<'_>], writer: &mut BitWriter<104>) -> Result<(), Full>
+fn write_packets(packets: &[Packet<'_>], writer: &mut BitWriter<TELEGRAM_BYTES>) -> Result<(), Full>
     requires { (bits : List Bool) × SpellsPackets packets.now bits }
-    ensures room { (bits : List Bool) → SpellsPackets packets.now bits → (IsOk result ↔ (length writer.old + length bits ≤ 832)) }
+    ensures room { (bits : List Bool) → SpellsPackets packets.now bits → (IsOk result ↔ (length writer.old + length bits ≤ 8 * TELEGRAM_BYTES)) }
     ensures ok { OnOk result ((bits : List Bool) → SpellsPackets packets.now bits → writer.new ≡ writer.old ++ bits) }
 {
     for packet in packets {
@@ -47,14 +47,14 @@ fn write_packets(packets: &[Packet<'_>], writer: &mut BitWriter<104>) -> Result<
 /// Writes a telegram (SUBSET-026, 8.4.2) into the front of the array, padded with zero bits to whole bytes, and returns how
 /// many bytes these are; decoded again, they give the telegram. TooLong where it has more than 832 bits, and then nothing is
 /// written. The caller owes a telegram that has a spelling, as each that was decoded has (`Telegram::has_spelling`).
-pub fn encode(telegram: &Telegram<'_>, out: &mut [u8; 104]) -> Result<usize, TooLong>
+pub fn encode(telegram: &Telegram<'_>, out: &mut [u8; TELEGRAM_BYTES]) -> Result<usize, TooLong>
     requires { (bits : List Bool) × SpellsTelegram telegram.now bits }
-    ensures room { (bits : List Bool) → SpellsTelegram telegram.now bits → (IsOk result ↔ (length bits ≤ 832)) }
+    ensures room { (bits : List Bool) → SpellsTelegram telegram.now bits → (IsOk result ↔ (length bits ≤ 8 * TELEGRAM_BYTES)) }
     ensures ok { IfOk result (λ n. Encoded telegram.now out.old out.new n) }
     ensures again { IfOk result (λ n. Carries (take n out.new) telegram.now) }
     ensures err { OnErr result (out.new ≡ out.old) }
 {
-    let mut writer: BitWriter<104> = BitWriter::new();
+    let mut writer: BitWriter<TELEGRAM_BYTES> = BitWriter::new();
     write_header(&telegram.header, &mut writer);
     write_packets(telegram.packets.as_slice(), &mut writer)?;
     Ok(writer.copy_to(out))

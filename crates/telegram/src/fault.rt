@@ -30,7 +30,7 @@ pub enum TelegramFault {
     /// The bits end before the end mark.
     #[error("NoEnd")]
     NoEnd = 8,
-    /// There are more than 104 bytes.
+    /// There are more than `packets::TELEGRAM_BYTES` bytes.
     #[error("TooLong")]
     TooLong = 9,
 }

@@ -13,6 +13,9 @@ use vars::{
     has_number,
 };
 
+/// The number of the bits of a header (SUBSET-026, 8.4.2).
+pub const HEADER_BITS: u32 = 50;
+
 /// The header of a telegram (SUBSET-026, 8.4.2). Its direction is up, its version 16 and its medium a balise.
 #[derive(Clone, Copy)]
 pub struct Header {
@@ -48,11 +51,11 @@ impl Default for Header {
 }
 
 impl Header {
-    /// Hands all fields to the sink, 50 bits; stops with the sink's error where it takes no more. The caller owes room in the
+    /// Hands all fields to the sink, `HEADER_BITS` in all; stops with the sink's error where it takes no more. The caller owes room in the
     /// sink.
     #[tactic(auto, unfolding(crate::specs::Telegrams::header))]
     pub fn fields<S: FieldSink>(&self, sink: &mut S) -> Result<(), S::Error>
-        requires room { S.held sink.old + 50 ≤ S.most }
+        requires room { S.held sink.old + HEADER_BITS ≤ S.most }
         ensures { OnOk result (S.seen sink.new ≡ taken S.took header_layout self.now (S.seen sink.old)) }
     {
         ok!(sink.field(VariableName::QUpdown, 1, 1));

@@ -7,8 +7,8 @@ ghost use Rattle.telegram.specs.declared.message.Telegram.{Telegram};
 
 use packets::FieldSink;
 
-/// A telegram has at most 33 packets. Its 104 bytes have 832 bits: 50 are of the header, 8 of the end mark, and at least
-/// 23 of each packet.
+/// A telegram has at most 33 packets. Its bytes have 832 bits: `HEADER_BITS` are of the header, 8 of the end mark, and at
+/// least 23 of each packet.
 pub fn at_most_33_packets()
     ensures { (bytes : List ℕ) (t : Telegram) → Carries bytes t → length t.packets.items ≤ 33 }
 {}

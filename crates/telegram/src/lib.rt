@@ -15,7 +15,7 @@ mod walk;
 pub use decoding::{decode, decode_into};
 pub use encoding::{TooLong, encode};
 pub use fault::TelegramFault;
-pub use header::Header;
+pub use header::{HEADER_BITS, Header};
 pub use laws::{
     at_most_33_packets, packets_stand_in_place, sinks_take_header_fields, telegrams_spelled_once,
 };

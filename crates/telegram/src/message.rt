@@ -6,14 +6,14 @@ ghost use Rattle.telegram.specs.Telegrams.{SpellsTelegram};
 ghost use Rattle.telegram.specs.Sequences.{length_of_all};
 
 use crate::encoding::TooLong;
-use crate::header::Header;
+use crate::header::{HEADER_BITS, Header};
 use arrayvec::ArrayVec;
 use packets::Packet;
 
 /// The telegram of a balise: its header and its packets up to the end mark (SUBSET-026, 8.4.2).
 #[derive(Drop)]
 pub struct Telegram<'a> {
-    /// The 50 bits in front (SUBSET-026, 8.4.2).
+    /// What stands in front (SUBSET-026, 8.4.2).
     pub header: Header,
     /// The packets in order, without the end mark.
     pub packets: ArrayVec<Packet<'a>, 33>,
@@ -45,10 +45,10 @@ impl<'a> Telegram<'a> {
 
     /// The number of bits up to and with the end mark.
     pub fn bits(&self) -> u64
-        ensures value { result ≡ 58 + length_of_all self.now.packets.items }
+        ensures value { result ≡ HEADER_BITS + 8 + length_of_all self.now.packets.items }
         ensures spelled { (bits : List Bool) → SpellsTelegram self.now bits → length bits ≡ result }
     {
-        58 + bits_of_all(self.packets.as_slice())
+        u64::from(HEADER_BITS) + 8 + bits_of_all(self.packets.as_slice())
     }
 }
 
@@ -75,15 +75,14 @@ impl<'a> Telegram<'a> {
 }
 
 impl<'a> Telegram<'a> {
-    /// Appends a packet. TooLong where there are 33 packets already, and then nothing changes. The caller owes a packet and a
-    /// telegram that have a spelling; the telegram then has one still.
+    /// Appends a packet. TooLong where there are 33 packets already, and then nothing changes. A telegram that has a spelling has
+    /// one still where the packet has one (`Packet::has_spelling`).
     pub fn push(&mut self, packet: Packet<'a>) -> Result<(), TooLong>
-        requires telegram { (bits : List Bool) × SpellsTelegram self.old bits }
-        requires packet { (bits : List Bool) × Spells packet_layout packet bits }
         ensures room { IsOk result ↔ (length self.old.packets.items < 33) }
         ensures packets { OnOk result (self.new.packets.items ≡ self.old.packets.items ++ packet.entry ∷ []) }
         ensures header { self.new.header ≡ self.old.header }
-        ensures spelled { OnOk result ((bits : List Bool) × SpellsTelegram self.new bits) }
+        ensures spelled { ((bits : List Bool) × SpellsTelegram self.old bits) → ((bits : List Bool) × Spells packet_layout packet.entry bits)
+            → OnOk result ((bits : List Bool) × SpellsTelegram self.new bits) }
         ensures err { OnErr result (self.new ≡ self.old) }
     {
         if self.packets.is_full() {

@@ -5,21 +5,19 @@ ghost use Rattle.telegram.specs.declared.fault.TelegramFault.{TelegramFault};
 ghost use Rattle.telegram.specs.declared.message.Telegram.{Telegram};
 
 use crate::fault::TelegramFault;
-use crate::header::Header;
+use crate::header::{HEADER_BITS, Header};
 use crate::validation::packets;
 use crate::walk::Packets;
 use arrayvec::ArrayVec;
 use bits::BitReader;
+use packets::TELEGRAM_BYTES;
 use std::marker::Model;
-
-/// The bits of a header.
-const HEADER_BITS: u32 = 50;
 
 /// The bytes of a telegram, tested once (SUBSET-026, 8.4.2). Its packets are read again where they lie, each time that they are
 /// wanted.
 #[derive(Drop)]
 pub struct Received {
-    bytes: ArrayVec<u8, 104>,
+    bytes: ArrayVec<u8, TELEGRAM_BYTES>,
     header: Header,
     /// The number of its packets.
     count: u32,
@@ -37,8 +35,8 @@ impl Model for Received {
 }
 
 // An equal run of bytes.
-fn copy_of(bytes: &[u8]) -> ArrayVec<u8, 104>
-    requires { length bytes.now ≤ 104 }
+fn copy_of(bytes: &[u8]) -> ArrayVec<u8, TELEGRAM_BYTES>
+    requires { length bytes.now ≤ TELEGRAM_BYTES }
     ensures { result.items ≡ bytes.now }
 {
     ArrayVec::try_from(bytes).unwrap()
@@ -66,9 +64,10 @@ impl Received {
         self.header
     }
 
-    /// The packets, to be read one by one where they lie; the telegram isn't tested again.
+    /// The packets, at most 33, to be read one by one where they lie; the telegram isn't tested again.
     pub fn packets(&self) -> Packets<'_>
         ensures packets { packets_of result.items ≡ self.now.packets.items }
+        ensures few { length self.now.packets.items ≤ 33 }
         ensures header { result.header ≡ self.now.header }
     {
         let bytes = self.bytes.as_slice();

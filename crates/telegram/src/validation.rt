@@ -1,4 +1,4 @@
-ghost use Rattle.std.specs.Prelude.{◌≡◌, ◌≤◌, ◌↔◌, List, Ok, Err, length, IfOk, IfErr};
+ghost use Rattle.std.specs.Prelude.{◌≡◌, ◌+◌, ◌*◌, ◌≤◌, ◌↔◌, List, Ok, Err, length, IfOk, IfErr};
 ghost use Rattle.packets.specs.declared.packet.Packet.{Packet};
 ghost use Rattle.telegram.specs.Sequences.{BeginsPackets};
 ghost use Rattle.telegram.specs.Telegrams.{RefusesPackets, RefusesBytes};
@@ -7,15 +7,15 @@ ghost use Rattle.telegram.specs.declared.fault.TelegramFault.{TelegramFault};
 
 use crate::decoding::read_next;
 use crate::fault::TelegramFault;
-use crate::header::read_header;
+use crate::header::{HEADER_BITS, read_header};
 use crate::walk::Packets;
 use bits::BitReader;
-use packets::Packet;
+use packets::{Packet, TELEGRAM_BYTES};
 
 /// Reads packets up to the end mark, and answers how many there are.
 #[inline(always)]
 fn count_packets<'a>(reader: &mut BitReader<'a>) -> Result<u32, TelegramFault>
-    requires small { length reader.old ≤ 782 }
+    requires small { length reader.old + HEADER_BITS ≤ 8 * TELEGRAM_BYTES }
     ensures ok { IfOk result (λ n. (ps : List Packet) × (length ps ≡ n) × BeginsPackets ps reader.old reader.new) }
     ensures err { IfErr result (λ e. (ps : List Packet) × RefusesPackets e ps reader.old) }
 {
@@ -36,7 +36,7 @@ pub fn packets<'a>(bytes: &'a [u8]) -> Result<Packets<'a>, TelegramFault>
     ensures found { (w : Walk) → (result ≡ Ok w) ↔ IsWalkOf bytes.now w }
     ensures fault { (e : TelegramFault) → (result ≡ Err e) ↔ RefusesBytes e bytes.now }
 {
-    if bytes.len() > 104 {
+    if bytes.len() > TELEGRAM_BYTES {
         return Err(TelegramFault::TooLong);
     }
     let mut reader = BitReader::new(bytes);
@@ -47,7 +47,7 @@ pub fn packets<'a>(bytes: &'a [u8]) -> Result<Packets<'a>, TelegramFault>
         header,
         bytes,
         reader: first,
-        start: 50,
+        start: HEADER_BITS,
         left,
     })
 }

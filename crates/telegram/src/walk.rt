@@ -23,6 +23,7 @@ pub struct Packets<'a> {
 
 impl<'a> Model for Packets<'a> {
     ghost use Rattle.std.specs.Prelude.{◌≡◌, ◌≤◌, ◌+◌, ◌*◌, length};
+    ghost use Rattle.packets.specs.Limits.{telegram_bytes};
     ghost use Rattle.telegram.specs.Walks.{Walk, located_from, packets_in};
 
     ghost Value = { Walk };
@@ -30,7 +31,7 @@ impl<'a> Model for Packets<'a> {
     ghost view = { λ w. record { header = w.header; items = located_from w.bytes.now w.start (packets_in w.left w.reader) } };
 
     // The reader is at the next packet, and as many packets are read as are left.
-    ghost invariant = { λ w. (length w.bytes.now ≤ 104)
+    ghost invariant = { λ w. (length w.bytes.now ≤ telegram_bytes)
         × (w.start + length w.reader ≡ 8 * length w.bytes.now)
         × (length (packets_in w.left w.reader) ≡ w.left) };
 }

@@ -1,4 +1,5 @@
 use crate::telling::decoded;
+use packets::TELEGRAM_BYTES;
 use std::alloc::{AllocError, Global};
 use telegram::{decode, encode, packets};
 
@@ -23,7 +24,7 @@ fn written(alloc: Global, bytes: &[u8]) -> Result<Option<(usize, Vec<u8>)>, Allo
     let Ok(telegram) = decode(bytes) else {
         return Ok(None);
     };
-    let mut array = [0u8; 104];
+    let mut array = [0u8; TELEGRAM_BYTES];
     let len = encode(&telegram, &mut array).unwrap_or(0);
     let mut again = Vec::new(alloc);
     again.extend_from_slice(array.get(..len).unwrap_or(&[]))?;

@@ -1,6 +1,7 @@
 use crate::spelled::{bytes_of, number_of};
 use bits::{BitReader, BitWriter};
 use packet_coding::{read_packet, write_packet};
+use packets::TELEGRAM_BYTES;
 use std::alloc::Global;
 use std::io;
 use std::io::Write;
@@ -10,9 +11,9 @@ use telegram::{decode, encode};
 const BEFORE: u8 = 0x55;
 
 /// The array that the telegram in bytes is written into.
-fn written(bytes: &[u8]) -> Option<[u8; 104]> {
+fn written(bytes: &[u8]) -> Option<[u8; TELEGRAM_BYTES]> {
     let telegram = decode(bytes).ok()?;
-    let mut array = [BEFORE; 104];
+    let mut array = [BEFORE; TELEGRAM_BYTES];
     encode(&telegram, &mut array).ok()?;
     Some(array)
 }
@@ -39,9 +40,12 @@ fn fits(bytes: &[u8]) -> Option<(bool, bool)> {
     let packet = read_packet(&mut BitReader::new(bytes)).ok()?;
     let mut telegram = decode(&ALONE).ok()?;
     telegram.push(packet).ok()?;
-    let mut array = [BEFORE; 104];
+    if !telegram.has_spelling() {
+        return None;
+    }
+    let mut array = [BEFORE; TELEGRAM_BYTES];
     let fits = encode(&telegram, &mut array).is_ok();
-    Some((fits, array == [BEFORE; 104]))
+    Some((fits, array == [BEFORE; TELEGRAM_BYTES]))
 }
 
 /// Whether the packet that the bytes begin with has room in 160 bytes.

@@ -4,10 +4,7 @@ use crate::spelled::{bytes_of, number_of};
 use std::alloc::{AllocError, Global};
 use std::io;
 use std::io::Write;
-use telegram::TelegramFault;
-
-/// The bits of a header.
-const HEADER_BITS: u32 = 50;
+use telegram::{HEADER_BITS, TelegramFault};
 
 /// The fewest bytes that hold a header.
 const HEADER_BYTES: u32 = 7;

@@ -3,6 +3,7 @@ use crate::wanted::same;
 use balise_groups::{Assembler, Broken, Cause, Closed, Message, Reading, Taken};
 use bits::BitWriter;
 use odometry::Place;
+use packets::TELEGRAM_BYTES;
 use std::process::Abort;
 use telegram::Received;
 use units::Movement;
@@ -98,7 +99,7 @@ pub enum End {
 /// What a row is called, and each of its steps with what it ends and with the group that a telegram makes whole.
 pub type Row = (&'static str, &'static [(Step, End, End)]);
 
-fn put(writer: &mut BitWriter<104>, variables: &[(u32, u64)]) {
+fn put(writer: &mut BitWriter<TELEGRAM_BYTES>, variables: &[(u32, u64)]) {
     for (bits, value) in variables {
         for bit in (0..*bits).rev() {
             let _ = writer.put(1, (*value >> (bit % 64)) % 2);
@@ -106,7 +107,7 @@ fn put(writer: &mut BitWriter<104>, variables: &[(u32, u64)]) {
     }
 }
 
-fn bytes_of(balise: &Balise) -> [u8; 104] {
+fn bytes_of(balise: &Balise) -> [u8; TELEGRAM_BYTES] {
     let mut writer = BitWriter::new();
     let header = [
         (9, 0x120),
@@ -123,7 +124,7 @@ fn bytes_of(balise: &Balise) -> [u8; 104] {
         put(&mut writer, &[(8, *number), (2, 2), (13, 23)]);
     }
     put(&mut writer, &[(8, 255)]);
-    let mut bytes = [0; 104];
+    let mut bytes = [0; TELEGRAM_BYTES];
     let _ = writer.copy_to(&mut bytes);
     bytes
 }

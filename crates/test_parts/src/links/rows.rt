@@ -2,7 +2,7 @@
 use crate::numbers::{cm, group_place};
 use crate::wanted::same;
 use arrayvec::ArrayVec;
-use linking::{Announcement, Effect, GroupRead, Links, Verdict};
+use linking::{Announcement, Effect, GroupRead, Links, MOST_ANNOUNCED, Verdict};
 use odometry::EarlierPlace;
 use std::mem::swap;
 use std::process::Abort;
@@ -101,7 +101,7 @@ fn identity<R: Abort>(rt: &R, number: u8) -> GroupIdentity {
 
 /// Announces these groups, in place of those before.
 fn announce<R: Abort>(rt: &R, links: &mut Links, announced: &[Announced]) {
-    let mut list: ArrayVec<Announcement, 32> = ArrayVec::new();
+    let mut list: ArrayVec<Announcement, MOST_ANNOUNCED> = ArrayVec::new();
     for (number, place, metres, reaction) in announced {
         assert!(rt; *metres < 64, "an accuracy");
         let accuracy = LocationAccuracy::of_number(u64::from(*metres)).ok();
@@ -115,7 +115,7 @@ fn announce<R: Abort>(rt: &R, links: &mut Links, announced: &[Announced]) {
         };
         assert!(rt; list.try_push(announcement).is_ok(), "an announcement");
     }
-    links.replace(list.as_slice());
+    links.replace(&list);
 }
 
 fn is_told(verdict: &Verdict, told: &Told) -> bool {

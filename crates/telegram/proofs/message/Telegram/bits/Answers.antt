@@ -5,4 +5,4 @@ use Rattle.telegram.proofs.message.Telegram.bits.Goals as goal
 
 pub returns-clause-spelled : goal.returns-clause-spelled
 returns-clause-spelled c = λ bits s.
-    length-telegram c.args.self.now bits s ∙ ap (λ n. 58 + n) (sym (c.bits_of_all.ensures.bits ∙ ap length_of_all c.as_slice.ensures.value))
+    rw c.from.ensures (length-telegram c.args.self.now bits s ∙ ap (λ n. 58 + n) (sym (c.bits_of_all.ensures.bits ∙ ap length_of_all c.as_slice.ensures.value)))

@@ -1,3 +1,4 @@
 pub mod Items
 pub mod Leaving
+pub mod Room
 pub mod Standing

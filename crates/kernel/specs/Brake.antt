@@ -1,6 +1,6 @@
 -- What the brakes are commanded to do, read off the entries of a life, each with the limit that it answered (SUBSET-026, 3.14;
 -- the cases and their margins: this project's profile). Speeds are metres per hour, distances centimetres, moments milliseconds.
-use Rattle.std.specs.Prelude.{ℕ, ◌+◌, ◌==◌, nat_lt, ℤ, pos, int_lt, Bool, true, false, not, ◌&&◌, ◌||◌, if◌then◌else◌, Option, Some, None, List, [], ◌∷◌}
+use Rattle.std.specs.Prelude.{ℕ, ◌+◌, ◌*◌, ◌==◌, nat_lt, ℤ, pos, int_lt, Bool, true, false, not, ◌&&◌, ◌||◌, if◌then◌else◌, Option, Some, None, List, [], ◌∷◌}
 use Rattle.std.specs.Int.RustNames.{unsigned_abs}
 use Rattle.std.specs.Option.{option_map_or}
 use Rattle.areas.specs.Acknowledging.{brakes}
@@ -22,6 +22,10 @@ use Rattle.supervision.specs.Life.{Life, driver_of, grown}
 use Rattle.supervision.specs.Sentences.{values_of}
 use Rattle.kernel.specs.declared.sight.Sight.{Sight}
 
+-- how far above the limit the service brake comes; the emergency brake comes at two such steps
+abbrev pub margin_step : ℕ
+margin_step = 5_000
+
 -- ---- after each event: by how much the speed was above the limit that the event answered
 
 -- the life that began with this, as it was when these were its entries
@@ -40,11 +44,11 @@ stands reading = option_map_or (λ r. r.speed == 0) reading false
 abbrev pub unless_standing : Entry → Bool → Bool
 unless_standing entry before = not (stands entry.track.begun.reading) && before
 
--- after some event since then the speed was above the limit by more than 10 km/h
+-- after some event since then the speed was above the limit by more than two margin steps, 10 km/h
 abbrev pub far_too_fast : Kept → Cold → List Entry → Bool
 far_too_fast kept cold [] = false
 far_too_fast kept cold (entry ∷ entries) =
-    is_above_by kept cold 10_000 (entry ∷ entries) || unless_standing entry (far_too_fast kept cold entries)
+    is_above_by kept cold (2 * margin_step) (entry ∷ entries) || unless_standing entry (far_too_fast kept cold entries)
 
 -- linking or a balise group asked for the service brake
 abbrev pub asked_for_service : List Entry → Bool
@@ -67,12 +71,12 @@ rolled_backward [] = 0
 rolled_backward (entry ∷ entries) =
     (if stands entry.track.begun.reading then 0 else rolled_backward entries) + backward_at entry
 
--- ---- too fast by more than 5 km/h after some event, and since then never at or below the limit
+-- ---- too fast by more than a margin step, 5 km/h, after some event, and since then never at or below the limit
 
 abbrev pub too_fast : Kept → Cold → List Entry → Bool
 too_fast kept cold [] = false
 too_fast kept cold (entry ∷ entries) =
-    is_above_by kept cold 5_000 (entry ∷ entries) || (is_above_by kept cold 0 (entry ∷ entries) && too_fast kept cold entries)
+    is_above_by kept cold margin_step (entry ∷ entries) || (is_above_by kept cold 0 (entry ∷ entries) && too_fast kept cold entries)
 
 -- ---- the emergency brake: not revalidated since the power-up, in Trip or System Failure, a trip that isn't acknowledged, far too
 -- fast, or rolled backward farther than the national value of now

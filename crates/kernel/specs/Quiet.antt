@@ -1,7 +1,8 @@
--- Which events take no memory (this project's profile).
-use Rattle.std.specs.Prelude.{ℕ, ⊤}
+-- Which events take no memory, and which states are copied without any (this project's profile).
+use Rattle.std.specs.Prelude.{◌≡◌, ℕ, ⊤}
 use Rattle.events.specs.declared.input.Event.{Event}
 use Rattle.events.specs.declared.input.Event.TheVariants.{PowerUp, Input}
+use Rattle.trackside.specs.StandsFor.{size_in}
 use Rattle.trackside.specs.Steps as track
 use Rattle.kernel.specs.StandsFor.{Knowledge}
 
@@ -9,3 +10,7 @@ use Rattle.kernel.specs.StandsFor.{Knowledge}
 abbrev pub HasRoomFor : {G S : Type 0} → (G → ℕ) → (S → ℕ) → Knowledge G S → Event → Type 0
 HasRoomFor gradients_room speeds_room known (PowerUp cold) = ⊤
 HasRoomFor gradients_room speeds_room known (Input input) = track.HasRoomFor gradients_room speeds_room known.supervision.track input
+
+-- no restriction and no profile of the track is kept, nor room for one
+abbrev pub HasNoTrack : {G S : Type 0} → (G → ℕ) → (S → ℕ) → Knowledge G S → Type 0
+HasNoTrack gradients_size speeds_size known = size_in gradients_size speeds_size known.supervision.track ≡ 0

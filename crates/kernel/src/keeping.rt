@@ -5,6 +5,7 @@ ghost use Rattle.events.specs.declared.input.Event.TheVariants as event;
 ghost use Rattle.kernel.specs.Lives.{kept_of, left_by, kept_by};
 ghost use Rattle.kernel.specs.Output.{output_after, estimate_after, uncertainty_after};
 ghost use Rattle.kernel.specs.Position.{position_of};
+ghost use Rattle.kernel.specs.Quiet.{HasNoTrack};
 ghost use Rattle.kernel.specs.StandsFor.{StandsForLife, StandsFor};
 ghost use Rattle.supervision.specs.Life.{Life};
 
@@ -58,6 +59,7 @@ impl<G: ProfileStore<Permille> + Drop, S: ProfileStore<CategorySpeeds> + Drop> S
     pub fn power_up(alloc: Global, kept: &Kept, cold: Cold) -> (Self, Output)
         ensures stands { (events : List Event) → left_by cold kept.now ≡ left_by cold (kept_by events) → StandsFor G.profile S.profile result.0 (event.PowerUp cold ∷ events) }
         ensures output { (events : List Event) → left_by cold kept.now ≡ left_by cold (kept_by events) → result.1 ≡ output_after (event.PowerUp cold ∷ events) }
+        ensures track { HasNoTrack G.size S.size result.0 }
     {
         let state = StateOver::begin(alloc, kept.copy(), cold);
         let output = state.output();

@@ -15,6 +15,7 @@ mod state;
 mod steps;
 mod window;
 
+pub use events::{Event, Input, Kept, Output};
 pub use laws::{brakes_until_revalidated, kept_is_the_last, power_up_forgets, trip_brakes};
 pub use state::{State, StateOver};
 pub use steps::step;

@@ -4,7 +4,7 @@ ghost use Rattle.events.specs.declared.input.Event.{Event};
 ghost use Rattle.events.specs.declared.input.Event.TheVariants as event;
 ghost use Rattle.kernel.specs.Brake.{sight_at};
 ghost use Rattle.kernel.specs.Lives.{counted};
-ghost use Rattle.kernel.specs.Quiet.{HasRoomFor};
+ghost use Rattle.kernel.specs.Quiet.{HasRoomFor, HasNoTrack};
 ghost use Rattle.kernel.specs.StandsFor.{StandsForLife, StandsFor, parts_of};
 ghost use Rattle.supervision.specs.Entry.{Entry};
 ghost use Rattle.supervision.specs.Life.{Life, grown};
@@ -57,6 +57,8 @@ impl<G: ProfileStore<Permille> + Drop, S: ProfileStore<CategorySpeeds> + Drop> S
     // All that an input does. Where memory is refused, nothing changes.
     fn receive(&mut self, input: &Input) -> Result<(), NoMemory>
         ensures quiet { TrackHasRoomFor G.room S.room self.old.supervision.track input.now → IsOk result }
+        ensures track { TrackHasRoomFor G.room S.room self.old.supervision.track input.now → HasNoTrack G.size S.size self.old
+            → OnOk result (HasNoTrack G.size S.size self.new) }
         ensures life { OnOk result ((life : Life) → StandsForLife G.profile S.profile self.old life
             → StandsForLife G.profile S.profile self.new (grown life (entry_of life input.now))) }
         ensures counts { OnOk result (self.new.counts ≡ counted self.old.counts (event.Input input.now)) }
@@ -72,8 +74,9 @@ impl<G: ProfileStore<Permille> + Drop, S: ProfileStore<CategorySpeeds> + Drop> S
     // A power-up. It stands out of line, so that an input clears no room for the new life.
     #[inline(never)]
     fn begin_again(&mut self, alloc: Global, cold: Cold)
-        ensures { (events : List Event) → StandsFor G.profile S.profile self.old events
+        ensures stands { (events : List Event) → StandsFor G.profile S.profile self.old events
             → StandsFor G.profile S.profile self.new (event.PowerUp cold ∷ events) }
+        ensures track { HasNoTrack G.size S.size self.new }
     {
         *self = StateOver::begin(alloc, self.kept(), cold);
     }
@@ -81,6 +84,8 @@ impl<G: ProfileStore<Permille> + Drop, S: ProfileStore<CategorySpeeds> + Drop> S
     /// All that an event does. Where memory is refused, nothing changes; none is refused where there is room for the event.
     pub(crate) fn take(&mut self, alloc: Global, event: &Event) -> Result<(), NoMemory>
         ensures quiet { HasRoomFor G.room S.room self.old event.now → IsOk result }
+        ensures track { HasRoomFor G.room S.room self.old event.now → HasNoTrack G.size S.size self.old
+            → OnOk result (HasNoTrack G.size S.size self.new) }
         ensures stands { OnOk result ((events : List Event) → StandsFor G.profile S.profile self.old events
             → StandsFor G.profile S.profile self.new (event.now ∷ events)) }
         ensures err { OnErr result (self.new ≡ self.old) }

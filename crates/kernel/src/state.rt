@@ -1,6 +1,7 @@
-ghost use Rattle.std.specs.Prelude.{◌≡◌, [], IfOk};
+ghost use Rattle.std.specs.Prelude.{◌≡◌, [], IsOk, IfOk};
 ghost use Rattle.events.specs.declared.input.Event.TheVariants.{PowerUp};
 ghost use Rattle.kernel.specs.Lives.{counted};
+ghost use Rattle.kernel.specs.Quiet.{HasNoTrack};
 ghost use Rattle.kernel.specs.StandsFor.{StandsForLife, StandsFor};
 ghost use Rattle.supervision.specs.Sentences.{begun_life};
 
@@ -39,7 +40,8 @@ impl<G, S> Model for StateOver<G, S> {
 impl<G: ProfileStore<Permille> + Drop, S: ProfileStore<CategorySpeeds> + Drop> StateOver<G, S> {
     /// What is known before the first event. Takes no memory.
     pub fn empty(alloc: Global) -> Self
-        ensures { StandsFor G.profile S.profile result [] }
+        ensures stands { StandsFor G.profile S.profile result [] }
+        ensures track { HasNoTrack G.size S.size result }
     {
         StateOver {
             parts: Parts {
@@ -56,6 +58,7 @@ impl<G: ProfileStore<Permille> + Drop, S: ProfileStore<CategorySpeeds> + Drop> S
     pub(crate) fn begin(alloc: Global, kept: Kept, cold: Cold) -> Self
         ensures life { StandsForLife G.profile S.profile result (begun_life kept cold) }
         ensures counts { result.counts ≡ counted (record { events = kept.events; lives = kept.lives }) (PowerUp cold) }
+        ensures track { HasNoTrack G.size S.size result }
     {
         StateOver {
             parts: Parts {
@@ -72,9 +75,10 @@ impl<G: ProfileStore<Permille> + Drop, S: ProfileStore<CategorySpeeds> + Drop> S
         }
     }
 
-    /// An equal value; NoMemory where memory is refused.
+    /// An equal value; NoMemory where memory is refused. None is taken where no restriction and no profile is kept, nor room for one.
     pub fn copy(&self, alloc: Global) -> Result<Self, NoMemory>
-        ensures { IfOk result (λ copy. copy ≡ self.now) }
+        ensures value { IfOk result (λ copy. copy ≡ self.now) }
+        ensures quiet { HasNoTrack G.size S.size self.now → IsOk result }
     {
         Ok(StateOver {
             parts: self.parts,

@@ -1,8 +1,10 @@
-ghost use Rattle.std.specs.Prelude.{◌≡◌, List, ◌∷◌, IsOk, IfOk, OnOk, OnErr};
+ghost use Rattle.std.specs.Prelude.{◌≡◌, List, ◌∷◌, IsOk, IsOkAnd, IfOk, OnOk, OnErr};
 ghost use Rattle.events.specs.declared.input.Event.{Event};
+ghost use Rattle.events.specs.declared.input.Event.TheVariants.{PowerUp};
 ghost use Rattle.kernel.specs.Output.{output_after};
-ghost use Rattle.kernel.specs.Quiet.{HasRoomFor};
+ghost use Rattle.kernel.specs.Quiet.{HasRoomFor, HasNoTrack};
 ghost use Rattle.kernel.specs.StandsFor.{StandsFor};
+ghost use Rattle.mode_table.specs.declared.statuses.Cold.{Cold};
 
 use crate::state::StateOver;
 use events::{Event, Output};
@@ -12,22 +14,30 @@ use track_store::ProfileStore;
 use units::{NoMemory, Permille};
 
 /// One event: what is known after it, and what is answered (this project's profile). The old state is unchanged. NoMemory where
-/// memory for the new one is refused. The caller owes moments of the clock that don't fall in a life (`Onboard::accept` tests
-/// that).
+/// memory for the new one is refused: a power-up takes none, and no event does that uses no packet while no restriction and no
+/// profile is kept, nor room for one. Else the old state is copied. The caller owes moments of the clock that don't fall in a life
+/// (`Onboard::accept` tests that).
 pub fn step<G: ProfileStore<Permille> + Drop, S: ProfileStore<CategorySpeeds> + Drop>(
     alloc: Global,
     state: &StateOver<G, S>,
     event: &Event,
 ) -> Result<(StateOver<G, S>, Output), NoMemory>
+    ensures power_up { (cold : Cold) → event.now ≡ PowerUp cold → IsOkAnd result (λ answer. HasNoTrack G.size S.size answer.0) }
+    ensures quiet { HasNoTrack G.size S.size state.now → HasRoomFor G.room S.room state.now event.now
+        → IsOkAnd result (λ answer. HasNoTrack G.size S.size answer.0) }
     ensures stands { IfOk result (λ answer. (events : List Event) → StandsFor G.profile S.profile state.now events
         → StandsFor G.profile S.profile answer.0 (event.now ∷ events)) }
     ensures output { IfOk result (λ answer. (events : List Event) → StandsFor G.profile S.profile state.now events
         → answer.1 ≡ output_after (event.now ∷ events)) }
 {
-    let mut next = state.copy(alloc)?;
-    next.take(alloc, event)?;
-    let output = next.output();
-    Ok((next, output))
+    match event {
+        Event::PowerUp(cold) => Ok(StateOver::power_up(alloc, &state.kept(), *cold)),
+        Event::Input(_) => {
+            let mut next = state.copy(alloc)?;
+            let output = next.apply(alloc, event)?;
+            Ok((next, output))
+        }
+    }
 }
 
 impl<G: ProfileStore<Permille> + Drop, S: ProfileStore<CategorySpeeds> + Drop> StateOver<G, S> {
@@ -36,6 +46,8 @@ impl<G: ProfileStore<Permille> + Drop, S: ProfileStore<CategorySpeeds> + Drop> S
     /// for a reading while no group is being read.
     pub fn apply(&mut self, alloc: Global, event: &Event) -> Result<Output, NoMemory>
         ensures quiet { HasRoomFor G.room S.room self.old event.now → IsOk result }
+        ensures track { HasRoomFor G.room S.room self.old event.now → HasNoTrack G.size S.size self.old
+            → OnOk result (HasNoTrack G.size S.size self.new) }
         ensures stands { OnOk result ((events : List Event) → StandsFor G.profile S.profile self.old events
             → StandsFor G.profile S.profile self.new (event.now ∷ events)) }
         ensures output { IfOk result (λ output. (events : List Event) → StandsFor G.profile S.profile self.old events

@@ -9,17 +9,20 @@ ghost use Rattle.supervision.specs.Sentences.{begun_life};
 
 use crate::sight::Sight;
 
+/// How far above the limit the service brake comes, in metres per hour. The emergency brake comes at two such steps.
+const MARGIN_STEP: u16 = 5_000;
+
 /// What the brakes remember (this project's profile). All but `too_fast` is of the time since the last standstill, or else
 /// since the power-up.
 #[derive(Clone, Copy)]
 pub struct Window {
-    /// After some event the speed was above the limit by more than 10 km/h.
+    /// After some event the speed was above the limit by more than two margin steps (10 km/h).
     pub far_too_fast: bool,
     /// Linking or a balise group asked for the service brake.
     pub asked_for_service: bool,
     /// How far the train has rolled backward, in centimetres, up to the greatest number of 64 bits.
     pub backward: u64,
-    /// The speed was above the limit by more than 5 km/h, and not at or below it since.
+    /// The speed was above the limit by more than a margin step (5 km/h), and not at or below it since.
     pub too_fast: bool,
 }
 
@@ -42,11 +45,12 @@ impl Window {
         ensures { (life : Life) (entry : Entry) → self.now ≡ window_of life → sight.now ≡ sight_at life entry → result ≡ window_of (grown life entry) }
     {
         Window {
-            far_too_fast: sight.is_above_by(10_000) || sight.unless_standing(self.far_too_fast),
+            far_too_fast: sight.is_above_by(2 * MARGIN_STEP)
+                || sight.unless_standing(self.far_too_fast),
             asked_for_service: sight.asked_for_service
                 || sight.unless_standing(self.asked_for_service),
             backward: sight.rolled(self.backward),
-            too_fast: sight.is_above_by(5_000) || (sight.is_above_by(0) && self.too_fast),
+            too_fast: sight.is_above_by(MARGIN_STEP) || (sight.is_above_by(0) && self.too_fast),
         }
     }
 }

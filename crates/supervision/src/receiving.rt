@@ -1,10 +1,11 @@
 //! What an input does, sentence by sentence in the order of one event.
-ghost use Rattle.std.specs.Prelude.{◌≡◌, IsOk, OnOk, OnErr, Option, Some};
+ghost use Rattle.std.specs.Prelude.{◌≡◌, ◌≤◌, IsOk, OnOk, OnErr, Option, Some};
 ghost use Rattle.mode_table.specs.declared.level.TrainLevel.{TrainLevel as Level};
 ghost use Rattle.mode_table.specs.declared.mode.Mode.{Mode};
 ghost use Rattle.units.specs.Stretches.{Span};
 ghost use Rattle.trackside.specs.Entry.{Begun, Used, turned};
-ghost use Rattle.trackside.specs.Steps.{HasRoomFor};
+ghost use Rattle.trackside.specs.StandsFor.{size_in};
+ghost use Rattle.trackside.specs.Steps.{packets_by, HasRoomFor};
 ghost use Rattle.supervision.specs.declared.calls.Calls.{Calls};
 ghost use Rattle.supervision.specs.declared.calls.Left.{Left};
 ghost use Rattle.supervision.specs.declared.deed.Deed.{Deed};
@@ -26,6 +27,7 @@ impl<G: ProfileStore<Permille> + Drop, S: ProfileStore<CategorySpeeds> + Drop> S
     // What the input itself brings, and the groups that it closes.
     fn begin(&mut self, input: &Input) -> Result<(), NoMemory>
         ensures quiet { HasRoomFor G.room S.room self.old.track input.now → IsOk result }
+        ensures idle { packets_by self.old.track.parts input.now ≡ 0 → OnOk result (size_in G.size S.size self.new.track ≡ size_in G.size S.size self.old.track) }
         ensures stands { OnOk result ((life : Life) → StandsForLife G.profile S.profile self.old life
             → StandsForLife G.profile S.profile self.new (grown life (begun (told life input.now) (deed_of life input.now)))) }
         ensures err { OnErr result (self.new ≡ self.old) }
@@ -39,16 +41,19 @@ impl<G: ProfileStore<Permille> + Drop, S: ProfileStore<CategorySpeeds> + Drop> S
 
     // The track far behind the train is forgotten.
     fn forget(&mut self)
-        ensures { (life : Life) (tells : Begun) (used : Used) (train : Span) (mode : Option Mode) (deed : Option Deed) (level : Option Level) (calls : Calls) (left : Left)
+        ensures stands { (life : Life) (tells : Begun) (used : Used) (train : Span) (mode : Option Mode) (deed : Option Deed) (level : Option Level) (calls : Calls) (left : Left)
             → StandsForLife G.profile S.profile self.old (grown life (answered (turned tells used (Some train) mode) deed level calls left))
             → StandsForLife G.profile S.profile self.new (grown life (ended_from life tells used train mode deed level calls left)) }
+        ensures size { size_in G.size S.size self.new.track ≤ size_in G.size S.size self.old.track }
     {
         self.track.forget(self.parts.length());
     }
 
     /// All that an input does. Where memory is refused, nothing changes; none is refused where there is room for what the input may use.
+    /// An input that uses no packet keeps no more track.
     pub fn receive(&mut self, input: &Input) -> Result<(), NoMemory>
         ensures quiet { HasRoomFor G.room S.room self.old.track input.now → IsOk result }
+        ensures idle { packets_by self.old.track.parts input.now ≡ 0 → OnOk result (size_in G.size S.size self.new.track ≤ size_in G.size S.size self.old.track) }
         ensures stands { OnOk result ((life : Life) → StandsForLife G.profile S.profile self.old life
             → StandsForLife G.profile S.profile self.new (grown life (entry_of life input.now))) }
         ensures err { OnErr result (self.new ≡ self.old) }

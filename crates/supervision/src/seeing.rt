@@ -11,6 +11,7 @@ ghost use Rattle.supervision.specs.History.{after_level};
 ghost use Rattle.supervision.specs.Life.{Life, grown};
 ghost use Rattle.supervision.specs.Sentences.{standing_in, seen_from, level_in};
 ghost use Rattle.supervision.specs.StandsFor.{StandsForLife, parts_of};
+ghost use Rattle.trackside.specs.StandsFor.{size_in};
 
 use crate::parts::Parts;
 use crate::state::SupervisionOver;
@@ -63,6 +64,7 @@ impl<G: ProfileStore<Permille> + Drop, S: ProfileStore<CategorySpeeds> + Drop> S
         ensures stands { (life : Life) (tells : Begun) (used : Used) (deed : Option Deed)
             → StandsForLife G.profile S.profile self.old (grown life (begun (so_far tells used) deed))
             → StandsForLife G.profile S.profile self.new (grown life (seen_from life tells used deed)) }
+        ensures size { size_in G.size S.size self.new.track ≡ size_in G.size S.size self.old.track }
     {
         let length = self.parts.length();
         let train = self.track.place().stretch(length);

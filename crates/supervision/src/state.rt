@@ -1,7 +1,8 @@
-ghost use Rattle.std.specs.Prelude.{◌≡◌, [], IfOk};
+ghost use Rattle.std.specs.Prelude.{◌≡◌, [], IsOk, IfOk};
 ghost use Rattle.supervision.specs.Life.{Life, length_by};
 ghost use Rattle.supervision.specs.Sentences.{begun_life, standing_in};
 ghost use Rattle.supervision.specs.StandsFor.{StandsForLife};
+ghost use Rattle.trackside.specs.StandsFor.{size_in};
 
 use crate::parts::Parts;
 use areas::Acknowledgement;
@@ -39,7 +40,8 @@ impl<G: ProfileStore<Permille> + Drop, S: ProfileStore<CategorySpeeds> + Drop> S
 > {
     /// What is known before the first event of a life, of what was kept. Takes no memory.
     pub fn new(alloc: Global, kept: Kept, cold: Cold) -> Self
-        ensures { StandsForLife G.profile S.profile result (record { kept = kept; cold = cold; entries = [] }) }
+        ensures stands { StandsForLife G.profile S.profile result (record { kept = kept; cold = cold; entries = [] }) }
+        ensures size { size_in G.size S.size result.track ≡ 0 }
     {
         SupervisionOver {
             parts: Parts::new(&kept, cold),
@@ -50,7 +52,8 @@ impl<G: ProfileStore<Permille> + Drop, S: ProfileStore<CategorySpeeds> + Drop> S
     /// A life begins with what was kept; what is known of movements while the power was off decides what of it stays valid. Takes no
     /// memory.
     pub fn power_up(alloc: Global, kept: Kept, cold: Cold) -> Self
-        ensures { StandsForLife G.profile S.profile result (begun_life kept cold) }
+        ensures stands { StandsForLife G.profile S.profile result (begun_life kept cold) }
+        ensures size { size_in G.size S.size result.track ≡ 0 }
     {
         let parts = Parts::new(&kept, cold);
         let mut track = TracksideOver::new(alloc, kept.national);
@@ -65,9 +68,10 @@ impl<G: ProfileStore<Permille> + Drop, S: ProfileStore<CategorySpeeds> + Drop> S
         self.track.place().stretch(self.parts.length())
     }
 
-    /// An equal value; NoMemory where it is refused.
+    /// An equal value; NoMemory where it is refused. None is taken where no restriction and no profile is kept, nor room for one.
     pub fn copy(&self, alloc: Global) -> Result<Self, NoMemory>
-        ensures { IfOk result (λ copy. copy ≡ self.now) }
+        ensures value { IfOk result (λ copy. copy ≡ self.now) }
+        ensures quiet { size_in G.size S.size self.now.track ≡ 0 → IsOk result }
     {
         Ok(SupervisionOver {
             parts: self.parts,

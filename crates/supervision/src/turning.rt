@@ -1,12 +1,12 @@
 //! The change of mode, and the acknowledgements.
-ghost use Rattle.std.specs.Prelude.{◌≡◌, Option, Some, List, ◌∷◌, if◌then◌else◌};
+ghost use Rattle.std.specs.Prelude.{◌≡◌, ◌≤◌, Option, Some, List, ◌∷◌, if◌then◌else◌};
 ghost use Rattle.driver.specs.declared.kept.Kept.{Kept as DriverKept};
 ghost use Rattle.driver.specs.Entries.{Entry as DriverEntry};
 ghost use Rattle.driver.specs.Known.{known};
 ghost use Rattle.units.specs.Stretches.{Span};
 ghost use Rattle.trackside.specs.Entry.{Begun, Used, looked, turned};
 ghost use Rattle.trackside.specs.History.{place_of};
-ghost use Rattle.trackside.specs.StandsFor.{Life as TrackLife, StandsForLife as StandsForTrack, parts_of as track_parts_of, grown as track_grown};
+ghost use Rattle.trackside.specs.StandsFor.{Life as TrackLife, StandsForLife as StandsForTrack, parts_of as track_parts_of, grown as track_grown, size_in};
 ghost use Rattle.mode_table.specs.declared.level.TrainLevel.{TrainLevel as Level};
 ghost use Rattle.supervision.specs.declared.deed.Deed.{Deed};
 ghost use Rattle.supervision.specs.Entry.{seen as seen_as, answered};
@@ -123,9 +123,10 @@ fn enter<G: ProfileStore<Permille> + Drop, S: ProfileStore<CategorySpeeds> + Dro
     track: &mut TracksideOver<G, S>,
     entered: &Option<Mode>,
 )
-    ensures { (life : TrackLife) (tells : Begun) (used : Used) (train : Option Span)
+    ensures stands { (life : TrackLife) (tells : Begun) (used : Used) (train : Option Span)
         → StandsForTrack G.profile S.profile track.old (track_grown life (looked tells used train))
         → StandsForTrack G.profile S.profile track.new (track_grown life (turned tells used train entered.now)) }
+    ensures size { size_in G.size S.size track.new ≤ size_in G.size S.size track.old }
 {
     if let Some(mode) = entered {
         track.enter(*mode);
@@ -193,9 +194,10 @@ impl<G: ProfileStore<Permille> + Drop, S: ProfileStore<CategorySpeeds> + Drop> S
 
     /// One row of the mode table, then the acknowledgements, and what the mode deletes that is entered.
     pub(crate) fn turn(&mut self, seen: &Seen)
-        ensures { (life : Life) (tells : Begun) (used : Used) (deed : Option Deed)
+        ensures stands { (life : Life) (tells : Begun) (used : Used) (deed : Option Deed)
             → StandsForLife G.profile S.profile self.old (grown life (seen_as (looked tells used (Some seen.now.train)) deed seen.now.level))
             → StandsForLife G.profile S.profile self.new (grown life (answered_from life tells used seen.now.train deed seen.now.level)) }
+        ensures size { size_in G.size S.size self.new.track ≤ size_in G.size S.size self.old.track }
     {
         let entered = self.entered(&seen.train);
         let calls = self.calls(seen, &entered);

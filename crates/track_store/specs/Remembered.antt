@@ -1,6 +1,6 @@
 -- A profile as a list of facts, each with what of it was forgotten since (this project's profile). The newest comes
 -- first. Places are centimetres.
-use Rattle.std.specs.Prelude.{ℕ, ℤ, int_lt, Option, None, if◌then◌else◌, List, [], ◌∷◌}
+use Rattle.std.specs.Prelude.{ℕ, ◌+◌, ℤ, int_lt, Option, None, if◌then◌else◌, List, [], ◌∷◌, length}
 use Rattle.std.specs.Int.{int_max}
 use Rattle.track_store.specs.declared.profile.Step.{Step}
 use Rattle.track_store.specs.Facts.{given_by, from_mark}
@@ -35,3 +35,7 @@ profile_listed listed = record { value = value_listed listed }
 
 abbrev pub with_room : {A : Type 0} → ℕ → Listed A → Listed A
 with_room room listed = record listed { room = room }
+
+-- how many facts it keeps or has room for
+abbrev pub size_of : {A : Type 0} → Listed A → ℕ
+size_of listed = length listed.facts + listed.room

@@ -1,7 +1,7 @@
 -- Temporary speed restrictions, read off what one life brought (SUBSET-026, 3.11.5; the forgetting mark and what the
 -- lengths of trains have to do with it: this project's profile). Lists of entries have the newest first. Places are
 -- centimetres, speeds metres per hour.
-use Rattle.std.specs.Prelude.{ℕ, ℤ, pos, neg_ℤ, Bool, false, if◌then◌else◌, List, [], ◌∷◌, ◌++◌, filter, map}
+use Rattle.std.specs.Prelude.{ℕ, ◌+◌, ℤ, pos, neg_ℤ, Bool, false, if◌then◌else◌, List, [], ◌∷◌, ◌++◌, length, filter, map}
 use Rattle.std.specs.Int.{int_max}
 use Rattle.std.specs.List.{list_any}
 use Rattle.units.specs.Limits.{outermost}
@@ -49,6 +49,10 @@ pub record InForce : Type 0 where
 pub record Held : Type 0 where
   pub track : InForce
   pub room : ℕ
+
+-- how many restrictions it keeps or has room for
+abbrev pub size_of : Held → ℕ
+size_of held = length held.track.restrictions + held.room
 
 abbrev pub in_force : List Entry → InForce
 in_force entries = record { mark = mark_of entries; restrictions = filter (reaches_past (mark_of entries)) (standing entries) }

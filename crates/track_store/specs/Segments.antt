@@ -1,6 +1,6 @@
 -- A profile as segments of one value each (SUBSET-026, 3.11; 7.4.2, packets 21 and 27; how the segments are kept: this
 -- project's profile). Places are centimetres.
-use Rattle.std.specs.Prelude.{◌≢◌, ℕ, count_by, is_some, ◌≤◌, length, ℤ, ◌≤ℤ◌, ◌<ℤ◌, Bool, false, not, int_lt, Option, None, Some, if◌then◌else◌, List, [], ◌∷◌}
+use Rattle.std.specs.Prelude.{◌≢◌, ℕ, ◌+◌, count_by, is_some, ◌≤◌, length, ℤ, ◌≤ℤ◌, ◌<ℤ◌, Bool, false, not, int_lt, Option, None, Some, if◌then◌else◌, List, [], ◌∷◌}
 use Rattle.std.specs.Int.{int_max}
 use Rattle.std.specs.List.Sorted.{IsPartitionPoint}
 use Rattle.track_store.specs.declared.segments.Segment.{Segment}
@@ -29,6 +29,10 @@ profile_kept kept = record { value = value_kept kept }
 
 abbrev pub with_room : {A : Type 0} → ℕ → Segmented A → Segmented A
 with_room room kept = record kept { room = room }
+
+-- how many segments it keeps and replacements it has room for
+abbrev pub size_of : {A : Type 0} → Segmented A → ℕ
+size_of kept = length kept.segments + kept.room
 
 -- segments that start behind a place, each behind the one before it
 abbrev pub IsRisingFrom : {A : Type 0} → ℤ → List (Segment A) → Type 0

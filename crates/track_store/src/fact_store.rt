@@ -1,4 +1,4 @@
-ghost use Rattle.std.specs.Prelude.{◌≤◌, ℤ, Option, OnOk, vec_len};
+ghost use Rattle.std.specs.Prelude.{◌≤◌, ℤ, Option, IsOk, OnOk, vec_len};
 
 use crate::blank::Blank;
 use crate::fact::Fact;
@@ -53,13 +53,15 @@ impl<T: Copy> Profile<T> for FactStore<T> {
 
 impl<T: Copy> ProfileStore<T> for FactStore<T> {
     ghost use Rattle.std.specs.Prelude.{refl};
-    ghost use Rattle.track_store.specs.Remembered.{profile_listed, with_room};
+    ghost use Rattle.track_store.specs.Remembered.{profile_listed, with_room, size_of};
 
     ghost profile = { profile_listed };
 
     ghost room = { λ listed. listed.room };
 
     ghost with_room = { with_room };
+
+    ghost size = { size_of };
 
     ghost profile_is = { λ _. refl };
 
@@ -80,9 +82,11 @@ impl<T: Copy> ProfileStore<T> for FactStore<T> {
     }
 
     fn replace_from(&mut self, start: Cm, steps: &[Step<T>]) -> Result<(), NoMemory> {
+        let Some(more) = self.room.checked_add(1) else {
+            return Err(NoMemory);
+        };
         let fact = Fact::new(*self.facts.allocator(), start, steps)?;
-        self.facts.reserve(1)?;
-        self.room = 0;
+        self.facts.reserve(more)?;
         self.facts.insert(0, fact).unwrap();
         Ok(())
     }
@@ -142,6 +146,7 @@ fn add_blanks<T: Copy>(
     count: usize,
 ) -> Result<(), NoMemory>
     ensures ok { OnOk result (count ≤ vec_len blanks.new) }
+    ensures quiet { count ≤ vec_len blanks.old → IsOk result }
     ensures len { vec_len blanks.old ≤ vec_len blanks.new }
 {
     while blanks.len() < count {

@@ -1,4 +1,4 @@
-ghost use Rattle.std.specs.Prelude.{◌≡◌, ◌≤◌, ◌+◌, ℕ, ℤ, max, length, Option, None, OnOk, OnErr, IfOk};
+ghost use Rattle.std.specs.Prelude.{◌≡◌, ◌≤◌, ◌+◌, ℕ, ℤ, max, length, Option, None, IsOk, OnOk, OnErr, IfOk};
 ghost use Rattle.track_store.specs.Profiles as profiles;
 ghost use Rattle.track_store.specs.Profiles.{Lasts, profile_with};
 ghost use Rattle.track_store.specs.Facts.{from_mark, replaced};
@@ -75,15 +75,19 @@ pub trait ProfileStore<T>: Profile<T> {
 
     ghost with_room: { ℕ → Self → Self };
 
+    ghost size: { Self → ℕ };
+
     /// No value anywhere. Takes no memory.
     fn empty(alloc: Global) -> Self
-        ensures { (place : ℤ) → Self.value result place ≡ None };
+        ensures value { (place : ℤ) → Self.value result place ≡ None }
+        ensures size { size result ≡ 0 };
 
     /// Takes the values from a first place on, in centimetres, in place of all that were there before. The last of the steps at
-    /// or below a centimetre holds there, and nothing where an end mark or no step is at or below it. NoMemory where memory is
-    /// refused, and then nothing changes.
+    /// or below a centimetre holds there, and nothing where an end mark or no step is at or below it. The room that was made stays.
+    /// NoMemory where memory is refused, and then nothing changes.
     fn replace_from(&mut self, start: Cm, steps: &[Step<T>]) -> Result<(), NoMemory>
         ensures ok { OnOk result ((place : ℤ) → Self.value self.new place ≡ replaced (Self.value self.old) start steps.now place) }
+        ensures room { OnOk result (room self.new ≡ room self.old) }
         ensures err { OnErr result (self.new ≡ self.old) };
 
     /// For how many replacements, of at most `MOST_STEPS` steps each, there is room.
@@ -112,15 +116,19 @@ pub trait ProfileStore<T>: Profile<T> {
     /// Drops the values below a place, in centimetres, and no other ones. What comes there later counts.
     fn drop_behind(&mut self, place: Cm)
         ensures value { (there : ℤ) → Self.value self.new there ≡ from_mark place (Self.value self.old) there }
-        ensures room { room self.new ≡ room self.old };
+        ensures room { room self.new ≡ room self.old }
+        ensures size { size self.new ≤ size self.old };
 
     /// Drops all values.
     fn clear(&mut self)
-        ensures { (place : ℤ) → Self.value self.new place ≡ None };
+        ensures value { (place : ℤ) → Self.value self.new place ≡ None }
+        ensures room { room self.new ≡ room self.old }
+        ensures size { size self.new ≤ size self.old };
 
-    /// An equal value: an equal profile, with room for as many replacements. NoMemory where memory is refused.
+    /// An equal value: an equal profile, with room for as many replacements. NoMemory where memory is refused; one of size 0 takes none.
     fn copy(&self, alloc: Global) -> Result<Self, NoMemory>
-        ensures { IfOk result (λ copy. copy ≡ self.now) };
+        ensures value { IfOk result (λ copy. copy ≡ self.now) }
+        ensures quiet { size self.now ≡ 0 → IsOk result };
 
     ghost profile_is: { (store : Self) → profile store ≡ profile_with Self.value store };
 

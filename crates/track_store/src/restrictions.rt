@@ -1,7 +1,7 @@
-ghost use Rattle.std.specs.Prelude.{◌≡◌, ◌≤◌, ◌+◌, List, [], ◌∷◌, filter, not, min, max, if◌then◌else◌, OnOk, OnErr, IfOk, vec_len, vec_capacity};
+ghost use Rattle.std.specs.Prelude.{◌≡◌, ◌≤◌, ◌+◌, List, [], ◌∷◌, filter, not, min, max, if◌then◌else◌, IsOk, OnOk, OnErr, IfOk, vec_len, vec_capacity};
 ghost use Rattle.restriction.specs.Covering.{is_ended_by, reaches_past};
 ghost use Rattle.restriction.specs.Meeting.{meets};
-ghost use Rattle.track_store.specs.Restrictions.{Entry, in_force, least_speed};
+ghost use Rattle.track_store.specs.Restrictions.{Entry, in_force, least_speed, size_of};
 ghost use Rattle.track_store.specs.Restrictions.Entry.{Restricted, Revoked, Forgotten};
 
 mod walk;
@@ -74,7 +74,7 @@ impl Restrictions {
     }
 
     /// Takes a restriction, in place of the one of its number (but for 255). NoMemory where memory is refused, and then nothing
-    /// changes. The list holds the allocator that it takes memory of.
+    /// changes. The list holds the allocator that it takes memory of. This is for a caller who makes no room first.
     pub fn add(&mut self, _alloc: Global, restriction: Restriction) -> Result<(), NoMemory>
         ensures ok { OnOk result ((entries : List Entry) → self.old.track ≡ in_force entries
             → self.new.track ≡ in_force (Restricted restriction ∷ entries)) }
@@ -113,6 +113,7 @@ impl Restrictions {
         ensures track { (entries : List Entry) → self.old.track ≡ in_force entries
             → self.new.track ≡ in_force (Forgotten mark ∷ entries) }
         ensures room { self.new.room ≡ self.old.room }
+        ensures size { size_of self.new ≤ size_of self.old }
     {
         if self.mark < mark {
             self.mark = mark;
@@ -132,12 +133,13 @@ impl Restrictions {
         limit
     }
 
-    /// An equal value, with as much room; NoMemory where memory is refused.
+    /// An equal value, with as much room; NoMemory where memory is refused. One of size 0 takes none.
     pub fn copy(&self, alloc: Global) -> Result<Self, NoMemory>
-        ensures { IfOk result (λ copy. copy ≡ self.now) }
+        ensures value { IfOk result (λ copy. copy ≡ self.now) }
+        ensures quiet { size_of self.now ≡ 0 → IsOk result }
     {
-        let mut items = Vec::from_slice(alloc, &self.items)?;
-        items.reserve(self.room)?;
+        let mut items = Vec::with_capacity(alloc, self.items.len() + self.room)?;
+        items.extend_from_slice(&self.items)?;
         Ok(Restrictions {
             mark: self.mark,
             items,

@@ -65,13 +65,15 @@ impl<T: Copy> Profile<T> for SegmentStore<T> {
 
 impl<T: Copy + Same> ProfileStore<T> for SegmentStore<T> {
     ghost use Rattle.std.specs.Prelude.{refl};
-    ghost use Rattle.track_store.specs.Segments.{profile_kept, with_room};
+    ghost use Rattle.track_store.specs.Segments.{profile_kept, with_room, size_of};
 
     ghost profile = { profile_kept };
 
     ghost room = { λ kept. kept.room };
 
     ghost with_room = { with_room };
+
+    ghost size = { size_of };
 
     ghost profile_is = { λ _. refl };
 
@@ -91,8 +93,11 @@ impl<T: Copy + Same> ProfileStore<T> for SegmentStore<T> {
     }
 
     fn replace_from(&mut self, start: Cm, steps: &[Step<T>]) -> Result<(), NoMemory> {
-        self.segments.reserve(steps.len().saturating_add(2))?;
-        self.room = 0;
+        let kept = self.room * MOST_SEGMENTS;
+        let Some(segments) = kept.checked_add(steps.len().saturating_add(2)) else {
+            return Err(NoMemory);
+        };
+        self.segments.reserve(segments)?;
         hold_steps(&mut self.segments, start, steps);
         Ok(())
     }
@@ -129,8 +134,9 @@ impl<T: Copy + Same> ProfileStore<T> for SegmentStore<T> {
     }
 
     fn copy(&self, alloc: Global) -> Result<Self, NoMemory> {
-        let mut segments = Vec::from_slice(alloc, &self.segments)?;
-        segments.reserve(self.room * MOST_SEGMENTS)?;
+        let count = self.segments.len() + self.room * MOST_SEGMENTS;
+        let mut segments = Vec::with_capacity(alloc, count)?;
+        segments.extend_from_slice(&self.segments)?;
         Ok(SegmentStore {
             segments,
             room: self.room,

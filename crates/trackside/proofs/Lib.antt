@@ -4,3 +4,4 @@ pub mod Telling
 pub mod Walking
 pub mod Wanting
 pub mod Marking
+pub mod Idling

@@ -3,6 +3,7 @@ use Rattle.std.specs.Prelude.{ℕ, zero, suc, Bool, List, [], ◌∷◌, length,
 use Rattle.std.specs.Option.{option_map}
 use Rattle.bits.specs.Bits.{bits_of}
 use Rattle.bits.specs.Layout.{read}
+use Rattle.packets.specs.Limits.{telegram_bytes}
 use Rattle.packets.specs.declared.packet.Packet.{Packet}
 use Rattle.telegram.specs.declared.fault.TelegramFault.{TelegramFault}
 use Rattle.telegram.specs.declared.header.Header.{Header}
@@ -26,4 +27,4 @@ with_header (Err e) = None
 
 -- the telegram that the bytes carry, if they carry one; a telegram has fewer packets than bits
 unfoldable pub telegram_in : List ℕ → Option Telegram
-telegram_in bytes = if nat_le (length bytes) 104 then with_header (read header (bits_of bytes)) else None
+telegram_in bytes = if nat_le (length bytes) telegram_bytes then with_header (read header (bits_of bytes)) else None

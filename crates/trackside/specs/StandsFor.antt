@@ -1,5 +1,5 @@
 -- What is known represents a life (this project's profile). Places are centimetres, moments milliseconds.
-use Rattle.std.specs.Prelude.{◌≡◌, ℕ, min, ℤ, Bool, Option, List, ◌∷◌}
+use Rattle.std.specs.Prelude.{◌≡◌, ℕ, ◌+◌, min, ℤ, Bool, Option, List, ◌∷◌}
 use Rattle.areas.specs.declared.announcement.Announcement.{Announcement as AnnouncedLevel}
 use Rattle.areas.specs.declared.area.Area.{Area}
 use Rattle.authority.specs.Known.{Known as Authority}
@@ -75,6 +75,17 @@ pub record StandsForLife {G S : Type 0} (gradients_in : G → Profile ℤ) (spee
 abbrev pub room_in : {G S : Type 0} → (G → ℕ) → (S → ℕ) → Knowledge G S → ℕ
 room_in gradients_room speeds_room known =
     min known.restrictions.room (min (gradients_room known.gradients) (speeds_room known.speeds))
+
+-- how many restrictions and pieces of profiles it keeps or has room for
+abbrev pub size_in : {G S : Type 0} → (G → ℕ) → (S → ℕ) → Knowledge G S → ℕ
+size_in gradients_size speeds_size known =
+    track.size_of known.restrictions + (gradients_size known.gradients + speeds_size known.speeds)
+
+-- the restrictions and profiles are the same, with their room
+pub record SameTrack {G S : Type 0} (old new : Knowledge G S) : Type 0 where
+  pub restrictions_same : new.restrictions ≡ old.restrictions
+  pub gradients_same : new.gradients ≡ old.gradients
+  pub speeds_same : new.speeds ≡ old.speeds
 
 -- a life with one entry more
 abbrev pub grown : Life → Entry → Life

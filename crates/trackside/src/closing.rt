@@ -12,7 +12,7 @@ ghost use Rattle.trackside.specs.Entry.Outcome.{Accepted, Broken as NoMessage};
 ghost use Rattle.trackside.specs.History.{links_of};
 ghost use Rattle.trackside.specs.Sentences.{judged, ruled, accepted, with_facts, outcome_of, after_group, with_closed};
 ghost use Rattle.trackside.specs.Steps.{facts};
-ghost use Rattle.trackside.specs.StandsFor.{Life, StandsForLife, parts_of, grown_so_far, room_in};
+ghost use Rattle.trackside.specs.StandsFor.{Life, StandsForLife, SameTrack, parts_of, grown_so_far, room_in};
 
 use crate::parts::Parts;
 use crate::state::TracksideOver;
@@ -68,6 +68,7 @@ impl<G: ProfileStore<Permille> + Drop, S: ProfileStore<CategorySpeeds> + Drop> T
             → StandsForLife G.profile S.profile self.old (grown_so_far life begun (added (Accepted message announced fix []) groups))
             → StandsForLife G.profile S.profile self.new (grown_so_far life begun (added (Accepted message announced fix (facts used.now packets.now)) groups)) }
         ensures room { room_in G.room S.room self.old ≤ room_in G.room S.room self.new + length packets.now }
+        ensures idle { length packets.now ≡ 0 → SameTrack self.old self.new }
     {
         if take_all::<TracksideOver<G, S>, Earlier>(self, packets, used) {
             take_all::<TracksideOver<G, S>, Later>(self, packets, used);
@@ -81,6 +82,7 @@ impl<G: ProfileStore<Permille> + Drop, S: ProfileStore<CategorySpeeds> + Drop> T
             → StandsForLife G.profile S.profile self.old (grown_so_far life begun (added (accepted message.now announced.now) used))
             → StandsForLife G.profile S.profile self.new (grown_so_far life begun (added (with_facts mode (so_far begun (added (accepted message.now announced.now) used) ∷ life.entries) message.now announced.now) used)) }
         ensures room { room_in G.room S.room self.old ≤ room_in G.room S.room self.new + length message.now.packets }
+        ensures idle { length message.now.packets ≡ 0 → SameTrack self.old self.new }
     {
         let free = self.is_free();
         let place = self.parts.fix(message, announced, free);
@@ -101,6 +103,7 @@ impl<G: ProfileStore<Permille> + Drop, S: ProfileStore<CategorySpeeds> + Drop> T
             → StandsForLife G.profile S.profile self.old (grown_so_far life begun (added (ruled message.now verdict) used))
             → StandsForLife G.profile S.profile self.new (grown_so_far life begun (added (outcome_of mode life.entries begun used message.now verdict) used)) }
         ensures room { room_in G.room S.room self.old ≤ room_in G.room S.room self.new + length message.now.packets }
+        ensures idle { length message.now.packets ≡ 0 → SameTrack self.old self.new }
     {
         match verdict {
             Verdict::Accept(announced) => self.accept(mode, message, &announced),
@@ -114,6 +117,7 @@ impl<G: ProfileStore<Permille> + Drop, S: ProfileStore<CategorySpeeds> + Drop> T
         ensures stands { (life : Life) (begun : Begun) (used : Used) → StandsForLife G.profile S.profile self.old (grown_so_far life begun used)
             → StandsForLife G.profile S.profile self.new (grown_so_far life begun (after_group mode life.entries begun used (closed.Whole message.now))) }
         ensures room { room_in G.room S.room self.old ≤ room_in G.room S.room self.new + length message.now.packets }
+        ensures idle { length message.now.packets ≡ 0 → SameTrack self.old self.new }
     {
         let verdict = self.parts.judge(message);
         self.follow(mode, message, verdict);
@@ -126,6 +130,7 @@ impl<G: ProfileStore<Permille> + Drop, S: ProfileStore<CategorySpeeds> + Drop> T
         ensures stands { (life : Life) (begun : Begun) (used : Used) → StandsForLife G.profile S.profile self.old (grown_so_far life begun used)
             → StandsForLife G.profile S.profile self.new (grown_so_far life begun (after_group mode life.entries begun used group.now)) }
         ensures room { room_in G.room S.room self.old ≤ room_in G.room S.room self.new + packets_of_closed (Some group.now) }
+        ensures idle { packets_of_closed (Some group.now) ≡ 0 → SameTrack self.old self.new }
     {
         match group {
             Closed::Whole(message) => self.close_whole(mode, message),
@@ -139,6 +144,7 @@ impl<G: ProfileStore<Permille> + Drop, S: ProfileStore<CategorySpeeds> + Drop> T
         ensures stands { (life : Life) (begun : Begun) (used : Used) → StandsForLife G.profile S.profile self.old (grown_so_far life begun used)
             → StandsForLife G.profile S.profile self.new (grown_so_far life begun (with_closed mode life.entries begun group.now used)) }
         ensures room { room_in G.room S.room self.old ≤ room_in G.room S.room self.new + packets_of_closed group.now }
+        ensures idle { packets_of_closed group.now ≡ 0 → SameTrack self.old self.new }
     {
         match group {
             None => {}

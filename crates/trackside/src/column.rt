@@ -1,5 +1,5 @@
 //! What a mode deletes that is entered.
-ghost use Rattle.std.specs.Prelude.{◌≡◌, List, Option, Some};
+ghost use Rattle.std.specs.Prelude.{◌≡◌, ◌≤◌, List, Option, Some};
 ghost use Rattle.units.specs.Stretches.{Span};
 ghost use Rattle.areas.specs.Areas.{stored};
 ghost use Rattle.areas.specs.Entries.{Entry as AreaEntry};
@@ -13,7 +13,7 @@ ghost use Rattle.track_store.specs.Facts.{Told, profile_of};
 ghost use Rattle.track_store.specs.Profiles.{profile_with};
 ghost use Rattle.trackside.specs.Entry.{Begun, Used, looked, turned};
 ghost use Rattle.trackside.specs.History.{is_deleted, after_column, links_deleted, authority_deleted, areas_deleted, level_deleted, none_told};
-ghost use Rattle.trackside.specs.StandsFor.{Life, StandsForLife, parts_of, grown};
+ghost use Rattle.trackside.specs.StandsFor.{Life, StandsForLife, parts_of, grown, size_in};
 
 use crate::parts::Parts;
 use crate::state::TracksideOver;
@@ -37,7 +37,7 @@ fn leave_links(links: &mut Links, mode: Mode)
         → links.new ≡ known_links (after_column item.Linking links_deleted (Some mode) entries) }
 {
     if is_deleted(Item::Linking, mode) {
-        links.replace(&[]);
+        links.clear();
     }
 }
 
@@ -69,8 +69,9 @@ fn leave_level(level: &mut AnnouncedLevel, mode: Mode)
 }
 
 fn leave_profile<T, P: ProfileStore<T>>(profile: &mut P, mode: Mode)
-    ensures { (told : Told T) → P.profile profile.old ≡ profile_of told
+    ensures profile { (told : Told T) → P.profile profile.old ≡ profile_of told
         → P.profile profile.new ≡ profile_of (record told { facts = after_column item.Profiles none_told (Some mode) told.facts }) }
+    ensures size { P.size profile.new ≤ P.size profile.old }
 {
     if is_deleted(Item::Profiles, mode) {
         profile.clear();
@@ -93,8 +94,9 @@ impl Parts {
 impl<G: ProfileStore<Permille> + Drop, S: ProfileStore<CategorySpeeds> + Drop> TracksideOver<G, S> {
     /// Another mode is entered: what the table of statuses deletes there is deleted.
     pub fn enter(&mut self, mode: Mode)
-        ensures { (life : Life) (begun : Begun) (used : Used) (train : Option Span) → StandsForLife G.profile S.profile self.old (grown life (looked begun used train))
+        ensures stands { (life : Life) (begun : Begun) (used : Used) (train : Option Span) → StandsForLife G.profile S.profile self.old (grown life (looked begun used train))
             → StandsForLife G.profile S.profile self.new (grown life (turned begun used train (Some mode))) }
+        ensures size { size_in G.size S.size self.new ≤ size_in G.size S.size self.old }
     {
         self.parts.enter(mode);
         leave_profile(&mut self.gradients, mode);

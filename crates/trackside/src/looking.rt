@@ -1,5 +1,5 @@
 //! What is seen of the train once the groups of an event are used, and what is forgotten at its end.
-ghost use Rattle.std.specs.Prelude.{◌≡◌, Option, Some, ◌∷◌};
+ghost use Rattle.std.specs.Prelude.{◌≡◌, ◌≤◌, Option, Some, ◌∷◌};
 ghost use Rattle.units.specs.Limits.{HasReach};
 ghost use Rattle.units.specs.Stretches.{Span};
 ghost use Rattle.areas.specs.Levels.{coming};
@@ -7,7 +7,7 @@ ghost use Rattle.mode_table.specs.declared.mode.Mode.{Mode};
 ghost use Rattle.trackside.specs.Entry.{Begun, Used, so_far, looked, turned, marked};
 ghost use Rattle.trackside.specs.History.{announced_level};
 ghost use Rattle.trackside.specs.Sentences.{standing, mark_behind};
-ghost use Rattle.trackside.specs.StandsFor.{Life, StandsForLife, parts_of, grown, grown_so_far};
+ghost use Rattle.trackside.specs.StandsFor.{Life, StandsForLife, parts_of, grown, grown_so_far, size_in};
 
 use crate::parts::Parts;
 use crate::state::TracksideOver;
@@ -51,6 +51,7 @@ impl<G: ProfileStore<Permille> + Drop, S: ProfileStore<CategorySpeeds> + Drop> T
             → (let all = so_far begun used ∷ life.entries in result ≡ coming (standing length all).max_front (announced_level all)) }
         ensures stands { (life : Life) (begun : Begun) (used : Used) → StandsForLife G.profile S.profile self.old (grown_so_far life begun used)
             → StandsForLife G.profile S.profile self.new (grown life (looked begun used (Some (standing length (so_far begun used ∷ life.entries))))) }
+        ensures size { size_in G.size S.size self.new ≡ size_in G.size S.size self.old }
     {
         let stretch = self.parts.place.stretch(length);
         self.parts.look(&stretch)
@@ -58,9 +59,10 @@ impl<G: ProfileStore<Permille> + Drop, S: ProfileStore<CategorySpeeds> + Drop> T
 
     // The track before a place is forgotten.
     fn forget_before(&mut self, mark: Cm)
-        ensures { (life : Life) (begun : Begun) (used : Used) (train : Option Span) (mode : Option Mode)
+        ensures stands { (life : Life) (begun : Begun) (used : Used) (train : Option Span) (mode : Option Mode)
             → StandsForLife G.profile S.profile self.old (grown life (turned begun used train mode))
             → StandsForLife G.profile S.profile self.new (grown life (marked begun used train mode mark)) }
+        ensures size { size_in G.size S.size self.new ≤ size_in G.size S.size self.old }
     {
         self.restrictions.drop_behind(mark);
         self.gradients.drop_behind(mark);
@@ -70,10 +72,11 @@ impl<G: ProfileStore<Permille> + Drop, S: ProfileStore<CategorySpeeds> + Drop> T
     /// The end of an event, for a train of some length (0 where it isn't known): the track is forgotten that lies more than a
     /// kilometre behind its least rear.
     pub fn forget(&mut self, length: Length)
-        ensures { (life : Life) (begun : Begun) (used : Used) (train : Option Span) (mode : Option Mode)
+        ensures stands { (life : Life) (begun : Begun) (used : Used) (train : Option Span) (mode : Option Mode)
             → (let all = turned begun used train mode ∷ life.entries in
             StandsForLife G.profile S.profile self.old (record life { entries = all })
             → StandsForLife G.profile S.profile self.new (grown life (marked begun used train mode (mark_behind (standing length all))))) }
+        ensures size { size_in G.size S.size self.new ≤ size_in G.size S.size self.old }
     {
         let stretch = self.parts.place.stretch(length);
         self.forget_before(mark_behind(&stretch));

@@ -6,9 +6,9 @@ ghost use Rattle.trackside.specs.Bytes.{telegram_in};
 ghost use Rattle.trackside.specs.Entry.{nothing_happened, no_groups};
 ghost use Rattle.trackside.specs.History.{groups_of};
 ghost use Rattle.trackside.specs.Sentences.{nothing, moved, happened_by, heard, begun, closed_by, with_groups, used_by, received};
-ghost use Rattle.trackside.specs.StandsFor.{Life, StandsForLife, parts_of, grown, grown_so_far, room_in};
+ghost use Rattle.trackside.specs.StandsFor.{Life, StandsForLife, SameTrack, parts_of, grown, grown_so_far, room_in, size_in};
 ghost use Rattle.events.specs.declared.input.Input.TheVariants as inputs;
-ghost use Rattle.trackside.specs.Steps.{left_by, after_moving, still_reading, HasRoomFor};
+ghost use Rattle.trackside.specs.Steps.{left_by, after_moving, still_reading, packets_by, HasRoomFor};
 
 use crate::happened::Happened;
 use crate::parts::Parts;
@@ -96,7 +96,8 @@ impl<G: ProfileStore<Permille> + Drop, S: ProfileStore<CategorySpeeds> + Drop> T
     // A movement while a group is being read, and the group that closes by it. There is room for its packets.
     fn move_on(&mut self, mode: Mode, reading: &Reading)
         requires { packets_in self.old.parts.groups.readings ≤ room_in G.room S.room self.old }
-        ensures { (life : Life) → StandsForLife G.profile S.profile self.old life
+        ensures idle { packets_in self.old.parts.groups.readings ≡ 0 → SameTrack self.old self.new }
+        ensures stands { (life : Life) → StandsForLife G.profile S.profile self.old life
             → StandsForLife G.profile S.profile self.new (grown_so_far life (moved life.entries reading.now)
             (with_groups mode life.entries (moved life.entries reading.now) (happened_by life.entries reading.now))) }
     {
@@ -109,6 +110,7 @@ impl<G: ProfileStore<Permille> + Drop, S: ProfileStore<CategorySpeeds> + Drop> T
     // A movement, and the group that closed by it. Where memory is refused, nothing changes.
     fn move_by(&mut self, mode: Mode, reading: &Reading) -> Result<(), NoMemory>
         ensures quiet { HasRoomFor G.room S.room self.old (inputs.Odometer reading.now) → IsOk result }
+        ensures idle { packets_by self.old.parts (inputs.Odometer reading.now) ≡ 0 → OnOk result (SameTrack self.old self.new) }
         ensures stands { OnOk result ((life : Life) → StandsForLife G.profile S.profile self.old life
             → StandsForLife G.profile S.profile self.new (grown_so_far life (moved life.entries reading.now)
             (with_groups mode life.entries (moved life.entries reading.now) (happened_by life.entries reading.now)))) }
@@ -127,7 +129,8 @@ impl<G: ProfileStore<Permille> + Drop, S: ProfileStore<CategorySpeeds> + Drop> T
     // A telegram: the group that it ends closes, and behind that its own where that is whole now. There is room for the packets of both.
     fn take(&mut self, mode: Mode, telegram: Received)
         requires { packets_in self.old.parts.groups.readings + length telegram.packets.items ≤ room_in G.room S.room self.old }
-        ensures { (life : Life) (bytes : List ℕ) → StandsForLife G.profile S.profile self.old life → telegram_in bytes ≡ Some telegram
+        ensures idle { packets_in self.old.parts.groups.readings + length telegram.packets.items ≡ 0 → SameTrack self.old self.new }
+        ensures stands { (life : Life) (bytes : List ℕ) → StandsForLife G.profile S.profile self.old life → telegram_in bytes ≡ Some telegram
             → StandsForLife G.profile S.profile self.new (grown_so_far life (heard life.entries bytes)
             (with_groups mode life.entries (heard life.entries bytes) nothing_happened)) }
     {
@@ -141,6 +144,7 @@ impl<G: ProfileStore<Permille> + Drop, S: ProfileStore<CategorySpeeds> + Drop> T
     #[inline(never)]
     fn read(&mut self, mode: Mode, telegram: Received) -> Result<(), NoMemory>
         ensures quiet { packets_in self.old.parts.groups.readings + length telegram.packets.items ≤ room_in G.room S.room self.old → IsOk result }
+        ensures idle { packets_in self.old.parts.groups.readings + length telegram.packets.items ≡ 0 → OnOk result (SameTrack self.old self.new) }
         ensures stands { OnOk result ((life : Life) (bytes : List ℕ) → StandsForLife G.profile S.profile self.old life → telegram_in bytes ≡ Some telegram
             → StandsForLife G.profile S.profile self.new (grown_so_far life (heard life.entries bytes)
             (with_groups mode life.entries (heard life.entries bytes) nothing_happened))) }
@@ -155,6 +159,7 @@ impl<G: ProfileStore<Permille> + Drop, S: ProfileStore<CategorySpeeds> + Drop> T
     // The bytes of a balise. Those that carry no telegram do nothing.
     fn listen(&mut self, mode: Mode, bytes: &[u8]) -> Result<(), NoMemory>
         ensures quiet { HasRoomFor G.room S.room self.old (inputs.Telegram bytes.now) → IsOk result }
+        ensures idle { packets_by self.old.parts (inputs.Telegram bytes.now) ≡ 0 → OnOk result (SameTrack self.old self.new) }
         ensures stands { OnOk result ((life : Life) → StandsForLife G.profile S.profile self.old life
             → StandsForLife G.profile S.profile self.new (grown_so_far life (heard life.entries bytes.now)
             (with_groups mode life.entries (heard life.entries bytes.now) nothing_happened))) }
@@ -171,9 +176,10 @@ impl<G: ProfileStore<Permille> + Drop, S: ProfileStore<CategorySpeeds> + Drop> T
 
     /// What an input brings in a mode, and the groups that it closes: first its own effect, then each group is judged, makes its
     /// fix, and the packets are used that the mode uses. Room is made first for all that they may add; where memory is refused for it,
-    /// nothing changes. Where there is room for them, none is refused.
+    /// nothing changes. Where there is room for them, none is refused. An input that uses no packet keeps no more track.
     pub fn receive(&mut self, mode: Mode, input: &Input) -> Result<(), NoMemory>
         ensures quiet { HasRoomFor G.room S.room self.old input.now → IsOk result }
+        ensures idle { packets_by self.old.parts input.now ≡ 0 → OnOk result (size_in G.size S.size self.new ≡ size_in G.size S.size self.old) }
         ensures stands { OnOk result ((life : Life) → StandsForLife G.profile S.profile self.old life
             → StandsForLife G.profile S.profile self.new (grown life (received mode life.entries input.now))) }
         ensures err { OnErr result (self.new ≡ self.old) }

@@ -16,9 +16,10 @@ impl<G: ProfileStore<Permille> + Drop, S: ProfileStore<CategorySpeeds> + Drop> T
         self.restrictions.room().min(profiles)
     }
 
-    /// Makes room for so many packets, unless there is room for them. Where memory is refused, nothing changes.
+    /// Makes room for so many packets, unless there is room for them: then, and where memory is refused, nothing changes.
     pub(crate) fn make_room(&mut self, packets: usize) -> Result<(), NoMemory>
         ensures quiet { packets ≤ room_in G.room S.room self.old → IsOk result }
+        ensures same { packets ≤ room_in G.room S.room self.old → self.new ≡ self.old }
         ensures room { OnOk result (packets ≤ room_in G.room S.room self.new) }
         ensures parts { OnOk result (self.new.parts ≡ self.old.parts) }
         ensures stands { OnOk result ((life : Life) → StandsForLife G.profile S.profile self.old life

@@ -1,5 +1,5 @@
-ghost use Rattle.std.specs.Prelude.{◌≡◌, [], IfOk};
-ghost use Rattle.trackside.specs.StandsFor.{StandsForLife};
+ghost use Rattle.std.specs.Prelude.{◌≡◌, [], IsOk, IfOk};
+ghost use Rattle.trackside.specs.StandsFor.{StandsForLife, size_in};
 
 use crate::parts::Parts;
 use national::CountryValues;
@@ -32,7 +32,8 @@ impl<G, S> Model for TracksideOver<G, S> {
 impl<G: ProfileStore<Permille> + Drop, S: ProfileStore<CategorySpeeds> + Drop> TracksideOver<G, S> {
     /// What is known as a life begins, with the national values that were kept. Takes no memory.
     pub fn new(alloc: Global, kept: CountryValues) -> Self
-        ensures { StandsForLife G.profile S.profile result (record { kept = kept; entries = [] }) }
+        ensures stands { StandsForLife G.profile S.profile result (record { kept = kept; entries = [] }) }
+        ensures size { size_in G.size S.size result ≡ 0 }
     {
         TracksideOver {
             parts: Parts::new(kept),
@@ -42,9 +43,10 @@ impl<G: ProfileStore<Permille> + Drop, S: ProfileStore<CategorySpeeds> + Drop> T
         }
     }
 
-    /// An equal value; NoMemory where memory is refused.
+    /// An equal value; NoMemory where memory is refused. None is taken where no restriction and no profile is kept, nor room for one.
     pub fn copy(&self, alloc: Global) -> Result<Self, NoMemory>
-        ensures { IfOk result (λ copy. copy ≡ self.now) }
+        ensures value { IfOk result (λ copy. copy ≡ self.now) }
+        ensures quiet { size_in G.size S.size self.now ≡ 0 → IsOk result }
     {
         Ok(TracksideOver {
             parts: self.parts.copy(),

@@ -141,6 +141,7 @@ pub fn take_all<T, W: Walk<T>>(state: &mut T, packets: &GroupPackets, used: &Use
     ensures told { (told : W.Told) → W.IsTold state.old told → W.IsTold state.new (after_facts W.after (facts used.now packets.now) told) }
     ensures room { (behind : ℕ) → W.HasRoom (length packets.now) behind state.old → W.HasRoom 0 behind state.new }
     ensures later { result ≡ list_any comes_later packets.now }
+    ensures none { length packets.now ≡ 0 → state.new ≡ state.old }
 {
     let mut later = false;
     for item in packets.iter() {

@@ -9,7 +9,7 @@ ghost use Rattle.trackside.specs.Steps.{fact_of};
 
 use crate::using::Use;
 use arrayvec::ArrayVec;
-use linking::{Announcement, Links};
+use linking::{Announcement, Links, MOST_ANNOUNCED};
 use packets::{Link, Linking, Packet};
 use units::{Cm, GroupPlace};
 use vars::{Country, GroupIdentity, Scale};
@@ -49,10 +49,10 @@ fn announcements(
     packet: &Linking,
     group: &GroupIdentity,
     place: GroupPlace,
-) -> ArrayVec<Announcement, 32>
+) -> ArrayVec<Announcement, MOST_ANNOUNCED>
     ensures { result.items ≡ announcements_of group.now place packet.now }
 {
-    let mut announcements: ArrayVec<Announcement, 32> = ArrayVec::new();
+    let mut announcements: ArrayVec<Announcement, MOST_ANNOUNCED> = ArrayVec::new();
     let mut chain = Chain {
         scale: packet.scale,
         place: place.to_cm(),
@@ -70,6 +70,6 @@ pub fn take(links: &mut Links, packet: &Packet<'_>, used: &Use)
         → links.new ≡ known (after_links (fact_of used.now packet.now) entries) }
 {
     if let Packet::Linking(packet) = packet {
-        links.replace(announcements(packet, &used.group, used.place).as_slice());
+        links.replace(&announcements(packet, &used.group, used.place));
     }
 }

@@ -1,4 +1,4 @@
-use Rattle.std.proofs.Common.{◌≡◌, ℕ, ◌+◌, Bool, true, false, List, ◌∷◌, length, refl, ap, sym, subst, add-one, ◌∙◌}
+use Rattle.std.proofs.Common.{◌≡◌, ℕ, ◌+◌, Bool, true, false, List, ◌∷◌, length, refl, ap, sym, subst, add-one, arith, ◌∙◌}
 use Rattle.std.specs.Prelude.{◌||◌}
 use Rattle.std.specs.List.{list_any}
 use Rattle.packets.specs.declared.packet.Packet.{Packet}
@@ -41,4 +41,6 @@ loop-item-preserved g c =
           ∙ ap (λ (p : Packet). c.loop-item.later || (comes_later p || list_any comes_later rest)) (sym c.packet-in-loop-item.ensures)
           ∙ or_next c.loop-item.later (comes_later packet) (list_any comes_later rest)
           ∙ ap (λ (b : Bool). b || list_any comes_later rest) (sym c.met_later-later.ensures)),
+      omega (arith, one, c.loop-item.invariant.3),
+      λ none. absurd (omega (arith, one, none, c.loop-item.invariant.3)),
     )

@@ -10,7 +10,7 @@ returns-clause-life g c =
     let position = c.met_by.ensures ∙ ap (λ (f : Fate). met_by f c.args.kept.position) c.power_up_status.ensures in
     record {
       parts_are = λ i. record { window = window i; limit = limit i; position = position i };
-      supervision_is = c.power_up.ensures;
+      supervision_is = c.power_up.ensures.stands;
     }
 
 pub returns-clause-counts : goal.returns-clause-counts

@@ -8,8 +8,8 @@ use Rattle.supervision.specs.StandsFor.{Known, Knowledge, StandsForLife}
 use Rattle.supervision.proofs.Standing.{seen}
 use Rattle.supervision.proofs.state.SupervisionOver.forget.Goals as goal
 
-pub returns : goal.returns
-returns g c life tells used train mode deed level calls left s =
+pub returns-clause-stands : goal.returns-clause-stands
+returns-clause-stands g c life tells used train mode deed level calls left s =
     let before = seen c.self.view_is s in
     let length = c.length.ensures ∙ ap (λ (k : Known). length_by k.driver.train_data) before.parts_are in
     let entry : TrackEntry = turned tells used (Some train) mode in
@@ -20,5 +20,5 @@ returns g c life tells used train mode deed level calls left s =
     length
     (record {
       parts_are = before.parts_are;
-      track_is = c.forget.ensures (track_of life) tells used (Some train) mode before.track_is;
+      track_is = c.forget.ensures.stands (track_of life) tells used (Some train) mode before.track_is;
     })

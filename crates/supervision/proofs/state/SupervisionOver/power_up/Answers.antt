@@ -7,9 +7,9 @@ use Rattle.supervision.specs.Life.{Life, length_by, grown}
 use Rattle.supervision.specs.StandsFor.{Known, Knowledge, StandsForLife}
 use Rattle.supervision.proofs.state.SupervisionOver.power_up.Goals as goal
 
-pub returns : goal.returns
-returns g c =
-    let s = c.new-track.ensures in
+pub returns-clause-stands : goal.returns-clause-stands
+returns-clause-stands g c =
+    let s = c.new-track.ensures.stands in
     let kept = c.args.kept in
     let empty : Life = record { kept = kept; cold = c.args.cold; entries = [] } in
     let track : TrackLife = record { kept = kept.national; entries = [] } in
@@ -19,4 +19,4 @@ returns g c =
     let known : Knowledge g.row.G.Denot g.row.S.Denot = record { parts = c.new-parts.result; track = c.forget.new.self } in
     subst (λ (n : ℕ). StandsForLife g.G.ProfileStore.profile g.S.ProfileStore.profile known (grown empty (begun (powered_up n) None)))
     length
-    (record { parts_are = c.new-parts.ensures; track_is = c.forget.ensures track nothing no_groups None None bare })
+    (record { parts_are = c.new-parts.ensures; track_is = c.forget.ensures.stands track nothing no_groups None None bare })

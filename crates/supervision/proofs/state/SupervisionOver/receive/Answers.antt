@@ -21,8 +21,8 @@ returns-clause-stands g c life s =
     let turned = subst (λ (x : Span × Option TrainLevel). StandsForLife g.G.ProfileStore.profile g.S.ProfileStore.profile c.turn.new.self
     (grown life (answered_from life t.begun t.used x.0 deed x.1)))
     (λ i. (train i, level i))
-    (c.turn.ensures life t.begun t.used deed
+    (c.turn.ensures.stands life t.begun t.used deed
     (subst (λ (x : Span × Option TrainLevel). StandsForLife g.G.ProfileStore.profile g.S.ProfileStore.profile c.see-seen.new.self
     (grown life (seen_as (looked t.begun t.used (Some x.0)) deed x.1))) (λ i. (sym train i, sym level i)) saw)) in
     let answered = answered_from life t.begun t.used at deed in_force in
-    c.forget.ensures life t.begun t.used at answered.track.entered deed in_force answered.calls answered.left turned
+    c.forget.ensures.stands life t.begun t.used at answered.track.entered deed in_force answered.calls answered.left turned

@@ -12,8 +12,8 @@ use Rattle.supervision.specs.StandsFor.{Knowledge, StandsForLife}
 use Rattle.supervision.proofs.Standing.{seen}
 use Rattle.supervision.proofs.state.SupervisionOver.turn.Goals as goal
 
-pub returns : goal.returns
-returns g c life tells used deed s =
+pub returns-clause-stands : goal.returns-clause-stands
+returns-clause-stands g c life tells used deed s =
     let before = seen c.self.view_is s in
     let train = c.args.seen.now.train in
     let level = c.args.seen.now.level in
@@ -22,7 +22,7 @@ returns g c life tells used deed s =
     let after : TrackEntry = turned tells used (Some train) mode in
     let entered = c.entered-entered.ensures here s in
     let calls = c.calls-calls.ensures here s in
-    let track = c.enter.ensures (track_of life) tells used (Some train) before.track_is in
+    let track = c.enter.ensures.stands (track_of life) tells used (Some train) before.track_is in
     let left = c.left_by-left.ensures (track_grown (track_of life) after) track.parts_are in
     let path = c.path-path.ensures ∙ ap (λ x. x.path) (c.sums.ensures ∙ ap (λ p. p.sums) (c.place.ensures ∙ ap (λ (k : TrackKnown). k.place) track.parts_are)) in
     let known : Knowledge g.row.G.Denot g.row.S.Denot = record { parts = c.turn.new.self; track = c.enter.new.track } in

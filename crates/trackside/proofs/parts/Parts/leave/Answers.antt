@@ -1,13 +1,10 @@
-use Rattle.std.proofs.Common.{◌≡◌, ◌≤◌, Option, ap, sym, subst}
+use Rattle.std.proofs.Common.{◌≡◌, ◌≤◌, ap, subst}
 use Rattle.balise_groups.specs.Groups as groups
 use Rattle.balise_groups.specs.Rooms.{packets_in, packets_of_closed}
-use Rattle.balise_groups.specs.declared.message.Closed.{Closed}
-use Rattle.balise_groups.proofs.Rooms.{ended_room}
 use Rattle.trackside.specs.StandsFor.{Known}
 use Rattle.trackside.proofs.parts.Parts.leave.Goals as goal
 
 pub returns-clause-packets : goal.returns-clause-packets
 returns-clause-packets c =
     let same : c.self.inside.groups ≡ c.args.self.now.groups = ap (λ (k : Known). k.groups) c.self.view_is in
-    subst (λ (k : groups.Known). packets_of_closed c.moved.result ≤ packets_in k.readings) same
-    (subst (λ (o : Option Closed). packets_of_closed o ≤ packets_in c.self.inside.groups.readings) (sym c.moved.ensures.answer) (ended_room _ c.self.inside.groups))
+    subst (λ (k : groups.Known). packets_of_closed c.moved.result ≤ packets_in k.readings) same c.moved.ensures.few

@@ -5,8 +5,14 @@ use Rattle.trackside.specs.Entry.Outcome.{Accepted}
 use Rattle.trackside.specs.History.{place_of}
 use Rattle.trackside.specs.Sentences.{accepted, own_place, fix_of, place_by, facts_of}
 use Rattle.trackside.specs.StandsFor.{Known, StandsForLife, grown, grown_so_far}
+use Rattle.trackside.proofs.Idling.{same_seen}
 use Rattle.trackside.proofs.Standing.{seen}
 use Rattle.trackside.proofs.state.TracksideOver.accept.Goals as goal
+
+pub returns-clause-idle : goal.returns-clause-idle
+returns-clause-idle g c none =
+    let same = c.take_packets.ensures.idle none in
+    same_seen _ _ _ c.self.view_is same.restrictions_same same.gradients_same same.speeds_same
 
 pub returns-clause-stands : goal.returns-clause-stands
 returns-clause-stands g c life begun used s =

@@ -6,8 +6,8 @@ use Rattle.trackside.specs.History.{mark_of, restrictions, gradients, speeds}
 use Rattle.trackside.proofs.Standing.{seen}
 use Rattle.trackside.proofs.state.TracksideOver.forget_before.Goals as goal
 
-pub returns : goal.returns
-returns g c life begun used train mode s =
+pub returns-clause-stands : goal.returns-clause-stands
+returns-clause-stands g c life begun used train mode s =
     let entry : Entry = turned begun used train mode in
     let all = entry ∷ life.entries in
     let before = seen c.self.view_is s in

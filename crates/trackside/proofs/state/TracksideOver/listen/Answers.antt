@@ -1,4 +1,4 @@
-use Rattle.std.proofs.Common.{◌+◌, ◌≤◌, Option, length, refl, sym, subst}
+use Rattle.std.proofs.Common.{◌≡◌, ◌+◌, ◌≤◌, Option, length, refl, sym, subst}
 use Rattle.std.specs.Option.{option_map, option_map_or}
 use Rattle.std.proofs.lemmas.Result.{on_ok_weaker}
 use Rattle.telegram.specs.declared.message.Telegram.{Telegram}
@@ -24,6 +24,12 @@ returns-in-Ok-clause-quiet g c room =
     let most = room_in g.G.ProfileStore.room g.S.ProfileStore.room c.args.self.now in
     c.read.ensures.quiet
     (subst (λ (o : Option Telegram). option_map_or (λ t. packets + length t.packets.items) o 0 ≤ most) (carried_in _ _ ((c.in-Ok.ensures.found _).0 refl)) room)
+
+pub returns-in-Ok-clause-idle : goal.returns-in-Ok-clause-idle
+returns-in-Ok-clause-idle g c none =
+    let packets = packets_in c.args.self.now.parts.groups.readings in
+    c.read.ensures.idle
+    (subst (λ (o : Option Telegram). option_map_or (λ t. packets + length t.packets.items) o 0 ≡ 0) (carried_in _ _ ((c.in-Ok.ensures.found _).0 refl)) none)
 
 abbrev with_telegram : Life → Option Telegram → Begun
 with_telegram life o = record nothing { heard = option_map (λ t. Read (record { telegram = t; sums = (place_of life.entries).sums })) o }

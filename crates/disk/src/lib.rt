@@ -7,7 +7,6 @@
 mod choice;
 mod device;
 mod durable;
-mod faults;
 mod laws;
 mod liar;
 mod memory;
@@ -22,10 +21,12 @@ pub use liar::Liar;
 pub use memory::{Memory, Room};
 pub use plan::{Fate, Plan};
 pub use record::{Call, Span};
+use thiserror::Error;
 
 /// How many bytes a sector has (this project's profile).
 pub const SECTOR_BYTES: usize = 512;
 
 /// The device failed in this call (this project's profile). What holds then is said at each call of `Disk`.
-#[derive(Clone, Copy, Debug)]
+#[derive(Clone, Copy, Debug, Error)]
+#[error("the device failed")]
 pub struct DiskFault;

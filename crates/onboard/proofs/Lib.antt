@@ -1,5 +1,6 @@
 pub mod Chains
 pub mod Greatest
+pub mod LastBlock
 pub mod Lists
 pub mod Meeting
 pub mod Numbering

@@ -1,13 +1,14 @@
 // What follows from the contracts alone (this project's profile).
+ghost use Rattle.onboard.specs.Answers.{RoomForOthers};
 ghost use Rattle.onboard.specs.Chains.{AnyNumberOfLives};
-ghost use Rattle.onboard.specs.Laws.{ForgetsAcross, ReleasesBrake, ImagesAreEndless};
-ghost use Rattle.onboard.specs.Lives.{StandsBy};
+ghost use Rattle.onboard.specs.Laws.{ForgetsAcross, ReleasesBrake, ImagesAreEndless, FormattedIsReady};
+ghost use Rattle.onboard.specs.Lives.{OneCause, StandsBy};
 ghost use Rattle.onboard.specs.Runs.{LivesCompose};
 
 use kernel::{brakes_until_revalidated, power_up_forgets};
 use ring::ring_is_endless;
 
-/// A law: wherever a life is cut, what it leaves is ready for the next one.
+/// A law: wherever a life is cut, and where it hands its disk back, what it leaves is ready for the next one.
 pub fn lives_compose()
     ensures { LivesCompose }
 {}
@@ -42,3 +43,18 @@ pub fn images_are_endless()
 {
     ring_is_endless();
 }
+
+/// A law: a disk that `journal::format` made is ready for a first life.
+pub fn formatted_is_ready()
+    ensures { FormattedIsReady }
+{}
+
+/// A law: no disk gives an opening two causes to be refused, beside a fault of the device.
+pub fn one_cause()
+    ensures { OneCause }
+{}
+
+/// A law: a moment of the clock and an action of the driver take no memory.
+pub fn others_have_room()
+    ensures { RoomForOthers }
+{}

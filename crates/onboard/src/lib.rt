@@ -17,7 +17,8 @@ mod steps;
 
 pub use errors::{AcceptError, FlushError, LiveError, OpenError};
 pub use laws::{
-    forgets_across, images_are_endless, lives_compose, releases_brake, releases_stay, stands_by,
+    forgets_across, formatted_is_ready, images_are_endless, lives_compose, one_cause,
+    others_have_room, releases_brake, releases_stay, stands_by,
 };
 pub use life_steps::Step;
 pub use living::{live, live_into};

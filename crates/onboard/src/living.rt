@@ -1,16 +1,17 @@
 // Whole lives.
-ghost use Rattle.std.specs.Prelude.{◌-◌, ◌<◌, [], ◌∷◌, List, IsTrue, IfErr, vec_len, vec_capacity};
-ghost use Rattle.disk.specs.State.{Counted};
+ghost use Rattle.std.specs.Prelude.{◌≡◌, ◌≢◌, false, ◌-◌, ◌<◌, [], ◌∷◌, List, Err, IsTrue, IfErr, vec_len, vec_capacity};
+ghost use Rattle.disk.specs.State.{now, contents_of, Counted, IsImage, AtEachMoment};
 ghost use Rattle.events.specs.declared.input.Event.{Event};
 ghost use Rattle.events.specs.declared.input.Event.TheVariants.{PowerUp};
 ghost use Rattle.mode_table.specs.declared.statuses.Cold.{Cold};
-ghost use Rattle.onboard.specs.Answers.{live_failed, is_full};
-ghost use Rattle.onboard.specs.Lives.{IsReady};
-ghost use Rattle.onboard.specs.Runs.{Lives};
-ghost use Rattle.onboard.specs.Stops.{LifeEnds, OnlyOpens, IsDone};
+ghost use Rattle.onboard.specs.Answers.{live_failed, is_full, is_device, wants_memory};
+ghost use Rattle.onboard.specs.Lives.{IsReady, HasNoCause};
+ghost use Rattle.onboard.specs.Runs.{IsOfLife, Lives};
+ghost use Rattle.onboard.specs.Stops.{LifeEnds, OnlyOpens, IsDone, IsUnflushed};
+ghost use Rattle.onboard.specs.Written.{LeavesLast};
 ghost use Rattle.onboard.specs.declared.released.Released.{Released};
 
-use crate::errors::LiveError;
+use crate::errors::{LiveError, OpenError};
 use crate::onboard::Onboard;
 use crate::released::Released;
 use crate::sink::ReleaseSink;
@@ -35,6 +36,17 @@ pub fn live_into<D: Disk, S: ReleaseSink>(
     // NoMemory comes only where the sink has no room for what a flush may release.
     ensures full { IfErr result.1 (λ e. IsTrue (is_full e) → S.room sink.new < 8) }
 
+    // Whatever the disk does, an opening that is refused releases nothing, and takes no memory.
+    ensures unopened { (e : OpenError) → result.1 ≡ Err (LiveError.Open e) → (sink.new ≡ sink.old) × (wants_memory e ≡ false) }
+
+    // Where no call failed, it leaves the images that the first sync settled.
+    ensures nothing_added { IsTrue (D.state disk).honest → (e : OpenError) → result.1 ≡ Err (LiveError.Open e) → is_device e ≡ false →
+        AtEachMoment (D.state disk) (D.state result.0) (IsImage (now (D.state disk))) }
+
+    // Where it was opened, no refusal had a cause but the device.
+    ensures no_cause { IsTrue (D.state disk).honest → ((e : OpenError) → result.1 ≢ Err (LiveError.Open e)) →
+        HasNoCause (D.state disk).sectors (contents_of (D.state disk)) }
+
     // The error names the first step that isn't carried out, or the opening, and its cause.
     ensures stopped { LifeEnds (D.state disk) steps.now result.1 }
 
@@ -42,7 +54,9 @@ pub fn live_into<D: Disk, S: ReleaseSink>(
     ensures life { (d a : List Event) → IsTrue (D.state disk).honest → IsReady d a (D.state disk) →
         (p : List Event) × (word : Cold) × (given : List Released) × S.Gave sink.old given sink.new
         × (it : Lives d a p cold word steps.now (D.state disk) (D.state result.0) [] given)
-        × IsDone (PowerUp word ∷ p) steps.now (OnlyOpens d a p word (D.state disk) (D.state result.0)) result.1 it.before it.after it.given }
+        × IsDone (PowerUp word ∷ p) steps.now (OnlyOpens d a p word (D.state disk) (D.state result.0)) result.1 it.taken it.before it.after it.given
+        × IsUnflushed (IsOfLife (D.state disk).sectors d a p word) steps.now result.1 it.before (D.state disk) (D.state result.0)
+        × LeavesLast p word steps.now result.1 (D.state result.0) }
 {
     match Onboard::open(alloc, disk, cold) {
         Ok(unit) => {
@@ -67,13 +81,26 @@ pub fn live<D: Disk>(
     // NoMemory comes only where the list has no room for what a flush may release.
     ensures full { IfErr result.1 (λ e. IsTrue (is_full e) → vec_capacity out.new - vec_len out.new < 8) }
 
+    // Whatever the disk does, an opening that is refused releases nothing, and takes no memory.
+    ensures unopened { (e : OpenError) → result.1 ≡ Err (LiveError.Open e) → (out.new ≡ out.old) × (wants_memory e ≡ false) }
+
+    // Where no call failed, it leaves the images that the first sync settled.
+    ensures nothing_added { IsTrue (D.state disk).honest → (e : OpenError) → result.1 ≡ Err (LiveError.Open e) → is_device e ≡ false →
+        AtEachMoment (D.state disk) (D.state result.0) (IsImage (now (D.state disk))) }
+
+    // Where it was opened, no refusal had a cause but the device.
+    ensures no_cause { IsTrue (D.state disk).honest → ((e : OpenError) → result.1 ≢ Err (LiveError.Open e)) →
+        HasNoCause (D.state disk).sectors (contents_of (D.state disk)) }
+
     // The error names the first step that isn't carried out, or the opening, and its cause.
     ensures stopped { LifeEnds (D.state disk) steps.now result.1 }
 
     // Where power is lost and what is released, for every list of events that the disk represents.
     ensures life { (d a : List Event) → IsTrue (D.state disk).honest → IsReady d a (D.state disk) →
         (p : List Event) × (word : Cold) × (it : Lives d a p cold word steps.now (D.state disk) (D.state result.0) out.old.items out.new.items)
-        × IsDone (PowerUp word ∷ p) steps.now (OnlyOpens d a p word (D.state disk) (D.state result.0)) result.1 it.before it.after it.given }
+        × IsDone (PowerUp word ∷ p) steps.now (OnlyOpens d a p word (D.state disk) (D.state result.0)) result.1 it.taken it.before it.after it.given
+        × IsUnflushed (IsOfLife (D.state disk).sectors d a p word) steps.now result.1 it.before (D.state disk) (D.state result.0)
+        × LeavesLast p word steps.now result.1 (D.state result.0) }
 {
     live_into(alloc, disk, cold, steps, out)
 }

@@ -1,6 +1,6 @@
 // What is released.
-ghost use Rattle.std.specs.Prelude.{◌≡◌, true};
-ghost use Rattle.events.specs.declared.output.Brake.TheVariants.{Emergency};
+ghost use Rattle.std.specs.Prelude.{◌≡◌};
+ghost use Rattle.onboard.specs.Releases.{nothing_released};
 
 use events::{Brake, Indications, Output};
 use mode_table::Mode;
@@ -49,9 +49,9 @@ impl Released {
 }
 
 impl Default for Released {
-    ghost is_default = { λ it. (it.number ≡ 0) × (it.output.brake ≡ Emergency) × (it.output.indications.not_revalidated ≡ true) };
+    ghost is_default = { λ it. it ≡ nothing_released };
 
-    /// Before the first event: the emergency brake, and nothing revalidated.
+    /// Before the first event: Stand By, no valid level, the emergency brake, the limit 0, and shown alone that nothing is revalidated.
     fn default() -> Released {
         Released {
             number: 0,

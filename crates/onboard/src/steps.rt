@@ -1,13 +1,14 @@
 // The steps of a life.
-ghost use Rattle.std.specs.Prelude.{◌≡◌, false, ◌-◌, ◌<◌, [], ◌∷◌, List, IsTrue, IfErr, OnOk, OnErr, Some, vec_len, vec_capacity};
-ghost use Rattle.disk.specs.State.{Counted};
+ghost use Rattle.std.specs.Prelude.{◌≡◌, ◌≢◌, false, ◌-◌, ◌<◌, [], ◌∷◌, List, IsTrue, IfErr, OnOk, OnErr, None, Some, vec_len, vec_capacity};
+ghost use Rattle.disk.specs.State.{contents_of, Counted};
 ghost use Rattle.events.specs.declared.input.Event.{Event};
 ghost use Rattle.events.specs.declared.input.Event.TheVariants.{Input as an_input};
 ghost use Rattle.journal.specs.Journals.{IsOpen};
 ghost use Rattle.onboard.specs.Answers.{live_failed, is_full};
 ghost use Rattle.onboard.specs.Events.{account_of, IsAhead};
-ghost use Rattle.onboard.specs.Runs.{IsStepped, Took, Ran};
-ghost use Rattle.onboard.specs.Stops.{progress_of, go_on, step_of, Stands, StopsAt, StepsEnd, IsDone};
+ghost use Rattle.onboard.specs.Runs.{flush_one, durable_by, IsStepped, IsOfRun, Took, Ran};
+ghost use Rattle.onboard.specs.Stops.{progress_of, go_on, step_of, Stands, StopsAt, StepsEnd, IsDone, IsUnflushed};
+ghost use Rattle.onboard.specs.Written.{earlier_one, earlier_by, IsLastWritten};
 ghost use Rattle.onboard.specs.declared.released.Released.{Released};
 ghost use Rattle.life_steps.specs.declared.step.Step.TheVariants as a_step;
 
@@ -32,9 +33,13 @@ fn flush_into<D: Disk, S: ReleaseSink>(
         IsOpen unit.old.journal (account_of durable) (D.state unit.old.disk) → IsAhead durable accepted unit.old.life →
         IsStepped a_step.Flush durable accepted (D.state unit.old.disk) (D.state unit.new.disk)
         × OnOk result (IsOpen unit.new.journal (account_of accepted) (D.state unit.new.disk) × IsAhead accepted accepted unit.new.life) }
+    ensures last { (earlier durable accepted : List Event) → IsTrue (D.state unit.old.disk).honest →
+        IsOpen unit.old.journal (account_of durable) (D.state unit.old.disk) → IsAhead durable accepted unit.old.life →
+        IsLastWritten (D.state unit.old.disk).sectors earlier durable (contents_of (D.state unit.old.disk)) →
+        OnOk result (IsLastWritten (D.state unit.new.disk).sectors (earlier_one earlier durable accepted a_step.Flush) accepted (contents_of (D.state unit.new.disk))) }
     ensures released { OnOk result (S.Gave sink.old unit.old.life.pairs sink.new) }
     ensures nothing { OnErr result (S.Gave sink.old [] sink.new) }
-    ensures full { IfErr result (λ e. IsTrue (is_full e) → S.room sink.new < 8) }
+    ensures full { IfErr result (λ e. IsTrue (is_full e) → (S.room sink.new < 8) × (unit.new ≡ unit.old)) }
     ensures named { IfErr result (λ e. step_of e ≡ Some k) }
     ensures stood { OnOk result (Stands (progress_of unit.old.journal unit.old.life) a_step.Flush
         × (progress_of unit.new.journal unit.new.life ≡ go_on (progress_of unit.old.journal unit.old.life) a_step.Flush)) }
@@ -65,6 +70,10 @@ fn accept_one<D: Disk>(
         IsStepped (a_step.Accept input.now) durable accepted (D.state unit.old.disk) (D.state unit.new.disk)
         × OnOk result (IsOpen unit.new.journal (account_of durable) (D.state unit.new.disk)
         × IsAhead durable (an_input input.now ∷ accepted) unit.new.life) }
+    ensures last { (earlier durable accepted : List Event) → IsTrue (D.state unit.old.disk).honest →
+        IsOpen unit.old.journal (account_of durable) (D.state unit.old.disk) → IsAhead durable accepted unit.old.life →
+        IsLastWritten (D.state unit.old.disk).sectors earlier durable (contents_of (D.state unit.old.disk)) →
+        OnOk result (IsLastWritten (D.state unit.new.disk).sectors (earlier_one earlier durable accepted (a_step.Accept input.now)) durable (contents_of (D.state unit.new.disk))) }
     ensures roomy { IfErr result (λ e. is_full e ≡ false) }
     ensures named { IfErr result (λ e. step_of e ≡ Some k) }
     ensures stood { OnOk result (Stands (progress_of unit.old.journal unit.old.life) (a_step.Accept input.now)
@@ -89,8 +98,12 @@ fn take<D: Disk, S: ReleaseSink>(
         IsOpen unit.old.journal (account_of durable) (D.state unit.old.disk) → IsAhead durable accepted unit.old.life →
         IsStepped step.now durable accepted (D.state unit.old.disk) (D.state unit.new.disk)
         × OnOk result ((its : List Released) × S.Gave sink.old its sink.new × Took durable accepted step.now unit.new.journal unit.new.life (D.state unit.new.disk) its) }
+    ensures last { (earlier durable accepted : List Event) → IsTrue (D.state unit.old.disk).honest →
+        IsOpen unit.old.journal (account_of durable) (D.state unit.old.disk) → IsAhead durable accepted unit.old.life →
+        IsLastWritten (D.state unit.old.disk).sectors earlier durable (contents_of (D.state unit.old.disk)) →
+        OnOk result (IsLastWritten (D.state unit.new.disk).sectors (earlier_one earlier durable accepted step.now) (flush_one durable accepted step.now) (contents_of (D.state unit.new.disk))) }
     ensures nothing { OnErr result (S.Gave sink.old [] sink.new) }
-    ensures full { IfErr result (λ e. IsTrue (is_full e) → S.room sink.new < 8) }
+    ensures full { IfErr result (λ e. IsTrue (is_full e) → (S.room sink.new < 8) × (unit.new ≡ unit.old)) }
     ensures named { IfErr result (λ e. step_of e ≡ Some k) }
     ensures stood { OnOk result (Stands (progress_of unit.old.journal unit.old.life) step.now
         × (progress_of unit.new.journal unit.new.life ≡ go_on (progress_of unit.old.journal unit.old.life) step.now)) }
@@ -119,11 +132,17 @@ pub fn run_into<D: Disk, S: ReleaseSink>(
     ensures counted { Counted (live_failed result) (D.state unit.old.disk) (D.state unit.new.disk) }
     ensures full { IfErr result (λ e. IsTrue (is_full e) → S.room sink.new < 8) }
     ensures stopped { StepsEnd (progress_of unit.old.journal unit.old.life) steps.now result }
+    ensures named { IfErr result (λ e. step_of e ≢ None) }
     ensures ran { (s : List Event) → IsTrue (D.state unit.old.disk).honest →
         IsOpen unit.old.journal (account_of s) (D.state unit.old.disk) → IsAhead s s unit.old.life →
         (given : List Released) × S.Gave sink.old given sink.new
         × (it : Ran s steps.now (D.state unit.old.disk) (D.state unit.new.disk) [] given)
-        × IsDone s steps.now ⊥ result it.before it.after it.given }
+        × IsDone s steps.now ⊥ result it.taken it.before it.after it.given
+        × IsUnflushed (IsOfRun (D.state unit.old.disk).sectors s) steps.now result it.before (D.state unit.old.disk) (D.state unit.new.disk) }
+    ensures last { (earlier s : List Event) → IsTrue (D.state unit.old.disk).honest →
+        IsOpen unit.old.journal (account_of s) (D.state unit.old.disk) → IsAhead s s unit.old.life →
+        IsLastWritten (D.state unit.old.disk).sectors earlier s (contents_of (D.state unit.old.disk)) →
+        OnOk result (IsLastWritten (D.state unit.new.disk).sectors (earlier_by earlier s s steps.now) (durable_by s steps.now) (contents_of (D.state unit.new.disk))) }
 {
     for k in 0..steps.len() {
         match take(alloc, unit, k, &steps[k], sink) {
@@ -147,7 +166,12 @@ pub fn run<D: Disk>(
     ensures ran { (s : List Event) → IsTrue (D.state unit.old.disk).honest →
         IsOpen unit.old.journal (account_of s) (D.state unit.old.disk) → IsAhead s s unit.old.life →
         (it : Ran s steps.now (D.state unit.old.disk) (D.state unit.new.disk) out.old.items out.new.items)
-        × IsDone s steps.now ⊥ result it.before it.after it.given }
+        × IsDone s steps.now ⊥ result it.taken it.before it.after it.given
+        × IsUnflushed (IsOfRun (D.state unit.old.disk).sectors s) steps.now result it.before (D.state unit.old.disk) (D.state unit.new.disk) }
+    ensures last { (earlier s : List Event) → IsTrue (D.state unit.old.disk).honest →
+        IsOpen unit.old.journal (account_of s) (D.state unit.old.disk) → IsAhead s s unit.old.life →
+        IsLastWritten (D.state unit.old.disk).sectors earlier s (contents_of (D.state unit.old.disk)) →
+        OnOk result (IsLastWritten (D.state unit.new.disk).sectors (earlier_by earlier s s steps.now) (durable_by s steps.now) (contents_of (D.state unit.new.disk))) }
 {
     run_into(alloc, unit, steps, out)
 }

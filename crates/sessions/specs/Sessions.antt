@@ -13,8 +13,9 @@ use Rattle.onboard.specs.declared.errors.LiveError.{LiveError}
 use Rattle.onboard.specs.declared.released.Released.{Released}
 use Rattle.onboard.specs.Answers.{is_full}
 use Rattle.onboard.specs.Lives.{IsReady}
-use Rattle.onboard.specs.Runs.{Lives}
-use Rattle.onboard.specs.Stops.{LifeEnds, OnlyOpens, IsDone}
+use Rattle.onboard.specs.Runs.{IsOfLife, Lives}
+use Rattle.onboard.specs.Stops.{LifeEnds, OnlyOpens, IsDone, IsUnflushed}
+use Rattle.onboard.specs.Written.{LeavesLast}
 use Rattle.reader.specs.Listings.{AddsListing, IsListingRefusal}
 use Rattle.reader.specs.declared.errors.ListingError.{ListingError}
 use Rattle.scenario_values.specs.declared.fault.ScenarioFault.{ScenarioFault}
@@ -41,7 +42,8 @@ is_device Device = true
 abbrev pub report_of : {T : Type 0} → List Released → Result T LiveError → List ℕ
 report_of given ended = lines_of given ++ ending_of ended
 
--- A life on a disk whose images each represented d or a. Where it stopped, that is at the first step that isn't carried out, for its cause.
+-- A life on a disk whose images each represented d or a. Where it stopped, that is at the first step that isn't carried out, for its cause. A
+-- flush that found no room put nothing on the disk. Where it didn't stop, the newest block is that of its last flush of something pending.
 -- Where all writes succeeded, just the report of what was released came behind the text, the status is that of the end, and there was room
 -- for each release.
 pub record Session {E : Type 0} (d a : List Event) (cold : Cold) (steps : List Step) (old new : State) (before after : Option (List ℕ)) (answer : Result Status E) : Type 0 where
@@ -50,7 +52,9 @@ pub record Session {E : Type 0} (d a : List Event) (cold : Cold) (steps : List S
   pub given : List Released
   pub ended : Result (Unit {0}) LiveError
   pub life : Lives d a p cold word steps old new [] given
-  pub done : IsDone (PowerUp word ∷ p) steps (OnlyOpens d a p word old new) ended life.before life.after life.given
+  pub done : IsDone (PowerUp word ∷ p) steps (OnlyOpens d a p word old new) ended life.taken life.before life.after life.given
+  pub unflushed : IsUnflushed (IsOfLife old.sectors d a p word) steps ended life.before old new
+  pub last : LeavesLast p word steps ended new
   pub stopped : LifeEnds old steps ended
   pub told : Says (status_of ended) (report_of given ended) before after answer
   pub roomy : IfOk answer (λ status. IfErr ended (λ e. is_full e ≡ false))

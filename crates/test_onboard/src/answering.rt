@@ -2,6 +2,7 @@
 use crate::commands::{Act, Change, Command, Make, Tell};
 use crate::images::{choices, flip, formatted, put_slot, shortened};
 use crate::listing::found_on;
+use crate::narrow::Narrow;
 use crate::pairs::tell_pairs;
 use crate::session::Session;
 use crate::words::{accept_word, flush_word, open_word};
@@ -50,6 +51,7 @@ fn take(alloc: Global, session: &mut Session, act: Act, text: &mut String) -> Re
             Ok(())
         }
         Act::Run => run(alloc, session, text),
+        Act::RunIn(room) => run_in(alloc, session, room, text),
     }
 }
 
@@ -164,12 +166,34 @@ fn flush(alloc: Global, session: &mut Session, text: &mut String) -> Result<(), 
 
 fn run(alloc: Global, session: &mut Session, text: &mut String) -> Result<(), NoMemory> {
     let mut pairs = Vec::new(alloc);
-    match session.live(alloc, &mut pairs) {
+    let ended = session.live(alloc, &mut pairs);
+    tell_life(alloc, ended, &pairs, text)
+}
+
+fn run_in(
+    alloc: Global,
+    session: &mut Session,
+    room: usize,
+    text: &mut String,
+) -> Result<(), NoMemory> {
+    let mut out = Narrow::new(alloc, room)?;
+    let ended = session.live_in(alloc, &mut out);
+    tell_life(alloc, ended, &out.list, text)
+}
+
+// None where there was no disk.
+fn tell_life(
+    alloc: Global,
+    ended: Option<Result<(), LiveError>>,
+    pairs: &[Released],
+    text: &mut String,
+) -> Result<(), NoMemory> {
+    match ended {
         Some(Ok(())) => text.push_str("done, ")?,
         Some(Err(error)) => tell_end(error, text)?,
         None => text.push_str("no disk, ")?,
     }
-    tell_pairs(alloc, &pairs, text)?;
+    tell_pairs(alloc, pairs, text)?;
     Ok(())
 }
 

@@ -1,11 +1,14 @@
 // The unit's calls, and the journal's, with no clauses, so that theirs don't come to the rows.
 use crate::device::Device;
+use crate::narrow::Narrow;
 use arrayvec::ArrayVec;
 use disk::{Disk, Memory};
 use events::Input;
 use journal::{Found, Journal};
 use mode_table::Cold;
-use onboard::{AcceptError, FlushError, LiveError, Onboard, OpenError, Released, Step, live};
+use onboard::{
+    AcceptError, FlushError, LiveError, Onboard, OpenError, Released, Step, live, live_into,
+};
 use std::alloc::Global;
 
 /// The unit over the disk of rows.
@@ -40,6 +43,17 @@ pub fn lived(
     out: &mut Vec<Released>,
 ) -> (Device, Result<(), LiveError>) {
     live(alloc, device, cold, steps, out)
+}
+
+/// A whole life into a list that doesn't grow.
+pub fn lived_in(
+    alloc: Global,
+    device: Device,
+    cold: Cold,
+    steps: &[Step],
+    out: &mut Narrow,
+) -> (Device, Result<(), LiveError>) {
+    live_into(alloc, device, cold, steps, out)
 }
 
 /// The journal of a disk, and what its newest block keeps.

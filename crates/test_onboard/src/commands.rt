@@ -37,6 +37,8 @@ pub enum Act {
     Live(Cold),
     /// The collected life is lived.
     Run,
+    /// It is lived into a list that has room for so many releases and doesn't grow.
+    RunIn(usize),
 }
 
 /// What is done to the disk.
@@ -153,6 +155,7 @@ fn read_act(alloc: Global, word: &str, value: &str) -> Option<Act> {
         "calls" => Some(Act::Calls),
         "default" => Some(Act::Default),
         "run" => Some(Act::Run),
+        "run-in" => Some(Act::RunIn(value.parse().ok()?)),
         _ => Some(Act::Input(input(alloc, word, value)?)),
     }
 }

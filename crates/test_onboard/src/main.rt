@@ -21,6 +21,7 @@
 //!     default                  the pair that no flush released
 //!     live unknown             the inputs and flushes behind it are a life
 //!     run                      lives it, and tells how it ended and all pairs
+//!     run-in 7                 the same, into a list that has room for so many pairs and doesn't grow
 //!     openings 1000 unknown    so many lives without an event
 //!     settle old new ff zeros @7    power comes back: what each open sector holds, in rising order, Old beyond the list; @7 is what
 //!                              sector 7 holds
@@ -46,6 +47,7 @@ mod digest;
 mod group;
 mod images;
 mod listing;
+mod narrow;
 mod pairs;
 mod rows;
 mod session;

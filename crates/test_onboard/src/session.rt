@@ -1,6 +1,7 @@
 // A disk, and the unit on it while it has power.
-use crate::calls::{Unit, accepted, closed, flushed, lived, opened};
+use crate::calls::{Unit, accepted, closed, flushed, lived, lived_in, opened};
 use crate::device::Device;
+use crate::narrow::Narrow;
 use arrayvec::ArrayVec;
 use disk::{Choice, Disk, Memory};
 use events::Input;
@@ -201,6 +202,15 @@ impl Session {
     ) -> Option<Result<(), LiveError>> {
         let device = self.take()?;
         let (device, done) = lived(alloc, device, self.cold, &self.steps, out);
+        self.set(Station::Off(device));
+        self.is_collecting = false;
+        Some(done)
+    }
+
+    /// The same into a list that doesn't grow.
+    pub fn live_in(&mut self, alloc: Global, out: &mut Narrow) -> Option<Result<(), LiveError>> {
+        let device = self.take()?;
+        let (device, done) = lived_in(alloc, device, self.cold, &self.steps, out);
         self.set(Station::Off(device));
         self.is_collecting = false;
         Some(done)

@@ -1,5 +1,5 @@
 use Rattle.std.proofs.Common.{◌≡◌, ◌∷◌, sym, subst, ap}
-use Rattle.disk.specs.State.{State}
+use Rattle.disk.specs.State.{State, contents_of}
 use Rattle.events.specs.declared.input.Event.TheVariants as an_event
 use Rattle.events.specs.declared.input.Input.{Input}
 use Rattle.journal.specs.Journals.{IsOpen}
@@ -7,6 +7,7 @@ use Rattle.journal.specs.JournalState.{JournalState as Journal}
 use Rattle.onboard.specs.Events.{account_of, IsAhead}
 use Rattle.onboard.specs.Runs.{IsStepped}
 use Rattle.life_steps.specs.declared.step.Step.TheVariants.{Accept}
+use Rattle.onboard.specs.Written.{IsLastWritten}
 use Rattle.onboard.proofs.Stepping.{quiet_step}
 use Rattle.onboard.proofs.Stopping.{no_cause, accept_stops}
 use Rattle.onboard.specs.Answers.{refusal_of}
@@ -41,4 +42,9 @@ returns-in-Ok-clause-stood g c =
 
 pub returns-in-Err-clause-stopped : goal.returns-in-Err-clause-stopped
 returns-in-Err-clause-stopped g c =
-    accept_stops (progress_of c.args.unit.now.journal c.args.unit.now.life) c.args.k c.args.input.now c.copy_of.result c.accept.result c.in-Err.error c.in-Err.is c.copy_of.ensures c.accept.ensures.exact
+    accept_stops (progress_of c.args.unit.now.journal c.args.unit.now.life) c.args.unit.now.life.state c.args.k c.args.input.now c.copy_of.result c.accept.result c.in-Err.error c.in-Err.is c.copy_of.ensures c.accept.ensures.exact c.accept.ensures.quiet
+
+pub returns-in-Ok-clause-last : goal.returns-in-Ok-clause-last
+returns-in-Ok-clause-last g c = λ earlier durable accepted honest opened ahead last.
+    let L : State → Type 0 = λ s. IsLastWritten s.sectors earlier durable (contents_of s) in
+    subst L (sym (ap g.D.Disk.state c.accept.ensures.device.0)) last

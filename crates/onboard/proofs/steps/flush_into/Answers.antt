@@ -1,6 +1,10 @@
-use Rattle.std.proofs.Common.{◌≡◌, ◌∙◌, [], List, inl, refl, ap, subst}
+use Rattle.std.proofs.Common.{◌≡◌, ◌⊎◌, ◌<◌, ◌≤◌, ◌∙◌, [], List, length, inl, ⊎_elim, refl, sym, ap, subst, arith}
+use Rattle.std.proofs.lemmas.Bool.{cases_lt}
+use Rattle.disk.specs.State.{State, contents_of}
 use Rattle.life_steps.specs.declared.step.Step.TheVariants.{Flush}
 use Rattle.onboard.specs.declared.released.Released.{Released}
+use Rattle.onboard.specs.Written.{earlier_one, IsLastWritten}
+use Rattle.onboard.proofs.LastBlock.{still_last, next_last}
 use Rattle.onboard.proofs.Stepping.{quiet_step, flush_step}
 use Rattle.onboard.proofs.Stopping.{no_cause, flush_stops}
 use Rattle.onboard.specs.Answers.{flush_refusal}
@@ -43,3 +47,16 @@ pub returns-in-Err-clause-stopped : goal.returns-in-Err-clause-stopped
 returns-in-Err-clause-stopped g c =
     flush_stops (progress_of c.args.unit.now.journal c.args.unit.now.life) c.args.k c.flush.result c.in-Err.error g.D.Disk.state c.args.unit.now.disk c.flush.new.self.disk c.in-Err.is c.flush.ensures.exact c.flush.ensures.counted
     (λ none. ap (λ (u : UnitState _). u.disk) (c.flush.ensures.nothing none))
+
+pub returns-in-Ok-clause-last : goal.returns-in-Ok-clause-last
+returns-in-Ok-clause-last g c = λ earlier durable accepted honest opened ahead last.
+    let old : State = g.D.Disk.state c.args.unit.now.disk in
+    let new : State = g.D.Disk.state c.flush.new.self.disk in
+    let life = c.args.unit.now.life in
+    let L : State → Type 0 = λ s. IsLastWritten s.sectors (earlier_one earlier durable accepted Flush) accepted (contents_of s) in
+    ⊎_elim
+    (λ (some : 0 < length life.records). next_last earlier durable accepted life ahead new.sectors (contents_of new) some (c.in-Ok.ensures.last durable accepted honest opened ahead some))
+    (λ (ge : length life.records ≤ 0).
+    let none : length life.records ≡ 0 = omega (arith, ge) in
+    subst L (sym (ap (λ (u : UnitState _). g.D.Disk.state u.disk) (c.flush.ensures.nothing none))) (still_last earlier durable accepted life ahead old.sectors (contents_of old) none last))
+    (cases_lt 0 (length life.records))

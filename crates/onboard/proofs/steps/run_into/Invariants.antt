@@ -1,9 +1,11 @@
 use Rattle.std.proofs.Common.{◌≡◌, List, IsTrue, take}
 use Rattle.std.specs.Prelude.{fold}
+use Rattle.disk.specs.State.{contents_of}
 use Rattle.events.specs.declared.input.Event.{Event}
 use Rattle.journal.specs.Journals.{IsOpen}
 use Rattle.onboard.specs.Events.{account_of, IsAhead}
-use Rattle.onboard.specs.Runs.{Going}
+use Rattle.onboard.specs.Runs.{durable_by, Going}
+use Rattle.onboard.specs.Written.{earlier_by, IsLastWritten}
 use Rattle.onboard.specs.Stops.{progress_of, go_on, AllStand}
 use Rattle.onboard.specs.declared.released.Released.{Released}
 use Rattle.onboard.proofs.steps.run_into.Given as goal
@@ -18,4 +20,7 @@ invariant-loop-k g l = record {
   going : (s : List Event) → IsTrue (g.D.Disk.state l.fn.unit.disk).honest → IsOpen l.fn.unit.journal (account_of s) (g.D.Disk.state l.fn.unit.disk) →
       IsAhead s s l.fn.unit.life → (given : List Released) × g.S.ReleaseSink.Gave l.fn.sink given l.sink
       × Going s l.steps l.k (g.D.Disk.state l.fn.unit.disk) (g.D.Disk.state l.unit.disk) l.unit.journal l.unit.life given;
+  last : (earlier s : List Event) → IsTrue (g.D.Disk.state l.fn.unit.disk).honest → IsOpen l.fn.unit.journal (account_of s) (g.D.Disk.state l.fn.unit.disk) →
+      IsAhead s s l.fn.unit.life → IsLastWritten (g.D.Disk.state l.fn.unit.disk).sectors earlier s (contents_of (g.D.Disk.state l.fn.unit.disk)) →
+      IsLastWritten (g.D.Disk.state l.unit.disk).sectors (earlier_by earlier s s (take l.k l.steps)) (durable_by s (take l.k l.steps)) (contents_of (g.D.Disk.state l.unit.disk));
 }

@@ -1,6 +1,8 @@
 use Rattle.std.proofs.Common.{List, [], sym, subst}
 use Rattle.life_steps.specs.declared.step.Step.{Step}
-use Rattle.onboard.specs.Runs.{IsStepped, Took}
+use Rattle.disk.specs.State.{State, contents_of}
+use Rattle.onboard.specs.Runs.{flush_one, IsStepped, Took}
+use Rattle.onboard.specs.Written.{earlier_one, IsLastWritten}
 use Rattle.onboard.specs.declared.released.Released.{Released}
 use Rattle.onboard.proofs.Stepping.{took_input, took_flush}
 use Rattle.onboard.proofs.steps.take.Goals as goal
@@ -35,3 +37,15 @@ returns-in-Err-flush_into-clause-stepped g c = λ durable accepted honest opened
     let both = c.in-Err-flush_into.ensures.stepped durable accepted honest opened ahead in
     let T : Step → Type 0 = λ x. IsStepped x durable accepted (g.D.Disk.state c.args.unit.now.disk) (g.D.Disk.state c.flush_into.new.unit.disk) in
     (subst T (sym c.in-Flush.is) both.0, tt)
+
+pub returns-in-Ok-clause-last : goal.returns-in-Ok-clause-last
+returns-in-Ok-clause-last g c = λ earlier durable accepted honest opened ahead last.
+    let new : State = g.D.Disk.state c.accept_one.new.unit.disk in
+    let L : Step → Type 0 = λ x. IsLastWritten new.sectors (earlier_one earlier durable accepted x) (flush_one durable accepted x) (contents_of new) in
+    subst L (sym c.in-Accept.is) (c.in-Ok.ensures.last earlier durable accepted honest opened ahead last)
+
+pub returns-in-Ok-flush_into-clause-last : goal.returns-in-Ok-flush_into-clause-last
+returns-in-Ok-flush_into-clause-last g c = λ earlier durable accepted honest opened ahead last.
+    let new : State = g.D.Disk.state c.flush_into.new.unit.disk in
+    let L : Step → Type 0 = λ x. IsLastWritten new.sectors (earlier_one earlier durable accepted x) (flush_one durable accepted x) (contents_of new) in
+    subst L (sym c.in-Flush.is) (c.in-Ok-flush_into.ensures.last earlier durable accepted honest opened ahead last)

@@ -11,6 +11,8 @@ returns-in-Ok-clause-session g c d a honest ready =
       ended = c.live_into-disk.result.1;
       life = it.4;
       done = it.5;
+      unflushed = it.6;
+      last = it.7;
       stopped = c.live_into-disk.ensures.stopped;
       told = told_whole c.tell_end-status.result c.live_into-disk.result.1 _ _ _ it.2
           (all_printed _ _ c.in-Ok.is _ _ _ it.2 it.3) c.tell_end-status.ensures.status c.tell_end-status.ensures.line;
@@ -27,6 +29,8 @@ returns-in-Err-clause-session g c d a honest ready =
       ended = c.live_into-disk.result.1;
       life = it.4;
       done = it.5;
+      unflushed = it.6;
+      last = it.7;
       stopped = c.live_into-disk.ensures.stopped;
       told = tt;
       roomy = tt;

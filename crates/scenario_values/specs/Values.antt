@@ -6,6 +6,7 @@ use Rattle.serde_json.specs.Find.{as_number, as_i64, as_str, as_array, as_object
 use Rattle.course.specs.Numbers.{natural}
 use Rattle.hex.specs.Hex.{decode_of}
 use Rattle.hex.specs.declared.error.FromHexError.{FromHexError}
+use Rattle.packets.specs.Limits.{telegram_bytes}
 use Rattle.scenario_values.specs.declared.fault.ScenarioFault.{ScenarioFault}
 use Rattle.scenario_values.specs.declared.fault.ScenarioFault.TheVariants.{Shape, OutOfRange, BadHex}
 
@@ -69,5 +70,5 @@ hex_bytes (Err fault) = Err BadHex
 abbrev pub bytes_in : List ℕ → Result (List ℕ) ScenarioFault
 bytes_in text = do
   bytes ← hex_bytes (decode_of text)
-  _ ← given (nat_le 1 (length bytes) && nat_le (length bytes) 104) OutOfRange
+  _ ← given (nat_le 1 (length bytes) && nat_le (length bytes) telegram_bytes) OutOfRange
   Ok bytes

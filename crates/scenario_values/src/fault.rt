@@ -1,18 +1,24 @@
 use std::alloc::{AllocError, AllocFailed};
+use thiserror::Error;
 use units::NoMemory;
 
 /// Why a scenario is refused (this project's profile).
-#[derive(Clone, Copy)]
+#[derive(Clone, Copy, Debug, Error)]
 pub enum ScenarioFault {
     /// The bytes are no JSON value.
+    #[error("NotJson")]
     NotJson,
     /// A key is missing or one too many, a value has the wrong kind, or a list the wrong count.
+    #[error("Shape")]
     Shape,
     /// A number or the length of a text is outside its limits.
+    #[error("OutOfRange")]
     OutOfRange,
     /// The text of a telegram isn't hexadecimal digits, two a byte.
+    #[error("BadHex")]
     BadHex,
     /// Memory was refused.
+    #[error("NoMemory")]
     NoMemory,
 }
 

@@ -11,7 +11,7 @@ made=$(mktemp -d) || exit 1
 trap 'rm -rf "$made"' EXIT
 if [ $# -gt 0 ]; then
     library=$(realpath "$1") || exit 1
-elif ! (cd "$top/crates/etcs_c" && rt lib) >"$made/said" 2>&1; then
+elif ! "$top/tools/build_c_library" >"$made/said" 2>&1; then
     cat "$made/said"
     echo "C library: it isn't built"
     exit 1

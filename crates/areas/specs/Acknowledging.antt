@@ -4,8 +4,8 @@ use Rattle.std.specs.Prelude.{ℕ, ◌+◌, nat_le, Bool, true, false, List, [],
 use Rattle.areas.specs.declared.acknowledgement.Acknowledgement.{Acknowledgement}
 use Rattle.areas.specs.declared.acknowledgement.Acknowledgement.TheVariants.{Nothing, Asked, Done, Owed}
 
--- what bears on it: the driver acknowledged; at a moment a mode was entered because of an area, or an announced level 0 came into
--- force; it is asked for; no area or announcement of the kind is left; a mode was entered that deletes it
+-- what bears on it: the driver acknowledged; at a moment a mode was entered because of an area, or an announced level 0
+-- came into force; it is asked for; no area or announcement of the kind is left; a mode was entered that deletes it
 pub data Entry : Type 0 where
   Acknowledged : Entry
   Turned : ℕ → Entry

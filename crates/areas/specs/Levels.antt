@@ -1,5 +1,5 @@
--- The level that is announced (SUBSET-026, 5.10; which level is taken and when it is asked for: this project's profile).
--- Lists of entries have the newest first. Places are centimetres.
+-- The level that is announced (SUBSET-026, 5.10; which level is taken and when it is asked for: this project's
+-- profile). Lists of entries have the newest first. Places are centimetres.
 use Rattle.std.specs.Prelude.{ℕ, ℤ, pos, ◌+ℤ◌, ◌-ℤ◌, Bool, true, false, not, ◌&&◌, int_lt, if◌then◌else◌, List, [], ◌∷◌, Option, Some, None}
 use Rattle.std.specs.Option.{option_or}
 use Rattle.vars.specs.declared.scale.Scale.{Scale}
@@ -22,7 +22,7 @@ pub record Fact : Type 0 where
 abbrev pub fact_of : LevelTransition → ℤ → Fact
 fact_of packet place = record { packet = packet; place = place }
 
--- what bears on it: a packet 41; where the greatest front is after an event; that the announcement was deleted
+-- what bears on it: a packet 41; where the maximum safe front is after an event; that the announcement was deleted
 pub data Entry : Type 0 where
   Announced : Fact → Entry
   Reached : ℤ → Entry
@@ -58,7 +58,7 @@ abbrev pub is_at : ℤ → Option ℤ → Bool
 is_at max_front None = true
 is_at max_front (Some start) = not (int_lt max_front start)
 
--- a greatest front has reached it
+-- a maximum safe front has reached it
 abbrev pub is_reached : ℤ → Announcement → Bool
 is_reached max_front announced = is_at max_front announced.start
 

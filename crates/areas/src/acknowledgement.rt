@@ -1,11 +1,12 @@
+//! The states of an acknowledgement: nothing, asked for, given, or owed since a transition (this project's profile).
 ghost use Rattle.std.specs.Prelude.{◌≡◌, List, ◌∷◌, []};
 ghost use Rattle.areas.specs.Acknowledging.{Entry, after_all, waits, brakes};
 ghost use Rattle.areas.specs.Acknowledging.Entry.{Acknowledged, Turned, Asking, Settled, Forgotten};
 
 use units::Ms;
 
-/// What the driver has to acknowledge of one kind: On Sight, Shunting or level 0 (SUBSET-026, 5.7, 5.9 and 5.10; when: this
-/// project's profile).
+/// What the driver has to acknowledge of one kind: On Sight, Shunting or level 0 (SUBSET-026, 5.7, 5.9 and 5.10; when:
+/// this project's profile).
 #[derive(Clone, Copy)]
 pub enum Acknowledgement {
     /// Nothing is asked for.
@@ -40,8 +41,8 @@ impl Acknowledgement {
         };
     }
 
-    /// The transition, at a moment in milliseconds: its mode is entered because of an area, or the announced level 0 comes into
-    /// force. It is owed from then on, unless it was done before.
+    /// The transition, at a moment in milliseconds: its mode is entered because of an area, or the announced level 0
+    /// comes into force. It is owed from then on, unless it was done before.
     pub fn turn(&mut self, moment: Ms)
         ensures { (entries : List Entry) → self.old ≡ after_all entries → self.new ≡ after_all (Turned moment ∷ entries) }
     {
@@ -83,7 +84,8 @@ impl Acknowledgement {
         matches!(self, Acknowledgement::Asked | Acknowledgement::Owed(_))
     }
 
-    /// Whether it has been owed for 5,000 ms at this moment, and so asks for the service brake (this project's profile).
+    /// Whether it has been owed for 5,000 ms at this moment, and so asks for the service brake (this project's
+    /// profile).
     pub fn brakes(&self, now: Ms) -> bool
         ensures { result ≡ brakes now self.now }
     {

@@ -1,3 +1,4 @@
+//! At most one announced level is kept: taken, reached and deleted.
 ghost use Rattle.std.specs.Prelude.{◌≡◌, List, [], ◌∷◌};
 ghost use Rattle.areas.specs.Levels.{Entry, fact_of, waiting, coming, is_level_0_announced, any_asks_for};
 ghost use Rattle.areas.specs.Levels.Entry.{Announced, Reached, Forgotten};
@@ -8,8 +9,8 @@ use packets::LevelTransition;
 use std::marker::Model;
 use units::{Cm, GroupPlace};
 
-/// The level that is announced, if one is (packet 41; SUBSET-026, 5.10; which of its levels counts: this project's profile).
-/// Its calls take no memory.
+/// The level that is announced, if one is (packet 41; SUBSET-026, 5.10; which of its levels counts: this project's
+/// profile). Its calls take no memory.
 #[derive(Clone, Copy)]
 pub struct AnnouncedLevel {
     announced: Option<Announcement>,
@@ -34,8 +35,8 @@ impl AnnouncedLevel {
         AnnouncedLevel { announced: None }
     }
 
-    /// Takes packet 41 in place of the older announcement. It counts from the place of its group, in centimetres. Where the
-    /// train can run in none of its levels, nothing changes.
+    /// Takes packet 41 in place of the older announcement. It counts from the place of its group, in centimetres. Where
+    /// the train can run in none of its levels, nothing changes.
     pub fn announce(&mut self, packet: &LevelTransition, place: GroupPlace)
         ensures { (entries : List Entry) → self.old ≡ waiting entries
             → self.new ≡ waiting (Announced (fact_of packet.now place) ∷ entries) }
@@ -45,8 +46,8 @@ impl AnnouncedLevel {
         }
     }
 
-    /// Answers the level that comes into force where the maximum safe front, in centimetres, has reached its start; then it is
-    /// no longer announced. The caller asks once an event.
+    /// Answers the level that comes into force where the maximum safe front, in centimetres, has reached its start;
+    /// then it is no longer announced. The caller asks once an event.
     pub fn reach(&mut self, max_front: Cm) -> Option<TrainLevel>
         ensures stands { (entries : List Entry) → self.old ≡ waiting entries
             → self.new ≡ waiting (Reached max_front ∷ entries) }

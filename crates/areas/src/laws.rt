@@ -1,7 +1,9 @@
+//! Laws: when an area is met, and when an acknowledgement is owed or was given.
 ghost use Rattle.areas.specs.AcknowledgingLaws.{OwedSo, OwedStays, DoneSo};
 ghost use Rattle.areas.specs.Laws.{AreasAreMetSo};
 
-/// A law: an area is met exactly where it covers a centimetre from the least front to the greatest one, both included.
+/// A law: an area is met exactly where it covers a centimetre from the minimum to the maximum safe front, both
+/// included.
 pub fn areas_are_met_so()
     ensures { AreasAreMetSo }
 {}

@@ -25,8 +25,8 @@ use Rattle.authority.specs.Track.{in_cm, end_entry, told_end, timed_sections}
 abbrev pub reaches : ℤ → ℤ → Bool
 reaches front place = not (int_lt front place)
 
--- a section's timer, which started at the acceptance, was stopped: before it ran out the least front was seen at or above
--- its stop place
+-- a section's timer, which started at the acceptance, was stopped: before it ran out the minimum safe front was seen at
+-- or above its stop place
 abbrev pub was_stopped : ℕ → List Sight → TimedSection → Bool
 was_stopped start seen section =
     list_any (λ sight. reaches sight.train.min_front section.stop_at && not (has_run_out section.time start sight.moment)) seen
@@ -36,7 +36,7 @@ section_has_run_out start now seen section = has_run_out section.time start now 
 
 -- ---- timers before the end
 
--- when the greatest front was first seen at or above a place
+-- when the maximum safe front was first seen at or above a place
 abbrev pub first_reached : ℤ → List Sight → Option ℕ
 first_reached place [] = None
 first_reached place (sight ∷ earlier) =
@@ -58,8 +58,8 @@ overlap_has_run_out end scale now seen overlap =
 
 -- ---- the end
 
--- where the end is taken back to: the entry of the first section along the track that has run out, the end section being the
--- last; that one has run out with the end timer too
+-- where the end is taken back to: the entry of the first section along the track that has run out, the end section
+-- being the last; that one has run out with the end timer too
 abbrev pub taken_back : Fact → ℕ → List Sight → Option ℤ
 taken_back fact now seen =
     option_or (option_map (λ section. section.entry) (find (section_has_run_out fact.moment now seen) (timed_sections fact)))

@@ -1,5 +1,5 @@
--- What follows from the definitions, in words of places and moments (SUBSET-026, 3.8, and this project's profile). Places
--- are centimetres, moments milliseconds, the times of timers seconds.
+-- What follows from the definitions, in words of places and moments (SUBSET-026, 3.8, and this project's profile).
+-- Places are centimetres, moments milliseconds, the times of timers seconds.
 use Rattle.std.specs.Prelude.{◌≡◌, ◌≢◌, ◌⊎◌, ◌↔◌, ℕ, ◌+◌, ◌*◌, ◌<◌, ◌≤◌, ℤ, ◌<ℤ◌, ◌≤ℤ◌, List, [], ◌∷◌, ◌++◌, Some, IsTrue}
 use Rattle.authority.specs.declared.answers.End.{End}
 use Rattle.authority.specs.declared.timers.TimedSection.{TimedSection}
@@ -15,7 +15,8 @@ IsAmong x (y ∷ ys) = (x ≡ y) ⊎ IsAmong x ys
 
 -- ---- timers
 
--- a section has run out: its time is over, and whenever the least front was seen before that, it was short of the stop place
+-- a section has run out: its time is over, and whenever the minimum safe front was seen before that, it was short of
+-- the stop place
 pub record HasRunOut (start now : ℕ) (seen : List Sight) (section : TimedSection) : Type 0 where
   pub has_expiry : section.time ≢ never
   pub is_over : start + 1000 * section.time ≤ now
@@ -26,8 +27,8 @@ SectionsRunOut =
     (start now : ℕ) (seen : List Sight) (section : TimedSection) →
     IsTrue (section_has_run_out start now seen section) ↔ HasRunOut start now seen section
 
--- a timer that starts at a place did so at a moment: then the greatest front was seen at or above the place, and each time
--- before that it was short of it
+-- a timer that starts at a place did so at a moment: then the maximum safe front was seen at or above the place, and
+-- each time before that it was short of it
 pub record StartedAt (place : ℤ) (seen : List Sight) (moment : ℕ) : Type 0 where
   pub later : List Sight
   pub sight : Sight
@@ -42,8 +43,8 @@ TimersStart = (place : ℤ) (seen : List Sight) (moment : ℕ) → (first_reache
 
 -- ---- the end
 
--- where the end may be: at that of the last section; at the entry of the end section, where the end timer has run out; at the
--- entry of a section that has run out
+-- where the end may be: at that of the last section; at the entry of the end section, where the end timer has run out;
+-- at the entry of a section that has run out
 abbrev pub MayBeEnd : Fact → ℕ → List Sight → ℤ → Type 0
 MayBeEnd fact now seen place =
     (place ≡ told_end fact)

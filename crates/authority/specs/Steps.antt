@@ -14,7 +14,7 @@ use Rattle.authority.specs.Authority.{reaches, bare_end, end_with}
 
 -- ---- one more sight
 
--- a section's timer stops: it runs, and the least front is at or above its stop place
+-- a section's timer stops: it runs, and the minimum safe front is at or above its stop place
 abbrev pub stops_at : ℕ → ℕ → ℤ → TimedSection → Bool
 stops_at start now min_front section = reaches min_front section.stop_at && not (has_run_out section.time start now)
 

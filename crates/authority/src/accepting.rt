@@ -1,3 +1,4 @@
+//! What packet 12 gives to store, with its places and its timers on the track.
 ghost use Rattle.std.specs.Prelude.{◌≡◌, ◌+◌, ◌<◌, ◌≤◌, ◌++◌, [], option_map};
 ghost use Rattle.units.specs.Limits.{HasReach};
 ghost use Rattle.arrayvec.specs.ArrayVec.{array_vec_len};
@@ -14,8 +15,8 @@ use packets::{DangerPoint, EndTimer, MovementAuthority, Overlap, Section};
 use units::{Cm, GroupPlace, Ms};
 use vars::{Distance, Scale, Timer};
 
-/// What is stored of an authority that is accepted at a moment, in milliseconds. Its sections count from the place of its
-/// group, in centimetres.
+/// What is stored of an authority that is accepted at a moment, in milliseconds. Its sections count from the place of
+/// its group, in centimetres.
 pub fn stored_by(packet: &MovementAuthority, place: GroupPlace, moment: Ms) -> Stored
     ensures { result ≡ stored_of (fact_of packet.now place moment) [] }
 {

@@ -1,11 +1,12 @@
+//! What an authority answers: its end, the speed there, and the release speed.
 ghost use Rattle.std.specs.Prelude.{◌≡◌};
 ghost use Rattle.authority.specs.Authority.{release_of, no_release};
 
 use units::{Cm, Mph};
 use vars::{ReleaseSpeed, SpeedStep, Variable};
 
-/// The speed at which a train may approach the end of its authority (V_RELEASEDP, V_RELEASEOL; which of them holds: this
-/// project's profile).
+/// The speed at which a train may approach the end of its authority (V_RELEASEDP, V_RELEASEOL; which of them holds:
+/// this project's profile).
 #[derive(Clone, Copy)]
 pub enum Release {
     /// This speed, in metres per hour; 0 where there is none (126).

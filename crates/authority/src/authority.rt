@@ -1,3 +1,4 @@
+//! The movement authority in a life: it is accepted, its timers run, and it tells its end.
 ghost use Rattle.std.specs.Prelude.{◌≡◌, List, [], ◌∷◌, is_some};
 ghost use Rattle.authority.specs.Entries.{Entry, fact_of, accepted};
 ghost use Rattle.authority.specs.Entries.Entry.{Ticked, Accepted, Passed, Cleared};
@@ -11,8 +12,8 @@ use packets::MovementAuthority;
 use std::marker::Model;
 use units::{GroupPlace, Mph, Ms, Stretch};
 
-/// The movement authority, if one is stored, and the clock that its timers go by (SUBSET-026, 3.8; the moments: this project's
-/// profile). Its calls take no memory.
+/// The movement authority, if one is stored, and the clock that its timers go by (SUBSET-026, 3.8; the moments: this
+/// project's profile). Its calls take no memory.
 #[derive(Drop)]
 pub struct Authority {
     moment: Ms,
@@ -38,8 +39,8 @@ impl Authority {
         }
     }
 
-    /// Takes packet 12 in place of the old authority. Its sections count from the place of its group, in centimetres; its
-    /// timers from the moment of acceptance, in milliseconds.
+    /// Takes packet 12 in place of the old authority. Its sections count from the place of its group, in centimetres;
+    /// its timers from the moment of acceptance, in milliseconds.
     pub fn accept(&mut self, packet: &MovementAuthority, place: GroupPlace, moment: Ms)
         ensures { (entries : List Entry) → self.new ≡ known (Accepted (fact_of packet.now place moment) ∷ entries) }
     {
@@ -75,8 +76,8 @@ impl Authority {
         self.stored = None;
     }
 
-    /// The end of authority now, with the speed there, the supervised location and the release speed; None where no authority
-    /// is stored.
+    /// The end of authority now, with the speed there, the supervised location and the release speed; None where no
+    /// authority is stored.
     pub fn end(&self) -> Option<End>
         ensures { (entries : List Entry) → self.now ≡ known entries → result ≡ end_of entries }
     {

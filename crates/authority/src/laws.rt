@@ -1,12 +1,13 @@
+//! Laws of sections that run out, timers that start, and the end of authority.
 ghost use Rattle.authority.specs.Laws.{SectionsRunOut, TimersStart, EndIsTheNearest, EndNeverMovesForward, AcceptanceForgets};
 
-/// A law: a section has run out exactly where its time is over and the least front, whenever it was seen before that, was
-/// short of the stop place.
+/// A law: a section has run out exactly where its time is over and the minimum safe front, whenever it was seen before
+/// that, was short of the stop place.
 pub fn sections_run_out()
     ensures { SectionsRunOut }
 {}
 
-/// A law: a timer that starts at a place does so exactly when the greatest front is first seen at or above it.
+/// A law: a timer that starts at a place does so exactly when the maximum safe front is first seen at or above it.
 pub fn timers_start()
     ensures { TimersStart }
 {}

@@ -1,5 +1,5 @@
-//! The movement authority and its timers: up to where the train may go, and how fast it may be there (SUBSET-026, 3.8; when
-//! timers run out and which release speed holds: this project's profile).
+//! The movement authority and its timers: up to where the train may go, and how fast it may be there (SUBSET-026, 3.8;
+//! when timers run out and which release speed holds: this project's profile).
 #![tactic(auto)]
 
 mod accepting;

@@ -1,3 +1,4 @@
+//! The stored authority: what the front does to its timers, and its end at a moment.
 ghost use Rattle.std.specs.Prelude.{◌≡◌, filter, not, if◌then◌else◌, option_map};
 ghost use Rattle.authority.specs.Steps.{stops_at, passed_timer, passed_overlap, passed_stored, first_over, is_over_in, taken_back_in, point_in, told_in, end_in, speed_in};
 
@@ -10,8 +11,8 @@ use vars::Timer;
 /// How many sections an authority has at most: the 31 that a packet 12 lists, and the end section.
 pub const MOST_SECTIONS: usize = 32;
 
-/// A place behind the end that is supervised, the danger point or the end of the overlap, and its release speed (SUBSET-026,
-/// 3.8.4).
+/// A place behind the end that is supervised, the danger point or the end of the overlap, and its release speed
+/// (SUBSET-026, 3.8.4).
 #[derive(Clone, Copy)]
 pub struct Point {
     /// Where it is, in centimetres of the life.
@@ -56,8 +57,8 @@ pub struct Stored {
 
 /// What is seen after an event.
 impl Stored {
-    /// Takes where the front is at a moment, in milliseconds: starts the timers of the end section and the overlap, and drops
-    /// the sections whose timers stop.
+    /// Takes where the front is at a moment, in milliseconds: starts the timers of the end section and the overlap, and
+    /// drops the sections whose timers stop.
     pub fn pass(&mut self, now: Ms, train: &Stretch)
         ensures { self.new ≡ passed_stored now train.now self.old }
     {
@@ -101,7 +102,7 @@ fn drop_stopped(
     timed.retain(|section| !is_stopped(section, start, now, min_front));
 }
 
-// Whether a section's timer that still runs stops where the least front was seen.
+// Whether a section's timer that still runs stops where the minimum safe front was seen.
 fn is_stopped(section: &TimedSection, start: Ms, now: Ms, min_front: Cm) -> bool
     ensures { result ≡ stops_at start now min_front section.now }
 {

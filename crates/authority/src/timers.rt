@@ -1,3 +1,4 @@
+//! The timers of sections, end section and overlap: when they start and when they have run out.
 ghost use Rattle.std.specs.Prelude.{◌≡◌};
 ghost use Rattle.authority.specs.Timers.{has_run_out, started_has_run_out};
 ghost use Rattle.authority.specs.Steps.{passed_timer};
@@ -5,7 +6,8 @@ ghost use Rattle.authority.specs.Steps.{passed_timer};
 use units::{Cm, Ms};
 use vars::{Timer, Variable};
 
-/// Whether a timer that started at a moment has run out by now; both are milliseconds. A timer of 1,023 s never runs out.
+/// Whether a timer that started at a moment has run out by now; both are milliseconds. A timer of 1,023 s never runs
+/// out.
 pub fn is_over(time: Timer, start: Ms, now: Ms) -> bool
     ensures { result ≡ has_run_out time start now }
 {
@@ -15,7 +17,8 @@ pub fn is_over(time: Timer, start: Ms, now: Ms) -> bool
     }
 }
 
-/// The timer of a section, at its place on the track (SUBSET-026, 3.8.3). It runs from the acceptance of the authority on.
+/// The timer of a section, at its place on the track (SUBSET-026, 3.8.3). It runs from the acceptance of the authority
+/// on.
 #[derive(Clone, Copy)]
 pub struct TimedSection {
     /// Where the section begins, in centimetres of the life.

@@ -1,6 +1,6 @@
--- What a balise group closes to (SUBSET-026, 3.4 and 3.16.2, with the causes and their order of this project's profile).
--- `readings` are those that count: the first of each place, in the order in which they came. Movements and paths are
--- centimetres.
+-- What a balise group closes to (SUBSET-026, 3.4 and 3.16.2, with the causes and their order of this project's
+-- profile). `readings` are those that count: the first of each place, in the order in which they came. Movements and
+-- paths are centimetres.
 use Rattle.std.specs.Prelude.{ℕ, zero, suc, ◌+◌, List, [], ◌∷◌, ◌++◌, Bool, true, false, ◌&&◌, ◌||◌, not, ◌==◌, nat_lt, if◌then◌else◌, Option, Some, None}
 use Rattle.std.specs.List.{list_any}
 use Rattle.vars.specs.declared.group.Duplicate.{Duplicate}

@@ -76,8 +76,8 @@ ended_if_whole groups = if is_whole (counting groups.current) then ended groups 
 abbrev pub joined_by : Reading → Groups → Groups
 joined_by reading groups = ended_if_whole (record { current = reading ∷ groups.current; last = groups.last })
 
--- A telegram of the group that closed last is ignored, one of the group being read joins it, any other one ends the group
--- being read and begins its own.
+-- A telegram of the group that closed last is ignored, one of the group being read joins it, any other one ends the
+-- group being read and begins its own.
 abbrev pub after_reading : Reading → Groups → Groups
 after_reading reading groups =
     if goes_on reading (newest groups.last) then record { current = groups.current; last = reading ∷ groups.last } else

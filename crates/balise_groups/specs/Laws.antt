@@ -32,7 +32,8 @@ TellPaths [] = Unit {0}
 TellPaths (Read reading ∷ entries) = (reading.sums.path ≡ path_of entries) × TellPaths entries
 TellPaths (Went path ∷ entries) = TellPaths entries
 
--- Where all movements are handed in, the group being read is never left: a telegram goes on with it where it has its name.
+-- Where all movements are handed in, the group being read is never left: a telegram goes on with it where it has its
+-- name.
 abbrev pub IsNeverLeft : Type 0
 IsNeverLeft = (entries : List Entry) → TellPaths entries →
     is_left (path_of entries) (newest (groups_of entries).current) ≡ false

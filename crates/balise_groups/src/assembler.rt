@@ -1,3 +1,4 @@
+//! Readings come in one by one, and groups go out as they end (this project's profile).
 ghost use Rattle.std.specs.Prelude.{◌≡◌, ◌+◌, ◌≤◌, ℕ, List, [], ◌∷◌, None, is_none, false};
 ghost use Rattle.balise_groups.specs.Closing.{close_of};
 ghost use Rattle.balise_groups.specs.Groups.{Entry, Groups, Known, seen_at, is_close, is_left, goes_on, ended, ended_if_whole, joined_by, close_if_whole, with_reading, known_of, known, taken_by, ended_by};
@@ -23,8 +24,8 @@ pub struct Seen {
     pub path: Length,
 }
 
-/// What closes at a reading: the group that it ended, and its own where that is whole now (when a group ends: this project's
-/// profile).
+/// What closes at a reading: the group that it ended, and its own where that is whole now (when a group ends: this
+/// project's profile).
 #[derive(Drop)]
 pub struct Taken {
     /// The group that the reading ended.
@@ -33,8 +34,8 @@ pub struct Taken {
     pub whole: Option<Closed>,
 }
 
-/// Puts the readings of a life together to groups (SUBSET-026, 3.4.1 to 3.4.3; when a group ends: this project's profile). Its
-/// calls take no memory.
+/// Puts the readings of a life together to groups (SUBSET-026, 3.4.1 to 3.4.3; when a group ends: this project's
+/// profile). Its calls take no memory.
 #[derive(Drop)]
 pub struct Assembler {
     // The readings of the group being read that count, and its newest telegram.
@@ -102,8 +103,8 @@ impl Assembler {
         }
     }
 
-    /// Takes a reading, and answers what closes at it: no more packets than `packets` counts and the reading's own. The caller
-    /// owes the readings of a life in order, each with the sums of its moment, and each movement to `moved`.
+    /// Takes a reading, and answers what closes at it: no more packets than `packets` counts and the reading's own. The
+    /// caller owes the readings of a life in order, each with the sums of its moment, and each movement to `moved`.
     pub fn take(&mut self, reading: Reading) -> Taken
         ensures answer { result ≡ taken_by reading self.old }
         ensures few { packets_of_taken result ≤ packets_in self.old.readings + packets_at reading }
@@ -127,9 +128,9 @@ impl Assembler {
         }
     }
 
-    /// Whether the group being read is left at a path of the life, in centimetres: beyond 1,300 cm behind its last telegram.
-    /// While it isn't, `moved` answers None and changes nothing; its answer has room for a whole message, so who asks at each
-    /// movement asks this first.
+    /// Whether the group being read is left at a path of the life, in centimetres: beyond 1,300 cm behind its last
+    /// telegram. While it isn't, `moved` answers None and changes nothing; its answer has room for a whole message, so
+    /// who asks at each movement asks this first.
     pub fn is_leaving(&self, path: Length) -> bool
         ensures answer { result ≡ is_left path self.now.current }
         ensures none { result ≡ false → ended_by path self.now ≡ None }
@@ -154,8 +155,8 @@ impl Assembler {
         self.readings.packets()
     }
 
-    /// Takes the path of the life after a movement, in centimetres, and answers the group that is left by it, if one is: no
-    /// more packets than `packets` counts. The caller owes each movement.
+    /// Takes the path of the life after a movement, in centimetres, and answers the group that is left by it, if one
+    /// is: no more packets than `packets` counts. The caller owes each movement.
     pub fn moved(&mut self, path: Length) -> Option<Closed>
         ensures answer { result ≡ ended_by path self.old }
         ensures few { packets_of_closed result ≤ packets_in self.old.readings }

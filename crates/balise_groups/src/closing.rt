@@ -1,3 +1,4 @@
+//! The readings of a group become its message, or the cause why it has none.
 ghost use Rattle.std.specs.Prelude.{◌≡◌, ℕ, ◌+◌, ◌<◌, ◌≤◌, List, [], ◌∷◌, ◌++◌, length};
 ghost use Rattle.std.specs.List.{list_any};
 ghost use Rattle.balise_groups.specs.Telling.{told_by};
@@ -231,8 +232,8 @@ fn message(first: &Reading, readings: &[Reading]) -> Message
     }
 }
 
-/// What a group closes to (SUBSET-026, 3.4 and 3.16.2; why it is broken: this project's profile), of which these are the
-/// readings that count, one a place. None where there are none.
+/// What a group closes to (SUBSET-026, 3.4 and 3.16.2; why it is broken: this project's profile), of which these are
+/// the readings that count, one a place. None where there are none.
 pub fn close(readings: &[Reading]) -> Option<Closed>
     ensures { result ≡ close_of readings.now }
 {

@@ -1,3 +1,4 @@
+//! A group's packets, walked through in order of place and cut at infill (packet 136).
 ghost use Rattle.std.specs.Prelude.{◌≡◌, ◌++◌, ◌∷◌, List, [], length};
 ghost use Rattle.std.specs.Iterator.{YieldsFirstBy, item_count};
 ghost use Rattle.telegram.specs.Walks.{Walk, packets_of};
@@ -11,8 +12,8 @@ use telegram::{PacketInPlace, Packets, Received};
 /// NID_PACKET of infill: neither it nor what follows it is used.
 const INFILL: u8 = 136;
 
-/// The packets of a group (SUBSET-026, 3.4): those of its telegrams in order of place, of each those before its first packet
-/// 136.
+/// The packets of a group (SUBSET-026, 3.4): those of its telegrams in order of place, of each those before its first
+/// packet 136.
 #[derive(Drop)]
 pub struct GroupPackets {
     pub(crate) telegrams: ArrayVec<Received, 8>,

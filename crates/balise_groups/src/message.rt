@@ -1,3 +1,4 @@
+//! What a balise group gives at its end: its message, or why it is broken.
 ghost use Rattle.std.specs.Prelude.{◌≡◌};
 ghost use Rattle.balise_groups.specs.Causes.{cause_number};
 
@@ -14,8 +15,8 @@ pub struct Message {
     pub linked: bool,
     /// The direction in which the train passed the group; None where that isn't known.
     pub direction: Option<LinkOrientation>,
-    /// The movements and the path of the life, in centimetres, when its balise 1 was read, or the first that was read where
-    /// balise 1 was missed.
+    /// The movements and the path of the life, in centimetres, when its balise 1 was read, or the first that was read
+    /// where balise 1 was missed.
     pub sums: Sums,
     /// Whether balise 1 was missed.
     pub missed: bool,
@@ -23,8 +24,8 @@ pub struct Message {
     pub packets: GroupPackets,
 }
 
-/// Why a group gives no message (SUBSET-026, 3.16.2; the order and the numbers: this project's profile). Where more than one
-/// holds, Mixed comes before Counter, and Counter before Missing. The number of a cause is its discriminant.
+/// Why a group gives no message (SUBSET-026, 3.16.2; the order and the numbers: this project's profile). Where more
+/// than one holds, Mixed comes before Counter, and Counter before Missing. The number of a cause is its discriminant.
 #[derive(Clone, Copy, Debug, PartialEq, Eq, Drop)]
 pub enum Cause {
     /// A balise wasn't read, and no neighbour that was read repeats it.

@@ -1,3 +1,4 @@
+//! One balise as it was read: its telegram, and the odometer's sums there.
 ghost use Rattle.std.specs.Prelude.{◌≡◌};
 
 use odometry::Sums;

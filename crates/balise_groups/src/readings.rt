@@ -1,3 +1,4 @@
+//! At most 8 readings of one group, the first of each place, and what they close to.
 ghost use Rattle.std.specs.Prelude.{◌≡◌, ◌≤◌, List, [], false};
 ghost use Rattle.balise_groups.specs.Closing.{is_whole, close_of};
 ghost use Rattle.balise_groups.specs.Groups.{with_reading};
@@ -10,8 +11,8 @@ use arrayvec::ArrayVec;
 use std::marker::Model;
 use vars::Variable;
 
-/// The readings of a group that count: the first of each place, in the order in which they came (this project's profile). At
-/// most 8.
+/// The readings of a group that count: the first of each place, in the order in which they came (this project's
+/// profile). At most 8.
 #[derive(Drop)]
 pub struct Readings {
     items: ArrayVec<Reading, 8>,

@@ -1,5 +1,5 @@
-//! Calls of `blocks` for `bench/`, which counts their instructions. Each answers a sum over what it got, so that nothing is left
-//! out. No part of the product.
+//! Calls of `blocks` for `bench/`, which counts their instructions. Each answers a sum over what it got, so that
+//! nothing is left out. No part of the product.
 #![tactic(auto)]
 
 ghost use Rattle.std.specs.Prelude.{◌≡◌, ◌-◌, length};

@@ -1,5 +1,5 @@
-//! Calls of `kernel`, `braking`, `mode_table` and `driver` for `bench/`, which counts their instructions. Each answers a sum
-//! over what it got, so that nothing is left out. No part of the product.
+//! Calls of `kernel`, `braking`, `mode_table` and `driver` for `bench/`, which counts their instructions. Each answers
+//! a sum over what it got, so that nothing is left out. No part of the product.
 #![tactic(auto)]
 
 mod modes;

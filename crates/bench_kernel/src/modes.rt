@@ -1,5 +1,5 @@
 //! The mode table and the driver's actions.
-use driver::{Acknowledged, Action, Confirmed, Driver, Kept, Situation};
+use driver::{Acknowledged, Action, ActionSituation, Confirmed, Driver, Kept};
 use mode_table::{Conditions, Fate, Item, Mode, TrainLevel, next_mode, status_on};
 use units::Mph;
 
@@ -70,7 +70,7 @@ fn conditions_of(bits: u32) -> Conditions {
         on_sight_area: bit(bits, 6),
         shunting_area: bit(bits, 5),
         trip_acknowledged: bit(bits, 4),
-        overridden: bit(bits, 3),
+        override_accepted: bit(bits, 3),
         shunting_chosen: bit(bits, 2),
         shunting_left: bit(bits, 1),
         started: bit(bits, 0),
@@ -88,7 +88,7 @@ fn fate_of(item: Item, mode: Mode) -> Fate {
 }
 
 #[inline(never)]
-fn is_accepted(driver: &Driver, action: &Action, now: &Situation) -> bool {
+fn is_accepted(driver: &Driver, action: &Action, now: &ActionSituation) -> bool {
     driver.accepts(action, now)
 }
 
@@ -125,7 +125,7 @@ pub extern "C" fn bench_accepts(runs: u32) -> u64 {
     let driver = Driver::new(&Kept::nothing());
     let mut accepted = 0u64;
     for run in 0..runs {
-        let now = Situation {
+        let now = ActionSituation {
             mode: MODES[run as usize / 14 % 9],
             speed,
             override_allowed: speed,

@@ -97,7 +97,8 @@ fn output_after(alloc: Global, state: &mut State, event: &Event) -> Result<u64, 
     Ok(u64::from(output.limit.get()))
 }
 
-/// A life up to the driver's entries and these telegrams. An action is counted before the driver's start, each other kind behind it.
+/// A life up to the driver's entries and these telegrams. An action is counted before the driver's start, each other
+/// kind behind it.
 fn begin(
     alloc: Global,
     state: &mut State,
@@ -134,7 +135,8 @@ fn sum_of_limits(
     Ok(sum)
 }
 
-/// The kernel, event by event, behind these telegrams; the telegrams that are counted are others. Each lies in 104 bytes.
+/// The kernel, event by event, behind these telegrams; the telegrams that are counted are others. Each lies in 104
+/// bytes.
 #[unsafe(no_mangle)]
 pub extern "C" fn bench_limits(
     alloc: Global,

@@ -1,5 +1,5 @@
--- What spells a value is what is appended for it, where the layout finds each value that is read in the whole again; and then
--- the value fits the layout.
+-- What spells a value is what is appended for it, where the layout finds each value that is read in the whole again;
+-- and then the value fits the layout.
 use Rattle.std.proofs.Common.{ℕ, zero, suc, ◌∷◌, ◌<◌, ◌^◌, subst, ◌≡◌, Bool, true, false, List, [], ◌++◌, length, take, drop, ◌+◌, Option, Some, None, Ok, refl, sym, ap, ◌∙◌, arith}
 use Rattle.std.specs.List.{AllByRecursion as Each}
 use Rattle.std.specs.Prelude.{is_some, option_map, option_and_then, IfSome}

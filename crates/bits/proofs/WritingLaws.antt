@@ -1,4 +1,5 @@
--- What a spelling is made of is what is appended, part after part; a loop that hands elements on; how many bits there are.
+-- What a spelling is made of is what is appended, part after part; a loop that hands elements on; how many bits there
+-- are.
 use Rattle.std.proofs.Common.{◌≡◌, ℕ, suc, ◌+◌, ◌<◌, ◌≤◌, ◌^◌, Bool, true, false, List, [], ◌∷◌, ◌++◌, Option, Some, None, length, drop, take, get_or, refl, sym, ap, subst, ◌∙◌, arith, append_assoc, drop-cons, length-append}
 use Rattle.std.specs.Option.{option_map_or}
 use Rattle.std.proofs.lemmas.List.{append-nil, drop_all}

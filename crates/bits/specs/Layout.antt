@@ -9,11 +9,12 @@ pub record Codes (E A : Type 0) : Type 0 where
   pub value : ℕ → Result A E
   pub number : A → ℕ
 
--- A layout says how an A is spelled in bits: as nothing; as nothing, unless a fault is there; as a variable, with its name, the
--- fault of too few bits and the faults of its own; as a run of bits; as one of two layouts; as one kind of an A; as a part
--- that is there where it is given; as a part that is always there; with a number that must say how many bits there are,
--- those before them included; as so many more elements of a list; with its faults in other words; as one layout and
--- then another that goes by its value. Each field also says where in the C that is spelled its value is found.
+-- A layout says how an A is spelled in bits: as nothing; as nothing, unless a fault is there; as a variable, with its
+-- name, the fault of too few bits and the faults of its own; as a run of bits; as one of two layouts; as one kind of an
+-- A; as a part that is there where it is given; as a part that is always there; with a number that must say how many
+-- bits there are, those before them included; as so many more elements of a list; with its faults in other words; as
+-- one layout and then another that goes by its value. Each field also says where in the C that is spelled its value is
+-- found.
 pub data Layout : Type 0 → Type 0 → Type 0 → Type 1 where
   done : {F C A : Type 0} → A → Layout F C A
   unless : {F C : Type 0} → Bool → F → Layout F C (Unit {0})

@@ -1,5 +1,5 @@
--- What follows from a layout for a value that is written or printed: its fields, their bits and how many these are (this
--- project's profile).
+-- What follows from a layout for a value that is written or printed: its fields, their bits and how many these are
+-- (this project's profile).
 use Rattle.std.specs.Prelude.{ℕ, ◌+◌, List, [], ◌∷◌, ◌++◌, Bool, length, drop, Option, Some, option_map, option_and_then, if◌then◌else◌}
 use Rattle.std.specs.Option.{option_map_or}
 use Rattle.bits.specs.Bits.{number_bits}
@@ -7,7 +7,8 @@ use Rattle.bits.specs.Sums.{total}
 use Rattle.bits.specs.Layout.{Layout, done, unless, field, run, choice, kind, part, inner, measured, more, told_as, then_}
 use Rattle.bits.specs.declared.name.VariableName.{VariableName}
 
--- A field as it is taken: the name of its variable, the number of its bits, and the number that they spell; or a run of bits.
+-- A field as it is taken: the name of its variable, the number of its bits, and the number that they spell; or a run of
+-- bits.
 pub data Shown : Type 0 where
   named : VariableName → ℕ → ℕ → Shown
   raw : List Bool → Shown

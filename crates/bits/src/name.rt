@@ -1,3 +1,5 @@
+//! Names for the fields of a layout: the variables of SUBSET-026, 7.5, and their text.
+
 /// The variables of the language (SUBSET-026, 7.5), by which the fields of a layout are named.
 #[derive(Clone, Copy)]
 pub enum VariableName {

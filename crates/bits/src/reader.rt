@@ -1,3 +1,4 @@
+//! Bits are taken from bytes, as numbers or as runs that stay where they lie.
 ghost use Rattle.std.specs.Prelude.{◌≡◌, ℕ, ◌+◌, ◌-◌, ◌*◌, ◌<◌, ◌≤◌, ◌^◌, ◌↔◌, Bool, List, [], ◌∷◌, ◌++◌, length, take, drop, IsTrue, IsSome, IfSome, OnSome, IfNone};
 ghost use Rattle.bits.specs.Bits.{bits_of, number};
 ghost use Rattle.bits.specs.Window.{window_bits};
@@ -122,8 +123,8 @@ impl<'a> BitReader<'a> {
         more.div_ceil(8) <= self.window.rest.len()
     }
 
-    /// The number of the next n bits, the highest first. None where fewer are left, and then nothing is taken. The caller owes
-    /// n up to 64.
+    /// The number of the next n bits, the highest first. None where fewer are left, and then nothing is taken. The
+    /// caller owes n up to 64.
     #[inline(always)]
     pub fn take(&mut self, n: u32) -> Option<u64>
         requires { n ≤ 64 }

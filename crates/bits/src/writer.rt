@@ -1,3 +1,4 @@
+//! Numbers and runs are appended as bits, to at most N bytes.
 ghost use Rattle.std.specs.Prelude.{◌≡◌, ℕ, ◌+◌, ◌-◌, ◌*◌, ◌/◌, ◌%◌, ◌<◌, ◌≤◌, ◌^◌, ◌↔◌, Bool, false, List, [], ◌++◌, length, take, drop, replicate, IsTrue, IsOk, OnOk, OnErr};
 ghost use Rattle.bits.specs.Bits.{bits_of, number_bits};
 
@@ -78,8 +79,8 @@ impl<const N: usize> BitWriter<N> {
         n / 8 + (n % 8 + self.held as u64).div_ceil(8) <= left as u64
     }
 
-    /// Writes the lowest n bits of a number, the highest first. Full where they do not fit, and then nothing is written. The
-    /// caller owes n up to 64 and a number below 2^n.
+    /// Writes the lowest n bits of a number, the highest first. Full where they do not fit, and then nothing is
+    /// written. The caller owes n up to 64 and a number below 2^n.
     #[inline]
     pub fn put(&mut self, n: u32, v: u64) -> Result<(), Full>
         requires bits { n ≤ 64 }
@@ -95,7 +96,8 @@ impl<const N: usize> BitWriter<N> {
         Ok(())
     }
 
-    /// Writes the lowest n bits of a number, the highest first. The caller owes n up to 64, a number below 2^n, and room.
+    /// Writes the lowest n bits of a number, the highest first. The caller owes n up to 64, a number below 2^n, and
+    /// room.
     #[inline]
     pub fn write(&mut self, n: u32, v: u64)
         requires bits { n ≤ 64 }

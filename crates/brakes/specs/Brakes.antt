@@ -1,11 +1,11 @@
--- What a train's brakes do (this project's profile). Places are in centimetres, speeds in metres per hour, decelerations in
--- cm/s^2, gradients in per mille, uphill positive, reaction times in milliseconds.
+-- What a train's brakes do (this project's profile). Places are in centimetres, speeds in metres per hour,
+-- decelerations in cm/s^2, gradients in per mille, uphill positive, reaction times in milliseconds.
 use Rattle.std.specs.Prelude.{ℕ, ◌*◌, ℤ, pos, ◌+ℤ◌, ◌*ℤ◌, Option, None, Some}
 use Rattle.std.specs.Int.{div_ceil, int_div_euclid}
 use Rattle.units.specs.Stretches.{natural}
 
--- the deceleration on a gradient, which 1 per mille changes by 0.981 cm/s^2, rounded down; never below 0, and 0 where no
--- gradient is known
+-- the deceleration on a gradient, which 1 per mille changes by 0.981 cm/s^2, rounded down; never below 0, and 0 where
+-- no gradient is known
 abbrev pub slowing_on : ℕ → Option ℤ → ℕ
 slowing_on deceleration None = 0
 slowing_on deceleration (Some gradient) =

@@ -1,3 +1,4 @@
+//! A train's deceleration and reaction time together.
 use crate::{Deceleration, Reaction};
 
 /// What is known of a train's brakes (this project's profile).

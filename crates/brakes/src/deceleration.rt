@@ -1,3 +1,4 @@
+//! How much the brakes slow a train, on level track and on a gradient.
 ghost use Rattle.std.specs.Prelude.{◌≡◌, ◌*◌, ◌≤◌, ◌↔◌, pos, ◌+ℤ◌, ◌*ℤ◌, IsSome, IfSome};
 ghost use Rattle.std.specs.Int.{int_div_euclid};
 ghost use Rattle.units.specs.Stretches.{natural};

@@ -1,3 +1,4 @@
+//! The delay of the brakes, and the way that a train runs in it.
 ghost use Rattle.std.specs.Prelude.{◌≡◌, ◌≤◌, ◌↔◌, IsSome, IfSome};
 ghost use Rattle.brakes.specs.Limits.{IsReaction};
 ghost use Rattle.brakes.specs.Brakes.{reaction_way};

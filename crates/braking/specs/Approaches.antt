@@ -6,7 +6,7 @@ use Rattle.braking.specs.declared.target.Target.{Target}
 use Rattle.braking.specs.declared.summed.Summed.{Summed}
 use Rattle.braking.specs.Braking.{fits, fits_all, greatest, IsSummed}
 
--- a train's greatest front, the gradients, what is known of its brakes, and the speed so far
+-- a train's maximum safe front, the gradients, what is known of its brakes, and the speed so far
 pub record Course (G : Type 0) : Type 0 where
   pub front : ℤ
   pub gradient : G

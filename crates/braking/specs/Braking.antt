@@ -1,5 +1,5 @@
--- The speeds from which a train can still brake for what lies ahead (this project's profile). Places are in centimetres,
--- speeds in metres per hour, decelerations in cm/s^2, gradients in per mille, uphill positive.
+-- The speeds from which a train can still brake for what lies ahead (this project's profile). Places are in
+-- centimetres, speeds in metres per hour, decelerations in cm/s^2, gradients in per mille, uphill positive.
 use Rattle.std.specs.Prelude.{◌≡◌, ℕ, zero, suc, ◌≤◌, ◌+◌, ◌-◌, ◌*◌, ℤ, pos, ◌+ℤ◌, ◌-ℤ◌, ◌≤ℤ◌, Bool, ◌&&◌, ◌||◌, nat_le, nat_lt, if◌then◌else◌, Option, List}
 use Rattle.std.specs.List.{list_all}
 use Rattle.units.specs.Stretches.{natural}

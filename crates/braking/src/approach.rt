@@ -1,4 +1,4 @@
-//! The permitted speed, target by target.
+//! The permitted speed, target by target (this project's profile).
 ghost use Rattle.std.specs.Prelude.{◌≡◌, ◌<◌, false, IsTrue};
 ghost use Rattle.braking.specs.Braking.{fits, fits_all, greatest, IsSummed};
 ghost use Rattle.braking.specs.Approaches.{lowered};
@@ -12,9 +12,9 @@ use std::marker::Model;
 use track_store::Profile;
 use units::{Cm, Mph, Permille};
 
-/// A train that takes one target ahead after another, and the greatest speed that fits those so far (this project's profile).
-/// What the braking takes off is carried from one target to the next: for a target farther ahead only the gradients between are
-/// gone through.
+/// A train that takes one target ahead after another, and the greatest speed that fits those so far (this project's
+/// profile). What the braking takes off is carried from one target to the next: for a target farther ahead only the
+/// gradients between are gone through.
 #[derive(Drop)]
 pub struct Approach<'a, P: Profile<Permille>> {
     front: Cm,
@@ -37,8 +37,8 @@ impl<'a, P: Profile<Permille>> Model for Approach<'a, P> {
 }
 
 impl<'a, P: Profile<Permille>> Approach<'a, P> {
-    /// No target yet, for a train whose maximum safe front is at this place, in centimetres: the speed is the limit, in metres
-    /// per hour. Takes no memory.
+    /// No target yet, for a train whose maximum safe front is at this place, in centimetres: the speed is the limit, in
+    /// metres per hour. Takes no memory.
     pub fn new(front: Cm, limit: Mph, gradient: &'a P, brakes: &'a Brakes) -> Approach<'a, P>
         ensures { result ≡ record { front = front; gradient = gradient.now; brakes = brakes.now; speed = limit } }
     {
@@ -95,8 +95,9 @@ impl<'a, P: Profile<Permille>> Approach<'a, P> {
         fits
     }
 
-    /// Takes one more target: then the greatest speed up to the one so far that fits the target. A target whose speed is no less
-    /// than the one so far costs nothing, nor does one behind a place where the train is known to come to a stop.
+    /// Takes one more target: then the greatest speed up to the one so far that fits the target. A target whose speed
+    /// is no less than the one so far costs nothing, nor does one behind a place where the train is known to come to a
+    /// stop.
     pub fn lower(&mut self, target: &Target)
         ensures { self.new ≡ lowered (P.value self.old.gradient) target.now self.old }
     {
@@ -105,7 +106,8 @@ impl<'a, P: Profile<Permille>> Approach<'a, P> {
         }
     }
 
-    // The same where its speed is above the target's. It is a function of its own, so that what costs nothing is done where it is asked.
+    // The same where its speed is above the target's. It is a function of its own, so that what costs nothing is done
+    // where it is asked.
     #[inline(never)]
     fn seek(&mut self, target: &Target)
         requires { target.now.speed < self.old.speed }
@@ -124,8 +126,8 @@ impl<'a, P: Profile<Permille>> Approach<'a, P> {
         self.keep(sum);
     }
 
-    // Whether the speed so far fits a target, as is known without a sum: it is no greater than the target's, or the train can
-    // stop before it.
+    // Whether the speed so far fits a target, as is known without a sum: it is no greater than the target's, or the
+    // train can stop before it.
     fn surely_fits(&self, target: &Target) -> bool
         ensures fits { IsTrue result → IsTrue (fits self.now.front (P.value self.now.gradient) self.now.brakes target.now self.now.speed) }
         ensures braking { result ≡ false → target.now.speed < self.now.speed }
@@ -151,9 +153,9 @@ impl<'a, P: Profile<Permille>> Approach<'a, P> {
     }
 }
 
-/// The greatest speed up to a limit that fits all targets (this project's profile), in metres per hour; 0 where none does.
-/// `front` is the maximum safe front, in centimetres. The targets may come in any order. Takes no memory. A speed below one
-/// that fits also fits, so it is looked for target by target, each time up to the one found so far.
+/// The greatest speed up to a limit that fits all targets, in metres per hour; 0 where none
+/// does. `front` is the maximum safe front, in centimetres. The targets may come in any order. Takes no memory. A speed
+/// below one that fits also fits, so it is looked for target by target, each time up to the one found so far.
 pub fn permitted<P: Profile<Permille>>(
     front: Cm,
     limit: Mph,

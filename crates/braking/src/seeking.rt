@@ -1,3 +1,4 @@
+//! The search for the greatest speed that fits a target.
 ghost use Rattle.std.specs.Prelude.{◌≡◌, ◌+◌, ◌-◌, ◌^◌, ◌<◌, ◌≤◌, true, false, MatchOption};
 ghost use Rattle.braking.specs.Braking.{fits, greatest, IsSummed};
 ghost use Rattle.braking.specs.Sums.{ActsBy, IsSummedWhole, IsRoot};
@@ -9,8 +10,8 @@ use brakes::{Brakes, reaction_way};
 use track_store::Profile;
 use units::{Cm, Mph, Permille};
 
-/// The greatest speed up to a limit that fits a target whose speed is below that limit, in metres per hour, and what was summed
-/// on the way. The caller owes what was summed of the same train and gradient.
+/// The greatest speed up to a limit that fits a target whose speed is below that limit, in metres per hour, and what
+/// was summed on the way. The caller owes what was summed of the same train and gradient.
 pub fn permitted_before<P: Profile<Permille>>(
     front: Cm,
     limit: Mph,
@@ -37,9 +38,9 @@ pub fn permitted_before<P: Profile<Permille>>(
     (sought(front, limit, target, gradient, brakes, &sum), sum)
 }
 
-// The greatest speed below one that doesn't fit a target, where it is known what the stretch from where the brakes act at that one
-// takes off. The speed whose brakes acted there and took off just so much fits, and so would a greater one only as far as they
-// act sooner: at most what they take off from where they act at the lower one.
+// The greatest speed below one that doesn't fit a target, where it is known what the stretch from where the brakes act
+// at that one takes off. The speed whose brakes acted there and took off just so much fits, and so would a greater one
+// only as far as they act sooner: at most what they take off from where they act at the lower one.
 fn sought<P: Profile<Permille>>(
     front: Cm,
     limit: Mph,
@@ -144,8 +145,8 @@ fn above(speed: Mph, limit: Mph) -> Mph
     }
 }
 
-// The greatest speed up to a limit from which a train comes down to another one where so much is taken off: a whole square
-// root, by Newton's way from above.
+// The greatest speed up to a limit from which a train comes down to another one where so much is taken off: a whole
+// square root, by Newton's way from above.
 fn root(speed: Mph, taken_off: u64, limit: Mph) -> Mph
     requires { taken_off < 2 ^ 64 - 2 ^ 62 }
     ensures { IsRoot speed taken_off limit result }

@@ -1,3 +1,4 @@
+//! Stretches of even deceleration: where one ends, and what it takes off.
 ghost use Rattle.std.specs.Prelude.{◌≡◌, ◌*◌, ◌≤◌, Option, Some, ℤ, ◌-ℤ◌, ◌≤ℤ◌, ◌<ℤ◌};
 ghost use Rattle.units.specs.Stretches.{natural};
 ghost use Rattle.track_store.specs.Profiles.{Lasts};
@@ -15,8 +16,8 @@ pub fn end_of_stretch(next: Option<Cm>, end: Cm) -> Cm
     }
 }
 
-/// What a stretch with the same deceleration on each centimetre, in cm/s^2, takes off the square of the speed, in (m/h)^2. The
-/// caller owes places in order, in centimetres.
+/// What a stretch with the same deceleration on each centimetre, in cm/s^2, takes off the square of the speed, in
+/// (m/h)^2. The caller owes places in order, in centimetres.
 pub fn taken_off_evenly(slowing: u16, from: Cm, to: Cm) -> u64
     requires small { slowing ≤ 549 }
     requires ordered { from ≤ℤ to }

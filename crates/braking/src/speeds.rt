@@ -1,3 +1,4 @@
+//! Whether the brakes bring a speed down to that of a target before its place.
 ghost use Rattle.std.specs.Prelude.{◌≡◌, ℕ, ◌*◌, ◌-◌, ◌^◌, ◌<◌, ◌≤◌, ℤ, pos, ◌+ℤ◌, ◌-ℤ◌, ◌≤ℤ◌, ◌<ℤ◌, ◌↔◌, IsTrue, IsSome, IfSome, MatchOption};
 ghost use Rattle.units.specs.Stretches.{natural};
 ghost use Rattle.brakes.specs.Brakes.{reaction_way};
@@ -10,9 +11,9 @@ use brakes::{Brakes, reaction_way};
 use track_store::Profile;
 use units::{Cm, Mph, Permille};
 
-/// Whether a speed, in metres per hour, fits a target, for a train whose maximum safe front is at a place, in centimetres: it
-/// is no greater than the target's, or the brakes act before the target and take off enough (this project's profile). A speed
-/// below one that fits also fits.
+/// Whether a speed, in metres per hour, fits a target, for a train whose maximum safe front is at a place, in
+/// centimetres: it is no greater than the target's, or the brakes act before the target and take off enough (this
+/// project's profile). A speed below one that fits also fits.
 pub fn fits<P: Profile<Permille>>(
     front: Cm,
     speed: Mph,
@@ -32,8 +33,8 @@ pub fn fits<P: Profile<Permille>>(
     fits
 }
 
-/// Whether a speed above a target's fits it, and what was summed on the way. Places are centimetres, speeds metres per hour.
-/// The caller owes what was summed of the same train and gradient.
+/// Whether a speed above a target's fits it, and what was summed on the way. Places are centimetres, speeds metres per
+/// hour. The caller owes what was summed of the same train and gradient.
 pub fn fits_summed<P: Profile<Permille>>(
     front: Cm,
     speed: Mph,
@@ -53,9 +54,9 @@ pub fn fits_summed<P: Profile<Permille>>(
     }
 }
 
-/// What the brakes take off before a target from where they act at a speed above its own, as far as is needed to see whether
-/// the speed fits; None where they don't act before it. What is summed already isn't gone through again, where it lies within.
-/// The caller owes what was summed of the same train and gradient.
+/// What the brakes take off before a target from where they act at a speed above its own, as far as is needed to see
+/// whether the speed fits; None where they don't act before it. What is summed already isn't gone through again, where
+/// it lies within. The caller owes what was summed of the same train and gradient.
 pub fn summed_before<P: Profile<Permille>>(
     front: Cm,
     speed: Mph,
@@ -80,8 +81,8 @@ pub fn summed_before<P: Profile<Permille>>(
     Some(begun.gone_on(gradient, brakes.deceleration, place, enough))
 }
 
-/// Whether a train comes to a stop within what is summed, from a speed in metres per hour, with its maximum safe front at a
-/// place in centimetres.
+/// Whether a train comes to a stop within what is summed, from a speed in metres per hour, with its maximum safe front
+/// at a place in centimetres.
 pub fn stops_within(front: Cm, speed: Mph, brakes: &Brakes, sum: &Summed) -> bool
     ensures { IsTrue result → IsStopping front brakes.now.reaction speed sum.now }
 {
@@ -92,8 +93,8 @@ pub fn stops_within(front: Cm, speed: Mph, brakes: &Brakes, sum: &Summed) -> boo
     front.get() + i64::from(reaction_way(brakes.reaction, speed)) <= sum.from.get()
 }
 
-/// What the brakes must take off the square of the speed, from one speed down to another, in (m/h)^2. The caller owes speeds
-/// that fall.
+/// What the brakes must take off the square of the speed, from one speed down to another, in (m/h)^2. The caller owes
+/// speeds that fall.
 pub fn lacking(from: Mph, to: Mph) -> u64
     requires { to ≤ from }
     ensures { result ≡ from * from - to * to }
@@ -102,8 +103,8 @@ pub fn lacking(from: Mph, to: Mph) -> u64
     from * from - to * to
 }
 
-/// Where the brakes act after a way from the front, all in centimetres; None where this isn't before a place. The caller owes a
-/// way of `reaction_way`.
+/// Where the brakes act after a way from the front, all in centimetres; None where this isn't before a place. The
+/// caller owes a way of `reaction_way`.
 pub fn brakes_act(front: Cm, way: u32, place: Cm) -> Option<Cm>
     requires { way ≤ 166_667 }
     ensures found { IsSome result ↔ (front +ℤ pos way) <ℤ place }

@@ -1,3 +1,4 @@
+//! What the brakes take off along a stretch, summed from one change of the gradient to the next.
 ghost use Rattle.std.specs.Prelude.{◌≡◌, ℕ, ◌^◌, ◌≤◌, Option, ℤ, ◌-ℤ◌, ◌≤ℤ◌, ◌⊎◌};
 ghost use Rattle.units.specs.Stretches.{natural};
 ghost use Rattle.braking.specs.Braking.{IsSummed};
@@ -7,7 +8,8 @@ use brakes::{Deceleration, slowing};
 use track_store::Profile;
 use units::{Cm, Permille};
 
-/// What a stretch takes off the square of the speed, reckoned once for many speeds and targets (this project's profile).
+/// What a stretch takes off the square of the speed, reckoned once for many speeds and targets (this project's
+/// profile).
 #[derive(Clone, Copy)]
 pub struct Summed {
     /// Where it begins, in centimetres.
@@ -36,8 +38,8 @@ impl Summed {
         }
     }
 
-    /// The same, gone on with up to a place, in centimetres, or only until it takes off enough, in (m/h)^2. It is gone through
-    /// from one change of the gradient to the next. The caller owes a place at or beyond its end.
+    /// The same, gone on with up to a place, in centimetres, or only until it takes off enough, in (m/h)^2. It is gone
+    /// through from one change of the gradient to the next. The caller owes a place at or beyond its end.
     pub fn gone_on<P: Profile<Permille>>(
         self,
         gradient: &P,
@@ -71,7 +73,8 @@ impl Summed {
         }
     }
 
-    /// The same, begun before: from an earlier place on, in centimetres. The caller owes a place at or before its beginning.
+    /// The same, begun before: from an earlier place on, in centimetres. The caller owes a place at or before its
+    /// beginning.
     pub fn begun<P: Profile<Permille>>(
         self,
         gradient: &P,

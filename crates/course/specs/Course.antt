@@ -1,10 +1,10 @@
--- The course of a simulated life: its steps, by what was asked so far (this project's profile). Places and distances are centimetres, speeds metres
--- per hour.
+-- The course of a simulated life: its steps, by what was asked so far (this project's profile). Places and distances
+-- are centimetres, speeds metres per hour.
 use Rattle.std.specs.Prelude.{ℕ, zero, suc, ◌+◌, ◌/◌, ◌%◌, ◌==◌, ℤ, pos, ◌+ℤ◌, ◌-ℤ◌, int_lt, if◌then◌else◌, List, [], ◌∷◌, ◌++◌}
 use Rattle.events.specs.declared.input.Input.{Input}
 use Rattle.events.specs.declared.input.Input.TheVariants.{Telegram, Odometer}
-use Rattle.life_steps.specs.declared.step.Step.{Step}
-use Rattle.life_steps.specs.declared.step.Step.TheVariants.{Accept, Flush}
+use Rattle.events.specs.declared.step.Step.{Step}
+use Rattle.events.specs.declared.step.Step.TheVariants.{Accept, Flush}
 use Rattle.course.specs.Numbers.{natural}
 use Rattle.course.specs.declared.balise.Balise.{Balise}
 use Rattle.course.specs.declared.asked.Asked.{Asked}

@@ -7,7 +7,8 @@ use Rattle.course.specs.declared.balise.Balise.{Balise}
 abbrev pub lies_at : ℤ → Balise → Bool
 lies_at place b = int_eq (pos b.at) place
 
--- Those on so many centimetres ahead of a place: centimetre after centimetre, and at each those that lie there, in the order of the file.
+-- Those on so many centimetres ahead of a place: centimetre after centimetre, and at each those that lie there, in the
+-- order of the file.
 unfoldable pub passed : List Balise → ℤ → ℕ → List Balise
 passed bs from zero = []
 passed bs from (suc n) = passed bs from n ++ filter (lies_at (from +ℤ pos (suc n))) bs

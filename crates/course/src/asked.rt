@@ -1,3 +1,4 @@
+//! The steps of a scenario: driving, an input, or a flush.
 use crate::distance::Distance;
 use events::Input;
 use units::Mph;

@@ -1,3 +1,4 @@
+//! The place of a balise, and the input that its telegram makes.
 ghost use Rattle.std.specs.Prelude.{◌≡◌};
 
 use events::{Input, TelegramBytes};

@@ -1,3 +1,4 @@
+//! The way of one step, from 100 m backward to 10 km forward.
 ghost use Rattle.std.specs.Prelude.{◌≡◌, ◌↔◌, IsSome, IfSome};
 ghost use Rattle.course.specs.Limits.{IsDistance};
 

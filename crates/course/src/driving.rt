@@ -1,4 +1,4 @@
-// How a course grows, step by step.
+//! How a course grows, step by step.
 ghost use Rattle.std.specs.Prelude.{◌≡◌, ◌+◌, ◌≤◌, ◌^◌, ℤ, pos, neg_ℤ, ◌≤ℤ◌, ◌<ℤ◌, ◌+ℤ◌, ◌-ℤ◌, OnOk, IfOk, All};
 ghost use Rattle.units.specs.Limits.{IsMovement};
 ghost use Rattle.course.specs.Numbers.{natural};
@@ -8,8 +8,7 @@ use crate::asked::Asked;
 use crate::balise::Balise;
 use crate::distance::Distance;
 use crate::track::Track;
-use events::{Input, Reading};
-use life_steps::Step;
+use events::{Input, Reading, Step};
 use std::alloc::Global;
 use units::{Movement, Mph, NoMemory};
 
@@ -40,8 +39,8 @@ fn way(from: i128, to: i128) -> u64
     if to > from { (to - from) as u64 } else { 0 }
 }
 
-/// The steps of a life so far, where the front is, and how many events are pending (this project's profile). A front of 128
-/// bits has room for any number of drives.
+/// The steps of a life so far, where the front is, and how many events are pending (this project's profile). A front of
+/// 128 bits has room for any number of drives.
 #[derive(Drop)]
 pub struct Course {
     /// Where the front is, in centimetres ahead of where it started.
@@ -172,8 +171,8 @@ impl Course {
         }
     }
 
-    /// Takes a step that is asked for, which moves the front by at most 1,000,000 cm. NoMemory where memory was refused; the
-    /// course may then have a part of the step. The caller owes a front within 2^99 cm of the start.
+    /// Takes a step that is asked for, which moves the front by at most 1,000,000 cm. NoMemory where memory was
+    /// refused; the course may then have a part of the step. The caller owes a front within 2^99 cm of the start.
     pub fn take(&mut self, track: &Track, asked: Asked) -> Result<(), NoMemory>
         requires low { neg_ℤ (pos (2 ^ 99)) ≤ℤ self.old.front }
         requires high { self.old.front ≤ℤ pos (2 ^ 99) }

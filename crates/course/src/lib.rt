@@ -1,5 +1,5 @@
-//! The course of a simulated train (this project's profile): the balises that lie on its track, and the inputs and flushes that each step of a
-//! life adds. Places and distances are centimetres, speeds metres per hour.
+//! The course of a simulated train (this project's profile): the balises that lie on its track, and the inputs and
+//! flushes that each step of a life adds. Places and distances are centimetres, speeds metres per hour.
 #![tactic(auto)]
 
 mod asked;

@@ -1,3 +1,4 @@
+//! The balises of a track in their order, and those that the train drives over.
 ghost use Rattle.std.specs.Prelude.{◌≡◌, ◌^◌, ◌+ℤ◌, ◌≤ℤ◌, ◌<ℤ◌, pos, neg_ℤ, IfOk, All};
 ghost use Rattle.std.specs.List.Sorted.{IsNonDecreasingBy};
 ghost use Rattle.course.specs.Passing.{passed, AreUpTo};
@@ -32,8 +33,8 @@ impl Track {
             .partition_point(|balise| i128::from(balise.at) <= place)
     }
 
-    /// The balises that a way of so many centimetres ahead of a place leads over, in their order: those beyond the place, up to
-    /// the end of the way. The caller owes a place within 2^99 cm of the start.
+    /// The balises that a way of so many centimetres ahead of a place leads over, in their order: those beyond the
+    /// place, up to the end of the way. The caller owes a place within 2^99 cm of the start.
     pub fn ahead(&self, from: i128, cm: u32) -> &[Balise]
         requires low { neg_ℤ (pos (2 ^ 99)) ≤ℤ from }
         requires high { from ≤ℤ pos (2 ^ 99) }

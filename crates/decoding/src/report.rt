@@ -1,3 +1,4 @@
+//! A telegram in lines: its header, its packets, and its number of bits.
 ghost use Rattle.std.specs.Prelude.{◌^◌};
 
 use bits::{Run, VariableName};
@@ -49,9 +50,9 @@ fn print_packet<W: Write>(packet: &Packet<'_>, out: &mut W) -> io::Result<()> {
     writeln!(line.out)
 }
 
-/// Writes a telegram: a line with the fields of its header, one for each packet, and `end` with its number of bits. Fields are
-/// named as in SUBSET-026, 7.5.1, with their numbers as they were sent. The error is that of a write; then some of the text may
-/// be written.
+/// Writes a telegram: a line with the fields of its header, one for each packet, and `end` with its number of bits.
+/// Fields are named as in SUBSET-026, 7.5.1, with their numbers as they were sent. The error is that of a write; then
+/// some of the text may be written.
 pub fn print_telegram<W: Write>(telegram: &Telegram<'_>, out: &mut W) -> io::Result<()> {
     print_header(&telegram.header, out)?;
     for packet in telegram.packets.as_slice() {

@@ -1,3 +1,4 @@
+//! From hexadecimal digits to the lines of a telegram, or to why they carry none.
 ghost use Rattle.std.specs.Prelude.{◌≡◌, ◌⊎◌, IfOk};
 ghost use Rattle.exit_status.specs.declared.status.Status.TheVariants as a_status;
 ghost use Rattle.telegram.specs.Telegrams.{Carries, RefusesBytes};
@@ -31,9 +32,9 @@ fn show<W: Write>(bytes: &[u8], out: &mut W) -> io::Result<Status>
     }
 }
 
-/// Writes the telegram that hex digits carry, two a byte, and answers Done. Else it writes why they carry none, and answers
-/// Refused: `refused hex`, `refused memory`, or number and name of the fault (`docs/REFUSALS.md`). Done exactly where they carry one,
-/// unless memory is refused. The error is that of a write.
+/// Writes the telegram that hex digits carry, two a byte, and answers Done. Else it writes why they carry none, and
+/// answers Refused: `refused hex`, `refused memory`, or number and name of the fault (`docs/REFUSALS.md`). Done exactly
+/// where they carry one, unless memory is refused. The error is that of a write.
 pub fn decode_text<W: Write>(alloc: Global, text: &str, out: &mut W) -> io::Result<Status>
     ensures shown { IfOk result (IsShown text.now (W.contents out.old) (W.contents out.new)) }
 {

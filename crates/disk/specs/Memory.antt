@@ -1,4 +1,5 @@
--- What contracts see of a disk in memory (this project's profile). Sectors are numbered from 0; room is counted in calls and bytes.
+-- What contracts see of a disk in memory (this project's profile). Sectors are numbered from 0; room is counted in
+-- calls and bytes.
 use Rattle.std.specs.Prelude.{◌≡◌, ℕ, ◌+◌, ◌-◌, ◌*◌, ◌%◌, ◌^◌, ◌<◌, ◌≤◌, ◌&&◌, ◌++◌, ◌∷◌, [], nat_le, nat_lt, Bool, true, false, if◌then◌else◌, List, length, replicate, All, Result, is_err}
 use Rattle.disk.specs.State.{State, now, contents_of, IsImage, IsSynced}
 use Rattle.disk.specs.Record.{bytes_at, trace_of, state_of, IsWithin}
@@ -12,8 +13,8 @@ use Rattle.disk.specs.declared.plan.Fate.{Fate}
 use Rattle.disk.specs.declared.memory.Room.{Room}
 use Rattle.disk.specs.declared.record.Call.{Call}
 
--- What contracts see of a disk in memory: the bytes that it began with, the record of its calls with the bytes that they
--- handed in, its room, what is to go wrong, counted from which call on, and how many calls failed (this project's
+-- What contracts see of a disk in memory: the bytes that it began with, the record of its calls with the bytes that
+-- they handed in, its room, what is to go wrong, counted from which call on, and how many calls failed (this project's
 -- profile).
 pub record Recording : Type 0 where
   pub sectors : ℕ
@@ -26,7 +27,7 @@ pub record Recording : Type 0 where
   pub faults : ℕ
 
 -- What is so of every disk in memory: it began with whole sectors, its calls are of sectors that it has, and it stays
--- within its room (this project's profile).
+-- within its room.
 pub record IsRecording (m : Recording) : Type 0 where
   pub whole : length m.start ≡ 512 * m.sectors
   pub recorded : All (IsWithin m.sectors (length m.written)) m.calls
@@ -39,31 +40,31 @@ pub record IsRecording (m : Recording) : Type 0 where
 abbrev pub memory_state : Recording → State
 memory_state m = state_of m.sectors m.faults m.start m.written m.calls
 
--- the bytes that were last handed in for sector s to a write, also to one that failed (this project's profile)
+-- the bytes that were last handed in for sector s to a write, also to one that failed
 abbrev pub handed_of : Recording → ℕ → List ℕ
 handed_of m s = bytes_at m.start m.written s (trace_of s m.calls).handed
 
--- what is to go wrong (this project's profile)
+-- what is to go wrong
 abbrev pub plan_of : Recording → Plan
 plan_of m = m.plan
 
--- the calls counted since the plan was made (this project's profile)
+-- the calls counted since the plan was made
 abbrev pub calls_since : Recording → ℕ
 calls_since m = length m.calls - m.planned_at
 
--- all its room, used or not (this project's profile)
+-- all its room, used or not
 abbrev pub room_of : Recording → Room
 room_of m = m.room
 
--- the bytes of its room for written sectors that are used (this project's profile)
+-- the bytes of its room for written sectors that are used
 abbrev pub bytes_used : Recording → ℕ
 bytes_used m = length m.written
 
--- there is room for a call that hands in so many bytes (this project's profile)
+-- there is room for a call that hands in so many bytes
 abbrev pub has_room_for : ℕ → Recording → Bool
 has_room_for bytes m = nat_lt (length m.calls) m.room.calls && nat_le bytes (m.room.bytes - length m.written)
 
--- what the plan makes of the next call (this project's profile)
+-- what the plan makes of the next call
 abbrev pub fate_now : Recording → Fate
 fate_now m = fate_of m.plan (length m.calls - m.planned_at)
 
@@ -79,7 +80,7 @@ pub record IsFresh (m : Recording) : Type 0 where
 
 -- What a call does that hands in so many bytes. It answers DiskFault exactly beyond the room and where the plan says
 -- so. Beyond the room it changes nothing else than the count of failures, and the clock stands still; else the clock
--- goes up by one. The plan and the room stay (this project's profile).
+-- goes up by one. The plan and the room stay.
 pub record HasRun {T : Type 0} (bytes : ℕ) (result : Result T DiskFault) (old new : Recording) : Type 0 where
   pub answer : is_err result ≡ (if has_room_for bytes old then fails (fate_now old) else true)
   pub clock : (memory_state new).clock ≡ (memory_state old).clock + (if has_room_for bytes old then 1 else 0)
@@ -89,20 +90,20 @@ pub record HasRun {T : Type 0} (bytes : ℕ) (result : Result T DiskFault) (old 
   pub room : room_of new ≡ room_of old
   pub beyond : has_room_for bytes old ≡ false → new ≡ record old { faults = (old.faults + 1) % 2 ^ 64 }
 
--- the same was last handed in for each sector (this project's profile)
+-- the same was last handed in for each sector
 abbrev pub SameHanded : Recording → Recording → Type 0
 SameHanded old new = (s : ℕ) → handed_of new s ≡ handed_of old s
 
--- each sector holds what it held (this project's profile)
+-- each sector holds what it held
 abbrev pub SameContents : Recording → Recording → Type 0
 SameContents old new = (s : ℕ) → contents_of (memory_state new) s ≡ contents_of (memory_state old) s
 
--- every list of choices settles the disk to an image of it, if the bytes that are given are whole sectors (this project's
--- profile)
+-- every list of choices settles the disk to an image of it, if the bytes that are given are whole sectors (this
+-- project's profile)
 abbrev pub SettlesToImages : Recording → Type 0
 SettlesToImages m = (choices : List Choice) → All IsChoice choices → IsImage (now (memory_state m)) (settled_sector (memory_state m) (handed_of m) choices)
 
--- each image of the disk that is made of bytes is what some list of choices settles it to (this project's profile)
+-- each image of the disk that is made of bytes is what some list of choices settles it to
 abbrev pub ReachesEachImage : Recording → Type 0
 ReachesEachImage m = (c : ℕ → List ℕ) → IsImage (now (memory_state m)) c → HoldsBytes c
     → (choices : List Choice) × All IsChoice choices × ((s : ℕ) → settled_sector (memory_state m) (handed_of m) choices s ≡ c s)

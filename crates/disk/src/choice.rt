@@ -1,4 +1,4 @@
-// What a cut is chosen to leave.
+//! What a cut is chosen to leave.
 ghost use Rattle.std.specs.Prelude.{◌≡◌};
 ghost use Rattle.disk.specs.Choice.{choice_at};
 

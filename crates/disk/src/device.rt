@@ -1,10 +1,11 @@
-// A device of sectors.
+//! A device of sectors.
 ghost use Rattle.std.specs.Prelude.{◌≡◌, ◌↔◌, ℕ, length, IsTrue, OnOk, OnErr, is_err};
 ghost use Rattle.disk.specs.State.{State, contents_of, AreSectors, Counted, Touches, Holds, AreOpen, OpenOrSame, SameOpenOutside, SameOpen, IsSynced};
 
 use crate::{DiskFault, SECTOR_BYTES};
 
-/// A device of sectors of 512 bytes that may lose power at any moment (this project's profile). Sectors are numbered from 0.
+/// A device of sectors of 512 bytes that may lose power at any moment (this project's profile). Sectors are numbered
+/// from 0.
 ///
 /// Until a sync succeeds, every sector written since the last one that succeeded is open: after a cut it may hold
 /// any bytes. All other sectors keep theirs. What a disk is to do is promised of an honest one; that its number of
@@ -28,8 +29,8 @@ pub trait Disk {
             && (bytes / SECTOR_BYTES) as u64 <= sectors - first
     }
 
-    /// Reads whole sectors from `first` on. It changes neither the contents nor which sectors are open. DiskFault where the
-    /// device failed; then the bytes read may be any. The caller owes sectors of this disk (`are_sectors`).
+    /// Reads whole sectors from `first` on. It changes neither the contents nor which sectors are open. DiskFault where
+    /// the device failed; then the bytes read may be any. The caller owes sectors of this disk (`are_sectors`).
     fn read(&mut self, first: u64, bytes: &mut [u8]) -> Result<(), DiskFault>
         requires { AreSectors first (length bytes.old) (state self.old).sectors }
         ensures counted { Counted (is_err result) (state self.old) (state self.new) }
@@ -37,9 +38,9 @@ pub trait Disk {
         ensures same_open { IsTrue (state self.old).honest → SameOpen (state self.old) (state self.new) }
         ensures bytes { IsTrue (state self.old).honest → OnOk result (Holds (contents_of (state self.old)) first bytes.new) };
 
-    /// Writes whole sectors from `first` on. At each moment of the call they may hold any bytes. At Ok they hold these bytes
-    /// and are open; at DiskFault each of them is open, or nothing happened to it. The others stay as they are. The caller owes
-    /// sectors of this disk (`are_sectors`).
+    /// Writes whole sectors from `first` on. At each moment of the call they may hold any bytes. At Ok they hold these
+    /// bytes and are open; at DiskFault each of them is open, or nothing happened to it. The others stay as they are.
+    /// The caller owes sectors of this disk (`are_sectors`).
     fn write(&mut self, first: u64, bytes: &[u8]) -> Result<(), DiskFault>
         requires { AreSectors first (length bytes.now) (state self.old).sectors }
         ensures counted { Counted (is_err result) (state self.old) (state self.new) }

@@ -1,11 +1,12 @@
-// A write that is on the medium when it returns.
+//! A write that is on the medium when it returns.
 ghost use Rattle.std.specs.Prelude.{◌≡◌, length, IsTrue, OnOk, is_err};
 ghost use Rattle.disk.specs.State.{contents_of, AreSectors, Counted, Touches, Holds, IsSynced, AtEachMoment, SameBut};
 
 use crate::{Disk, DiskFault};
 
-/// Writes whole sectors and syncs: at Ok they hold these bytes, and no sector is open (this project's profile). It stops at the
-/// first DiskFault, after which the sectors may hold any bytes. The caller owes sectors of this disk (`are_sectors`).
+/// Writes whole sectors and syncs: at Ok they hold these bytes, and no sector is open (this project's profile). It
+/// stops at the first DiskFault, after which the sectors may hold any bytes. The caller owes sectors of this disk
+/// (`are_sectors`).
 pub fn put<D: Disk>(disk: &mut D, first: u64, bytes: &[u8]) -> Result<(), DiskFault>
     requires { AreSectors first (length bytes.now) (D.state disk.old).sectors }
 

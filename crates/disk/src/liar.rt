@@ -1,10 +1,11 @@
-// A disk that lies.
+//! A disk that lies.
 ghost use Rattle.std.specs.Prelude.{◌≡◌, ◌+◌, ◌%◌, ◌^◌, false, if◌then◌else◌};
 
 use crate::{Disk, DiskFault};
 
-/// A disk that does not keep to the model (this project's profile). It keeps no more than one byte: a read gives the first byte
-/// that was last written anywhere, over and over, and each fourth call answers DiskFault. A sync does nothing.
+/// A disk that does not keep to the model (this project's profile). It keeps no more than one byte: a read gives the
+/// first byte that was last written anywhere, over and over, and each fourth call answers DiskFault. A sync does
+/// nothing.
 ///
 /// It is not honest, so that only safety, its number of sectors and the count of its faults are promised.
 #[derive(Clone, Copy)]

@@ -23,10 +23,10 @@ pub use plan::{Fate, Plan};
 pub use record::{Call, Span};
 use thiserror::Error;
 
-/// How many bytes a sector has (this project's profile).
+/// How many bytes a sector has.
 pub const SECTOR_BYTES: usize = 512;
 
-/// The device failed in this call (this project's profile). What holds then is said at each call of `Disk`.
+/// The device failed in this call. What holds then is said at each call of `Disk`.
 #[derive(Clone, Copy, Debug, Error)]
 #[error("the device failed")]
 pub struct DiskFault;

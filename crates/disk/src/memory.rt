@@ -1,4 +1,4 @@
-// A disk in memory, which keeps a record of its calls.
+//! A disk in memory, which keeps a record of its calls (this project's profile).
 mod calls;
 mod settling;
 
@@ -13,7 +13,7 @@ use std::alloc::Global;
 use std::marker::Model;
 use units::NoMemory;
 
-/// Room for the record of a `Memory`: so many calls, and so many bytes handed in (this project's profile).
+/// Room for the record of a `Memory`: so many calls, and so many bytes handed in.
 #[derive(Clone, Copy)]
 pub struct Room {
     /// How many calls of `read`, `write` and `sync`.
@@ -22,9 +22,9 @@ pub struct Room {
     pub bytes: usize,
 }
 
-/// A disk in memory that can lose power (this project's profile). It keeps a record of its calls, from which its earlier images
-/// are read, in room that it takes when it is made. Once made, its calls take no memory, `settle` aside. A read does not go
-/// through the record: beside it a list says where the bytes of each sector are.
+/// A disk in memory that can lose power. It keeps a record of its calls, from which its earlier images
+/// are read, in room that it takes when it is made. Once made, its calls take no memory, `settle` aside. A read does
+/// not go through the record: beside it a list says where the bytes of each sector are.
 #[derive(Drop)]
 pub struct Memory {
     sectors: u64,
@@ -55,9 +55,9 @@ impl Model for Memory {
 impl Memory {
     ghost use Rattle.disk.specs.Memory.{memory_state, plan_of, calls_since, room_of, bytes_used, has_room_for, fate_now, IsRecording, IsFresh, SameHanded, IsNoted};
 
-    /// A disk of zeros with so many sectors of 512 bytes, with room for so many calls of `read`, `write` and `sync`, and for so
-    /// many sectors handed in to `write`. All the room is taken at once. NoMemory where it isn't there. A call beyond the room
-    /// answers DiskFault.
+    /// A disk of zeros with so many sectors of 512 bytes, with room for so many calls of `read`, `write` and `sync`,
+    /// and for so many sectors handed in to `write`. All the room is taken at once. NoMemory where it isn't there. A
+    /// call beyond the room answers DiskFault.
     pub fn new(alloc: Global, sectors: u64, calls: u64, written: u64) -> Result<Memory, NoMemory>
         ensures sectors { IfOk result (λ m. (memory_state m).sectors ≡ sectors) }
         ensures zeros { IfOk result (λ m. HoldsZeros sectors (contents_of (memory_state m))) }

@@ -1,8 +1,8 @@
-// What is to go wrong with a disk in memory.
+//! What is to go wrong with a disk in memory (this project's profile).
 ghost use Rattle.std.specs.Prelude.{◌≡◌};
 ghost use Rattle.disk.specs.Plan.{fate_of};
 
-/// What is to go wrong with a `Memory` (this project's profile). Calls of `read`, `write` and `sync` are counted from 0 since
+/// What is to go wrong with a `Memory`. Calls of `read`, `write` and `sync` are counted from 0 since
 /// the plan was made; one that is beyond the room is not counted.
 #[derive(Clone, Copy)]
 pub enum Plan {
@@ -15,7 +15,7 @@ pub enum Plan {
     Cut(u64),
 }
 
-/// What the plan makes of a call (this project's profile).
+/// What the plan makes of a call.
 #[derive(Clone, Copy)]
 pub enum Fate {
     /// It does what it is to do.

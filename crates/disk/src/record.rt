@@ -1,4 +1,4 @@
-// The record that a disk in memory keeps of its calls.
+//! The record that a disk in memory keeps of its calls.
 ghost use Rattle.std.specs.Prelude.{◌≡◌, ℕ, ◌+◌, ◌*◌, ◌^◌, ◌<◌, ◌≤◌, length, vec_len, All, IfOk, unwrap_or, slice_index_or};
 ghost use Rattle.disk.specs.Record.{bytes_at, place_in, trace_next, trace_of, IsWithin, IsPlaced, AllPlaced};
 

@@ -1,4 +1,5 @@
--- What the columns of the modes leave of the driver's data: none deletes one, and the train data alone are made invalid.
+-- What the columns of the modes leave of the driver's data: none deletes one, and the train data alone are made
+-- invalid.
 use Rattle.std.proofs.Common.{◌≡◌, false, refl}
 use Rattle.driver.specs.declared.action.Action.TheVariants.{EnterIdentity, EnterRunningNumber, EnterTrainData, ChooseLevel, Confirm}
 use Rattle.driver.specs.declared.action.Confirmed.TheVariants as confirm

@@ -1,5 +1,5 @@
--- The driver's data, read off what one life brought and what was kept when it began (SUBSET-026, 4.10; the column of each
--- mode: this project's profile). Moments are milliseconds, paths centimetres.
+-- The driver's data, read off what one life brought and what was kept when it began (SUBSET-026, 4.10; the column of
+-- each mode: this project's profile). Moments are milliseconds, paths centimetres.
 use Rattle.std.specs.Prelude.{ℕ, Bool, true, false, List, Option, Some, None}
 use Rattle.driver.specs.declared.action.Action.TheVariants.{Override, Acknowledge}
 use Rattle.driver.specs.declared.action.Acknowledged.TheVariants as acknowledge

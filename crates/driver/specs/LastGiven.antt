@@ -1,5 +1,5 @@
--- The driver's data in words of the entries of a life: the value is the last one that was given, and it is valid since it was
--- given or confirmed, until a mode makes it invalid (this project's profile).
+-- The driver's data in words of the entries of a life: the value is the last one that was given, and it is valid since
+-- it was given or confirmed, until a mode makes it invalid (this project's profile).
 use Rattle.std.specs.Prelude.{◌≡◌, ◌⊎◌, ◌↔◌, Bool, true, false, List, ◌∷◌, ◌++◌, Some, None, IsTrue}
 use Rattle.std.specs.List.{list_any}
 use Rattle.driver.specs.declared.action.Action.TheVariants.{Override}

@@ -1,3 +1,4 @@
+//! The driver's data, as accepted actions, levels from the track and modes change them.
 ghost use Rattle.std.specs.Prelude.{◌≡◌, List, ◌∷◌, []};
 ghost use Rattle.driver.specs.Overriding.{is_active};
 ghost use Rattle.driver.specs.Revalidating.{is_whole};
@@ -118,8 +119,8 @@ impl Driver {
         self.level = Datum::Valid(level);
     }
 
-    /// A mode is entered: what the status table (SUBSET-026, 4.10) says of each item becomes so, and entering Trip makes a trip
-    /// outstanding.
+    /// A mode is entered: what the status table (SUBSET-026, 4.10) says of each item becomes so, and entering Trip
+    /// makes a trip outstanding.
     pub fn turn(&mut self, mode: Mode)
         ensures { (kept : KeptData) → (entries : List Entry) → self.old ≡ known kept entries
             → self.new ≡ known kept (Turned mode ∷ entries) }

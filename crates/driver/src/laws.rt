@@ -1,3 +1,4 @@
+//! Laws of the driver's data, the override, the outstanding trip and the revalidation in a life.
 ghost use Rattle.driver.specs.LastGiven.{ValueSo, ValidSo, StaysKnown, StaysValid, OverriddenSo};
 ghost use Rattle.driver.specs.Laws.{RevalidatedSo, OutstandingSo};
 ghost use Rattle.driver.specs.Telling.{identity_told, running_number_told, train_data_told, level_told};
@@ -12,7 +13,8 @@ pub fn outstanding_so()
     ensures { OutstandingSo }
 {}
 
-/// A law: the value of each of the driver's data is the last one that was given in the life, or else the one that was kept.
+/// A law: the value of each of the driver's data is the last one that was given in the life, or else the one that was
+/// kept.
 pub fn values_are_the_last_given()
     ensures identity { ValueSo identity_told }
     ensures running_number { ValueSo running_number_told }
@@ -20,8 +22,8 @@ pub fn values_are_the_last_given()
     ensures level { ValueSo level_told }
 {}
 
-/// A law: each of the driver's data is valid exactly where it was given or confirmed, or valid as the life began, and no mode has made it
-/// invalid since.
+/// A law: each of the driver's data is valid exactly where it was given or confirmed, or valid as the life began, and
+/// no mode has made it invalid since.
 pub fn valid_so()
     ensures identity { ValidSo identity_told }
     ensures running_number { ValidSo running_number_told }

@@ -3,6 +3,7 @@
 #![tactic(auto)]
 
 mod action;
+mod action_situation;
 mod datum;
 mod driver;
 mod identity;
@@ -11,10 +12,10 @@ mod laws;
 mod occasion;
 mod revalidation;
 mod running_number;
-mod situation;
 mod train_data;
 
 pub use action::{Acknowledged, Action, Confirmed};
+pub use action_situation::ActionSituation;
 pub use datum::Datum;
 pub use driver::Driver;
 pub use identity::DriverIdentity;
@@ -25,5 +26,4 @@ pub use laws::{
 };
 pub use occasion::Occasion;
 pub use running_number::RunningNumber;
-pub use situation::Situation;
 pub use train_data::TrainData;

@@ -1,3 +1,4 @@
+//! The commands `decode`, `format`, `run` and `journal`, with their words.
 use clap::error::ErrorKind;
 use clap::{Arg, ArgMatches, Command, Error};
 use decoding::decode_text;
@@ -80,8 +81,8 @@ fn done<R: Files<File = File> + AllocGlobal, W: Write>(
     }
 }
 
-/// Does what the words behind the program's name ask, writes what there is to tell, and answers the exit status: 0 done,
-/// 1 refused or not written, 2 for words that are none of the program's, 3 where a file or the device fails.
+/// Does what the words behind the program's name ask, writes what there is to tell, and answers the exit status: 0
+/// done, 1 refused or not written, 2 for words that are none of the program's, 3 where a file or the device fails.
 pub(crate) fn etcs_main<R: Files<File = File> + AllocGlobal, W: Write>(
     rt: &R,
     words: &[&str],

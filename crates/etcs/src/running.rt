@@ -1,3 +1,4 @@
+//! The run of a process: its words, its standard output, and its exit status.
 use crate::program::{etcs_main, status_of};
 use exit_status::{Status, tell};
 use standard_streams::take_standard_streams;
@@ -38,8 +39,9 @@ fn run_into<R: Env + Files<File = File> + AllocGlobal, W: Write>(rt: &R, out: &m
     }
 }
 
-/// Does what the words of the process behind the program's name ask, over standard output, and answers the exit status. Before it opens a file
-/// it takes the standard streams that are closed. Where it can't, it writes nothing, and opens no file.
+/// Does what the words of the process behind the program's name ask, over standard output, and answers the exit status.
+/// Before it opens a file it takes the standard streams that are closed. Where it can't, it writes nothing, and opens
+/// no file.
 pub(crate) fn run<R: Env + Files<File = File> + Print + AllocGlobal>(rt: &R) -> u8 {
     if take_standard_streams(rt).is_err() {
         return Status::Device as u8;

@@ -1,10 +1,11 @@
+//! Where the front is estimated to be, within 2^40 cm either way.
 ghost use Rattle.std.specs.Prelude.{◌≡◌, ◌↔◌, IsSome, IfSome};
 ghost use Rattle.events.specs.Limits.{IsEstimate};
 
 use std::marker::Model;
 
-/// The estimated place of the train's front, in centimetres from where its life began: from -2^40 to 2^40 (this project's
-/// profile).
+/// The estimated place of the train's front, in centimetres from where its life began: from -2^40 to 2^40 (this
+/// project's profile).
 #[derive(Clone, Copy)]
 pub struct Estimate {
     cm: i64,

@@ -1,9 +1,10 @@
+//! Inputs from balises, odometer, clock and driver, and events: inputs and power-ups (this project's profile).
 use crate::TelegramBytes;
 use driver::Action;
 use mode_table::Cold;
 use units::{Movement, Mph, Ms};
 
-/// One reading of the odometer (this project's profile).
+/// One reading of the odometer.
 #[derive(Clone, Copy)]
 pub struct Reading {
     /// The movement since the last reading, forward or backward, in centimetres.
@@ -12,7 +13,7 @@ pub struct Reading {
     pub speed: Mph,
 }
 
-/// What comes in from outside (this project's profile).
+/// What comes in from outside.
 #[derive(Drop)]
 pub enum Input {
     /// The bytes that a balise sent; they need not carry a telegram.
@@ -25,7 +26,7 @@ pub enum Input {
     Driver(Action),
 }
 
-/// One atomic event (this project's profile).
+/// One atomic event.
 #[derive(Drop)]
 pub enum Event {
     /// Power comes on, and a life begins, with the word on movements while it was off.

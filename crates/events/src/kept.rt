@@ -1,3 +1,4 @@
+//! What is kept over a loss of power: data of driver and train, position, national values and counts.
 ghost use Rattle.std.specs.Prelude.{◌≡◌};
 ghost use Rattle.events.specs.Nothing.{nothing_kept};
 
@@ -6,8 +7,9 @@ use driver::{Datum, DriverIdentity, RunningNumber, TrainData};
 use mode_table::TrainLevel;
 use national::{CountryValues, National};
 
-/// What outlives a power-up (SUBSET-026, 4.10; what is kept: this project's profile). Identity, running number and train data
-/// are never valid behind one, so only their values are kept; level and position are kept with the status that they have.
+/// What outlives a power-up (SUBSET-026, 4.10; what is kept: this project's profile). Identity, running number and
+/// train data are never valid behind one, so only their values are kept; level and position are kept with the status
+/// that they have.
 #[derive(Drop)]
 pub struct Kept {
     /// The driver's identity that was entered last; None where none was.

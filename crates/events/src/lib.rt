@@ -1,5 +1,5 @@
-//! What comes into the kernel, what it answers, and what it keeps over a loss of power (this project's profile). Distances are
-//! centimetres, speeds metres per hour, moments milliseconds.
+//! What comes into the kernel, what it answers, and what it keeps over a loss of power (this project's profile).
+//! Distances are centimetres, speeds metres per hour, moments milliseconds.
 #![tactic(auto)]
 
 mod estimate;
@@ -7,6 +7,7 @@ mod input;
 mod kept;
 mod output;
 mod position;
+mod step;
 mod telegram_bytes;
 
 pub use estimate::Estimate;
@@ -14,4 +15,5 @@ pub use input::{Event, Input, Reading};
 pub use kept::Kept;
 pub use output::{Brake, Indications, Output};
 pub use position::Position;
+pub use step::Step;
 pub use telegram_bytes::TelegramBytes;

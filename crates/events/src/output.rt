@@ -1,3 +1,4 @@
+//! The answer to an event: mode, level, brakes, limit and indications (this project's profile).
 ghost use Rattle.std.specs.Prelude.{◌≡◌};
 ghost use Rattle.events.specs.Indications.{number_of};
 
@@ -15,7 +16,7 @@ pub enum Brake {
     Emergency,
 }
 
-/// What the driver is shown beside mode, level and limit (this project's profile).
+/// What the driver is shown beside mode, level and limit.
 #[derive(Clone, Copy)]
 pub struct Indications {
     /// An acknowledgement of On Sight is asked for or owed.
@@ -35,7 +36,8 @@ pub struct Indications {
 }
 
 impl Indications {
-    /// All of them as one number: the sum of 1, 2, 4, 8, 16, 32 and 64 for those that are shown, in the order of the fields.
+    /// All of them as one number: the sum of 1, 2, 4, 8, 16, 32 and 64 for those that are shown, in the order of the
+    /// fields.
     pub fn number(&self) -> u8
         ensures { result ≡ number_of self.now }
     {
@@ -49,7 +51,7 @@ impl Indications {
     }
 }
 
-/// What the kernel answers to an event (this project's profile).
+/// What the kernel answers to an event.
 #[derive(Clone, Copy)]
 pub struct Output {
     /// The mode after the event (SUBSET-026, 4.4).

@@ -1,3 +1,4 @@
+//! The place of the front behind a balise group, within 2^41 cm either way.
 ghost use Rattle.std.specs.Prelude.{◌≡◌, ◌↔◌, IsSome, IfSome};
 ghost use Rattle.events.specs.Limits.{IsOffset};
 
@@ -5,8 +6,8 @@ use std::marker::Model;
 use units::Cm;
 use vars::GroupIdentity;
 
-/// Where the train is, by a balise group: how far behind it the estimated front lies, from -2^41 to 2^41 cm (this project's
-/// profile).
+/// Where the train is, by a balise group: how far behind it the estimated front lies, from -2^41 to 2^41 cm (this
+/// project's profile).
 #[derive(Clone, Copy)]
 pub struct Position {
     group: GroupIdentity,

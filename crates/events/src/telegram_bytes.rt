@@ -1,3 +1,4 @@
+//! The bytes of a balise, no more than a telegram has.
 ghost use Rattle.std.specs.Prelude.{◌≡◌, ◌↔◌, IsSome, IfSome};
 ghost use Rattle.events.specs.Limits.{AreOfATelegram};
 

@@ -1,3 +1,5 @@
+//! The exit statuses 0 to 3.
+
 /// How the program ends; its number is the exit status of the process (this project's profile).
 #[derive(Clone, Copy)]
 pub enum Status {

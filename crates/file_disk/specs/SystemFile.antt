@@ -4,8 +4,7 @@ use Rattle.std.specs.declared.fs.File.{File}
 use Rattle.file_disk.specs.declared.readonly.ReadOnlyFile.{ReadOnlyFile}
 use Rattle.file_disk.specs.Files.{FileState}
 
--- Whether it keeps to the model. No call of the system shows that, so nothing is promised by it: it is told false
--- (this project's profile).
+-- Whether it keeps to the model. No call of the system shows that, so nothing is promised by it: it is told false.
 pub keeps_to_model : File → Bool
 keeps_to_model file = false
 
@@ -14,10 +13,10 @@ pub not_shown : (file : File) → keeps_to_model file ≡ false
 unfolding keeps_to_model
 not_shown file = refl
 
--- what contracts see of it (this project's profile)
+-- what contracts see of it
 abbrev pub system_state : File → FileState
 system_state file = record { honest = keeps_to_model file; clock = 0; at = λ _. record { bytes = []; is_open = λ _. false } }
 
--- of one that is only read the same (this project's profile)
+-- of one that is only read the same
 abbrev pub read_only_state : ReadOnlyFile → FileState
 read_only_state only = system_state only.file

@@ -1,4 +1,4 @@
-// A disk over a file.
+//! A disk over a file.
 ghost use Rattle.std.specs.Prelude.{◌≡◌, ◌+◌, ◌*◌, ◌/◌, ◌%◌, ◌^◌, ◌<◌, ◌≤◌, length, IsTrue, IsErr, IfOk, is_err, if◌then◌else◌};
 ghost use Rattle.disk.specs.State.{contents_of, IsSynced, HoldsZeros};
 ghost use Rattle.file_disk.specs.Files.{bytes_of, disk_over, whole_disk};
@@ -14,11 +14,11 @@ use std::rt::Files;
 // A file has fewer than 2^63 bytes.
 const MOST_SECTORS: u64 = (1 << 54) - 1;
 
-/// A disk over the whole sectors of a file, 512 bytes each (this project's profile). Bytes behind the last of them are left
-/// alone.
+/// A disk over the whole sectors of a file, 512 bytes each (this project's profile). Bytes behind the last of them are
+/// left alone.
 ///
-/// Of a file of the operating system only safety, the number of sectors and the count of faults are promised, since no call
-/// shows what it keeps. Over an honest file the disk is honest.
+/// Of a file of the operating system only safety, the number of sectors and the count of faults are promised, since no
+/// call shows what it keeps. Over an honest file the disk is honest.
 #[derive(Drop)]
 pub struct FileDisk<F: RawFile = File> {
     file: F,
@@ -29,11 +29,13 @@ pub struct FileDisk<F: RawFile = File> {
 }
 
 impl FileDisk {
-    /// Makes the file, or empties the one that is there, and fills it with so many sectors of zeros; a block device of just so many
-    /// sectors stays as it is. The zeros are a hole in the file, and take no time: that the device has no room left shows at a write.
+    /// Makes the file, or empties the one that is there, and fills it with so many sectors of zeros; a block device of
+    /// just so many sectors stays as it is. The zeros are a hole in the file, and take no time: that the device has no
+    /// room left shows at a write.
     ///
-    /// The file is locked for this handle alone before it is touched, until the disk is dropped. DiskFault where it can't be made or
-    /// locked, where another handle holds a lock on it, and before it is touched where no file has so many bytes.
+    /// The file is locked for this handle alone before it is touched, until the disk is dropped. DiskFault where it
+    /// can't be made or locked, where another handle holds a lock on it, and before it is touched where no file has so
+    /// many bytes.
     pub fn create<R: Files<File = File>>(
         rt: &R,
         path: &str,
@@ -57,11 +59,11 @@ impl FileDisk {
         }
     }
 
-    /// Opens the file to read and to write; its sectors are its whole 512-byte parts. A file that may only be read opens too, and
-    /// answers DiskFault to each write.
+    /// Opens the file to read and to write; its sectors are its whole 512-byte parts. A file that may only be read
+    /// opens too, and answers DiskFault to each write.
     ///
-    /// The file is locked for this handle alone until the disk is dropped. DiskFault where it can't be opened or locked, and where
-    /// another handle holds a lock on it.
+    /// The file is locked for this handle alone until the disk is dropped. DiskFault where it can't be opened or
+    /// locked, and where another handle holds a lock on it.
     pub fn open<R: Files<File = File>>(rt: &R, path: &str) -> Result<FileDisk, DiskFault>
         ensures faults { IfOk result (λ disk. (⟦<FileDisk<File> as Disk>⟧.state disk).faults ≡ 0) }
     {
@@ -72,11 +74,11 @@ impl FileDisk {
 }
 
 impl FileDisk<ReadOnlyFile> {
-    /// Opens the file for reading alone; its sectors are its whole 512-byte parts. The disk answers DiskFault to each write, and
-    /// nothing that is called of it writes to the file.
+    /// Opens the file for reading alone; its sectors are its whole 512-byte parts. The disk answers DiskFault to each
+    /// write, and nothing that is called of it writes to the file.
     ///
-    /// The file is locked for handles that read until the disk is dropped. DiskFault where it can't be opened or locked, where
-    /// another handle holds the lock to write, and where it is a folder.
+    /// The file is locked for handles that read until the disk is dropped. DiskFault where it can't be opened or
+    /// locked, where another handle holds the lock to write, and where it is a folder.
     pub fn open_to_read<R: Files<File = File>>(
         rt: &R,
         path: &str,
@@ -143,8 +145,8 @@ impl<F: RawFile + Drop> FileDisk<F> {
         Ok(disk)
     }
 
-    /// Empties a file, fills it with so many sectors of zeros, and syncs it. DiskFault where one of these fails: then the file
-    /// may hold any bytes. The caller owes fewer than 2^54 sectors.
+    /// Empties a file, fills it with so many sectors of zeros, and syncs it. DiskFault where one of these fails: then
+    /// the file may hold any bytes. The caller owes fewer than 2^54 sectors.
     pub fn fill(file: F, sectors: u64) -> Result<FileDisk<F>, DiskFault>
         requires { sectors < 2 ^ 54 }
         ensures sectors { IfOk result (λ disk. (⟦<FileDisk<F> as Disk>⟧.state disk).sectors ≡ sectors) }

@@ -1,12 +1,12 @@
-// The calls that a file has.
+//! The calls that a file has.
 ghost use Rattle.std.specs.Prelude.{◌≡◌, ◌+◌, ◌/◌, ◌%◌, ◌<◌, ◌≤◌, length, take, drop, IsTrue, IfOk, OnOk, OnErr};
 ghost use Rattle.disk.specs.State.{Touches, AreOpen, IsSynced, SameOpen};
 ghost use Rattle.file_disk.specs.Files.{FileState, bytes_of, whole_disk, overwritten, resized, WritesOnly};
 
 use disk::DiskFault;
 
-/// A file by the calls that a system has for it (this project's profile). Sizes and offsets are bytes. A call may read or
-/// write fewer bytes than it was handed, and that is no failure; 0 of a read is the end of the file.
+/// A file by the calls that a system has for it (this project's profile). Sizes and offsets are bytes. A call may read
+/// or write fewer bytes than it was handed, and that is no failure; 0 of a read is the end of the file.
 ///
 /// Until a sync succeeds, every sector of 512 bytes that was written since the last one that succeeded is open, as on a
 /// `Disk`. What a file is to do is promised of an honest one. Of every one it is promised that it stays honest or
@@ -30,8 +30,8 @@ pub trait RawFile {
         ensures bytes { IsTrue (state self.now).honest →
             IfOk result (λ count. take count bytes.new ≡ take count (drop offset (bytes_of (state self.now)))) };
 
-    /// Writes from an offset on, within the file, and answers how many bytes. They hold these bytes then, and the rest of
-    /// the file stays as it is.
+    /// Writes from an offset on, within the file, and answers how many bytes. They hold these bytes then, and the rest
+    /// of the file stays as it is.
     fn write_at(&mut self, offset: u64, bytes: &[u8]) -> Result<usize, DiskFault>
         ensures honest { (state self.new).honest ≡ (state self.old).honest }
         ensures count { IfOk result (λ count. count ≤ length bytes.now) }

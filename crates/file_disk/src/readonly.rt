@@ -1,4 +1,4 @@
-// A file of the operating system that is only read.
+//! A file of the operating system that is only read.
 ghost use Rattle.file_disk.specs.SystemFile.{read_only_state};
 
 use crate::RawFile;
@@ -7,16 +7,16 @@ use std::fs::File;
 use std::io::ErrorKind;
 use std::rt::Files;
 
-/// A file of the operating system that was opened for reading alone, and is locked for handles that read. What would change it is
-/// DiskFault, and doesn't reach the system.
+/// A file of the operating system that was opened for reading alone, and is locked for handles that read. What would
+/// change it is DiskFault, and doesn't reach the system.
 #[derive(Drop)]
 pub struct ReadOnlyFile {
     file: File,
 }
 
 impl ReadOnlyFile {
-    /// Opens and locks a file. DiskFault where it can't be opened or locked, where another handle holds the lock to write, and
-    /// where it is a folder.
+    /// Opens and locks a file. DiskFault where it can't be opened or locked, where another handle holds the lock to
+    /// write, and where it is a folder.
     pub(crate) fn open<R: Files<File = File>>(
         rt: &R,
         path: &str,

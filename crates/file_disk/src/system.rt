@@ -1,4 +1,4 @@
-// A file of the operating system.
+//! A file of the operating system.
 ghost use Rattle.file_disk.specs.SystemFile.{system_state};
 
 use crate::RawFile;
@@ -11,7 +11,8 @@ impl RawFile for File {
     ghost state = { system_state };
 
     fn length(&self) -> Result<u64, DiskFault> {
-        // The end that a seek finds, since the system tells no length of a device. Reads and writes are at offsets of their own.
+        // The end that a seek finds, since the system tells no length of a device. Reads and writes are at offsets of
+        // their own.
         let mut handle = self;
         match handle.seek(SeekFrom::End(0)) {
             Ok(end) => Ok(end),

@@ -1,4 +1,4 @@
-// Calls on whole sectors of a file.
+//! Calls on whole sectors of a file.
 ghost use Rattle.std.specs.Prelude.{◌≡◌, ◌+◌, ◌*◌, ◌^◌, ◌<◌, ◌≤◌, length, take, drop, IsTrue, OnOk};
 ghost use Rattle.disk.specs.State.{AreOpen};
 ghost use Rattle.file_disk.specs.Files.{bytes_of, whole_disk, overwritten, WritesOnly};
@@ -6,8 +6,8 @@ ghost use Rattle.file_disk.specs.Files.{bytes_of, whole_disk, overwritten, Write
 use crate::RawFile;
 use disk::{DiskFault, SECTOR_BYTES};
 
-/// Reads from a sector on until all bytes are read. DiskFault where a read fails, or the file ends before. The caller owes an
-/// end below 2^64 bytes.
+/// Reads from a sector on until all bytes are read. DiskFault where a read fails, or the file ends before. The caller
+/// owes an end below 2^64 bytes.
 pub fn read_all<F: RawFile>(file: &F, first: u64, bytes: &mut [u8]) -> Result<(), DiskFault>
     requires { 512 * first + length bytes.old < 2 ^ 64 }
     ensures { IsTrue (F.state file.now).honest →
@@ -25,8 +25,8 @@ pub fn read_all<F: RawFile>(file: &F, first: u64, bytes: &mut [u8]) -> Result<()
     Ok(())
 }
 
-/// Writes from a sector on until all bytes are written. It stops at the first DiskFault. The caller owes an end below 2^64
-/// bytes.
+/// Writes from a sector on until all bytes are written. It stops at the first DiskFault. The caller owes an end below
+/// 2^64 bytes.
 pub fn write_all<F: RawFile>(file: &mut F, first: u64, bytes: &[u8]) -> Result<(), DiskFault>
     requires { 512 * first + length bytes.now < 2 ^ 64 }
     ensures honest { (F.state file.new).honest ≡ (F.state file.old).honest }

@@ -26,15 +26,15 @@ use Rattle.mode_table.specs.declared.statuses.Fate.TheVariants.{Kept as K, Inval
 use Rattle.mode_table.specs.declared.statuses.Item.TheVariants as item
 use Rattle.mode_table.specs.Statuses.{power_up_status}
 use Rattle.odometry.specs.Place.{Known as Place}
-use Rattle.trackside.specs.Entry.{Outcome}
-use Rattle.trackside.specs.History.{after_fixing, fixed_by, group_of_fix, place_of}
+use Rattle.track_picture.specs.Entry.{Outcome}
+use Rattle.track_picture.specs.History.{after_fixing, fixed_by, group_of_fix, place_of}
 use Rattle.units.specs.Limits.{farthest}
 use Rattle.vars.specs.declared.group.GroupIdentity.{GroupIdentity}
-use Rattle.supervision.specs.declared.deed.Deed.{Deed}
-use Rattle.supervision.specs.Entry.{Entry}
-use Rattle.supervision.specs.History.{deeds, after_deed, after_level, after_mode, tracks}
-use Rattle.supervision.specs.Life.{Life, entered, kept_of, driver_of}
-use Rattle.supervision.specs.Sentences.{entry_of}
+use Rattle.mode_control.specs.declared.deed.Deed.{Deed}
+use Rattle.mode_control.specs.Entry.{Entry}
+use Rattle.mode_control.specs.History.{deeds, after_deed, after_level, after_mode, tracks}
+use Rattle.mode_control.specs.Life.{Life, entered, left_at_power_up, driver_of}
+use Rattle.mode_control.specs.Sentences.{entry_of}
 use Rattle.kernel.specs.Laws.{power_ups, all_deeds, last_group, group_in, IsLastGiven}
 use Rattle.kernel.specs.Lives.{counts_of, life_of, kept_by}
 use Rattle.kernel.specs.Position.{gone_on, went_on, position_by, position_at_power_up, position_of}
@@ -147,25 +147,25 @@ pub identity_is : (events : List Event) → (kept_by events).identity ≡ value_
 identity_is [] = refl
 identity_is (PowerUp c ∷ events) = still_invalid (kept_by events).identity ∙ identity_is events
 identity_is (Input input ∷ events) =
-    let life = life_of events in one_more identity_told (kept_of life).identity (entry_of life input) life.entries (all_deeds events) (identity_is events)
+    let life = life_of events in one_more identity_told (left_at_power_up life).identity (entry_of life input) life.entries (all_deeds events) (identity_is events)
 
 pub running_number_is : (events : List Event) → (kept_by events).running_number ≡ value_of (datum_after running_number_told Unknown (all_deeds events))
 running_number_is [] = refl
 running_number_is (PowerUp c ∷ events) = still_invalid (kept_by events).running_number ∙ running_number_is events
 running_number_is (Input input ∷ events) =
-    let life = life_of events in one_more running_number_told (kept_of life).running_number (entry_of life input) life.entries (all_deeds events) (running_number_is events)
+    let life = life_of events in one_more running_number_told (left_at_power_up life).running_number (entry_of life input) life.entries (all_deeds events) (running_number_is events)
 
 pub train_data_is : (events : List Event) → (kept_by events).train_data ≡ value_of (datum_after train_data_told Unknown (all_deeds events))
 train_data_is [] = refl
 train_data_is (PowerUp c ∷ events) = still_invalid (kept_by events).train_data ∙ train_data_is events
 train_data_is (Input input ∷ events) =
-    let life = life_of events in one_more train_data_told (kept_of life).train_data (entry_of life input) life.entries (all_deeds events) (train_data_is events)
+    let life = life_of events in one_more train_data_told (left_at_power_up life).train_data (entry_of life input) life.entries (all_deeds events) (train_data_is events)
 
 pub level_is : (events : List Event) → value_of (kept_by events).level ≡ value_of (datum_after level_told Unknown (all_deeds events))
 level_is [] = refl
 level_is (PowerUp c ∷ events) = still_known c (kept_by events).level ∙ level_is events
 level_is (Input input ∷ events) =
-    let life = life_of events in one_more level_told (kept_of life).level (entry_of life input) life.entries (all_deeds events) (level_is events)
+    let life = life_of events in one_more level_told (left_at_power_up life).level (entry_of life input) life.entries (all_deeds events) (level_is events)
 
 -- ---- an outstanding trip
 

@@ -9,8 +9,8 @@ use Rattle.mode_table.specs.declared.statuses.Cold.{Cold}
 use Rattle.mode_table.specs.declared.statuses.Cold.TheVariants as cold
 use Rattle.speed_profile.specs.declared.told.CategorySpeeds.{CategorySpeeds}
 use Rattle.track_store.specs.Profiles.{Profile}
-use Rattle.supervision.specs.Sentences.{begun_life}
-use Rattle.supervision.specs.StandsFor.{parts_of as supervision_parts_of}
+use Rattle.mode_control.specs.Sentences.{begun_life}
+use Rattle.mode_control.specs.StandsFor.{parts_of as supervision_parts_of}
 use Rattle.kernel.specs.Lives.{left_by}
 use Rattle.kernel.specs.Output.{output_of}
 use Rattle.kernel.specs.StandsFor.{Knowledge, StandsForLife, parts_of}

@@ -1,4 +1,3 @@
 pub mod Items
 pub mod Leaving
-pub mod Room
 pub mod Standing

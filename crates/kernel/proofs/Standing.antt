@@ -2,7 +2,7 @@
 use Rattle.std.proofs.Common.{◌≡◌, ℤ, sym, subst}
 use Rattle.track_store.specs.Profiles.{Profile}
 use Rattle.speed_profile.specs.declared.told.CategorySpeeds.{CategorySpeeds}
-use Rattle.supervision.specs.Life.{Life}
+use Rattle.mode_control.specs.Life.{Life}
 use Rattle.kernel.specs.StandsFor.{Knowledge, StandsForLife}
 
 module _ {G S : Type 0} {gradients_in : G → Profile ℤ} {speeds_in : S → Profile CategorySpeeds} where

@@ -1,5 +1,6 @@
--- What the brakes are commanded to do, read off the entries of a life, each with the limit that it answered (SUBSET-026, 3.14;
--- the cases and their margins: this project's profile). Speeds are metres per hour, distances centimetres, moments milliseconds.
+-- What the brakes are commanded to do, read off the entries of a life, each with the limit that it answered
+-- (SUBSET-026, 3.14; the cases and their margins: this project's profile). Speeds are metres per hour, distances
+-- centimetres, moments milliseconds.
 use Rattle.std.specs.Prelude.{ℕ, ◌+◌, ◌*◌, ◌==◌, nat_lt, ℤ, pos, int_lt, Bool, true, false, not, ◌&&◌, ◌||◌, if◌then◌else◌, Option, Some, None, List, [], ◌∷◌}
 use Rattle.std.specs.Int.RustNames.{unsigned_abs}
 use Rattle.std.specs.Option.{option_map_or}
@@ -11,15 +12,15 @@ use Rattle.events.specs.declared.input.Reading.{Reading}
 use Rattle.events.specs.declared.kept.Kept.{Kept}
 use Rattle.events.specs.declared.output.Brake.{Brake}
 use Rattle.events.specs.declared.output.Brake.TheVariants as brake
-use Rattle.mode_limits.specs.Limit.{limit}
+use Rattle.speed_supervision.specs.Limit.{limit}
 use Rattle.mode_table.specs.declared.mode.Mode.TheVariants.{StandBy, Trip, PostTrip, SystemFailure}
 use Rattle.mode_table.specs.declared.statuses.Cold.{Cold}
 use Rattle.mode_table.specs.Modes.{is_mode}
-use Rattle.trackside.specs.History.{speed_of, moment_of, happened_of}
-use Rattle.supervision.specs.Entry.{Entry}
-use Rattle.supervision.specs.History.{tracks, mode_of, on_sight_of, shunting_of, level_0_of}
-use Rattle.supervision.specs.Life.{Life, driver_of, grown}
-use Rattle.supervision.specs.Sentences.{values_of}
+use Rattle.track_picture.specs.History.{speed_of, moment_of, happened_of}
+use Rattle.mode_control.specs.Entry.{Entry}
+use Rattle.mode_control.specs.History.{tracks, mode_of, on_sight_of, shunting_of, level_0_of}
+use Rattle.mode_control.specs.Life.{Life, driver_of, grown}
+use Rattle.mode_control.specs.Sentences.{values_of}
 use Rattle.kernel.specs.declared.sight.Sight.{Sight}
 
 -- how far above the limit the service brake comes; the emergency brake comes at two such steps
@@ -78,8 +79,8 @@ too_fast kept cold [] = false
 too_fast kept cold (entry ∷ entries) =
     is_above_by kept cold margin_step (entry ∷ entries) || (is_above_by kept cold 0 (entry ∷ entries) && too_fast kept cold entries)
 
--- ---- the emergency brake: not revalidated since the power-up, in Trip or System Failure, a trip that isn't acknowledged, far too
--- fast, or rolled backward farther than the national value of now
+-- ---- the emergency brake: not revalidated since the power-up, in Trip or System Failure, a trip that isn't
+-- acknowledged, far too fast, or rolled backward farther than the national value of now
 
 abbrev pub has_rolled : Life → Bool
 has_rolled life = nat_lt (values_of life).roll (rolled_backward life.entries)

@@ -14,10 +14,10 @@ use Rattle.events.specs.declared.output.Brake.TheVariants as brake
 use Rattle.events.specs.Kept.{PositionFrom}
 use Rattle.mode_table.specs.declared.mode.Mode.TheVariants.{Trip, SystemFailure}
 use Rattle.mode_table.specs.declared.statuses.Cold.{Cold}
-use Rattle.supervision.specs.History.{deeds}
-use Rattle.supervision.specs.Life.{kept_of}
-use Rattle.supervision.specs.Sentences.{entry_of}
-use Rattle.trackside.specs.History.{after_fixing}
+use Rattle.mode_control.specs.History.{deeds}
+use Rattle.mode_control.specs.Life.{left_at_power_up}
+use Rattle.mode_control.specs.Sentences.{entry_of}
+use Rattle.track_picture.specs.History.{after_fixing}
 use Rattle.vars.specs.declared.group.GroupIdentity.{GroupIdentity}
 use Rattle.kernel.specs.Lives.{life_of, kept_by}
 use Rattle.kernel.specs.Output.{output_after}
@@ -78,7 +78,8 @@ PositionSo = (events : List Event) → group_in (kept_by events).position ≡ la
 abbrev pub NationalSo : Type 0
 NationalSo = (events : List Event) (cold : Cold) → (kept_by (PowerUp cold ∷ events)).national ≡ (kept_by events).national
 
--- ---- nothing else crosses a power-up: where it keeps the same of two lists, the outputs after it are the same, whatever comes later
+-- ---- nothing else crosses a power-up: where it keeps the same of two lists, the outputs after it are the same,
+-- whatever comes later
 
 abbrev pub Forgets : Type 0
 Forgets = (cold : Cold) (p q later : List Event) → kept_by p ≡ kept_by q →
@@ -88,7 +89,7 @@ Forgets = (cold : Cold) (p q later : List Event) → kept_by p ≡ kept_by q →
 
 abbrev pub BrakesUntilRevalidated : Type 0
 BrakesUntilRevalidated = (events : List Event) →
-    (let life = life_of events in IsRevalidated (is_valid (kept_of life).level) (deeds life.entries) → ⊥) →
+    (let life = life_of events in IsRevalidated (is_valid (left_at_power_up life).level) (deeds life.entries) → ⊥) →
     (output_after events).brake ≡ brake.Emergency
 
 abbrev pub TripBrakes : Type 0

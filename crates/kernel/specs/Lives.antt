@@ -1,5 +1,5 @@
--- A list of events, the newest first, is cut into lives at each power-up. What a life says is read off what was kept of the
--- lives before it and off its own entries, and off nothing else (this project's profile).
+-- A list of events, the newest first, is cut into lives at each power-up. What a life says is read off what was kept of
+-- the lives before it and off its own entries, and off nothing else (this project's profile).
 use Rattle.std.specs.Prelude.{ℕ, ◌+◌, ◌-◌, ◌^◌, min, List, [], ◌∷◌}
 use Rattle.driver.specs.Data.{value_of, met_by}
 use Rattle.events.specs.declared.input.Event as events
@@ -10,13 +10,14 @@ use Rattle.mode_table.specs.declared.statuses.Cold.{Cold}
 use Rattle.mode_table.specs.declared.statuses.Cold.TheVariants as cold
 use Rattle.mode_table.specs.declared.statuses.Item.TheVariants as item
 use Rattle.mode_table.specs.Statuses.{power_up_status}
-use Rattle.supervision.specs.Life.{Life, track_of, driver_of, grown}
-use Rattle.supervision.specs.Sentences.{entry_of, begun_life}
-use Rattle.trackside.specs.StandsFor.{national_of}
+use Rattle.mode_control.specs.Life.{Life, track_of, driver_of, grown}
+use Rattle.mode_control.specs.Sentences.{entry_of, begun_life}
+use Rattle.track_picture.specs.StandsFor.{national_of}
 use Rattle.kernel.specs.declared.counts.Counts.{Counts}
 use Rattle.kernel.specs.Position.{position_of}
 
--- ---- the counts: how many events there were, and how many of them were power-ups, up to the greatest numbers of 64 and of 32 bits
+-- ---- the counts: how many events there were, and how many of them were power-ups, up to the greatest numbers of 64
+-- and of 32 bits
 
 abbrev pub one_more : ℕ → ℕ → ℕ
 one_more count most = min (count + 1) most
@@ -29,8 +30,9 @@ abbrev pub counts_of : List events.Event → Counts
 counts_of [] = record { events = 0; lives = 0 }
 counts_of (event ∷ events) = counted (counts_of events) event
 
--- ---- what is kept of a life: the driver's identity, the running number and the train data that were entered last, never valid
--- behind a power-up; level and position as they are; the national values in force; an outstanding trip; the counts
+-- ---- what is kept of a life: the driver's identity, the running number and the train data that were entered last,
+-- never valid behind a power-up; level and position as they are; the national values in force; an outstanding trip; the
+-- counts
 
 abbrev pub kept_of : Counts → Life → Kept
 kept_of counts life = record {

@@ -6,12 +6,12 @@ use Rattle.driver.specs.declared.datum.Datum.TheVariants.{Unknown, Valid, Invali
 use Rattle.events.specs.declared.input.Event.{Event}
 use Rattle.events.specs.declared.output.Indications.{Indications}
 use Rattle.events.specs.declared.output.Output.{Output}
-use Rattle.mode_limits.specs.Limit.{limit}
+use Rattle.speed_supervision.specs.Limit.{limit}
 use Rattle.odometry.specs.Place.{estimate, uncertainty}
-use Rattle.supervision.specs.Conditions.{is_overridden}
-use Rattle.supervision.specs.History.{tracks, mode_of, on_sight_of, shunting_of, level_0_of}
-use Rattle.supervision.specs.Life.{Life, driver_of}
-use Rattle.trackside.specs.History.{place_of, speed_of}
+use Rattle.mode_control.specs.Conditions.{is_overridden}
+use Rattle.mode_control.specs.History.{tracks, mode_of, on_sight_of, shunting_of, level_0_of}
+use Rattle.mode_control.specs.Life.{Life, driver_of}
+use Rattle.track_picture.specs.History.{place_of, speed_of}
 use Rattle.kernel.specs.Brake.{brake_of, is_revalidated}
 use Rattle.kernel.specs.Lives.{life_of}
 

@@ -1,5 +1,5 @@
--- The position of a life: where the train is, behind the balise group of the last fix (this project's profile). Distances
--- are centimetres.
+-- The position of a life: where the train is, behind the balise group of the last fix (this project's profile).
+-- Distances are centimetres.
 use Rattle.std.specs.Prelude.{◌*◌, ℤ, ◌+ℤ◌, ◌-ℤ◌, nat_le, if◌then◌else◌, Option, Some, None}
 use Rattle.std.specs.Int.RustNames.{unsigned_abs}
 use Rattle.driver.specs.declared.datum.Datum.{Datum}
@@ -11,16 +11,16 @@ use Rattle.mode_table.specs.Statuses.{power_up_status}
 use Rattle.odometry.specs.Place.{Known, estimate}
 use Rattle.units.specs.Limits.{farthest}
 use Rattle.vars.specs.declared.group.GroupIdentity.{GroupIdentity}
-use Rattle.supervision.specs.History.{tracks}
-use Rattle.supervision.specs.Life.{Life}
-use Rattle.trackside.specs.History.{place_of, group_of_fix}
+use Rattle.mode_control.specs.History.{tracks}
+use Rattle.mode_control.specs.Life.{Life}
+use Rattle.track_picture.specs.History.{place_of, group_of_fix}
 
 -- what the power-up left of the position that was kept
 abbrev pub position_at_power_up : Life → Datum PositionFrom
 position_at_power_up life = met_by (power_up_status item.Position life.cold) life.kept.position
 
--- without a fix in this life a valid position goes on by the estimate, which counts from the power-up; too far from its group it
--- isn't valid
+-- without a fix in this life a valid position goes on by the estimate, which counts from the power-up; too far from its
+-- group it isn't valid
 abbrev pub gone_on : PositionFrom → ℤ → Datum PositionFrom
 gone_on position by =
     if nat_le (unsigned_abs (position.distance +ℤ by)) (2 * farthest)

@@ -2,8 +2,8 @@
 use Rattle.std.specs.Prelude.{◌≡◌, ℕ, ⊤}
 use Rattle.events.specs.declared.input.Event.{Event}
 use Rattle.events.specs.declared.input.Event.TheVariants.{PowerUp, Input}
-use Rattle.trackside.specs.StandsFor.{size_in}
-use Rattle.trackside.specs.Steps as track
+use Rattle.track_picture.specs.StandsFor.{size_in}
+use Rattle.track_picture.specs.Steps as track
 use Rattle.kernel.specs.StandsFor.{Knowledge}
 
 -- there is room for all packets that may be used by an event; none are by a power-up

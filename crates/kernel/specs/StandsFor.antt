@@ -6,9 +6,9 @@ use Rattle.events.specs.declared.input.Event.{Event}
 use Rattle.events.specs.Kept.{PositionFrom}
 use Rattle.speed_profile.specs.declared.told.CategorySpeeds.{CategorySpeeds}
 use Rattle.track_store.specs.Profiles.{Profile}
-use Rattle.mode_limits.specs.Limit.{limit}
-use Rattle.supervision.specs.Life.{Life}
-use Rattle.supervision.specs.StandsFor as supervision
+use Rattle.speed_supervision.specs.Limit.{limit}
+use Rattle.mode_control.specs.Life.{Life}
+use Rattle.mode_control.specs.StandsFor as mode_control
 use Rattle.kernel.specs.declared.counts.Counts.{Counts}
 use Rattle.kernel.specs.declared.window.Window.{Window}
 use Rattle.kernel.specs.Brake.{far_too_fast, asked_for_service, rolled_backward, too_fast}
@@ -40,12 +40,12 @@ parts_of life = record {
 pub record Knowledge (G S : Type 0) : Type 0 where
   pub parts : Known
   pub counts : Counts
-  pub supervision : supervision.Knowledge G S
+  pub supervision : mode_control.Knowledge G S
 
 -- It represents a life; what the two stores give is read off them so
 pub record StandsForLife {G S : Type 0} (gradients_in : G → Profile ℤ) (speeds_in : S → Profile CategorySpeeds) (known : Knowledge G S) (life : Life) : Type 0 where
   pub parts_are : known.parts ≡ parts_of life
-  pub supervision_is : supervision.StandsForLife gradients_in speeds_in known.supervision life
+  pub supervision_is : mode_control.StandsForLife gradients_in speeds_in known.supervision life
 
 -- .. and for a list of events
 pub record StandsFor {G S : Type 0} (gradients_in : G → Profile ℤ) (speeds_in : S → Profile CategorySpeeds) (known : Knowledge G S) (events : List Event) : Type 0 where

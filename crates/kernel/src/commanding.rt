@@ -2,7 +2,7 @@
 ghost use Rattle.std.specs.Prelude.{◌≡◌};
 ghost use Rattle.kernel.specs.Brake.{has_rolled, is_emergency, must_stand, owes_too_long, is_service, brake_by, brake_of};
 ghost use Rattle.kernel.specs.StandsFor.{StandsForLife};
-ghost use Rattle.supervision.specs.Life.{Life};
+ghost use Rattle.mode_control.specs.Life.{Life};
 
 use crate::state::StateOver;
 use events::Brake;

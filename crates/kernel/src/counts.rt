@@ -1,11 +1,12 @@
+//! The numbers of events and of lives.
 ghost use Rattle.std.specs.Prelude.{◌≡◌};
 ghost use Rattle.events.specs.declared.input.Event.TheVariants as event;
 ghost use Rattle.events.specs.declared.input.Input.{Input};
 ghost use Rattle.kernel.specs.Lives.{counted};
 ghost use Rattle.mode_table.specs.declared.statuses.Cold.{Cold};
 
-/// How many events there were, and how many of them were power-ups (this project's profile). Neither goes beyond its greatest
-/// number.
+/// How many events there were, and how many of them were power-ups (this project's profile). Neither goes beyond its
+/// greatest number.
 #[derive(Clone, Copy)]
 pub struct Counts {
     /// The events, up to the greatest number of 64 bits.

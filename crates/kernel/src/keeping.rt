@@ -7,7 +7,7 @@ ghost use Rattle.kernel.specs.Output.{output_after, estimate_after, uncertainty_
 ghost use Rattle.kernel.specs.Position.{position_of};
 ghost use Rattle.kernel.specs.Quiet.{HasNoTrack};
 ghost use Rattle.kernel.specs.StandsFor.{StandsForLife, StandsFor};
-ghost use Rattle.supervision.specs.Life.{Life};
+ghost use Rattle.mode_control.specs.Life.{Life};
 
 use crate::position::position_by;
 use crate::state::StateOver;
@@ -53,9 +53,9 @@ impl<G: ProfileStore<Permille> + Drop, S: ProfileStore<CategorySpeeds> + Drop> S
         self.kept_of_life()
     }
 
-    /// A life begins with what was kept: what is known then, and what is answered. What is known of movements while the power
-    /// was off decides whether level and position stay valid, so that only what it leaves of them counts. The caller owes a
-    /// word that is true. Takes no memory.
+    /// A life begins with what was kept: what is known then, and what is answered. What is known of movements while the
+    /// power was off decides whether level and position stay valid, so that only what it leaves of them counts. The
+    /// caller owes a word that is true. Takes no memory.
     pub fn power_up(alloc: Global, kept: &Kept, cold: Cold) -> (Self, Output)
         ensures stands { (events : List Event) → left_by cold kept.now ≡ left_by cold (kept_by events) → StandsFor G.profile S.profile result.0 (event.PowerUp cold ∷ events) }
         ensures output { (events : List Event) → left_by cold kept.now ≡ left_by cold (kept_by events) → result.1 ≡ output_after (event.PowerUp cold ∷ events) }
@@ -66,8 +66,8 @@ impl<G: ProfileStore<Permille> + Drop, S: ProfileStore<CategorySpeeds> + Drop> S
         (state, output)
     }
 
-    /// Where the train is thought to be, in centimetres from where its life began, and how far that may be wrong to either side.
-    /// Takes no memory.
+    /// Where the train is thought to be, in centimetres from where its life began, and how far that may be wrong to
+    /// either side. Takes no memory.
     pub fn place_of(&self) -> (Estimate, u64)
         ensures estimate { (events : List Event) → StandsFor G.profile S.profile self.now events → result.0 ≡ estimate_after events }
         ensures uncertainty { (events : List Event) → StandsFor G.profile S.profile self.now events → result.1 ≡ uncertainty_after events }

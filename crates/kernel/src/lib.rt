@@ -1,5 +1,6 @@
-//! The kernel: what is answered after each event, by the whole history of events, and what outlives a loss of power (SUBSET-026; where
-//! it leaves a choice, this project's profile). Distances are centimetres, speeds metres per hour, moments milliseconds.
+//! The kernel: what is answered after each event, by the whole history of events, and what outlives a loss of power
+//! (SUBSET-026; where it leaves a choice, this project's profile). Distances are centimetres, speeds metres per hour,
+//! moments milliseconds.
 #![tactic(auto)]
 
 mod commanding;

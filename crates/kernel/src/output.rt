@@ -2,7 +2,7 @@
 ghost use Rattle.std.specs.Prelude.{◌≡◌};
 ghost use Rattle.kernel.specs.Output.{where_valid, indications_of, output_of};
 ghost use Rattle.kernel.specs.StandsFor.{StandsForLife};
-ghost use Rattle.supervision.specs.Life.{Life};
+ghost use Rattle.mode_control.specs.Life.{Life};
 
 use crate::state::StateOver;
 use driver::Datum;

@@ -1,3 +1,4 @@
+//! What the kernel holds beside supervision and counts: the window of the brakes, the limit, the kept position.
 ghost use Rattle.std.specs.Prelude.{◌≡◌};
 
 use crate::window::Window;

@@ -6,21 +6,21 @@ ghost use Rattle.kernel.specs.Brake.{sight_at};
 ghost use Rattle.kernel.specs.Lives.{counted};
 ghost use Rattle.kernel.specs.Quiet.{HasRoomFor, HasNoTrack};
 ghost use Rattle.kernel.specs.StandsFor.{StandsForLife, StandsFor, parts_of};
-ghost use Rattle.supervision.specs.Entry.{Entry};
-ghost use Rattle.supervision.specs.Life.{Life, grown};
-ghost use Rattle.supervision.specs.Sentences.{entry_of};
-ghost use Rattle.supervision.specs.StandsFor.{StandsForLife as SupervisionStandsForLife};
-ghost use Rattle.trackside.specs.Steps.{HasRoomFor as TrackHasRoomFor};
+ghost use Rattle.mode_control.specs.Entry.{Entry};
+ghost use Rattle.mode_control.specs.Life.{Life, grown};
+ghost use Rattle.mode_control.specs.Sentences.{entry_of};
+ghost use Rattle.mode_control.specs.StandsFor.{StandsForLife as SupervisionStandsForLife};
+ghost use Rattle.track_picture.specs.Steps.{HasRoomFor as TrackHasRoomFor};
 
 use crate::parts::Parts;
 use crate::sight::{Sight, backward_by, reading_of, stands};
 use crate::state::StateOver;
 use events::{Event, Input};
-use mode_limits::limit;
+use mode_control::SupervisionOver;
 use mode_table::Cold;
 use speed_profile::CategorySpeeds;
+use speed_supervision::limit;
 use std::alloc::Global;
-use supervision::SupervisionOver;
 use track_store::ProfileStore;
 use units::{NoMemory, Permille};
 
@@ -81,7 +81,8 @@ impl<G: ProfileStore<Permille> + Drop, S: ProfileStore<CategorySpeeds> + Drop> S
         *self = StateOver::begin(alloc, self.kept(), cold);
     }
 
-    /// All that an event does. Where memory is refused, nothing changes; none is refused where there is room for the event.
+    /// All that an event does. Where memory is refused, nothing changes; none is refused where there is room for the
+    /// event.
     pub(crate) fn take(&mut self, alloc: Global, event: &Event) -> Result<(), NoMemory>
         ensures quiet { HasRoomFor G.room S.room self.old event.now → IsOk result }
         ensures track { HasRoomFor G.room S.room self.old event.now → HasNoTrack G.size S.size self.old

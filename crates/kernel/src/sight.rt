@@ -35,7 +35,8 @@ impl Sight {
         !self.stands && before
     }
 
-    /// How far the train has rolled backward since its last standstill, in centimetres, where it was so far before the event.
+    /// How far the train has rolled backward since its last standstill, in centimetres, where it was so far before the
+    /// event.
     pub fn rolled(&self, before: u64) -> u64
         ensures { (n : ℕ) → before ≡ min n (2 ^ 64 - 1)
             → result ≡ min ((if self.now.stands then 0 else n) + self.now.backward) (2 ^ 64 - 1) }

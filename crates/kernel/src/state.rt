@@ -1,24 +1,25 @@
+//! The state of the kernel: before the first event, as a life begins, and copied (this project's profile).
 ghost use Rattle.std.specs.Prelude.{◌≡◌, [], IsOk, IfOk};
 ghost use Rattle.events.specs.declared.input.Event.TheVariants.{PowerUp};
 ghost use Rattle.kernel.specs.Lives.{counted};
 ghost use Rattle.kernel.specs.Quiet.{HasNoTrack};
 ghost use Rattle.kernel.specs.StandsFor.{StandsForLife, StandsFor};
-ghost use Rattle.supervision.specs.Sentences.{begun_life};
+ghost use Rattle.mode_control.specs.Sentences.{begun_life};
 
 use crate::counts::Counts;
 use crate::parts::{Parts, no_speed};
 use crate::window::Window;
 use driver::Datum;
 use events::Kept;
+use mode_control::SupervisionOver;
 use mode_table::{Cold, Item, power_up_status};
 use speed_profile::CategorySpeeds;
 use std::alloc::Global;
 use std::marker::Model;
-use supervision::SupervisionOver;
 use track_store::{ProfileStore, SegmentStore};
 use units::{NoMemory, Permille};
 
-/// What the kernel knows, with stores for the gradients and the static speeds (this project's profile).
+/// What the kernel knows, with stores for the gradients and the static speeds.
 #[derive(Drop)]
 pub struct StateOver<G, S> {
     pub(crate) parts: Parts,
@@ -26,7 +27,7 @@ pub struct StateOver<G, S> {
     pub(crate) supervision: SupervisionOver<G, S>,
 }
 
-/// What the kernel knows, with stores that stay short however long the life (this project's profile).
+/// What the kernel knows, with stores that stay short however long the life.
 pub type State = StateOver<SegmentStore<Permille>, SegmentStore<CategorySpeeds>>;
 
 impl<G, S> Model for StateOver<G, S> {
@@ -75,7 +76,8 @@ impl<G: ProfileStore<Permille> + Drop, S: ProfileStore<CategorySpeeds> + Drop> S
         }
     }
 
-    /// An equal value; NoMemory where memory is refused. None is taken where no restriction and no profile is kept, nor room for one.
+    /// An equal value; NoMemory where memory is refused. None is taken where no restriction and no profile is kept, nor
+    /// room for one.
     pub fn copy(&self, alloc: Global) -> Result<Self, NoMemory>
         ensures value { IfOk result (λ copy. copy ≡ self.now) }
         ensures quiet { HasNoTrack G.size S.size self.now → IsOk result }

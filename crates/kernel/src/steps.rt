@@ -1,3 +1,4 @@
+//! From one event to the next: the new state, and the output.
 ghost use Rattle.std.specs.Prelude.{◌≡◌, List, ◌∷◌, IsOk, IsOkAnd, IfOk, OnOk, OnErr};
 ghost use Rattle.events.specs.declared.input.Event.{Event};
 ghost use Rattle.events.specs.declared.input.Event.TheVariants.{PowerUp};
@@ -13,10 +14,10 @@ use std::alloc::Global;
 use track_store::ProfileStore;
 use units::{NoMemory, Permille};
 
-/// One event: what is known after it, and what is answered (this project's profile). The old state is unchanged. NoMemory where
-/// memory for the new one is refused: a power-up takes none, and no event does that uses no packet while no restriction and no
-/// profile is kept, nor room for one. Else the old state is copied. The caller owes moments of the clock that don't fall in a life
-/// (`Onboard::accept` tests that).
+/// One event: what is known after it, and what is answered (this project's profile). The old state is unchanged.
+/// NoMemory where memory for the new one is refused: a power-up takes none, and no event does that uses no packet while
+/// no restriction and no profile is kept, nor room for one. Else the old state is copied. The caller owes moments of
+/// the clock that don't fall in a life (`Onboard::accept` tests that).
 pub fn step<G: ProfileStore<Permille> + Drop, S: ProfileStore<CategorySpeeds> + Drop>(
     alloc: Global,
     state: &StateOver<G, S>,
@@ -41,9 +42,9 @@ pub fn step<G: ProfileStore<Permille> + Drop, S: ProfileStore<CategorySpeeds> + 
 }
 
 impl<G: ProfileStore<Permille> + Drop, S: ProfileStore<CategorySpeeds> + Drop> StateOver<G, S> {
-    /// The same in place; NoMemory where memory is refused, and then nothing changes. Room is made first for all that the event can add,
-    /// so that nothing is copied. None is refused where there is room for it: there always is for a power-up, a moment, an action, and
-    /// for a reading while no group is being read.
+    /// The same in place; NoMemory where memory is refused, and then nothing changes. Room is made first for all that
+    /// the event can add, so that nothing is copied. None is refused where there is room for it: there always is for a
+    /// power-up, a moment, an action, and for a reading while no group is being read.
     pub fn apply(&mut self, alloc: Global, event: &Event) -> Result<Output, NoMemory>
         ensures quiet { HasRoomFor G.room S.room self.old event.now → IsOk result }
         ensures track { HasRoomFor G.room S.room self.old event.now → HasNoTrack G.size S.size self.old

@@ -1,19 +1,20 @@
+//! The memory of the brakes: overspeed, requests for the service brake, and rolling backward.
 ghost use Rattle.std.specs.Prelude.{◌≡◌, []};
 ghost use Rattle.events.specs.declared.kept.Kept.{Kept};
 ghost use Rattle.mode_table.specs.declared.statuses.Cold.{Cold};
 ghost use Rattle.kernel.specs.Brake.{sight_at};
 ghost use Rattle.kernel.specs.StandsFor.{window_of};
-ghost use Rattle.supervision.specs.Entry.{Entry};
-ghost use Rattle.supervision.specs.Life.{Life, grown};
-ghost use Rattle.supervision.specs.Sentences.{begun_life};
+ghost use Rattle.mode_control.specs.Entry.{Entry};
+ghost use Rattle.mode_control.specs.Life.{Life, grown};
+ghost use Rattle.mode_control.specs.Sentences.{begun_life};
 
 use crate::sight::Sight;
 
 /// How far above the limit the service brake comes, in metres per hour. The emergency brake comes at two such steps.
 const MARGIN_STEP: u16 = 5_000;
 
-/// What the brakes remember (this project's profile). All but `too_fast` is of the time since the last standstill, or else
-/// since the power-up.
+/// What the brakes remember (this project's profile). All but `too_fast` is of the time since the last standstill, or
+/// else since the power-up.
 #[derive(Clone, Copy)]
 pub struct Window {
     /// After some event the speed was above the limit by more than two margin steps (10 km/h).

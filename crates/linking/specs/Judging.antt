@@ -1,5 +1,5 @@
--- What follows where a balise group was read, or a broken one was (SUBSET-026, 3.4.4 and 3.16.2; that the wrong direction
--- gives a trip: this project's profile). Places are centimetres.
+-- What follows where a balise group was read, or a broken one was (SUBSET-026, 3.4.4 and 3.16.2; that the wrong
+-- direction gives a trip: this project's profile). Places are centimetres.
 use Rattle.std.specs.Prelude.{ℕ, ℤ, ◌+ℤ◌, int_lt, Bool, true, false, ◌==◌, ◌&&◌, ◌||◌, nat_lt, if◌then◌else◌, Option, Some, None, List, ◌∷◌, filter, find}
 use Rattle.std.specs.Option.{option_map_or}
 use Rattle.vars.specs.declared.group.GroupIdentity.{GroupIdentity}
@@ -23,7 +23,7 @@ first_of group announcements = find (is_of group) announcements
 
 -- ---- a group that was read
 
--- the greatest front at its reading
+-- the maximum safe front at its reading
 abbrev pub max_front : GroupRead → ℤ
 max_front group = group.place.estimate +ℤ group.place.uncertainty
 

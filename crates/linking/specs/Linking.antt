@@ -88,7 +88,7 @@ first_place a = a.place -ℤ pos (doubt a)
 abbrev pub last_place : Announcement → ℤ
 last_place a = a.place +ℤ pos (doubt a)
 
--- the least front lies beyond it
+-- the minimum safe front lies beyond it
 abbrev pub is_passed_by : ℤ → Announcement → Bool
 is_passed_by min_front a = int_lt (last_place a) min_front
 
@@ -119,7 +119,8 @@ reactions announcements =
       service = list_any (λ a. (effect_of a.reaction).service) announcements;
     }
 
--- missed announcements ask for what their reactions do, and for service where the second is missed with none accepted between
+-- missed announcements ask for what their reactions do, and for service where the second is missed with none accepted
+-- between
 abbrev pub misses : Bool → List Announcement → Effect
 misses has_missed announcements =
     both (reactions announcements) (if nat_le 2 (from_bool has_missed + length announcements) then service else no_effect)

@@ -1,3 +1,4 @@
+//! One announced group: where and how it is to be found, and what its miss asks for.
 ghost use Rattle.std.specs.Prelude.{◌≡◌, ◌≤◌, ◌^◌, if◌then◌else◌};
 ghost use Rattle.std.specs.Int.RustNames.{unsigned_abs};
 ghost use Rattle.linking.specs.Linking.{first_place, last_place, is_passed_by, no_effect, service, both, effect_of};
@@ -91,7 +92,7 @@ impl Announcement {
         self.number < number
     }
 
-    /// Whether the least front lies beyond the place where it is announced.
+    /// Whether the minimum safe front lies beyond the place where it is announced.
     pub(crate) fn is_passed_by(&self, min_front: Cm) -> bool
         ensures { result ≡ is_passed_by min_front self.now }
     {

@@ -1,3 +1,4 @@
+//! A trip and the service brake, as linking asks for them, alone or together.
 ghost use Rattle.std.specs.Prelude.{◌≡◌};
 ghost use Rattle.linking.specs.Linking.{both, effect_of};
 

@@ -1,3 +1,4 @@
+//! A whole group that was read, and how linking judges it.
 ghost use Rattle.std.specs.Prelude.{◌≡◌, ◌≤◌, ◌^◌};
 ghost use Rattle.std.specs.Int.RustNames.{unsigned_abs};
 ghost use Rattle.linking.specs.Judging.{max_front};
@@ -20,7 +21,7 @@ pub struct GroupRead {
 }
 
 impl GroupRead {
-    /// The greatest front at its reading. It may lie beyond the limits of a place.
+    /// The maximum safe front at its reading. It may lie beyond the limits of a place.
     pub(crate) fn max_front(&self) -> i64
         ensures value { result ≡ max_front self.now }
         ensures near { unsigned_abs result ≤ 2 ^ 43 }
@@ -32,7 +33,8 @@ impl GroupRead {
 /// What becomes of a group that was read (SUBSET-026, 3.4.4 and 3.16.2; which comes first: this project's profile).
 #[derive(Clone, Copy)]
 pub enum Verdict {
-    /// Its message is used. With Some it is the group of this announcement; with None it isn't linked, or linking isn't in use.
+    /// Its message is used. With Some it is the group of this announcement; with None it isn't linked, or linking isn't
+    /// in use.
     Accept(Option<Announcement>),
     /// It is linked and isn't announced while others are. Its message isn't used.
     Ignore,
@@ -45,7 +47,7 @@ pub enum Verdict {
 pub struct Judgement {
     /// What becomes of the group.
     pub verdict: Verdict,
-    /// What linking asks of the train: after Reaction a trip for the wrong direction, else the announced reaction; after Accept
-    /// that of the announcements passed over.
+    /// What linking asks of the train: after Reaction a trip for the wrong direction, else the announced reaction;
+    /// after Accept that of the announcements passed over.
     pub effect: Effect,
 }

@@ -1,5 +1,5 @@
-//! Linking: the balise groups that a list of links announces, and what follows where one is read, is broken or is missed
-//! (SUBSET-026, 3.4.4 and 3.16.2).
+//! Linking: the balise groups that a list of links announces, and what follows where one is read, is broken or is
+//! missed (SUBSET-026, 3.4.4 and 3.16.2).
 #![tactic(auto)]
 
 mod announcement;

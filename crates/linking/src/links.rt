@@ -1,3 +1,4 @@
+//! The list of announced groups, and what it answers to groups read, broken or missed.
 ghost use Rattle.std.specs.Prelude.{◌≡◌, ◌≤◌, List, [], length, filter, not, ◌||◌, ◌∷◌};
 ghost use Rattle.std.specs.List.{list_any};
 ghost use Rattle.linking.specs.Linking.{Entry, known, numbered, takes, is_any, is_passed_by, misses, after_misses};
@@ -13,8 +14,8 @@ use vars::GroupIdentity;
 /// How many groups a list of links announces at most: the first element of packet 5 and the 31 behind it.
 pub const MOST_ANNOUNCED: usize = 32;
 
-/// The announced groups that are left, and whether one was missed since the last that was accepted (SUBSET-026, 3.4.4). Its
-/// calls take no memory.
+/// The announced groups that are left, and whether one was missed since the last that was accepted (SUBSET-026, 3.4.4).
+/// Its calls take no memory.
 #[derive(Drop)]
 pub struct Links {
     // In the order of their list.
@@ -43,8 +44,8 @@ impl Links {
         }
     }
 
-    /// Takes a list of links in place of the one before, and numbers it from 0; an empty one deletes linking. Whether one was
-    /// missed stays.
+    /// Takes a list of links in place of the one before, and numbers it from 0; an empty one deletes linking. Whether
+    /// one was missed stays.
     pub fn replace(&mut self, announcements: &ArrayVec<Announcement, MOST_ANNOUNCED>)
         ensures { (entries : List Entry) → self.old ≡ known entries
             → self.new ≡ known (Announced announcements.now.items ∷ entries) }
@@ -59,8 +60,8 @@ impl Links {
         self.left.clear();
     }
 
-    /// Judges a whole group that was read. An accepted group takes its announcement and all before it out of the list. One that
-    /// is found too early or in the wrong direction takes out its own.
+    /// Judges a whole group that was read. An accepted group takes its announcement and all before it out of the list.
+    /// One that is found too early or in the wrong direction takes out its own.
     pub fn judge(&mut self, group: &GroupRead) -> Judgement
         ensures answer { result ≡ judgement self.old group.now }
         ensures stands { (entries : List Entry) → self.old ≡ known entries
@@ -72,9 +73,9 @@ impl Links {
         Judgement { verdict, effect }
     }
 
-    /// Takes note of a broken group and answers what it asks for (3.16.2; this project's profile). `linked` is its Q_LINK:
-    /// without it the service brake, with it the reaction that is announced for it, or nothing where none is. An announced one
-    /// is taken out of the list.
+    /// Takes note of a broken group and answers what it asks for (3.16.2; this project's profile). `linked` is its
+    /// Q_LINK: without it the service brake, with it the reaction that is announced for it, or nothing where none is.
+    /// An announced one is taken out of the list.
     pub fn broken(&mut self, group: GroupIdentity, linked: bool) -> Effect
         ensures answer { result ≡ broken_effect self.old group linked }
         ensures stands { (entries : List Entry) → self.old ≡ known entries
@@ -92,9 +93,9 @@ impl Links {
         }
     }
 
-    /// Drops the announcements whose last possible place the least front has passed, and answers what they ask for; the second
-    /// miss in turn asks for the service brake. `min_front` is the minimum safe front, in centimetres. The caller asks once at
-    /// each odometer reading.
+    /// Drops the announcements whose last possible place the minimum safe front has passed, and answers what they ask
+    /// for; the second miss in turn asks for the service brake. `min_front` is the minimum safe front, in centimetres.
+    /// The caller asks once at each odometer reading.
     pub fn missed(&mut self, min_front: Cm) -> Effect
         ensures answer { result ≡ misses self.old.has_missed (filter (is_passed_by min_front) self.old.left) }
         ensures stands { (entries : List Entry) → self.old ≡ known entries
@@ -190,7 +191,7 @@ impl Links {
         }
     }
 
-    // Whether one was missed since the last acceptance, once those are missed that the least front has passed.
+    // Whether one was missed since the last acceptance, once those are missed that the minimum safe front has passed.
     fn has_missed_behind(&self, min_front: Cm) -> bool
         ensures { result ≡ (self.now.has_missed || list_any (is_passed_by min_front) self.now.left) }
     {
@@ -246,7 +247,7 @@ fn effect_before(announcements: &[Announcement], number: u8, has_missed: bool) -
     effect
 }
 
-// What the announcements that the least front has passed ask for where they are missed.
+// What the announcements that the minimum safe front has passed ask for where they are missed.
 fn effect_behind(announcements: &[Announcement], min_front: Cm, has_missed: bool) -> Effect
     ensures { result ≡ misses has_missed (filter (is_passed_by min_front) announcements.now) }
 {
@@ -261,14 +262,14 @@ fn effect_behind(announcements: &[Announcement], min_front: Cm, has_missed: bool
     effect
 }
 
-// Whether the least front has passed one of the announcements.
+// Whether the minimum safe front has passed one of the announcements.
 fn is_any_behind(announcements: &[Announcement], min_front: Cm) -> bool
     ensures { result ≡ list_any (is_passed_by min_front) announcements.now }
 {
     announcements.iter().any(|a| a.is_passed_by(min_front))
 }
 
-// Drops the announcements that the least front has passed.
+// Drops the announcements that the minimum safe front has passed.
 fn drop_behind(announcements: &mut ArrayVec<Announcement, MOST_ANNOUNCED>, min_front: Cm)
     ensures { announcements.new.items ≡ filter (λ a. not (is_passed_by min_front a)) announcements.old.items }
 {

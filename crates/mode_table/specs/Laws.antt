@@ -22,8 +22,8 @@ enters target mode c = is_mode target (next_mode mode c) && not (is_mode target 
 abbrev pub takes : List ℕ → Mode → Conditions → Bool
 takes numbers mode c = list_any (λ number. row_taken mode c == number) numbers
 
--- whether a change of mode is due to an area can be seen without the row: every entry of On Sight is, and one of Shunting
--- that the driver didn't choose
+-- whether a change of mode is due to an area can be seen without the row: every entry of On Sight is, and one of
+-- Shunting that the driver didn't choose
 abbrev pub TurnsByItsRows : Mode → Conditions → Type 0
 TurnsByItsRows mode c =
     (takes (7 ∷ 31 ∷ 32 ∷ []) mode c ≡ enters OnSight mode c)

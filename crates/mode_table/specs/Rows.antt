@@ -29,7 +29,7 @@ rows =
     ∷ from UN FS (λ c. c.level_1 && c.full)  -- 8
     ∷ from UN TR (λ c. c.level_1)  -- 9
     ∷ from TR PT (λ c. c.trip_acknowledged)  -- 10
-    ∷ from PT SR (λ c. c.overridden)  -- 11
+    ∷ from PT SR (λ c. c.override_accepted)  -- 11
     ∷ from PT SH (λ c. c.shunting_chosen)  -- 12
     ∷ from PT SR (λ c. c.started && c.level_1)  -- 13
     ∷ from PT UN (λ c. c.started && c.level_0)  -- 14
@@ -42,8 +42,8 @@ rows =
     ∷ from OS SH (λ c. c.shunting_chosen)  -- 21
     ∷ from SR SH (λ c. c.shunting_chosen)  -- 22
     ∷ from UN SH (λ c. c.shunting_chosen)  -- 23
-    ∷ from FS SR (λ c. c.overridden)  -- 24
-    ∷ from OS SR (λ c. c.overridden)  -- 25
+    ∷ from FS SR (λ c. c.override_accepted)  -- 24
+    ∷ from OS SR (λ c. c.override_accepted)  -- 25
     ∷ from FS UN (λ c. c.level_0)  -- 26
     ∷ from OS UN (λ c. c.level_0)  -- 27
     ∷ from SR UN (λ c. c.level_0)  -- 28

@@ -1,11 +1,13 @@
+//! The rows of the mode table, mode by mode (SUBSET-026, 4.6).
 ghost use Rattle.std.specs.Prelude.{◌≡◌};
 ghost use Rattle.mode_table.specs.Rows.{next_mode};
 ghost use Rattle.mode_table.specs.declared.mode.Mode.TheVariants as mode;
 
 use crate::{Conditions, Mode};
 
-/// The mode that an event leads to (SUBSET-026, 4.6; the rows: this project's profile): that of the first row of the mode table
-/// that starts from the old mode and whose condition holds; the old mode where there is none. Takes no memory.
+/// The mode that an event leads to (SUBSET-026, 4.6; the rows: this project's profile): that of the first row of the
+/// mode table that starts from the old mode and whose condition holds; the old mode where there is none. Takes no
+/// memory.
 pub fn next_mode(mode: Mode, conditions: &Conditions) -> Mode
     ensures { result ≡ next_mode mode conditions.now }
 {
@@ -33,7 +35,7 @@ fn from_full_supervision(conditions: &Conditions) -> Mode
         Mode::Trip
     } else if conditions.shunting_chosen {
         Mode::Shunting
-    } else if conditions.overridden {
+    } else if conditions.override_accepted {
         Mode::StaffResponsible
     } else if conditions.level_0 {
         Mode::Unfitted
@@ -57,7 +59,7 @@ fn from_on_sight(conditions: &Conditions) -> Mode
         Mode::Trip
     } else if conditions.shunting_chosen {
         Mode::Shunting
-    } else if conditions.overridden {
+    } else if conditions.override_accepted {
         Mode::StaffResponsible
     } else if conditions.level_0 {
         Mode::Unfitted
@@ -165,7 +167,7 @@ fn from_post_trip(conditions: &Conditions) -> Mode
         Mode::SystemFailure
     } else if conditions.desk_closed {
         Mode::StandBy
-    } else if conditions.overridden {
+    } else if conditions.override_accepted {
         Mode::StaffResponsible
     } else if conditions.shunting_chosen {
         Mode::Shunting

@@ -34,12 +34,12 @@ start_from scale place Now = None
 abbrev pub start_of : Fact → Option ℤ
 start_of fact = start_from fact.packet.scale fact.place fact.packet.start
 
--- a greatest front has reached it
+-- a maximum safe front has reached it
 abbrev pub is_reached : Option ℤ → ℤ → Bool
 is_reached None max_front = true
 is_reached (Some start) max_front = not (int_lt max_front start)
 
--- the latest packet 3, and the greatest fronts of the looks since
+-- the latest packet 3, and the maximum safe fronts of the looks since
 abbrev pub latest : List Entry → Option Fact
 latest [] = None
 latest (Announced fact ∷ entries) = Some fact

@@ -6,6 +6,7 @@ use Rattle.std.specs.Prelude.{ℕ, ◌≤◌}
 abbrev pub IsOverrideDuration : ℕ → Type 0
 IsOverrideDuration n = n ≤ 254_000
 
--- how far the train may run in Staff Responsible, in centimetres: D_NVSTFF is up to 2^15 - 2 units of at most ten metres
+-- how far the train may run in Staff Responsible, in centimetres: D_NVSTFF is up to 2^15 - 2 units of at most ten
+-- metres
 abbrev pub IsStaffResponsibleDistance : ℕ → Type 0
 IsStaffResponsibleDistance n = n ≤ 32_766_000

@@ -1,3 +1,4 @@
+//! Values that packet 3 announces, and the place from which they hold.
 ghost use Rattle.std.specs.Prelude.{◌≡◌};
 ghost use Rattle.national.specs.InForce.{fact_of, start_from, is_reached, announcement_of};
 
@@ -16,8 +17,8 @@ pub struct Announcement {
 }
 
 impl Announcement {
-    /// What packet 3 announces, for the countries that it lists and that of its group, counted from the place of its group, in
-    /// centimetres.
+    /// What packet 3 announces, for the countries that it lists and that of its group, counted from the place of its
+    /// group, in centimetres.
     pub fn of(packet: &NationalValues, country: Country, place: GroupPlace) -> Self
         ensures { result ≡ announcement_of (fact_of packet.now country place) }
     {

@@ -1,3 +1,4 @@
+//! National values with the countries where they hold: told by packet 3, or the defaults.
 ghost use Rattle.std.specs.Prelude.{◌≡◌, ◌≤◌, [], ◌∷◌, length};
 ghost use Rattle.national.specs.Values.{defaults, values_for, told_by, is_any, is_among, is_foreign};
 

@@ -1,3 +1,4 @@
+//! Which national values are in force, as packets announce them and groups of other countries are met.
 ghost use Rattle.std.specs.Prelude.{◌≡◌, ◌≤◌, false, List, [], ◌∷◌, length, IfSome};
 ghost use Rattle.national.specs.Values.{ValuesFor, is_any, is_foreign};
 ghost use Rattle.national.specs.InForce.{Entry, fact_of, is_reached, known, in_force, nothing_kept, has_come};
@@ -10,8 +11,8 @@ use std::marker::Model;
 use units::{Cm, GroupPlace};
 use vars::Country;
 
-/// The national values in force, and those that are announced (SUBSET-026, 3.18.2; when they come into force: this project's
-/// profile). Its calls take no memory.
+/// The national values in force, and those that are announced (SUBSET-026, 3.18.2; when they come into force: this
+/// project's profile). Its calls take no memory.
 #[derive(Drop)]
 pub struct National {
     in_force: CountryValues,
@@ -44,8 +45,8 @@ impl National {
         }
     }
 
-    /// Takes packet 3 of a group of a country, in place of the one that is announced. Its start counts from the place of the
-    /// group, in centimetres.
+    /// Takes packet 3 of a group of a country, in place of the one that is announced. Its start counts from the place
+    /// of the group, in centimetres.
     pub fn announce(&mut self, packet: &NationalValues, group_country: Country, place: GroupPlace)
         ensures { (kept : ValuesFor) → (entries : List Entry) → self.old ≡ known kept entries
             → self.new ≡ known kept (Announced (fact_of packet.now group_country place) ∷ entries) }
@@ -53,8 +54,8 @@ impl National {
         self.announced = Some(Announcement::of(packet, group_country, place));
     }
 
-    /// Takes note of an accepted group of a country, before its packets are taken. Where the values in force are for other
-    /// countries alone, the defaults come into force for this one.
+    /// Takes note of an accepted group of a country, before its packets are taken. Where the values in force are for
+    /// other countries alone, the defaults come into force for this one.
     pub fn enter(&mut self, country: Country)
         ensures stands { (kept : ValuesFor) → (entries : List Entry) → self.old ≡ known kept entries
             → self.new ≡ known kept (Entered country ∷ entries) }
@@ -65,8 +66,8 @@ impl National {
         }
     }
 
-    /// The look, once an event: what is announced comes into force where the maximum safe front, in centimetres, has reached
-    /// its start.
+    /// The look, once an event: what is announced comes into force where the maximum safe front, in centimetres, has
+    /// reached its start.
     pub fn reach(&mut self, max_front: Cm)
         ensures stands { (kept : ValuesFor) → (entries : List Entry) → self.old ≡ known kept entries
             → self.new ≡ known kept (Reached max_front ∷ entries) }

@@ -1,10 +1,12 @@
+//! T_NVOVTRP in milliseconds, up to 254 s.
 ghost use Rattle.std.specs.Prelude.{◌≡◌, ◌↔◌, IsSome, IfSome};
 ghost use Rattle.national.specs.Limits.{IsOverrideDuration};
 
 use std::marker::Model;
 use units::Ms;
 
-/// How long the trip stays overridden where that has an end (T_NVOVTRP; SUBSET-026, 7.5.1), in milliseconds: from 0 to 254,000.
+/// How long the trip stays overridden where that has an end (T_NVOVTRP; SUBSET-026, 7.5.1), in milliseconds: from 0 to
+/// 254,000.
 #[derive(Clone, Copy, Debug, PartialEq, Eq)]
 pub struct OverrideDuration {
     ms: u32,

@@ -1,10 +1,11 @@
+//! D_NVSTFF in centimetres, up to 327,660 m.
 ghost use Rattle.std.specs.Prelude.{◌≡◌, ◌↔◌, IsSome, IfSome};
 ghost use Rattle.national.specs.Limits.{IsStaffResponsibleDistance};
 
 use std::marker::Model;
 
-/// How far the train may run in Staff Responsible where that has an end (D_NVSTFF; SUBSET-026, 7.5.1), in centimetres: from 0
-/// to 32,766,000.
+/// How far the train may run in Staff Responsible where that has an end (D_NVSTFF; SUBSET-026, 7.5.1), in centimetres:
+/// from 0 to 32,766,000.
 #[derive(Clone, Copy, Debug, PartialEq, Eq)]
 pub struct StaffResponsibleDistance {
     cm: u32,

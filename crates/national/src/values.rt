@@ -1,3 +1,4 @@
+//! One set of national values: the defaults, or what packet 3 tells.
 ghost use Rattle.std.specs.Prelude.{◌≡◌};
 ghost use Rattle.national.specs.Values.{defaults, values_of, time_of, open_distance_in};
 
@@ -6,7 +7,8 @@ use packets::NationalValues;
 use units::{Mph, Reach};
 use vars::{OpenLength, OverrideTime, Scale, SpeedStep, Variable};
 
-/// National values (packet 3; SUBSET-026, 3.18.2). Speeds are metres per hour, distances centimetres, times milliseconds.
+/// National values (packet 3; SUBSET-026, 3.18.2). Speeds are metres per hour, distances centimetres, times
+/// milliseconds.
 #[derive(Clone, Copy, Debug, PartialEq, Eq)]
 pub struct Values {
     /// The speed in Shunting (V_NVSHUNT).
@@ -34,8 +36,8 @@ pub struct Values {
 }
 
 impl Values {
-    /// The defaults, which hold until others come into force (SUBSET-026, 3.18.2; the numbers: this project's profile, in
-    /// `docs/CONFORMANCE.md`).
+    /// The defaults, which hold until others come into force (SUBSET-026, 3.18.2; the numbers: this project's profile,
+    /// in `docs/CONFORMANCE.md`).
     pub fn defaults() -> Values
         ensures { result ≡ defaults }
     {

@@ -44,7 +44,8 @@ known entries = record { fix = last_fix entries; sums = sums_of entries }
 abbrev pub estimate_at : Fix → Sums → ℤ
 estimate_at fix moment = fix.at +ℤ movement_between fix.sums moment
 
--- the accuracy, five metres, the twentieth part of the path in between rounded up, and twelve metres for a missed balise 1
+-- the accuracy, five metres, the twentieth part of the path in between rounded up, and twelve metres for a missed
+-- balise 1
 abbrev pub uncertainty_at : Fix → Sums → ℕ
 uncertainty_at fix moment =
     fix.accuracy + 500 + div_ceil (path_between fix.sums moment) 20 + (if fix.missed then 1200 else 0)

@@ -1,3 +1,4 @@
+//! The fix from which the front's place and its uncertainty are reckoned; a life starts with one at 0.
 use crate::Sums;
 use units::{Cm, Length};
 

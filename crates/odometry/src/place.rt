@@ -1,3 +1,4 @@
+//! Movements and fixes give the estimated position, its uncertainty, and the safe fronts and rear.
 ghost use Rattle.std.specs.Prelude.{◌≡◌, ◌↔◌, ◌+◌, ◌*◌, ◌^◌, ◌≤◌, ◌-ℤ◌, List, [], pos, IsTrue, IsOk, IfOk, OnErr};
 ghost use Rattle.std.specs.Int.RustNames.{unsigned_abs};
 ghost use Rattle.units.specs.Limits.{farthest, HasReach};
@@ -39,7 +40,8 @@ fn is_near(place: i64) -> bool
 }
 
 impl Place {
-    /// The place at the start of a life: estimate, movements and path are 0, and the uncertainty is 500 cm. Takes no memory.
+    /// The place at the start of a life: estimate, movements and path are 0, and the uncertainty is 500 cm. Takes no
+    /// memory.
     pub fn new() -> Self
         ensures { result ≡ known [] }
     {
@@ -49,8 +51,9 @@ impl Place {
         }
     }
 
-    /// Adds a movement, forward or backward, in centimetres. Overrun exactly where the path of the life or the new estimate
-    /// would lie beyond 2^40 cm; then nothing changes. The caller owes each movement of the odometer once, in order.
+    /// Adds a movement, forward or backward, in centimetres. Overrun exactly where the path of the life or the new
+    /// estimate would lie beyond 2^40 cm; then nothing changes. The caller owes each movement of the odometer once, in
+    /// order.
     pub fn moved(&mut self, movement: Movement) -> Result<(), Overrun>
         ensures room { IsOk result ↔ IsTrue (has_room self.old movement) }
         ensures stands { (entries : List Entry) → self.old ≡ known entries
@@ -67,8 +70,9 @@ impl Place {
         Ok(())
     }
 
-    /// Takes the place of a balise group in place of the last fix, and answers it, in centimetres. Overrun exactly where it, or
-    /// the estimate that it gives now, lies beyond 2^40 cm; then nothing changes. The sums of the fix are those of this life.
+    /// Takes the place of a balise group in place of the last fix, and answers it, in centimetres. Overrun exactly
+    /// where it, or the estimate that it gives now, lies beyond 2^40 cm; then nothing changes. The sums of the fix are
+    /// those of this life.
     pub fn fix(&mut self, fix: Fix) -> Result<GroupPlace, Overrun>
         ensures made { IsOk result ↔ IsTrue (is_made self.old.sums fix) }
         ensures place { IfOk result (λ place. place ≡ fix.at) }
@@ -91,8 +95,8 @@ impl Place {
         self.sums
     }
 
-    /// Where the front was at a moment of this life, reckoned from the last fix, in centimetres. The caller owes the sums of
-    /// that moment.
+    /// Where the front was at a moment of this life, reckoned from the last fix, in centimetres. The caller owes the
+    /// sums of that moment.
     pub fn place_at(&self, moment: &Sums) -> EarlierPlace
         ensures { result ≡ place_at self.now.fix moment.now }
     {
@@ -118,8 +122,8 @@ impl Place {
         Cm::new(self.fix.estimate_at(&self.sums) - self.fix.at.get()).unwrap()
     }
 
-    /// How far the estimate may be wrong, to either side, in centimetres: the accuracy of the fix, 500, a twentieth of the path
-    /// since, and 1,200 for a missed balise 1.
+    /// How far the estimate may be wrong, to either side, in centimetres: the accuracy of the fix, 500, a twentieth of
+    /// the path since, and 1,200 for a missed balise 1.
     pub fn uncertainty(&self) -> Cm
         ensures value { result ≡ pos (uncertainty self.now) }
         ensures near { unsigned_abs result ≤ farthest + 2 ^ 37 }
@@ -141,16 +145,16 @@ impl Place {
         self.stretch(Length::ZERO).max_front()
     }
 
-    /// The minimum safe rear of a train of this length (3.6.4), in centimetres: the minimum safe front less the length. For
-    /// length 0 it is the minimum safe front.
+    /// The minimum safe rear of a train of this length (3.6.4), in centimetres: the minimum safe front less the length.
+    /// For length 0 it is the minimum safe front.
     pub fn min_rear(&self, length: Length) -> Cm
         ensures { result ≡ min_rear self.now length }
     {
         self.stretch(length).rear()
     }
 
-    /// The track that a train of this length may cover, in centimetres: minimum safe rear, minimum and maximum safe front. Each
-    /// distance of a packet, counted from any of these, leads to a place within the limits of `Cm`.
+    /// The track that a train of this length may cover, in centimetres: minimum safe rear, minimum and maximum safe
+    /// front. Each distance of a packet, counted from any of these, leads to a place within the limits of `Cm`.
     pub fn stretch(&self, length: Length) -> Stretch
         ensures value { result ≡ stretch self.now length }
         ensures near { HasReach result.rear }

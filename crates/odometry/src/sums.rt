@@ -1,3 +1,4 @@
+//! How far a life has moved, forward less backward, and its path, forward plus backward.
 ghost use Rattle.std.specs.Prelude.{◌≡◌, ◌↔◌, ◌+◌, ◌*◌, ◌≤◌, IsSome, IfSome};
 ghost use Rattle.std.specs.Int.RustNames.{unsigned_abs};
 ghost use Rattle.units.specs.Limits.{farthest};
@@ -6,8 +7,8 @@ ghost use Rattle.odometry.specs.Sums.{moved_on, movement_between, path_between};
 use std::marker::Model;
 use units::{Cm, Length, Movement};
 
-/// The sums of a life at one moment, in centimetres: of its movements, and of their absolute values, which is its path (this
-/// project's profile).
+/// The sums of a life at one moment, in centimetres: of its movements, and of their absolute values, which is its path
+/// (this project's profile).
 #[derive(Clone, Copy)]
 pub struct Sums {
     moved: i64,

@@ -9,7 +9,8 @@ pub record Release : Type 0 where
   pub number : ℕ
   pub output : Output
 
--- before the first event: Stand By, no valid level, the emergency brake, the limit 0, and shown alone that nothing is revalidated
+-- before the first event: Stand By, no valid level, the emergency brake, the limit 0, and shown alone that nothing is
+-- revalidated
 abbrev pub nothing_released : Release
 nothing_released = record {
   number = 0;

@@ -1,8 +1,8 @@
-// Why calls are refused.
+//! Why calls are refused (this project's profile).
 
 use thiserror::Error;
 
-/// Why no life began (this project's profile).
+/// Why no life began.
 #[derive(Clone, Copy, Debug, PartialEq, Eq, Error)]
 pub enum OpenError {
     /// The device failed in this call.
@@ -11,7 +11,8 @@ pub enum OpenError {
     /// The first sector isn't that of a journal, or there is none. Nothing was written.
     #[error("NotFormatted")]
     NotFormatted,
-    /// The number of sectors isn't that of the slots, or the block of the greatest number is no spelling. Nothing was written.
+    /// The number of sectors isn't that of the slots, or the block of the greatest number is no spelling. Nothing was
+    /// written.
     #[error("Damaged")]
     Damaged,
     /// Memory was refused; nothing was written. `open` takes none, and so never answers it.
@@ -22,7 +23,7 @@ pub enum OpenError {
     WornOut,
 }
 
-/// Why an input wasn't accepted (this project's profile).
+/// Why an input wasn't accepted.
 #[derive(Clone, Copy, Debug, PartialEq, Eq, Error)]
 pub enum AcceptError {
     /// The device failed in a flush; open again.
@@ -39,7 +40,7 @@ pub enum AcceptError {
     NoMemory,
 }
 
-/// Why nothing was released (this project's profile).
+/// Why nothing was released.
 #[derive(Clone, Copy, Debug, PartialEq, Eq, Error)]
 pub enum FlushError {
     /// The device failed in an earlier flush; open again.
@@ -48,12 +49,13 @@ pub enum FlushError {
     /// The block of the greatest number has the last number, 2^40; nothing was written.
     #[error("WornOut")]
     WornOut,
-    /// The device failed in this call: whether the pending events are on the disk isn't known, until it is opened again.
+    /// The device failed in this call: whether the pending events are on the disk isn't known, until it is opened
+    /// again.
     #[error("DeviceFault")]
     DeviceFault,
 }
 
-/// Why a life ended before its last step, with the number of the step, from 0 on (this project's profile).
+/// Why a life ended before its last step, with the number of the step, from 0 on.
 #[derive(Clone, Copy, Debug, PartialEq, Eq, Error)]
 pub enum LiveError {
     /// It didn't begin, for this reason.

@@ -1,4 +1,4 @@
-// Copies of inputs.
+//! Copies of inputs.
 ghost use Rattle.std.specs.Prelude.{◌≡◌};
 
 use events::{Input, TelegramBytes};

@@ -1,4 +1,4 @@
-// What follows from the contracts alone (this project's profile).
+//! What follows from the contracts alone (this project's profile).
 ghost use Rattle.onboard.specs.Answers.{RoomForOthers};
 ghost use Rattle.onboard.specs.Chains.{AnyNumberOfLives};
 ghost use Rattle.onboard.specs.Laws.{ForgetsAcross, ReleasesBrake, ImagesAreEndless, FormattedIsReady};
@@ -31,7 +31,7 @@ pub fn forgets_across()
 }
 
 /// A law: until the driver has revalidated, all that is released commands the emergency brake.
-pub fn releases_brake()
+pub fn commands_emergency_until_revalidated()
     ensures { ReleasesBrake }
 {
     brakes_until_revalidated();

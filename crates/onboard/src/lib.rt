@@ -1,5 +1,5 @@
-//! The onboard unit: events are accepted, put on a disk, and only then are their outputs released; wherever power is lost, the next
-//! power-up finds them again.
+//! The onboard unit: events are accepted, put on a disk, and only then are their outputs released; wherever power is
+//! lost, the next power-up finds them again.
 #![tactic(auto)]
 
 mod accepting;
@@ -16,11 +16,11 @@ mod start;
 mod steps;
 
 pub use errors::{AcceptError, FlushError, LiveError, OpenError};
+pub use events::Step;
 pub use laws::{
-    forgets_across, formatted_is_ready, images_are_endless, lives_compose, one_cause,
-    others_have_room, releases_brake, releases_stay, stands_by,
+    commands_emergency_until_revalidated, forgets_across, formatted_is_ready, images_are_endless,
+    lives_compose, one_cause, others_have_room, releases_stay, stands_by,
 };
-pub use life_steps::Step;
 pub use living::{live, live_into};
 pub use onboard::Onboard;
 pub use released::Released;

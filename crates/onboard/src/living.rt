@@ -1,4 +1,4 @@
-// Whole lives.
+//! Whole lives.
 ghost use Rattle.std.specs.Prelude.{◌≡◌, ◌≢◌, false, ◌-◌, ◌<◌, [], ◌∷◌, List, Err, IsTrue, IfErr, vec_len, vec_capacity};
 ghost use Rattle.disk.specs.State.{now, contents_of, Counted, IsImage, AtEachMoment};
 ghost use Rattle.events.specs.declared.input.Event.{Event};
@@ -17,13 +17,13 @@ use crate::released::Released;
 use crate::sink::ReleaseSink;
 use crate::steps::run_into;
 use disk::Disk;
-use life_steps::Step;
+use events::Step;
 use mode_table::Cold;
 use std::alloc::Global;
 
-/// One life (this project's profile): powers up on the disk, and takes the steps in order, up to the first error, whose step it
-/// names. What is released is handed to the sink as it is released. It hands the disk back. `cold` says whether the train moved
-/// without power; the caller owes that "not moved" is true.
+/// One life (this project's profile): powers up on the disk, and takes the steps in order, up to the first error, whose
+/// step it names. What is released is handed to the sink as it is released. It hands the disk back. `cold` says whether
+/// the train moved without power; the caller owes that "not moved" is true.
 pub fn live_into<D: Disk, S: ReleaseSink>(
     alloc: Global,
     disk: D,

@@ -1,4 +1,4 @@
-// What is released.
+//! What is released.
 ghost use Rattle.std.specs.Prelude.{◌≡◌};
 ghost use Rattle.onboard.specs.Releases.{nothing_released};
 
@@ -7,8 +7,8 @@ use mode_table::Mode;
 use std::marker::Model;
 use units::Mph;
 
-/// An output that may reach the train, with the number of its event (this project's profile). Beside the default, which commands the
-/// emergency brake, only `Onboard::flush` makes one.
+/// An output that may reach the train, with the number of its event (this project's profile). Beside the default, which
+/// commands the emergency brake, only `Onboard::flush` makes one.
 #[derive(Clone, Copy)]
 pub struct Released {
     number: u64,
@@ -51,7 +51,8 @@ impl Released {
 impl Default for Released {
     ghost is_default = { λ it. it ≡ nothing_released };
 
-    /// Before the first event: Stand By, no valid level, the emergency brake, the limit 0, and shown alone that nothing is revalidated.
+    /// Before the first event: Stand By, no valid level, the emergency brake, the limit 0, and shown alone that nothing
+    /// is revalidated.
     fn default() -> Released {
         Released {
             number: 0,

@@ -1,4 +1,4 @@
-// Where releases go.
+//! Where releases go.
 ghost use Rattle.std.specs.Prelude.{◌≡◌, ℕ, ◌-◌, ◌<◌, ◌≤◌, [], ◌++◌, List, length, vec_len, vec_capacity, OnOk, OnErr};
 ghost use Rattle.onboard.specs.declared.released.Released.{Released};
 

@@ -1,4 +1,4 @@
-// The steps of a life.
+//! The steps of a life.
 ghost use Rattle.std.specs.Prelude.{◌≡◌, ◌≢◌, false, ◌-◌, ◌<◌, [], ◌∷◌, List, IsTrue, IfErr, OnOk, OnErr, None, Some, vec_len, vec_capacity};
 ghost use Rattle.disk.specs.State.{contents_of, Counted};
 ghost use Rattle.events.specs.declared.input.Event.{Event};
@@ -10,7 +10,7 @@ ghost use Rattle.onboard.specs.Runs.{flush_one, durable_by, IsStepped, IsOfRun, 
 ghost use Rattle.onboard.specs.Stops.{progress_of, go_on, step_of, Stands, StopsAt, StepsEnd, IsDone, IsUnflushed};
 ghost use Rattle.onboard.specs.Written.{earlier_one, earlier_by, IsLastWritten};
 ghost use Rattle.onboard.specs.declared.released.Released.{Released};
-ghost use Rattle.life_steps.specs.declared.step.Step.TheVariants as a_step;
+ghost use Rattle.events.specs.declared.step.Step.TheVariants as a_step;
 
 use crate::errors::LiveError;
 use crate::inputs::copy_of;
@@ -18,8 +18,7 @@ use crate::onboard::Onboard;
 use crate::released::Released;
 use crate::sink::ReleaseSink;
 use disk::Disk;
-use events::Input;
-use life_steps::Step;
+use events::{Input, Step};
 use std::alloc::Global;
 
 // Flushes, once there is room for what may be released.
@@ -121,8 +120,8 @@ fn take<D: Disk, S: ReleaseSink>(
     }
 }
 
-/// Takes the steps in order, up to the first error, whose step it names, and hands on what is released as it is released (this
-/// project's profile).
+/// Takes the steps in order, up to the first error, whose step it names, and hands on what is released as it is
+/// released (this project's profile).
 pub fn run_into<D: Disk, S: ReleaseSink>(
     alloc: Global,
     unit: &mut Onboard<D>,

@@ -1,4 +1,5 @@
-//! The texts of what the kernel answers (this project's profile): a word for each mode, level and brake, and a line for each output.
+//! The texts of what the kernel answers (this project's profile): a word for each mode, level and brake, and a line for
+//! each output.
 #![tactic(auto)]
 
 mod line;

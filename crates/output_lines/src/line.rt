@@ -1,4 +1,4 @@
-// The line of an output.
+//! The line of an output.
 ghost use Rattle.std.specs.Prelude.{OnOk};
 ghost use Rattle.std.specs.Io.KnownBytes.{Appends};
 ghost use Rattle.output_lines.specs.Line.{front_of, back_of, line_of};
@@ -29,8 +29,9 @@ fn write_back<W: Write>(output: &Output, out: &mut W) -> io::Result<()>
     writeln!(out, " brake {brake} limit {limit} ind {shown}")
 }
 
-/// Writes the line of an event's output (this project's profile): `event N mode M level L brake B limit V ind I`. N counts from
-/// 0, V is in metres per hour, I is the sum of the indications' bits (`docs/GLOSSARY.md`). The error is that of a write.
+/// Writes the line of an event's output (this project's profile): `event N mode M level L brake B limit V ind I`. N
+/// counts from 0, V is in metres per hour, I is the sum of the indications' bits (`docs/GLOSSARY.md`). The error is
+/// that of a write.
 pub fn write_line<W: Write>(number: u64, output: &Output, out: &mut W) -> io::Result<()>
     ensures { OnOk result (Appends (W.contents out.old) (W.contents out.new) (line_of number output.now)) }
 {

@@ -1,3 +1,4 @@
+//! A packet is read by its number, and no two packets share a spelling.
 ghost use Rattle.std.specs.Prelude.{◌≡◌, ◌↔◌, ◌==◌, ◌+◌, ◌++◌, List, Bool, Ok, Err, IfOk, OnErr};
 ghost use Rattle.bits.specs.Layout.{Begins, Gives, Refuses, Spells, kind, read, read_run};
 ghost use Rattle.packets.specs.Layouts.{skipped};

@@ -1,3 +1,4 @@
+//! A packet is handed to a sink or written as bits, NID_PACKET first.
 ghost use Rattle.std.specs.Prelude.{◌≡◌, ◌+◌, ◌*◌, ◌<◌, ◌≤◌, ◌^◌, ◌↔◌, ◌++◌, List, Bool, length, IsOk, OnOk, OnErr};
 ghost use Rattle.bits.specs.Layout.{Spells};
 ghost use Rattle.bits.specs.Writing.{named};
@@ -7,9 +8,9 @@ ghost use Rattle.packets.specs.Packets.{packet as packet_layout, length_of, numb
 use bits::{BitWriter, Full, VariableName};
 use packets::{FieldSink, Packet, put};
 
-/// Hands a whole packet to a sink, NID_PACKET first; stops with the sink's error where it takes no more. The caller owes the
-/// packet's own length in bits (`Packet::length`), and room in the sink. Where L_PACKET can't hold the length, the packet has
-/// no spelling, and nothing is said of what the sink takes.
+/// Hands a whole packet to a sink, NID_PACKET first; stops with the sink's error where it takes no more. The caller
+/// owes the packet's own length in bits (`Packet::length`), and room in the sink. Where L_PACKET can't hold the length,
+/// the packet has no spelling, and nothing is said of what the sink takes.
 pub fn hand_packet<S: FieldSink>(
     packet: &Packet<'_>,
     length: u64,
@@ -23,8 +24,8 @@ pub fn hand_packet<S: FieldSink>(
     packet.fields(length, sink)
 }
 
-/// Writes a packet (SUBSET-026, 7.4.2). Full where its bits do not fit, and then nothing is written. The caller owes a packet
-/// that has a spelling, as each that was read has (`Packet::has_spelling`).
+/// Writes a packet (SUBSET-026, 7.4.2). Full where its bits do not fit, and then nothing is written. The caller owes a
+/// packet that has a spelling, as each that was read has (`Packet::has_spelling`).
 pub fn write_packet<const N: usize>(
     packet: &Packet<'_>,
     writer: &mut BitWriter<N>,

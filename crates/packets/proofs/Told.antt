@@ -10,9 +10,9 @@ use Rattle.bits.proofs.WritingLaws.{length-appended}
 use Rattle.packets.specs.Parts.{telling}
 use Rattle.packets.specs.declared.fault.PacketFault.{PacketFault}
 
--- What is to be shown of the layout of a packet that tells its bits: each value that is read is found in the packet again, and
--- the told number is no matter but where it stands. What reading shows of a packet beside that it fits, R says; and P says
--- exactly which packets fit, but for their length.
+-- What is to be shown of the layout of a packet that tells its bits: each value that is read is found in the packet
+-- again, and the told number is no matter but where it stands. What reading shows of a packet beside that it fits, R
+-- says; and P says exactly which packets fit, but for their length.
 pub record Tells {C : Type 0} (m : (C → ℕ) → Layout PacketFault C (ℕ × C)) (R P : C → Type 0) : Type 0 where
   pub found : (t : ℕ) → Found (m (λ _. t)) (λ p Q. p.0 ≡ t → (p.0 < 2 ^ 13) × R p.1 × Q p.1)
   pub anyhow : (g h : C → ℕ) (p : ℕ × C) (bits : List Bool) → Spells (m g) p bits → Spells (m h) p bits

@@ -94,7 +94,8 @@ body_of number =
     (choice (number == 80) (kind (as_packet packets.ModeProfile) as_mode_profile mode_profile)
     (kind (as_packet packets.Other) as_other (skipped number))))))))))
 
--- The packet of a number that was read: L_PACKET is the count of its bits, those of the number included. 255 is none of a packet.
+-- The packet of a number that was read: L_PACKET is the count of its bits, those of the number included. 255 is none of
+-- a packet.
 unfoldable pub packet_of : ℕ → Layout PacketFault Packet Packet
 packet_of number = do
   _ ← unless (number == 255) OutOfRange
@@ -125,7 +126,8 @@ by_layout f (packets.Other p) = f Other (skipped_telling p.number) p
 abbrev pub length_of : Packet → ℕ
 length_of p = by_layout (λ C m c. 8 + size (m (λ _. 0)) c) p
 
--- What becomes of s when it takes the fields of a packet behind its number, one after another, L_PACKET telling so much.
+-- What becomes of s when it takes the fields of a packet behind its number, one after another, L_PACKET telling so
+-- much.
 abbrev pub packet_taken : {S : Type 0} → (S → Shown → S) → ℕ → Packet → S → S
 packet_taken t told p s = by_layout (λ C m c. taken t (m (λ _. told)) c s) p
 

@@ -49,7 +49,8 @@ profile_size xs ds =
 abbrev pub StepFits : StaticStep → Type 0
 StepFits s = HasNumber distance s.distance × HasNumber v_static s.speed × HasNumber q_front s.delay × HasNumber n_iter s.differences
 
--- A profile that there are bits for has a first step, its variables have numbers, and its steps count the differences that there are.
+-- A profile that there are bits for has a first step, its variables have numbers, and its steps count the differences
+-- that there are.
 abbrev pub SpeedsFit : StaticSpeeds → Type 0
 SpeedsFit p =
     HasNumber q_dir p.direction × HasNumber q_scale p.scale × (0 < length p.steps.items) × (length p.steps.items ≤ 32) × (length p.differences.items ≤ 70) × Each StepFits p.steps.items

@@ -1,3 +1,4 @@
+//! Parts of a packet with a layout of their own, and how lists and optional parts of them are read.
 ghost use Rattle.std.specs.Prelude.{◌≡◌, ◌+◌, ◌*◌, ◌<◌, ◌≤◌, ◌^◌, ◌↔◌, ℕ, [], length, IsTrue, OnOk};
 ghost use Rattle.bits.specs.Fitting.{Spellable};
 ghost use Rattle.bits.specs.Layout.{Gives, Layout, part, read, read_more};

@@ -1,3 +1,4 @@
+//! The faults of a packet: it is cut short, its L_PACKET is wrong, or a number has no value.
 use thiserror::Error;
 use vars::NoValue;
 

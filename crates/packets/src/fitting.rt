@@ -1,3 +1,4 @@
+//! Whether lists and optional parts are as their layout wants them.
 ghost use Rattle.std.specs.Prelude.{◌≡◌, ◌≤◌, ◌↔◌, Some, IsTrue, length};
 ghost use Rattle.std.specs.List.{AllByRecursion as Each};
 ghost use Rattle.bits.specs.Fitting.{Fits};

@@ -1,3 +1,4 @@
+//! Packet 21: gradients along the track, read and handed to a sink.
 ghost use Rattle.std.specs.Prelude.{◌≡◌, ◌+◌, ◌<◌, ◌≤◌, ◌^◌, length, OnOk, ◌↔◌, IsTrue};
 ghost use Rattle.bits.specs.Fitting.{Fits};
 ghost use Rattle.bits.specs.Layout.{Gives, kind, read};
@@ -89,8 +90,8 @@ pub struct Gradients {
     pub gradients: ArrayVec<Gradient, 32>,
 }
 
-/// Reads packet 21 behind its number, into the place of another packet; answers its L_PACKET, in bits. The error is the first
-/// fault in the order of the bits.
+/// Reads packet 21 behind its number, into the place of another packet; answers its L_PACKET, in bits. The error is the
+/// first fault in the order of the bits.
 #[tactic(auto, unfolding(crate::specs::Layouts::gradients_telling))]
 pub fn read_gradients<'a>(
     reader: &mut BitReader<'a>,

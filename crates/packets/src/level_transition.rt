@@ -1,3 +1,4 @@
+//! Packet 41: where the level changes, and to which levels; read and handed to a sink (this project's profile).
 ghost use Rattle.std.specs.Prelude.{◌≡◌, ◌+◌, ◌<◌, ◌≤◌, ◌^◌, length, OnOk, ◌↔◌, IsTrue};
 ghost use Rattle.bits.specs.Fitting.{Fits};
 ghost use Rattle.bits.specs.Layout.{Gives, kind, read};
@@ -58,8 +59,8 @@ impl Element for StmIdentity {
     }
 }
 
-/// A level that a transition leads to (SUBSET-026, 7.4.2; its layout: this project's profile). A train takes the first that it
-/// can run in.
+/// A level that a transition leads to (SUBSET-026, 7.4.2; its layout: this project's profile). A train takes the first
+/// that it can run in.
 #[derive(Clone, Copy)]
 pub struct LevelOrder {
     /// M_LEVELTR.
@@ -136,8 +137,8 @@ pub struct LevelTransition {
     pub orders: ArrayVec<LevelOrder, 32>,
 }
 
-/// Reads packet 41 behind its number, into the place of another packet; answers its L_PACKET, in bits. The error is the first
-/// fault in the order of the bits.
+/// Reads packet 41 behind its number, into the place of another packet; answers its L_PACKET, in bits. The error is the
+/// first fault in the order of the bits.
 #[tactic(auto, unfolding(crate::specs::Layouts::level_transition_telling))]
 pub fn read_level_transition<'a>(
     reader: &mut BitReader<'a>,

@@ -1,3 +1,4 @@
+//! Packet 5: the announced groups, read and handed to a sink (this project's profile).
 ghost use Rattle.std.specs.Prelude.{◌≡◌, ◌+◌, ◌<◌, ◌≤◌, ◌^◌, length, OnOk, ◌↔◌, IsTrue};
 ghost use Rattle.bits.specs.Fitting.{Fits};
 ghost use Rattle.bits.specs.Layout.{Gives, kind, read};
@@ -104,7 +105,8 @@ impl Element for Link {
     }
 }
 
-/// Packet 5: which groups come, and what follows where one doesn't (SUBSET-026, 7.4.2; its layout: this project's profile).
+/// Packet 5: which groups come, and what follows where one doesn't (SUBSET-026, 7.4.2; its layout: this project's
+/// profile).
 #[derive(Drop)]
 pub struct Linking {
     /// Q_DIR.
@@ -115,8 +117,8 @@ pub struct Linking {
     pub links: ArrayVec<Link, 32>,
 }
 
-/// Reads packet 5 behind its number, into the place of another packet; answers its L_PACKET, in bits. The error is the first
-/// fault in the order of the bits.
+/// Reads packet 5 behind its number, into the place of another packet; answers its L_PACKET, in bits. The error is the
+/// first fault in the order of the bits.
 #[tactic(auto, unfolding(crate::specs::Layouts::linking_telling))]
 pub fn read_linking<'a>(
     reader: &mut BitReader<'a>,

@@ -1,3 +1,4 @@
+//! Packet 80: areas of On Sight and Shunting, read and handed to a sink (this project's profile).
 ghost use Rattle.std.specs.Prelude.{◌≡◌, ◌+◌, ◌<◌, ◌≤◌, ◌^◌, length, OnOk, ◌↔◌, IsTrue};
 ghost use Rattle.bits.specs.Fitting.{Fits};
 ghost use Rattle.bits.specs.Layout.{Gives, kind, read};
@@ -94,7 +95,8 @@ impl Element for ModeArea {
     }
 }
 
-/// Packet 80: the areas in which On Sight or Shunting is asked for (SUBSET-026, 7.4.2; its layout: this project's profile).
+/// Packet 80: the areas in which On Sight or Shunting is asked for (SUBSET-026, 7.4.2; its layout: this project's
+/// profile).
 #[derive(Drop)]
 pub struct ModeProfile {
     /// Q_DIR.
@@ -105,8 +107,8 @@ pub struct ModeProfile {
     pub areas: ArrayVec<ModeArea, 32>,
 }
 
-/// Reads packet 80 behind its number, into the place of another packet; answers its L_PACKET, in bits. The error is the first
-/// fault in the order of the bits.
+/// Reads packet 80 behind its number, into the place of another packet; answers its L_PACKET, in bits. The error is the
+/// first fault in the order of the bits.
 #[tactic(auto, unfolding(crate::specs::Layouts::mode_profile_telling))]
 pub fn read_mode_profile<'a>(
     reader: &mut BitReader<'a>,

@@ -1,3 +1,4 @@
+//! Packet 3: national values, from where on and in which countries they hold; read and handed to a sink.
 ghost use Rattle.std.specs.Prelude.{◌≡◌, ◌+◌, ◌<◌, ◌≤◌, ◌^◌, length, OnOk, ◌↔◌, IsTrue};
 ghost use Rattle.bits.specs.Fitting.{Fits};
 ghost use Rattle.bits.specs.Layout.{Gives, kind, read};
@@ -50,8 +51,8 @@ impl Element for Country {
     }
 }
 
-/// Packet 3, in this project's own order: national values and the countries that they are for (SUBSET-026, 7.4.2 and 3.18.2;
-/// the order: this project's profile).
+/// Packet 3, in this project's own order: national values and the countries that they are for (SUBSET-026, 7.4.2 and
+/// 3.18.2; the order: this project's profile).
 #[derive(Drop)]
 pub struct NationalValues {
     /// Q_DIR.
@@ -86,8 +87,8 @@ pub struct NationalValues {
     pub staff_responsible_distance: OpenLength,
 }
 
-/// Reads packet 3 behind its number, into the place of another packet; answers its L_PACKET, in bits. The error is the first
-/// fault in the order of the bits.
+/// Reads packet 3 behind its number, into the place of another packet; answers its L_PACKET, in bits. The error is the
+/// first fault in the order of the bits.
 #[tactic(auto, unfolding(crate::specs::Layouts::national_values_telling))]
 pub fn read_national_values<'a>(
     reader: &mut BitReader<'a>,

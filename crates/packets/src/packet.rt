@@ -1,3 +1,4 @@
+//! Any packet: one of the nine with a layout of their own, or another, skipped by its length.
 ghost use Rattle.std.specs.Prelude.{◌≡◌, ◌↔◌, ◌+◌, ◌<◌, ◌≤◌, ◌^◌, List, Bool, length, IsTrue, OnOk};
 ghost use Rattle.bits.specs.Fitting.{HasNumber};
 ghost use Rattle.bits.specs.Layout.{Spells};
@@ -68,7 +69,8 @@ fn told_length(length: u64) -> u64
     length % (MOST_BITS + 1)
 }
 
-/// Whether packets of a number are skipped: it isn't that of a packet with a layout of its own, nor the end of a telegram.
+/// Whether packets of a number are skipped: it isn't that of a packet with a layout of its own, nor the end of a
+/// telegram.
 fn is_skipped(number: PacketNumber) -> bool
     ensures { IsTrue result ↔ IsSkipped number }
 {
@@ -176,10 +178,11 @@ impl<'a> Packet<'a> {
         }
     }
 
-    /// Whether there are bits that spell it (SUBSET-026, 7.4.2). There are none of a list that wants a first element and has
-    /// none; of a level order with a transmission module that its level hasn't, or without one that it has; of a static
-    /// speed profile whose steps count other differences than there are; of a distance or a length whose number is kept
-    /// for another value; of an `Other` with the number of a packet that isn't skipped, or longer than L_PACKET can hold.
+    /// Whether there are bits that spell it (SUBSET-026, 7.4.2). There are none of a list that wants a first element
+    /// and has none; of a level order with a transmission module that its level hasn't, or without one that it has; of
+    /// a static speed profile whose steps count other differences than there are; of a distance or a length whose
+    /// number is kept for another value; of an `Other` with the number of a packet that isn't skipped, or longer than
+    /// L_PACKET can hold.
     #[tactic(auto, using(crate::proofs::AnyPacket::has_spelling))]
     pub fn has_spelling(&self) -> bool
         ensures { IsTrue result ↔ ((bits : List Bool) × Spells packet self.now bits) }
@@ -207,9 +210,9 @@ impl<'a> Packet<'a> {
         }
     }
 
-    /// Hands the fields behind NID_PACKET to the sink, and then the bits that are skipped; stops with the sink's error where it
-    /// takes no more. The caller owes the packet's own length in bits (`length`), and room in the sink. Where L_PACKET can't
-    /// hold the length, the packet has no spelling, and nothing is said of what the sink takes.
+    /// Hands the fields behind NID_PACKET to the sink, and then the bits that are skipped; stops with the sink's error
+    /// where it takes no more. The caller owes the packet's own length in bits (`length`), and room in the sink. Where
+    /// L_PACKET can't hold the length, the packet has no spelling, and nothing is said of what the sink takes.
     pub fn fields<S: FieldSink>(&self, length: u64, sink: &mut S) -> Result<(), S::Error>
         requires length { length ≡ length_of self.now }
         requires room { S.held sink.old + length ≤ S.most + 8 }

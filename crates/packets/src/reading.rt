@@ -1,3 +1,4 @@
+//! One variable of a packet is read from its bits.
 ghost use Rattle.bits.specs.Layout.{Gives, read_field};
 ghost use Rattle.packets.specs.Faults.{packet_fault};
 ghost use Rattle.packets.specs.declared.fault.PacketFault.{PacketFault};

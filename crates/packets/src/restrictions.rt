@@ -1,3 +1,4 @@
+//! Packets 65 and 66: a temporary speed restriction is ordered or revoked.
 ghost use Rattle.std.specs.Prelude.{◌≡◌, ◌+◌, ◌<◌, ◌≤◌, ◌^◌, OnOk, ◌↔◌, IsTrue};
 ghost use Rattle.bits.specs.Fitting.{Fits};
 ghost use Rattle.bits.specs.Layout.{Gives, kind, read};
@@ -45,8 +46,8 @@ pub struct RestrictionRevocation {
     pub number: RestrictionNumber,
 }
 
-/// Reads packet 65 behind its number, into the place of another packet; answers its L_PACKET, in bits. The error is the first
-/// fault in the order of the bits.
+/// Reads packet 65 behind its number, into the place of another packet; answers its L_PACKET, in bits. The error is the
+/// first fault in the order of the bits.
 #[tactic(auto, unfolding(crate::specs::Layouts::speed_restriction_telling))]
 pub fn read_restriction<'a>(
     reader: &mut BitReader<'a>,
@@ -72,8 +73,8 @@ pub fn read_restriction<'a>(
     Ok(told)
 }
 
-/// Reads packet 66 behind its number, into the place of another packet; answers its L_PACKET, in bits. The error is the first
-/// fault in the order of the bits.
+/// Reads packet 66 behind its number, into the place of another packet; answers its L_PACKET, in bits. The error is the
+/// first fault in the order of the bits.
 #[tactic(auto, unfolding(crate::specs::Layouts::restriction_revocation_telling))]
 pub fn read_revocation<'a>(
     reader: &mut BitReader<'a>,

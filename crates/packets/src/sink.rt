@@ -1,3 +1,4 @@
+//! Where the fields of a packet go, one by one: the trait, and the bit writer that has it.
 ghost use Rattle.std.specs.Prelude.{◌≡◌, ◌+◌, ◌*◌, ◌<◌, ◌≤◌, ◌^◌, ℕ, length, OnOk};
 ghost use Rattle.bits.specs.Writing.{Shown, named, raw, with_bits};
 

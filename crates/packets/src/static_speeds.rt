@@ -1,3 +1,4 @@
+//! Packet 27: static speeds along the track, and those for categories of trains.
 ghost use Rattle.std.specs.Prelude.{◌≡◌, ◌+◌, ◌≤◌, ◌<◌, ◌^◌, length, min, OnOk, ◌↔◌, IsTrue};
 ghost use Rattle.bits.specs.Sums.{total};
 ghost use Rattle.bits.specs.Writing.{size, taken};

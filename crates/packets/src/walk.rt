@@ -1,3 +1,4 @@
+//! Lists and optional parts are handed to a sink, and their bits are counted.
 ghost use Rattle.std.specs.Prelude.{◌≡◌, ◌+◌, ◌*◌, ◌<◌, ◌≤◌, ◌^◌, length, OnOk};
 ghost use Rattle.bits.specs.Sums.{total};
 ghost use Rattle.bits.specs.Writing.{taken, each_taken, size};

@@ -1,5 +1,5 @@
--- One temporary speed restriction: which track it covers, and what ends it (SUBSET-026, 3.11.5; the forgetting mark and what
--- the lengths of trains have to do with it: this project's profile). Places are centimetres.
+-- One temporary speed restriction: which track it covers, and what ends it (SUBSET-026, 3.11.5; the forgetting mark and
+-- what the lengths of trains have to do with it: this project's profile). Places are centimetres.
 use Rattle.std.specs.Prelude.{ℕ, ℤ, pos, ◌+ℤ◌, Bool, not, ◌==◌, ◌&&◌, int_lt}
 use Rattle.units.specs.Stretches.{Span}
 use Rattle.vars.specs.declared.restriction.TrainLengthDelay.{TrainLengthDelay}
@@ -22,7 +22,7 @@ reaches_past mark restriction = int_lt mark (end_of restriction)
 abbrev pub covers : ℤ → ℤ → Restriction → Bool
 covers mark place restriction = not (int_lt place mark) && not (int_lt place restriction.start) && int_lt place (end_of restriction)
 
--- where the train begins for it: at its least rear with the train length delay, else at its least front
+-- where the train begins for it: at its minimum safe rear with the train length delay, else at its minimum safe front
 abbrev pub train_start : ℤ → ℤ → TrainLengthDelay → ℤ
 train_start rear min_front Applied = rear
 train_start rear min_front NotApplied = min_front

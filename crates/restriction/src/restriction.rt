@@ -1,3 +1,4 @@
+//! Where a temporary speed restriction lies, which trains it limits, and what ends it.
 ghost use Rattle.std.specs.Prelude.{◌≡◌, ◌≤◌, ◌^◌};
 ghost use Rattle.std.specs.Int.RustNames.{unsigned_abs};
 

@@ -1,4 +1,4 @@
-// The driver's actions by name.
+//! The driver's actions by name.
 use brakes::{Brakes, Deceleration, Reaction};
 use driver::{Acknowledged, Action, Confirmed, DriverIdentity, RunningNumber, TrainData};
 use mode_table::TrainLevel;

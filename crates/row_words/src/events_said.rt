@@ -1,4 +1,4 @@
-// Events by their words.
+//! Events by their words.
 use crate::actions::action;
 use events::{Event, Input, Reading, TelegramBytes};
 use mode_table::Cold;

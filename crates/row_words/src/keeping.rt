@@ -1,4 +1,4 @@
-// What is kept, in words.
+//! What is kept, in words.
 use driver::{Datum, TrainData};
 use events::{Kept, Position};
 use mode_table::TrainLevel;

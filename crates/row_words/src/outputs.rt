@@ -1,4 +1,4 @@
-// What the kernel answers, in words.
+//! What the kernel answers, in words.
 use events::Output;
 use output_lines::{brake_word, level_word, mode_word};
 use std::alloc::{AllocError, Global};

@@ -1,4 +1,5 @@
--- The balises that lie on the track, read off the groups of a scenario (this project's profile). Distances are centimetres.
+-- The balises that lie on the track, read off the groups of a scenario (this project's profile). Distances are
+-- centimetres.
 use Rattle.std.specs.Prelude.{ℕ, ◌+◌, ◌&&◌, nat_le, ℤ, List, [], ◌∷◌, ◌++◌, length, codes, is_some, Bool, true, option_and_then, Option, Result, Ok}
 use Rattle.serde_json.specs.Data.{Data}
 use Rattle.serde_json.specs.Find.{get, as_str}

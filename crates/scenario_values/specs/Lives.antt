@@ -6,7 +6,7 @@ use Rattle.serde_json.specs.Data.{Data}
 use Rattle.serde_json.specs.Find.{get}
 use Rattle.mode_table.specs.declared.statuses.Cold.{Cold}
 use Rattle.mode_table.specs.declared.statuses.Cold.TheVariants.{Unknown, Moved, NotMoved}
-use Rattle.life_steps.specs.declared.step.Step.{Step}
+use Rattle.events.specs.declared.step.Step.{Step}
 use Rattle.course.specs.Passing.{passed}
 use Rattle.course.specs.Course.{Run, start, taken, ended}
 use Rattle.course.specs.declared.balise.Balise.{Balise}

@@ -1,4 +1,5 @@
--- What a step of a scenario asks for (this project's profile). Distances are centimetres, speeds metres per hour, moments milliseconds.
+-- What a step of a scenario asks for (this project's profile). Distances are centimetres, speeds metres per hour,
+-- moments milliseconds.
 use Rattle.std.specs.Prelude.{◌==◌, ◌^◌, ◌-◌, ◌&&◌, pos, int_le, length, codes, if◌then◌else◌, Option, Some, None, Result, Ok, Err}
 use Rattle.serde_json.specs.Data.{Data}
 use Rattle.serde_json.specs.Find.{get, as_str, as_bool}

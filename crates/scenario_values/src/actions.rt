@@ -1,4 +1,4 @@
-// The driver's actions in a scenario.
+//! The driver's actions in a scenario.
 ghost use Rattle.std.specs.Prelude.{◌≡◌, ◌≤◌, map, IfOk};
 ghost use Rattle.serde_json.specs.View.{view};
 ghost use Rattle.scenario_values.specs.Values.{within};

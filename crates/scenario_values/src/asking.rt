@@ -1,4 +1,4 @@
-// What a step of a scenario asks for.
+//! What a step of a scenario asks for.
 ghost use Rattle.std.specs.Prelude.{◌≡◌, ◌⊎◌, IfOk, IfErr};
 ghost use Rattle.serde_json.specs.View.{view};
 ghost use Rattle.scenario_values.specs.Steps.{drive, telegram, clock, driver, flush, by_key, asked};

@@ -1,3 +1,4 @@
+//! The faults for which a scenario is refused.
 use std::alloc::{AllocError, AllocFailed};
 use thiserror::Error;
 use units::NoMemory;

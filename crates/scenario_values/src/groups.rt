@@ -1,4 +1,4 @@
-// The groups of a scenario.
+//! The groups of a scenario.
 ghost use Rattle.std.specs.Prelude.{◌≡◌, ◌⊎◌, ◌≤◌, map, length, OnOk, IfErr, option_map};
 ghost use Rattle.serde_json.specs.View.{view};
 ghost use Rattle.scenario_values.specs.Groups.{are_texts, laid_one, laid, group, groups, whole_at, list_at};

@@ -1,5 +1,5 @@
-//! What the JSON value of a scenario means (this project's profile): its track, and the steps of the life that it asks for. Distances are
-//! centimetres, speeds metres per hour, moments milliseconds.
+//! What the JSON value of a scenario means (this project's profile): its track, and the steps of the life that it asks
+//! for. Distances are centimetres, speeds metres per hour, moments milliseconds.
 #![tactic(auto)]
 
 mod actions;

@@ -1,4 +1,4 @@
-// From the value of a scenario to the steps of a life.
+//! From the value of a scenario to the steps of a life.
 ghost use Rattle.std.specs.Prelude.{◌≡◌, ◌⊎◌, [], codes, map, pos, IfOk, IfErr, OnOk, Ok, Err};
 ghost use Rattle.serde_json.specs.View.{view};
 ghost use Rattle.serde_json.specs.Find.{get};
@@ -12,7 +12,7 @@ use crate::asking::asked_of;
 use crate::groups::lay_all;
 use crate::values::{has_members, list_of};
 use course::{Course, Track};
-use life_steps::Step;
+use events::Step;
 use mode_table::Cold;
 use serde_json::Value;
 use std::alloc::Global;
@@ -92,9 +92,9 @@ fn steps_of(alloc: Global, track: &Track, items: &[Value]) -> Result<Vec<Step>, 
     Ok(course.end()?)
 }
 
-/// What the train knows of movements without power, and the steps of the life that a value asks for; or the value's first fault. The faults
-/// come in this order: the keys of the object; the value of `cold`; the groups; the steps; in each item its shape, and then its numbers and
-/// texts. NoMemory may come in the place of any of them.
+/// What the train knows of movements without power, and the steps of the life that a value asks for; or the value's
+/// first fault. The faults come in this order: the keys of the object; the value of `cold`; the groups; the steps; in
+/// each item its shape, and then its numbers and texts. NoMemory may come in the place of any of them.
 pub fn life_of(alloc: Global, value: &Value) -> Result<(Cold, Vec<Step>), ScenarioFault>
     ensures ok { IfOk result (λ life. life_in (view value.now) ≡ Ok (life.0, life.1.items)) }
     ensures err { IfErr result (λ fault. (fault ≡ ScenarioFault.NoMemory) ⊎ (life_in (view value.now) ≡ Err fault)) }

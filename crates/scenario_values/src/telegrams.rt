@@ -1,3 +1,4 @@
+//! The hexadecimal digits of a telegram, as bytes.
 ghost use Rattle.std.specs.Prelude.{◌≡◌, ◌⊎◌, IfOk, IfErr};
 ghost use Rattle.scenario_values.specs.Values.{bytes_in};
 

@@ -1,4 +1,4 @@
-// Looking into a JSON value.
+//! Looking into a JSON value.
 ghost use Rattle.std.specs.Prelude.{◌≡◌, ◌==◌, ◌≤◌, map, option_map, IfOk, IfErr};
 ghost use Rattle.serde_json.specs.View.{view};
 ghost use Rattle.scenario_values.specs.Values.{has_members, list_in, whole_item, text_item, within};

@@ -11,6 +11,7 @@ line_of pair = one.line_of pair.number pair.output
 abbrev pub lines_of : List Released → List ℕ
 lines_of pairs = flat_map line_of pairs
 
--- These were printed, unless a write failed: where all writes succeeded until now, they did before, and just these lines came behind the text.
+-- These were printed, unless a write failed: where all writes succeeded until now, they did before, and just these
+-- lines came behind the text.
 abbrev pub Printed : Bool → Option (List ℕ) → List Released → Bool → Option (List ℕ) → Type 0
 Printed were before pairs are after = IsTrue are → IsTrue were × Appends before after (lines_of pairs)

@@ -1,4 +1,5 @@
--- The numbers and names of refusals and of the ends of lives, and the statuses that go with them (this project's profile).
+-- The numbers and names of refusals and of the ends of lives, and the statuses that go with them (this project's
+-- profile).
 use Rattle.std.specs.Prelude.{ℕ, List, [], ◌++◌, Result, Ok, Err, codes, decimal}
 use Rattle.exit_status.specs.declared.status.Status.{Status}
 use Rattle.exit_status.specs.declared.status.Status.TheVariants.{Done, Refused, Device}

@@ -7,7 +7,7 @@ use Rattle.events.specs.declared.input.Event.TheVariants.{PowerUp}
 use Rattle.exit_status.specs.declared.status.Status.{Status}
 use Rattle.exit_status.specs.declared.status.Status.TheVariants.{Done, Refused, Usage, Device}
 use Rattle.journal.specs.declared.errors.FormatError.TheVariants.{DeviceFault}
-use Rattle.life_steps.specs.declared.step.Step.{Step}
+use Rattle.events.specs.declared.step.Step.{Step}
 use Rattle.mode_table.specs.declared.statuses.Cold.{Cold}
 use Rattle.onboard.specs.declared.errors.LiveError.{LiveError}
 use Rattle.onboard.specs.declared.released.Released.{Released}
@@ -42,10 +42,10 @@ is_device Device = true
 abbrev pub report_of : {T : Type 0} → List Released → Result T LiveError → List ℕ
 report_of given ended = lines_of given ++ ending_of ended
 
--- A life on a disk whose images each represented d or a. Where it stopped, that is at the first step that isn't carried out, for its cause. A
--- flush that found no room put nothing on the disk. Where it didn't stop, the newest block is that of its last flush of something pending.
--- Where all writes succeeded, just the report of what was released came behind the text, the status is that of the end, and there was room
--- for each release.
+-- A life on a disk whose images each represented d or a. Where it stopped, that is at the first step that isn't carried
+-- out, for its cause. A flush that found no room put nothing on the disk. Where it didn't stop, the newest block is
+-- that of its last flush of something pending. Where all writes succeeded, just the report of what was released came
+-- behind the text, the status is that of the end, and there was room for each release.
 pub record Session {E : Type 0} (d a : List Event) (cold : Cold) (steps : List Step) (old new : State) (before after : Option (List ℕ)) (answer : Result Status E) : Type 0 where
   pub p : List Event
   pub word : Cold
@@ -65,10 +65,10 @@ pub record Session {E : Type 0} (d a : List Event) (cold : Cold) (steps : List S
 abbrev pub TellsOne : List ℕ → (Cold → List Step → Type 0) → Type 0
 TellsOne bytes P = (cold : Cold) × (steps : List Step) × Tells bytes cold steps × P cold steps
 
--- A scenario and an image, end to end: by what became of the image. It was not opened, for the scenario has a fault, or memory was refused;
--- it is missing; or it was opened, and on an honest disk the session is that of the life which the scenario tells. Whatever the disk does, the
--- status is that of a device exactly where the device failed. The image is opened by a call, which `gives` relates to its answers, and
--- `state` is how contracts see a disk.
+-- A scenario and an image, end to end: by what became of the image. It was not opened, for the scenario has a fault, or
+-- memory was refused; it is missing; or it was opened, and on an honest disk the session is that of the life which the
+-- scenario tells. Whatever the disk does, the status is that of a device exactly where the device failed. The image is
+-- opened by a call, which `gives` relates to its answers, and `state` is how contracts see a disk.
 abbrev pub Plays : {D O E : Type 0} → (D → State) → (O → Option D → Type 0) → List ℕ → O → Image D O → Option (List ℕ) → Option (List ℕ) → Result Status E → Type 0
 Plays state gives bytes opener (Unopened same) before after answer =
     (same ≡ opener) × (fault : ScenarioFault) × ((fault ≡ NoMemory) ⊎ FaultOf bytes fault) × Says Refused (refusal_of (fault_reason fault)) before after answer
@@ -85,7 +85,8 @@ Plays {D} state gives bytes opener (Opened new) before after answer =
 abbrev pub formatted_line : ℕ → List ℕ
 formatted_line blocks = codes "formatted " ++ decimal blocks ++ codes " blocks " ++ decimal (512 * (1 + 6 * blocks)) ++ codes " bytes\n"
 
--- Nothing speaks against it before the first write: the image was made, and its line written, or the device failed, and the line of that.
+-- Nothing speaks against it before the first write: the image was made, and its line written, or the device failed, and
+-- the line of that.
 abbrev pub IsFormatReport : ℕ → Option (List ℕ) → Option (List ℕ) → Status → Type 0
 IsFormatReport blocks before after status =
     ((status ≡ Done) × Appends before after (formatted_line blocks))
@@ -93,8 +94,8 @@ IsFormatReport blocks before after status =
 
 -- ---- a journal is listed
 
--- At Done just the listing of the image was written. Else the last line is that of a refusal, which has its cause, and before it stands what
--- the refused listing wrote.
+-- At Done just the listing of the image was written. Else the last line is that of a refusal, which has its cause, and
+-- before it stands what the refused listing wrote.
 abbrev pub IsListed : ℕ → (ℕ → List ℕ) → Option (List ℕ) → Option (List ℕ) → Status → Type 0
 IsListed sectors image before after status =
     ((status ≡ Done) × AddsListing sectors image before after)

@@ -1,5 +1,5 @@
-//! What the program does with images and scenarios (this project's profile): makes an image, runs a life on it and writes what is released as
-//! it is released, and lists its journal.
+//! What the program does with images and scenarios (this project's profile): makes an image, runs a life on it and
+//! writes what is released as it is released, and lists its journal.
 #![tactic(auto)]
 
 mod images;

@@ -1,4 +1,4 @@
-// A life, as the program writes it.
+//! A life, as the program writes it.
 ghost use Rattle.std.specs.Prelude.{◌≡◌, List, IsTrue, IfOk};
 ghost use Rattle.disk.specs.State.{Counted};
 ghost use Rattle.events.specs.declared.input.Event.{Event};
@@ -15,9 +15,9 @@ use std::alloc::Global;
 use std::io;
 use std::io::Write;
 
-/// One life on a disk: a line for each output, written as it is released, and a last one where the life stopped. After a write that failed
-/// nothing more is released. It hands the disk and the writer back, and answers the status that the program ends with; the error is that of
-/// a write.
+/// One life on a disk: a line for each output, written as it is released, and a last one where the life stopped. After
+/// a write that failed nothing more is released. It hands the disk and the writer back, and answers the status that the
+/// program ends with; the error is that of a write.
 pub fn run_life<D: Disk, W: Write>(
     alloc: Global,
     disk: D,

@@ -1,4 +1,4 @@
-// A printer of releases.
+//! A printer of releases.
 ghost use Rattle.std.specs.Prelude.{OnOk};
 ghost use Rattle.std.specs.Io.KnownBytes.{Appends};
 ghost use Rattle.sessions.specs.Lines.{lines_of};
@@ -25,8 +25,9 @@ fn print<W: Write>(pairs: &[Released], out: &mut W) -> io::Result<()>
     out.flush()
 }
 
-/// Prints a line for each release as it comes, and hands the text on at once. After a write that failed it prints nothing more, and has room
-/// for no more: so a life stops before its next flush, and nothing is released that can't be written.
+/// Prints a line for each release as it comes, and hands the text on at once. After a write that failed it prints
+/// nothing more, and has room for no more: so a life stops before its next flush, and nothing is released that can't be
+/// written.
 pub(crate) struct Printer<W> {
     /// What the lines are written to.
     pub out: W,

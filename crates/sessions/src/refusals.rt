@@ -1,4 +1,4 @@
-// Refusals, as the program tells them. The errors are those of the writes.
+//! Refusals, as the program tells them. The errors are those of the writes.
 ghost use Rattle.std.specs.Prelude.{◌≡◌, IfOk, OnOk};
 ghost use Rattle.std.specs.Io.KnownBytes.{Appends};
 ghost use Rattle.sessions.specs.Reasons.{format_reason, format_status, listing_reason, listing_status, fault_reason, refusal_of};

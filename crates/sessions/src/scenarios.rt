@@ -1,4 +1,4 @@
-// Scenarios, end to end.
+//! Scenarios, end to end.
 ghost use Rattle.sessions.specs.Sessions.{Plays};
 
 use crate::images::Image;
@@ -14,10 +14,11 @@ use std::io::Write;
 use std::rt::Files;
 use std::{fs, io};
 
-/// One life, by the steps that the bytes of a scenario tell, on the image that a call opens. The scenario is judged before the image is
-/// opened. It hands on what became of the image, and the writer back, and answers the status that the program ends with: where the scenario
-/// has a fault or memory is refused, the fault's line is written and the image not opened; where it can't be opened, `device` is written; else
-/// the lines of `run_life`. The error is that of a write.
+/// One life, by the steps that the bytes of a scenario tell, on the image that a call opens. The scenario is judged
+/// before the image is opened. It hands on what became of the image, and the writer back, and answers the status that
+/// the program ends with: where the scenario has a fault or memory is refused, the fault's line is written and the
+/// image not opened; where it can't be opened, `device` is written; else the lines of `run_life`. The error is that of
+/// a write.
 pub fn play<D: Disk, O: FnOnce() -> Option<D>, W: Write>(
     alloc: Global,
     scenario: &Scenario,
@@ -43,8 +44,9 @@ pub fn play<D: Disk, O: FnOnce() -> Option<D>, W: Write>(
     (Image::Opened(disk), out, status)
 }
 
-/// One life, by the steps of a scenario in a file, on an image in a file, which is held for this life alone. Where the scenario's file can't be
-/// read, and where the image can't be opened or another program holds it, `device` is written. The error is that of a write.
+/// One life, by the steps of a scenario in a file, on an image in a file, which is held for this life alone. Where the
+/// scenario's file can't be read, and where the image can't be opened or another program holds it, `device` is written.
+/// The error is that of a write.
 pub fn run_scenario<R: Files<File = File> + AllocGlobal, W: Write>(
     rt: &R,
     scenario: &str,

@@ -2,7 +2,7 @@
 use Rattle.std.specs.Prelude.{◌≡◌, ◌⊎◌, ◌↔◌, ℕ, List}
 use Rattle.serde_json.specs.Data.{Data}
 use Rattle.mode_table.specs.declared.statuses.Cold.{Cold}
-use Rattle.life_steps.specs.declared.step.Step.{Step}
+use Rattle.events.specs.declared.step.Step.{Step}
 use Rattle.scenario_values.specs.declared.fault.ScenarioFault.{ScenarioFault}
 use Rattle.scenario_values.specs.declared.fault.ScenarioFault.TheVariants.{NotJson}
 use Rattle.simulator.specs.Scenarios.{IsReading, Tells, FaultOf}

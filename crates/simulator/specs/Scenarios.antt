@@ -4,7 +4,7 @@ use Rattle.std.specs.Prelude.{◌≡◌, ◌⊎◌, IsUtf8, ℕ, List, Option, S
 use Rattle.serde_json.specs.Data.{Data}
 use Rattle.serde_json.specs.Read.{read}
 use Rattle.mode_table.specs.declared.statuses.Cold.{Cold}
-use Rattle.life_steps.specs.declared.step.Step.{Step}
+use Rattle.events.specs.declared.step.Step.{Step}
 use Rattle.scenario_values.specs.Lives.{life_in}
 use Rattle.scenario_values.specs.declared.fault.ScenarioFault.{ScenarioFault}
 use Rattle.scenario_values.specs.declared.fault.ScenarioFault.TheVariants.{NotJson}

@@ -1,4 +1,4 @@
-// What follows from the definitions alone.
+//! What follows from the definitions alone.
 ghost use Rattle.simulator.specs.Laws.{NotJsonAlone, TellsOrFails, OneAnswer};
 
 /// A law: NotJson is the fault of exactly those texts that have no reading as a JSON value.

@@ -1,5 +1,5 @@
-//! The simulator: what the text of a scenario means for the onboard unit (this project's profile). Distances are centimetres, speeds metres
-//! per hour, moments milliseconds.
+//! The simulator: what the text of a scenario means for the onboard unit (this project's profile). Distances are
+//! centimetres, speeds metres per hour, moments milliseconds.
 #![tactic(auto)]
 
 mod laws;

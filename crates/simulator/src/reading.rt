@@ -1,8 +1,8 @@
-// From the bytes of a file to the steps of a life.
+//! From the bytes of a file to the steps of a life.
 ghost use Rattle.std.specs.Prelude.{◌≡◌, ◌⊎◌, IfOk, IfErr};
 ghost use Rattle.simulator.specs.Scenarios.{Tells, FaultOf};
 
-use life_steps::Step;
+use events::Step;
 use mode_table::Cold;
 use scenario_values::{ScenarioFault, life_of};
 use serde_json::Value;
@@ -15,9 +15,9 @@ pub struct Scenario {
     pub bytes: Vec<u8>,
 }
 
-/// What the train knows of movements without power, and the steps of the life that the scenario asks for; or its first fault. The
-/// faults come in this order: NotJson; the keys of the object; the value of `cold`; the groups; the steps; in each item its shape, and
-/// then its numbers and texts. NoMemory may come in the place of any of them.
+/// What the train knows of movements without power, and the steps of the life that the scenario asks for; or its first
+/// fault. The faults come in this order: NotJson; the keys of the object; the value of `cold`; the groups; the steps;
+/// in each item its shape, and then its numbers and texts. NoMemory may come in the place of any of them.
 pub fn events_of(alloc: Global, scenario: &Scenario) -> Result<(Cold, Vec<Step>), ScenarioFault>
     ensures ok { IfOk result (λ life. Tells scenario.now.bytes.items life.0 life.1.items) }
     ensures err { IfErr result (λ fault. (fault ≡ ScenarioFault.NoMemory) ⊎ FaultOf scenario.now.bytes.items fault) }

@@ -1,5 +1,5 @@
--- What lies ahead of a train and asks for a speed, and the greatest speed from which the train can still brake for all of
--- it (this project's profile). Each centimetre ahead is looked at, up to the last one that there is. Places are
+-- What lies ahead of a train and asks for a speed, and the greatest speed from which the train can still brake for all
+-- of it (this project's profile). Each centimetre ahead is looked at, up to the last one that there is. Places are
 -- centimetres, speeds metres per hour.
 use Rattle.std.specs.Prelude.{ℕ, ◌^◌, ℤ, pos, ◌+ℤ◌, int_lt, Bool, not, ◌&&◌, if◌then◌else◌, Option, None, Some, List, ◌++◌, filter, map}
 use Rattle.units.specs.Stretches.{over}
@@ -41,7 +41,8 @@ abbrev pub restriction_targets : ℤ → List Restriction → ℤ → List Targe
 restriction_targets mark restrictions place =
     map (λ restriction. record { place = place; speed = restriction.speed }) (filter (covers mark place) restrictions)
 
--- the speeds of the mode areas that cover a centimetre: one of no length covers none, one without end all from its start on
+-- the speeds of the mode areas that cover a centimetre: one of no length covers none, one without end all from its
+-- start on
 abbrev pub is_inside : ℤ → Area → Bool
 is_inside place area = not (int_lt place area.start) && is_before place area.end
 

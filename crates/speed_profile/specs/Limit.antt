@@ -12,7 +12,8 @@ use Rattle.speed_profile.specs.declared.limit.Bounds.{Bounds}
 use Rattle.speed_profile.specs.Told.{speed_of}
 use Rattle.speed_profile.specs.Track.{TrackSpeeds}
 
--- a static speed counts at a centimetre: with the train length delay everywhere, without it from the least front on
+-- a static speed counts at a centimetre: with the train length delay everywhere, without it from the minimum safe front
+-- on
 abbrev pub counts_at : ℤ → ℤ → TrainLengthDelay → Bool
 counts_at min_front place Applied = true
 counts_at min_front place NotApplied = not (int_lt place min_front)
@@ -26,13 +27,13 @@ limiting_value category min_front place (Some speeds) =
 abbrev pub speeds_at : (ℤ → Option CategorySpeeds) → ℕ → Span → ℤ → List ℕ
 speeds_at profile category train place = listed (limiting_value category train.min_front place (profile place))
 
--- the least of a speed and of the static speeds that limit a train at a centimetre from its least rear to its greatest
--- front
+-- the least of a speed and of the static speeds that limit a train at a centimetre from its minimum safe rear to its
+-- maximum safe front
 abbrev pub least_static : (ℤ → Option CategorySpeeds) → ℕ → Span → ℕ → ℕ
 least_static profile category train otherwise =
     least otherwise (over (speeds_at profile category train) train.rear train.max_front)
 
--- V_LOA, where the greatest front is at or above the end, while V_LOA is above 0
+-- V_LOA, where the maximum safe front is at or above the end, while V_LOA is above 0
 abbrev pub speed_at_end : ℤ → Option End → Option ℕ
 speed_at_end front None = None
 speed_at_end front (Some end) = if not (int_lt front end.end) && nat_lt 0 end.speed then Some end.speed else None
@@ -41,7 +42,8 @@ speed_at_end front (Some end) = if not (int_lt front end.end) && nat_lt 0 end.sp
 abbrev pub bound_speed : ℤ → Bounds → ℕ
 bound_speed front bounds = lesser (lesser bounds.maximum bounds.main) (speed_at_end front bounds.end)
 
--- the least of all that limits a train; a mode area does where it covers a centimetre from the least front to the greatest one
+-- the least of all that limits a train; a mode area does where it covers a centimetre from the minimum safe front to
+-- the greatest one
 abbrev pub limit_on : Span → Bounds → TrackSpeeds → ℕ
 limit_on train bounds track =
     least_in_areas track.national train

@@ -1,5 +1,5 @@
--- The targets where values begin, which do for those of each centimetre (this project's profile). Places are centimetres,
--- speeds metres per hour.
+-- The targets where values begin, which do for those of each centimetre (this project's profile). Places are
+-- centimetres, speeds metres per hour.
 use Rattle.std.specs.Prelude.{ℕ, ℤ, pos, ◌+ℤ◌, int_lt, not, ◌&&◌, if◌then◌else◌, Option, None, Some, List, []}
 use Rattle.std.specs.Int.{int_max}
 use Rattle.units.specs.Stretches.{over, count_between}

@@ -5,8 +5,8 @@ use Rattle.brakes.specs.declared.brakes.Brakes.{Brakes}
 use Rattle.braking.specs.declared.target.Target.{Target}
 use Rattle.braking.specs.Braking.{fits, fits_all}
 
--- some targets ask the same of a train as others: wherever its front is, whatever the gradients and its brakes are, a speed fits
--- all of the one exactly where it fits all of the other
+-- some targets ask the same of a train as others: wherever its front is, whatever the gradients and its brakes are, a
+-- speed fits all of the one exactly where it fits all of the other
 abbrev pub AskTheSame : List Target → List Target → Type 0
 AskTheSame some others = (front : ℤ) (gradient : ℤ → Option ℤ) (brakes : Brakes) (speed : ℕ) →
     fits_all front gradient brakes some speed ≡ fits_all front gradient brakes others speed

@@ -6,8 +6,8 @@ use Rattle.areas.specs.declared.area.NationalSpeeds.{NationalSpeeds}
 use Rattle.speed_profile.specs.declared.told.CategorySpeeds.{CategorySpeeds}
 use Rattle.speed_profile.specs.declared.track.Track.{Track}
 
--- the static speed of each centimetre, the temporary restrictions in force, the mode areas, and the national speeds of now for
--- those without a speed of their own
+-- the static speed of each centimetre, the temporary restrictions in force, the mode areas, and the national speeds of
+-- now for those without a speed of their own
 pub record TrackSpeeds : Type 0 where
   pub static : ℤ → Option CategorySpeeds
   pub restrictions : InForce

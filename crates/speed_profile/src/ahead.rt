@@ -1,4 +1,4 @@
-//! The speed that holds for what lies ahead.
+//! The speed that holds for what lies ahead (this project's profile).
 ghost use Rattle.std.specs.Prelude.{◌≡◌, ◌++◌, None, Some, List};
 ghost use Rattle.std.specs.Iterator.{Drains};
 ghost use Rattle.track_store.specs.Profiles.{listed};
@@ -17,7 +17,7 @@ use units::{Cm, Mph, Permille};
 /// What lies ahead of a train, and how it brakes (SUBSET-026, 3.13; this project's profile).
 #[derive(Clone, Copy)]
 pub struct Ahead<'a, S, G> {
-    /// The train's greatest front, in centimetres.
+    /// The train's maximum safe front, in centimetres.
     pub front: Cm,
     /// What limits the train wherever it is.
     pub bounds: &'a Bounds,
@@ -30,10 +30,11 @@ pub struct Ahead<'a, S, G> {
 }
 
 impl<'a, S: Profile<CategorySpeeds>, G: Profile<Permille>> Ahead<'a, S, G> {
-    /// The greatest speed up to a limit from which the train can brake for all that lies ahead (this project's profile):
-    /// for each static speed and each restriction, whatever its Q_FRONT, and for each mode area; to a stop at a centimetre
-    /// without a static speed before the end of the authority, where one is known; and for a last target. Takes no memory;
-    /// its cost counts the changes of the profiles, the restrictions and the areas, and no centimetres.
+    /// The greatest speed up to a limit from which the train can brake for all that lies ahead (this project's
+    /// profile): for each static speed and each restriction, whatever its Q_FRONT, and for each mode area; to a stop at
+    /// a centimetre without a static speed before the end of the authority, where one is known; and for a last target.
+    /// Takes no memory; its cost counts the changes of the profiles, the restrictions and the areas, and no
+    /// centimetres.
     pub fn permitted(&self, limit: Mph, last: Option<Target>) -> Mph
         ensures { result ≡ permitted_ahead self.now.front limit last self.now.bounds.now (speeds_along S.value self.now.track.now)
             (G.value self.now.gradient.now) self.now.brakes.now }
@@ -41,8 +42,8 @@ impl<'a, S: Profile<CategorySpeeds>, G: Profile<Permille>> Ahead<'a, S, G> {
         self.approach(limit, last).speed()
     }
 
-    /// What `permitted` answers for one last target, and what it answers for another one. What lies before is gone through
-    /// once for both.
+    /// What `permitted` answers for one last target, and what it answers for another one. What lies before is gone
+    /// through once for both.
     pub fn permitted_for_either(&self, limit: Mph, one: Target, other: Target) -> (Mph, Mph)
         ensures one { result.0 ≡ permitted_ahead self.now.front limit (Some one) self.now.bounds.now
             (speeds_along S.value self.now.track.now) (G.value self.now.gradient.now) self.now.brakes.now }
@@ -68,7 +69,8 @@ impl<'a, S: Profile<CategorySpeeds>, G: Profile<Permille>> Ahead<'a, S, G> {
         Targets::new(self.front, self.bounds, self.track, last)
     }
 
-    // The approach to all of them. Where the train can come to a stop before the static speeds that are left, it fits these.
+    // The approach to all of them. Where the train can come to a stop before the static speeds that are left, it fits
+    // these.
     fn approach(&self, limit: Mph, last: Option<Target>) -> Approach<'a, G>
         ensures { result ≡ lowered_by (G.value self.now.gradient.now)
             (targets_ahead self.now.front self.now.bounds.now (speeds_along S.value self.now.track.now) ++ listed last)

@@ -25,8 +25,8 @@ pub struct Bounds {
 }
 
 /// The greatest speed of a train that may cover this stretch (this project's profile): the least of
-/// its greatest speed, of V_MAIN, of V_LOA once its greatest front is at the end, of the static speeds, of the restrictions and
-/// of the mode areas that its front may be in. Takes no memory.
+/// its greatest speed, of V_MAIN, of V_LOA once its maximum safe front is at the end, of the static speeds, of the
+/// restrictions and of the mode areas that its front may be in. Takes no memory.
 pub fn limit_on<S: Profile<CategorySpeeds>>(
     train: &Stretch,
     bounds: &Bounds,
@@ -45,7 +45,7 @@ pub fn limit_on<S: Profile<CategorySpeeds>>(
     track.areas.least(train, &track.national, restricted)
 }
 
-// The least of what holds wherever the train is, its greatest front being at a place.
+// The least of what holds wherever the train is, its maximum safe front being at a place.
 fn bound_speed(front: Cm, bounds: &Bounds) -> Mph
     ensures { result ≡ bound_speed front bounds.now }
 {

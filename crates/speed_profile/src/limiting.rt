@@ -8,7 +8,8 @@ use track_store::{Piece, Profile};
 use units::{Cm, Mph};
 use vars::{TrainCategory, TrainLengthDelay};
 
-/// At each centimetre the static speed for a train of a category whose least front is at a place (SUBSET-026, 3.11.3).
+/// At each centimetre the static speed for a train of a category whose minimum safe front is at a place (SUBSET-026,
+/// 3.11.3).
 #[derive(Clone, Copy)]
 pub struct Limiting<'a, S> {
     /// The static speeds.
@@ -44,8 +45,8 @@ impl<'a, S: Profile<CategorySpeeds>> Profile<Mph> for Limiting<'a, S> {
 }
 
 impl<'a, S: Profile<CategorySpeeds>> Limiting<'a, S> {
-    // Up to where a value lasts, where the static speed does up to another place: static speeds begin to count at the least
-    // front.
+    // Up to where a value lasts, where the static speed does up to another place: static speeds begin to count at the
+    // minimum safe front.
     fn next_by(&self, place: Cm, next: Option<Cm>) -> Option<Cm>
         ensures { Lasts (S.value self.now.speeds.now) place next
             → Lasts (λ there. limiting_value self.now.category self.now.min_front there (S.value self.now.speeds.now there)) place result }

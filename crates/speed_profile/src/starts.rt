@@ -1,4 +1,4 @@
-// The targets where values begin.
+//! The targets where values begin.
 ghost use Rattle.std.specs.Prelude.{◌≡◌, ◌+ℤ◌, ◌≤ℤ◌, ◌<ℤ◌, pos, MatchOption};
 ghost use Rattle.speed_profile.specs.Ahead.{greatest_place, unknown_target, static_target};
 ghost use Rattle.speed_profile.specs.Starts.{first_covered, first_target, first_in_area};

@@ -19,9 +19,10 @@ use std::marker::Model;
 use track_store::Profile;
 use units::Cm;
 
-/// What a train must brake for ahead, one target after another: the start of each piece of the static speeds, the nearest
-/// first, where one without a speed is a stop if it begins before the end of the authority; each restriction and each mode area
-/// at the first centimetre that it covers there; and a last target (SUBSET-026, 3.13; this project's profile).
+/// What a train must brake for ahead, one target after another: the start of each piece of the static speeds, the
+/// nearest first, where one without a speed is a stop if it begins before the end of the authority; each restriction
+/// and each mode area at the first centimetre that it covers there; and a last target (SUBSET-026, 3.13; this project's
+/// profile).
 #[derive(Drop)]
 pub struct Targets<'a, S: Profile<CategorySpeeds>> {
     speeds: SpeedTargets<'a, S>,
@@ -72,8 +73,8 @@ impl<'a, S: Profile<CategorySpeeds>> Targets<'a, S> {
         self.speeds.start()
     }
 
-    /// Leaves out the static speeds that are left. A train that can come to a stop where they begin can brake for all of
-    /// them.
+    /// Leaves out the static speeds that are left. A train that can come to a stop where they begin can brake for all
+    /// of them.
     pub fn skip_speeds(&mut self)
         ensures none { self.new.speeds_from ≡ None }
         ensures asks { AskTheSameBeyond self.old.speeds_from self.old.targets self.new.targets }

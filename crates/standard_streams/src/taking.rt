@@ -1,3 +1,4 @@
+//! Standard streams that are closed are taken by the null device.
 ghost use Rattle.std.specs.Prelude.{pos, ◌<ℤ◌, IfOk};
 ghost use Rattle.std.specs.Fd.{file_raw_fd};
 
@@ -12,9 +13,10 @@ const LAST_STREAM: i32 = 2;
 
 const STREAMS: u32 = 3;
 
-/// Takes the number of each standard stream that is closed, by the null device, to the end of the process. So no file that is
-/// opened later gets one of these numbers, and what is written to a closed stream reaches no file. The null device is opened for
-/// reading alone: a write to a stream that was closed still fails. A program calls this before it opens any other file.
+/// Takes the number of each standard stream that is closed, by the null device, to the end of the process. So no file
+/// that is opened later gets one of these numbers, and what is written to a closed stream reaches no file. The null
+/// device is opened for reading alone: a write to a stream that was closed still fails. A program calls this before it
+/// opens any other file.
 ///
 /// It answers the last file that it opened. The error is that of an opening.
 pub fn take_standard_streams<R: Files<File = File>>(rt: &R) -> io::Result<File>

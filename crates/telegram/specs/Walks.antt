@@ -11,7 +11,8 @@ use Rattle.telegram.specs.declared.header.Header.{Header}
 use Rattle.telegram.specs.declared.message.Telegram.{Telegram}
 use Rattle.telegram.specs.Telegrams.{header_bits, next_packet, Carries}
 
--- A packet, the fewest bytes that hold its bits, and the place of its first bit in the first of these bytes, from 0 to 7.
+-- A packet, the fewest bytes that hold its bits, and the place of its first bit in the first of these bytes, from 0 to
+-- 7.
 pub record Located : Type 0 where
   pub packet : Packet
   pub bytes : List ℕ
@@ -36,8 +37,8 @@ IsWalkOf bytes w = (t : Telegram) × Carries bytes t × (w ≡ record { header =
 abbrev pub packets_of : List Located → List Packet
 packets_of items = map (λ item. item.packet) items
 
--- The packet is spelled in the bits of its bytes, behind as many of them as its offset says; the first and the last of the
--- bytes hold bits of it.
+-- The packet is spelled in the bits of its bytes, behind as many of them as its offset says; the first and the last of
+-- the bytes hold bits of it.
 pub record StandsInPlace (item : Located) : Type 0 where
   pub rest : List Bool
   pub stands : Begins packet item.packet (drop item.offset (bits_of item.bytes)) rest

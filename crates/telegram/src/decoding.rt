@@ -1,3 +1,4 @@
+//! Bytes become a telegram: its header, its packets and the end mark are read, or a fault is answered.
 ghost use Rattle.std.specs.Prelude.{◌≡◌, ◌+◌, ◌*◌, ◌≤◌, ◌↔◌, ℕ, [], List, Bool, Ok, Err, length, IfOk, OnOk, IfErr, OnErr, Option};
 ghost use Rattle.bits.specs.Bits.{bits_of};
 ghost use Rattle.bits.specs.Layout.{Begins, Gives, read};
@@ -33,8 +34,8 @@ pub(crate) fn read_next<'a>(
     Ok(true)
 }
 
-/// Reads packets up to the end mark. Behind the header of at most `TELEGRAM_BYTES` there are at most 34 of them, and 34 leave
-/// no room for the end mark.
+/// Reads packets up to the end mark. Behind the header of at most `TELEGRAM_BYTES` there are at most 34 of them, and 34
+/// leave no room for the end mark.
 fn read_packets<'a>(
     reader: &mut BitReader<'a>,
     packets: &mut ArrayVec<Packet<'a>, 33>,
@@ -72,9 +73,10 @@ fn fill<'a>(bytes: &'a [u8], telegram: &mut Telegram<'a>) -> Result<(), Telegram
     Ok(())
 }
 
-/// Puts the telegram that the bytes carry (SUBSET-026, 8.4.2) in the place of another: their bits begin with its header,
-/// its packets and the end mark; what follows the end mark is free. A fault is TooLong for more than `TELEGRAM_BYTES`, else the
-/// first one in the order of the bits. After a fault the telegram has no packets, and its header means nothing.
+/// Puts the telegram that the bytes carry (SUBSET-026, 8.4.2) in the place of another: their bits begin with its
+/// header, its packets and the end mark; what follows the end mark is free. A fault is TooLong for more than
+/// `TELEGRAM_BYTES`, else the first one in the order of the bits. After a fault the telegram has no packets, and its
+/// header means nothing.
 pub fn decode_into<'a>(bytes: &'a [u8], telegram: &mut Telegram<'a>) -> Result<(), TelegramFault>
     ensures ok { OnOk result (Carries bytes.now telegram.new) }
     ensures only { (t : Telegram) → Carries bytes.now t → (result ≡ Ok tt) × (telegram.new ≡ t) }
@@ -91,8 +93,8 @@ pub fn decode_into<'a>(bytes: &'a [u8], telegram: &mut Telegram<'a>) -> Result<(
 }
 
 /// The telegram that the bytes carry (SUBSET-026, 8.4.2): their bits begin with its header, its packets and the end
-/// mark; what follows the end mark is free. A fault is TooLong for more than `TELEGRAM_BYTES`, else the first one in the order
-/// of the bits.
+/// mark; what follows the end mark is free. A fault is TooLong for more than `TELEGRAM_BYTES`, else the first one in
+/// the order of the bits.
 pub fn decode<'a>(bytes: &'a [u8]) -> Result<Telegram<'a>, TelegramFault>
     ensures found { (t : Telegram) → (result ≡ Ok t) ↔ Carries bytes.now t }
     ensures fault { (e : TelegramFault) → (result ≡ Err e) ↔ RefusesBytes e bytes.now }

@@ -1,3 +1,4 @@
+//! A telegram becomes bytes, where 832 bits hold it.
 ghost use Rattle.std.specs.Prelude.{◌≡◌, ◌+◌, ◌*◌, ◌≤◌, ◌↔◌, ◌++◌, List, Bool, length, take, IsOk, IfOk, OnOk, OnErr};
 ghost use Rattle.bits.specs.Writing.{appended};
 ghost use Rattle.telegram.specs.Encodings.{Encoded};
@@ -44,9 +45,10 @@ fn write_packets(packets: &[Packet<'_>], writer: &mut BitWriter<TELEGRAM_BYTES>)
     Ok(())
 }
 
-/// Writes a telegram (SUBSET-026, 8.4.2) into the front of the array, padded with zero bits to whole bytes, and returns how
-/// many bytes these are; decoded again, they give the telegram. TooLong where it has more than 832 bits, and then nothing is
-/// written. The caller owes a telegram that has a spelling, as each that was decoded has (`Telegram::has_spelling`).
+/// Writes a telegram (SUBSET-026, 8.4.2) into the front of the array, padded with zero bits to whole bytes, and returns
+/// how many bytes these are; decoded again, they give the telegram. TooLong where it has more than 832 bits, and then
+/// nothing is written. The caller owes a telegram that has a spelling, as each that was decoded has
+/// (`Telegram::has_spelling`).
 pub fn encode(telegram: &Telegram<'_>, out: &mut [u8; TELEGRAM_BYTES]) -> Result<usize, TooLong>
     requires { (bits : List Bool) × SpellsTelegram telegram.now bits }
     ensures room { (bits : List Bool) → SpellsTelegram telegram.now bits → (IsOk result ↔ (length bits ≤ 8 * TELEGRAM_BYTES)) }

@@ -1,3 +1,4 @@
+//! The faults of a telegram, those of its packets among them.
 use packets::PacketFault;
 use thiserror::Error;
 use vars::NoValue;

@@ -1,3 +1,4 @@
+//! The 50 bits in front of a telegram's packets, read and handed to a sink.
 ghost use Rattle.std.specs.Prelude.{◌≡◌, ◌↔◌, ◌+◌, ◌≤◌, ◌<◌, ◌^◌, IsTrue, OnOk};
 ghost use Rattle.bits.specs.Fitting.{Spellable};
 ghost use Rattle.bits.specs.Layout.{Gives, read, read_field};
@@ -51,8 +52,8 @@ impl Default for Header {
 }
 
 impl Header {
-    /// Hands all fields to the sink, `HEADER_BITS` in all; stops with the sink's error where it takes no more. The caller owes room in the
-    /// sink.
+    /// Hands all fields to the sink, `HEADER_BITS` in all; stops with the sink's error where it takes no more. The
+    /// caller owes room in the sink.
     #[tactic(auto, unfolding(crate::specs::Telegrams::header))]
     pub fn fields<S: FieldSink>(&self, sink: &mut S) -> Result<(), S::Error>
         requires room { S.held sink.old + HEADER_BITS ≤ S.most }

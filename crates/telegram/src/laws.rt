@@ -1,3 +1,4 @@
+//! Laws: how many packets a telegram has, how it is spelled, where its packets stand, what sinks take.
 ghost use Rattle.std.specs.Prelude.{◌≡◌, ◌≤◌, ◌++◌, ℕ, List, Bool, length, All};
 ghost use Rattle.bits.specs.Writing.{taken, shown, each_field};
 ghost use Rattle.telegram.specs.Telegrams.{header, Carries, SpellsTelegram};
@@ -7,8 +8,8 @@ ghost use Rattle.telegram.specs.declared.message.Telegram.{Telegram};
 
 use packets::FieldSink;
 
-/// A telegram has at most 33 packets. Its bytes have 832 bits: `HEADER_BITS` are of the header, 8 of the end mark, and at
-/// least 23 of each packet.
+/// A telegram has at most 33 packets. Its bytes have 832 bits: `HEADER_BITS` are of the header, 8 of the end mark, and
+/// at least 23 of each packet.
 pub fn at_most_33_packets()
     ensures { (bytes : List ℕ) (t : Telegram) → Carries bytes t → length t.packets.items ≤ 33 }
 {}

@@ -1,3 +1,4 @@
+//! A telegram as a value: a header and at most 33 packets, decoded or put together packet by packet.
 ghost use Rattle.std.specs.Prelude.{◌≡◌, ◌+◌, ◌*◌, ◌<◌, ◌^◌, ◌≤◌, ◌↔◌, ◌∷◌, ◌++◌, List, [], Bool, length, IsTrue, IsOk, OnOk, OnErr};
 ghost use Rattle.std.specs.List.{AllByRecursion as Each};
 ghost use Rattle.bits.specs.Layout.{Spells};
@@ -75,8 +76,8 @@ impl<'a> Telegram<'a> {
 }
 
 impl<'a> Telegram<'a> {
-    /// Appends a packet. TooLong where there are 33 packets already, and then nothing changes. A telegram that has a spelling has
-    /// one still where the packet has one (`Packet::has_spelling`).
+    /// Appends a packet. TooLong where there are 33 packets already, and then nothing changes. A telegram that has a
+    /// spelling has one still where the packet has one (`Packet::has_spelling`).
     pub fn push(&mut self, packet: Packet<'a>) -> Result<(), TooLong>
         ensures room { IsOk result ↔ (length self.old.packets.items < 33) }
         ensures packets { OnOk result (self.new.packets.items ≡ self.old.packets.items ++ packet.entry ∷ []) }

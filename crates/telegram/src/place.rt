@@ -1,3 +1,4 @@
+//! A packet with the bytes, and the bit in the first of them, where it stands in its telegram.
 ghost use Rattle.std.specs.Prelude.{◌≡◌, ◌<◌, []};
 
 use packets::Packet;

@@ -1,3 +1,4 @@
+//! A telegram kept as its bytes: tested once, and read again when its packets are wanted.
 ghost use Rattle.std.specs.Prelude.{◌≡◌, ◌≤◌, ◌↔◌, Ok, Err, length};
 ghost use Rattle.telegram.specs.Telegrams.{Carries, RefusesBytes};
 ghost use Rattle.telegram.specs.Walks.{packets_of};
@@ -13,8 +14,8 @@ use bits::BitReader;
 use packets::TELEGRAM_BYTES;
 use std::marker::Model;
 
-/// The bytes of a telegram, tested once (SUBSET-026, 8.4.2). Its packets are read again where they lie, each time that they are
-/// wanted.
+/// The bytes of a telegram, tested once (SUBSET-026, 8.4.2). Its packets are read again where they lie, each time that
+/// they are wanted.
 #[derive(Drop)]
 pub struct Received {
     bytes: ArrayVec<u8, TELEGRAM_BYTES>,
@@ -43,8 +44,8 @@ fn copy_of(bytes: &[u8]) -> ArrayVec<u8, TELEGRAM_BYTES>
 }
 
 impl Received {
-    /// The telegram that the bytes carry (SUBSET-026, 8.4.2), with a copy of them. The whole telegram is tested here, and
-    /// a fault is the one that `decode` answers.
+    /// The telegram that the bytes carry (SUBSET-026, 8.4.2), with a copy of them. The whole telegram is tested here,
+    /// and a fault is the one that `decode` answers.
     pub fn new(bytes: &[u8]) -> Result<Received, TelegramFault>
         ensures found { (t : Telegram) → (result ≡ Ok t) ↔ Carries bytes.now t }
         ensures fault { (e : TelegramFault) → (result ≡ Err e) ↔ RefusesBytes e bytes.now }

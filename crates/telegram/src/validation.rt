@@ -1,3 +1,4 @@
+//! A whole telegram is tested, and none of its packets is kept.
 ghost use Rattle.std.specs.Prelude.{◌≡◌, ◌+◌, ◌*◌, ◌≤◌, ◌↔◌, List, Ok, Err, length, IfOk, IfErr};
 ghost use Rattle.packets.specs.declared.packet.Packet.{Packet};
 ghost use Rattle.telegram.specs.Sequences.{BeginsPackets};
@@ -30,8 +31,8 @@ fn count_packets<'a>(reader: &mut BitReader<'a>) -> Result<u32, TelegramFault>
     }
 }
 
-/// The packets of the telegram that the bytes carry (SUBSET-026, 8.4.2), to be read one by one where they lie. The whole
-/// telegram is tested here, and a fault is the one that `decode` answers.
+/// The packets of the telegram that the bytes carry (SUBSET-026, 8.4.2), to be read one by one where they lie. The
+/// whole telegram is tested here, and a fault is the one that `decode` answers.
 pub fn packets<'a>(bytes: &'a [u8]) -> Result<Packets<'a>, TelegramFault>
     ensures found { (w : Walk) → (result ≡ Ok w) ↔ IsWalkOf bytes.now w }
     ensures fault { (e : TelegramFault) → (result ≡ Err e) ↔ RefusesBytes e bytes.now }

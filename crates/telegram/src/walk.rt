@@ -1,3 +1,4 @@
+//! A walk over a tested telegram, which reads one packet after another from its bytes.
 ghost use Rattle.std.specs.Prelude.{◌≡◌, ◌+◌, ◌*◌, ◌/◌, ◌≤◌, [], ◌∷◌, length, ◌↔◌, IsTrue};
 ghost use Rattle.std.specs.Bool.{OnTrue, OnFalse};
 ghost use Rattle.std.specs.List.{slice_range};
@@ -67,8 +68,8 @@ impl<'a> Packets<'a> {
         self.len() == 0
     }
 
-    /// Puts the next packet in the place of another one: what `next` gives, but read where it is to stay. False where no
-    /// packet is left, and then the place keeps what it has.
+    /// Puts the next packet in the place of another one: what `next` gives, but read where it is to stay. False where
+    /// no packet is left, and then the place keeps what it has.
     pub fn next_into(&mut self, item: &mut PacketInPlace<'a>) -> bool
         ensures some { OnTrue result (self.old.items ≡ item.new ∷ self.new.items) }
         ensures none { OnFalse result ((self.old.items ≡ []) × (self.new.items ≡ []) × (item.new ≡ item.old)) }

@@ -1,4 +1,4 @@
-// Bytes made of patches.
+//! Bytes made of patches.
 use std::alloc::Global;
 
 /// Writes a patch, OFFSET:HEX, over bytes. None where it is none or reaches past them.

@@ -1,4 +1,4 @@
-// A record in words: a line.
+//! A record in words: a line.
 use crate::telling::{level_number, tell_train};
 use blocks::{BlockRecord, Situation};
 use driver::{Acknowledged, Action, Confirmed};

@@ -1,4 +1,4 @@
-// The rows, one a line.
+//! The rows, one a line.
 ghost use Rattle.std.specs.Prelude.{◌≡◌, length};
 ghost use Rattle.blocks.specs.Blocks.{HasLimits};
 

@@ -1,4 +1,4 @@
-// A block in words: a line for its head, and one for each record.
+//! A block in words: a line for its head, and one for each record.
 use crate::records::tell_record;
 use blocks::{Block, Format};
 use driver::{Datum, DriverIdentity, RunningNumber, TrainData};

@@ -1,3 +1,4 @@
+//! Whether all ways of reading a telegram agree.
 use crate::telling::decoded;
 use packets::TELEGRAM_BYTES;
 use std::alloc::{AllocError, Global};

@@ -1,3 +1,4 @@
+//! Rows `again`, `long` and `bits`: what is written again, and what has room.
 use crate::spelled::{bytes_of, number_of};
 use bits::{BitReader, BitWriter};
 use packet_coding::{read_packet, write_packet};

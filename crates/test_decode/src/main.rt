@@ -1,4 +1,5 @@
-//! Runs the rows of its input on what the program shows of telegrams and reads them by, and writes each with what comes of it.
+//! Runs the rows of its input on what the program shows of telegrams and reads them by, and writes each with what comes
+//! of it.
 #![tactic(auto)]
 
 mod agreement;

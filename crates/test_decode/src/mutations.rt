@@ -1,3 +1,4 @@
+//! Rows `mutated`: telegrams made of another one by turning bits, and how they are answered.
 use crate::agreement::agree;
 use crate::numbers::fault_of;
 use crate::spelled::{bytes_of, number_of};

@@ -1,3 +1,4 @@
+//! Rows `numbers`: every number in place of up to eight bits of a telegram.
 use crate::spelled::{bytes_of, number_of};
 use std::alloc::Global;
 use std::io;

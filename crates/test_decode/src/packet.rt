@@ -1,3 +1,4 @@
+//! Rows `packet`, `places` and `sizes`: packets read and written, where they lie, and how small they are.
 use crate::spelled::bytes_of;
 use bits::{BitReader, BitWriter};
 use packet_coding::{read_packet, write_packet};

@@ -1,3 +1,4 @@
+//! The rows of the input, each done by its first word.
 use crate::copies::{again, bits, long};
 use crate::mutations::mutated;
 use crate::numbers::numbers;

@@ -1,3 +1,4 @@
+//! The digits of a row, as bytes and as numbers.
 use std::alloc::Global;
 use std::io;
 

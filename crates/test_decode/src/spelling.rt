@@ -1,3 +1,4 @@
+//! Rows `spelling`: packets made by hand, and whether they have a spelling.
 use crate::spelled::number_of;
 use arrayvec::ArrayVec;
 use bits::BitReader;
@@ -142,8 +143,8 @@ fn in_telegram(packet: Packet<'static>, position: u32, last_position: u32) -> Op
     Some(telegram.has_spelling())
 }
 
-/// Whether a packet that is made by hand has a spelling, and whether telegrams that it stands in have one: with places 0 and
-/// 0 in the group, and with 1 and 0.
+/// Whether a packet that is made by hand has a spelling, and whether telegrams that it stands in have one: with places
+/// 0 and 0 in the group, and with 1 and 0.
 pub fn spelling(words: &[&str], out: &mut Vec<u8>) -> io::Result<()> {
     let [word, numbers @ ..] = words else {
         return Ok(());

@@ -1,3 +1,4 @@
+//! Rows `decode` and `short`: what is told of hex digits, and the status.
 use crate::spelled::number_of;
 use decoding::decode_text;
 use std::alloc::Global;

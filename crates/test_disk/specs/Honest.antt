@@ -5,15 +5,15 @@ use Rattle.test_disk.specs.declared.moment.Moment.{Moment}
 use Rattle.test_disk.specs.declared.honest.HonestFile.{HonestFile}
 use Rattle.test_disk.specs.Moments.{moment_of}
 
--- a moment, an empty file where there is none (this project's profile)
+-- a moment, an empty file where there is none
 abbrev pub seen : Option Moment → FileMoment
 seen None = record { bytes = []; is_open = λ _. false }
 seen (Some m) = moment_of m
 
--- what contracts see of a file that has been so from moment to moment, the last of which is now (this project's profile)
+-- what contracts see of a file that has been so from moment to moment, the last of which is now
 abbrev pub state_of : List Moment → FileState
 state_of ms = record { honest = true; clock = length ms - 1; at = λ k. seen (slice_get ms k) }
 
--- what contracts see of it (this project's profile)
+-- what contracts see of it
 abbrev pub honest_state : HonestFile → FileState
 honest_state f = state_of f.moments.items

@@ -1,4 +1,5 @@
-// What a row is answered by, and the numbers of a row.
+//! What a row is answered by, and the numbers of a row.
+
 /// What a row is answered by.
 #[derive(Clone, Copy)]
 pub enum Answer {

@@ -1,4 +1,4 @@
-// What every disk is asked.
+//! What every disk is asked.
 use crate::answer::{Answer, byte, number};
 use disk::{Disk, SECTOR_BYTES, put};
 

@@ -1,4 +1,4 @@
-// Rows of an honest file in memory, and of a disk over one.
+//! Rows of an honest file in memory, and of a disk over one.
 use crate::answer::{Answer, byte, number};
 use crate::calls;
 use crate::honest::HonestFile;

@@ -1,4 +1,4 @@
-// An honest file in memory.
+//! An honest file in memory.
 ghost use Rattle.std.specs.Prelude.{◌≡◌, ◌-◌, ◌<◌, [], ◌∷◌, ◌++◌, length, vec_len, IfOk, OnOk, OnErr, Some, slice_get};
 ghost use Rattle.file_disk.specs.Files.{bytes_of};
 

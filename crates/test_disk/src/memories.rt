@@ -1,4 +1,4 @@
-// Rows of a disk in memory that can lose power.
+//! Rows of a disk in memory that can lose power.
 use crate::answer::{Answer, number};
 use crate::calls;
 use disk::{Choice, Memory, Plan, SECTOR_BYTES};

@@ -1,4 +1,4 @@
-// A file in memory at a moment.
+//! A file in memory at a moment.
 ghost use Rattle.std.specs.Prelude.{◌≡◌, ◌+◌, ◌≤◌, ◌++◌, ◌∷◌, [], length, vec_len, IfOk};
 ghost use Rattle.file_disk.specs.Files.{overwritten, resized};
 

@@ -1,4 +1,4 @@
-// Records to commit, and what is kept behind them.
+//! Records to commit, and what is kept behind them.
 ghost use Rattle.std.specs.Prelude.{◌≡◌, ◌+◌, ◌^◌, ◌<◌, ◌≤◌, length};
 ghost use Rattle.blocks.specs.Blocks.{AreNumbered};
 

@@ -1,4 +1,4 @@
-// Images made by hand.
+//! Images made by hand.
 ghost use Rattle.std.specs.Prelude.{◌<◌, IfSome};
 
 use crate::batches::{batch, kept_of};

@@ -1,4 +1,4 @@
-// The listing of a disk.
+//! The listing of a disk.
 use crate::session::Session;
 use crate::telling::{Calls, tell_calls};
 use reader::{ListingError, listing};
@@ -66,7 +66,8 @@ fn word(done: Result<(), ListingError>) -> &'static str {
     }
 }
 
-/// Lists the journal to a writer with room for so many bytes, and prints the lines behind the answer, where all were written.
+/// Lists the journal to a writer with room for so many bytes, and prints the lines behind the answer, where all were
+/// written.
 pub fn tell_listing(
     rt: &impl Print,
     alloc: Global,

@@ -1,4 +1,4 @@
-// Rows that call the journal, with their answers.
+//! Rows that call the journal, with their answers.
 use crate::rows::Row;
 use crate::session::Session;
 use blocks::{Block, Format};

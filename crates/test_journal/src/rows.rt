@@ -1,4 +1,4 @@
-// What a row says.
+//! What a row says.
 use crate::pages::Refusal;
 use blocks::Format;
 

@@ -1,4 +1,4 @@
-// A disk, and the journal that was opened on it.
+//! A disk, and the journal that was opened on it.
 use crate::batches::{batch, kept_of};
 use blocks::Block;
 use disk::{Choice, Disk, Memory, Plan, SECTOR_BYTES};

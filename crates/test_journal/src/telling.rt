@@ -1,4 +1,4 @@
-// The answer to a row.
+//! The answer to a row.
 use crate::images::{make, numbers, patch};
 use crate::pages::tell_listing;
 use crate::questions::tell_question;

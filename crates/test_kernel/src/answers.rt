@@ -1,4 +1,4 @@
-// What the kernel answers, in words.
+//! What the kernel answers, in words.
 use crate::calls::{Known, kept_by, place_of};
 use row_words::{Item, kept_text};
 use speed_profile::CategorySpeeds;

@@ -1,4 +1,4 @@
-// The kernel's calls, with no clauses, so that those of the kernel don't come to the rows.
+//! The kernel's calls, with no clauses, so that those of the kernel don't come to the rows.
 use events::{Event, Kept, Output};
 use kernel::{StateOver, step};
 use mode_table::Cold;

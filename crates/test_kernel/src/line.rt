@@ -1,4 +1,4 @@
-// What a line says.
+//! What a line says.
 use events::Event;
 use row_words::{Item, event};
 use std::alloc::Global;

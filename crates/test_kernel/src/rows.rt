@@ -1,4 +1,4 @@
-// The rows, line by line.
+//! The rows, line by line.
 use crate::line::{Line, Said, read_line};
 use crate::runs::{ITEMS, Runs, Way};
 use crate::tally::Tally;

@@ -1,4 +1,4 @@
-// One row, run in three ways side by side.
+//! One row, run in three ways side by side.
 use crate::answers::{item_text, place_text};
 use crate::calls::{Listing, Short, after, apply, begin, listing, short};
 use events::{Event, Output};

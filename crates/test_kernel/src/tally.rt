@@ -1,4 +1,4 @@
-// What was counted.
+//! What was counted.
 
 /// How many there were.
 #[derive(Clone, Copy)]

@@ -1,4 +1,4 @@
-// Rows of one kind of acknowledgement: what is told of it, and what is asked about it.
+//! Rows of one kind of acknowledgement: what is told of it, and what is asked about it.
 use crate::answer::Answer;
 use crate::words::Words;
 use areas::Acknowledgement;

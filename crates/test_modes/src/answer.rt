@@ -1,4 +1,4 @@
-// What a row is answered by.
+//! What a row is answered by.
 use units::NoMemory;
 
 /// What a row is answered by.

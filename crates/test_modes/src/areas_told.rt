@@ -1,6 +1,6 @@
-// Rows of mode areas and of the announced level: `area DISTANCE MODE SPEED LENGTH ACKNOWLEDGEMENT` writes one area more of a packet
-// 80 in metres, `replace PLACE` takes it, `order LEVEL ACKNOWLEDGEMENT` writes one element more of a packet 41, `announce PLACE DISTANCE`
-// takes it, and the rest asks and looks.
+//! Rows of mode areas and of the announced level: `area DISTANCE MODE SPEED LENGTH ACKNOWLEDGEMENT` writes one area
+//! more of a packet 80 in metres, `replace PLACE` takes it, `order LEVEL ACKNOWLEDGEMENT` writes one element more of a
+//! packet 41, `announce PLACE DISTANCE` takes it, and the rest asks and looks.
 use crate::answer::Answer;
 use crate::names::announced_level;
 use crate::words::Words;

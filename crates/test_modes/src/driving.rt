@@ -1,11 +1,12 @@
-// Rows of the driver: `at MODE SPEED ALLOWED WAITING` makes the situation, `when MOMENT PATH TIME DISTANCE` the occasion, `accepts ACTION`
-// asks, `do ACTION` does what is accepted, `come_in LEVEL` and `enter MODE` tell, and the rest asks for what is known.
+//! Rows of the driver: `at MODE SPEED ALLOWED WAITING` makes the situation, `when MOMENT PATH TIME DISTANCE` the
+//! occasion, `accepts ACTION` asks, `do ACTION` does what is accepted, `come_in LEVEL` and `enter MODE` tell, and the
+//! rest asks for what is known.
 use crate::answer::Answer;
 use crate::words::Words;
 use braking::{Brakes, Deceleration, Reaction};
 use driver::{
-    Acknowledged, Action, Confirmed, Datum, Driver, DriverIdentity, Kept, Occasion, RunningNumber,
-    Situation, TrainData,
+    Acknowledged, Action, ActionSituation, Confirmed, Datum, Driver, DriverIdentity, Kept,
+    Occasion, RunningNumber, TrainData,
 };
 use mode_table::{Cold, Mode, TrainLevel};
 use units::{Length, Mph, Ms, Reach};
@@ -15,7 +16,7 @@ use vars::{TrainCategory, Variable};
 #[derive(Drop)]
 pub struct Driving {
     driver: Driver,
-    situation: Situation,
+    situation: ActionSituation,
     occasion: Occasion,
 }
 
@@ -24,7 +25,7 @@ impl Driving {
     pub fn new() -> Driving {
         Driving {
             driver: Driver::new(&Kept::nothing()),
-            situation: Situation {
+            situation: ActionSituation {
                 mode: Mode::StandBy,
                 speed: Mph::new(0).unwrap(),
                 override_allowed: Mph::new(0).unwrap(),
@@ -108,10 +109,10 @@ fn status_of<T: Copy>(datum: &Datum<T>) -> Answer {
     })
 }
 
-fn situation(words: &mut Words<'_>) -> Situation {
+fn situation(words: &mut Words<'_>) -> ActionSituation {
     let (mode, speed, override_allowed) = (words.mode(), words.mph(), words.mph());
     let waiting = words.word();
-    Situation {
+    ActionSituation {
         mode,
         speed,
         override_allowed,

@@ -14,7 +14,7 @@
 //!     mode_area 500 0 8 20             one more element of packet 80: D_MAMODE (10 cm), M_MAMODE, V_MAMODE, L_MAMODE
 //!     mode_areas 0                     takes the packet
 //!     restriction 5000 100 30000 1     the first centimetre, the length, the speed, Q_FRONT
-//!     limit 14000 16000 16500          of a train from these places on: its least rear, its least front, its greatest front
+//!     limit 14000 16000 16500          of a train from these places on: its minimum safe rear, its minimum safe front, its maximum safe front
 //!     targets 0 10000 40000            those ahead of a front, with a last target or none: the place and speed of each
 //!     permitted 0 160000 10000 40000   from a front, up to a limit, with a last target or none
 //!     fitting 0 160000 10000 40000     .. that fits the targets that are told one by one

@@ -1,4 +1,4 @@
-// The names in rows: modes, items, fates, areas and levels.
+//! The names in rows: modes, items, fates, areas and levels.
 use mode_table::{Cold, Fate, Item, Mode, TrainLevel};
 use vars::{AreaMode, Level};
 

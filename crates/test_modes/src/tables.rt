@@ -1,4 +1,4 @@
-// Rows of the tables: `mode MODE CONDITION ..`, `entry MODE ITEM`, `power_up WORD ITEM`, `packet MODE NUMBER`.
+//! Rows of the tables: `mode MODE CONDITION ..`, `entry MODE ITEM`, `power_up WORD ITEM`, `packet MODE NUMBER`.
 use crate::answer::Answer;
 use crate::names::{letter_of, name_of};
 use crate::words::Words;
@@ -40,7 +40,7 @@ fn conditions(words: &[&str]) -> Conditions {
         on_sight_area: is_named(words, "on_sight_area"),
         shunting_area: is_named(words, "shunting_area"),
         trip_acknowledged: is_named(words, "trip_acknowledged"),
-        overridden: is_named(words, "overridden"),
+        override_accepted: is_named(words, "overridden"),
         shunting_chosen: is_named(words, "shunting_chosen"),
         shunting_left: is_named(words, "shunting_left"),
         started: is_named(words, "started"),

@@ -1,4 +1,4 @@
-// What was told of a track, and what `speed_profile` answers of it.
+//! What was told of a track, and what `speed_profile` answers of it.
 use crate::answer::Answer;
 use crate::words::Words;
 use crate::written::{Written, no_areas, no_slopes, no_statics};

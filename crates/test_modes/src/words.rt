@@ -1,12 +1,12 @@
-// The words of a row.
+//! The words of a row.
 use crate::names::{area_mode, cold, item, mode, train_level};
 use braking::{Brakes, Deceleration, Reaction, Target};
 use mode_table::{Cold, Item, Mode, TrainLevel};
 use units::{Cm, GroupPlace, Length, Mph, Ms, Reach, Stretch};
 use vars::{AreaMode, Variable};
 
-/// The words of a row behind its first, which are taken one after another. Where one isn't what is asked for, something else is
-/// answered, and the row is none.
+/// The words of a row behind its first, which are taken one after another. Where one isn't what is asked for, something
+/// else is answered, and the row is none.
 #[derive(Drop)]
 pub struct Words<'a> {
     words: &'a [&'a str],
@@ -142,14 +142,14 @@ impl<'a> Words<'a> {
         self.found(number, 0)
     }
 
-    /// The least rear, the least front and the greatest front.
+    /// The minimum safe rear, the minimum safe front and the maximum safe front.
     pub fn stretch(&mut self) -> Stretch {
         let (rear, min_front, max_front) = (self.cm(), self.cm(), self.cm());
         let stretch = Stretch::new(rear, min_front, max_front);
         self.found(stretch, nowhere())
     }
 
-    /// The least and the greatest front; the rear is where the front may least be.
+    /// The least and the maximum safe front; the rear is where the front may least be.
     pub fn fronts(&mut self) -> Stretch {
         let (min_front, max_front) = (self.cm(), self.cm());
         let stretch = Stretch::new(min_front, min_front, max_front);

@@ -1,4 +1,4 @@
-// The packets that rows write, element by element.
+//! The packets that rows write, element by element.
 use crate::words::Words;
 use arrayvec::ArrayVec;
 use packets::{Difference, Gradient, Gradients, ModeArea, ModeProfile, StaticSpeeds, StaticStep};

@@ -1,4 +1,4 @@
-// The answer to a command.
+//! The answer to a command.
 use crate::commands::{Act, Change, Command, Make, Tell};
 use crate::images::{choices, flip, formatted, put_slot, shortened};
 use crate::listing::found_on;

@@ -1,4 +1,4 @@
-// The unit's calls, and the journal's, with no clauses, so that theirs don't come to the rows.
+//! The unit's calls, and the journal's, with no clauses, so that theirs don't come to the rows.
 use crate::device::Device;
 use crate::narrow::Narrow;
 use arrayvec::ArrayVec;

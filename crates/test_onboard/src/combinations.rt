@@ -1,4 +1,4 @@
-// Lines with other words in the place of a sign.
+//! Lines with other words in the place of a sign.
 use std::alloc::{AllocError, Global};
 
 /// What the number of a combination among some is multiplied by: an odd prime, so that they lie apart.

@@ -1,4 +1,4 @@
-// What a command says.
+//! What a command says.
 use disk::Plan;
 use events::Input;
 use mode_table::Cold;

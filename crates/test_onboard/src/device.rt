@@ -1,4 +1,4 @@
-// A disk in memory whose plan counts writes and syncs.
+//! A disk in memory whose plan counts writes and syncs.
 ghost use Rattle.std.specs.Prelude.{◌≡◌, false};
 ghost use Rattle.disk.specs.Memory.{memory_state};
 
@@ -6,8 +6,8 @@ use disk::{Choice, Disk, DiskFault, Memory, Plan};
 use std::alloc::Global;
 use units::NoMemory;
 
-/// A disk in memory whose plan may wait for a write or a sync. How often the unit reads is its own matter, so rows don't count reads.
-/// It is called dishonest, since nothing is proved of it but that it is safe and counts its faults.
+/// A disk in memory whose plan may wait for a write or a sync. How often the unit reads is its own matter, so rows
+/// don't count reads. It is called dishonest, since nothing is proved of it but that it is safe and counts its faults.
 #[derive(Drop)]
 pub struct Device {
     memory: Memory,
@@ -27,7 +27,8 @@ impl Device {
         }
     }
 
-    /// Of the writes and syncs from here on the one of this number, counted from 0, goes as the plan says of its call 0.
+    /// Of the writes and syncs from here on the one of this number, counted from 0, goes as the plan says of its call
+    /// 0.
     pub fn plan(&mut self, number: u64, plan: Plan) {
         self.coming = Some((self.changes.wrapping_add(number), plan));
     }

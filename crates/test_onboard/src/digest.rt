@@ -1,4 +1,4 @@
-// A digest of bytes.
+//! A digest of bytes.
 
 /// 64 bits that change with any byte: for each byte they are combined with it and multiplied (FNV-1a).
 #[derive(Clone, Copy)]

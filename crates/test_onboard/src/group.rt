@@ -1,4 +1,4 @@
-// Lines whose answers are counted.
+//! Lines whose answers are counted.
 use crate::digest::Digest;
 use std::alloc::{AllocError, Global};
 

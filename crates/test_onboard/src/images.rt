@@ -1,4 +1,4 @@
-// Disks made by hand.
+//! Disks made by hand.
 use crate::calls::{format, put, read};
 use crate::device::Device;
 use crate::session::{blank, sectors_of};
@@ -61,7 +61,8 @@ pub fn slot_at(memory: &mut Memory, slot: u64) -> Option<[u8; SLOT_BYTES]> {
     Some(bytes)
 }
 
-/// Makes the sectors of a slot of some bytes, OFFSET:HEX each, all others zero. None where there is no such slot or byte.
+/// Makes the sectors of a slot of some bytes, OFFSET:HEX each, all others zero. None where there is no such slot or
+/// byte.
 pub fn put_slot(alloc: Global, device: &mut Device, slot: u64, patches: &str) -> Option<()> {
     let mut bytes = [0; SLOT_BYTES];
     for text in patches.split_whitespace() {

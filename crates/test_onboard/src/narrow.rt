@@ -1,4 +1,4 @@
-// A list that doesn't grow.
+//! A list that doesn't grow.
 ghost use Rattle.std.specs.Prelude.{◌≡◌, ◌++◌, ◌-◌, vec_len, vec_capacity};
 
 use onboard::{ReleaseSink, Released};

@@ -1,4 +1,4 @@
-// What is released, in words.
+//! What is released, in words.
 use onboard::Released;
 use row_words::output_text;
 use std::alloc::{AllocError, Global};

@@ -1,4 +1,4 @@
-// The rows, line by line.
+//! The rows, line by line.
 use crate::answering::answer;
 use crate::combinations::{Lists, nth_tried, with_words};
 use crate::commands::read_command;

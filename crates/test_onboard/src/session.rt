@@ -1,4 +1,4 @@
-// A disk, and the unit on it while it has power.
+//! A disk, and the unit on it while it has power.
 use crate::calls::{Unit, accepted, closed, flushed, lived, lived_in, opened};
 use crate::device::Device;
 use crate::narrow::Narrow;

@@ -1,4 +1,4 @@
-// Answers of the unit, by number and name.
+//! Answers of the unit, by number and name.
 use onboard::{AcceptError, FlushError, OpenError};
 
 /// Number and name of an error of opening.

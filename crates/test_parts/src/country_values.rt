@@ -1,4 +1,4 @@
-// Worked rows of national values: what they are written in, and the values that a packet tells.
+//! Worked rows of national values: what they are written in, and the values that a packet tells.
 mod turns;
 
 use crate::numbers::{cm, distance, group_place, kmh, reach, speed_step};
@@ -41,7 +41,7 @@ pub const SENT: Sent = Sent {
 pub enum Event {
     /// Packet 3 of a group at this place.
     Announce(Sent, i32),
-    /// The greatest front is here.
+    /// The maximum safe front is here.
     Reach(i64),
     /// A group of this country is accepted.
     Enter(u16),

@@ -1,4 +1,4 @@
-// What is left of a telegram with a fault.
+//! What is left of a telegram with a fault.
 use telegram::{Telegram, decode_into};
 
 /// A header, a packet 200 of 23 bits, and a second one that tells 22.

@@ -1,4 +1,4 @@
-// Worked rows of balise groups.
+//! Worked rows of balise groups.
 mod closing;
 mod places;
 mod rows;

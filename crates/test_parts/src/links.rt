@@ -1,4 +1,4 @@
-// Worked rows of linking.
+//! Worked rows of linking.
 mod missing;
 mod reading;
 mod rows;

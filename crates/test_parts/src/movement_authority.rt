@@ -1,4 +1,4 @@
-// Worked rows of authorities.
+//! Worked rows of authorities.
 mod ends;
 mod rows;
 mod stored;

@@ -1,4 +1,4 @@
-// Quantities and variables made of plain numbers.
+//! Quantities and variables made of plain numbers.
 ghost use Rattle.std.specs.Prelude.{◌≡◌};
 
 use std::process::Abort;

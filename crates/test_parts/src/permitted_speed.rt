@@ -1,4 +1,4 @@
-// Worked rows of the permitted speed, and a plain program beside it.
+//! Worked rows of the permitted speed, and a plain program beside it.
 mod plain;
 mod slope;
 mod trains;

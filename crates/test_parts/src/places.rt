@@ -1,4 +1,4 @@
-// Worked rows of the place.
+//! Worked rows of the place.
 use crate::numbers::cm;
 use crate::wanted::same;
 use odometry::{Fix, Place, Sums};
@@ -13,7 +13,7 @@ enum Event {
     Read,
     /// A fix at a place, with an accuracy; whether a balise was missed, and whether the fix is made.
     Set(i64, u64, bool, bool),
-    /// The least and the greatest front.
+    /// The least and the maximum safe front.
     Fronts(i64, i64),
     /// The estimate of the front, and its uncertainty.
     Front(i64, i64),
@@ -21,7 +21,7 @@ enum Event {
     FrontRead(i64, i64),
     /// What it was at the start of the life.
     FrontFirst(i64, i64),
-    /// The least rear of a train of a length.
+    /// The minimum safe rear of a train of a length.
     Rear(u64, i64),
     /// The sums of the movements and of the path.
     Moved(i64, u64),

@@ -1,4 +1,4 @@
-// Worked rows of profiles, for both stores.
+//! Worked rows of profiles, for both stores.
 use crate::numbers::{cm, kmh};
 use crate::wanted::same;
 use arrayvec::ArrayVec;
@@ -179,8 +179,8 @@ const ROWS: &[(&str, &[Event])] = &[
             Gives(&[(2_499, 40), (2_500, 0), (3_000, 0)]),
         ],
     ),
-    // Steps whose places don't rise: the last in the list counts of those at or below a place, and an end mark ends also
-    // what stands before it in the list.
+    // Steps whose places don't rise: the last in the list counts of those at or below a place, and an end mark ends
+    // also what stands before it in the list.
     (
         "unsorted",
         &[

@@ -1,4 +1,4 @@
-// Worked rows of restrictions.
+//! Worked rows of restrictions.
 use crate::numbers::{cm, kmh, reach};
 use crate::wanted::same;
 use std::alloc::Global;
@@ -25,7 +25,7 @@ enum Event {
     Turn,
     /// With the rear at 0 and the front from 9,000 up to a place.
     Limit(i64, u32),
-    /// With the rear, the least front and the greatest front at these places.
+    /// With the rear, the minimum safe front and the maximum safe front at these places.
     LimitOf(i64, i64, i64, u32),
 }
 

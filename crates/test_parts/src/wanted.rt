@@ -1,4 +1,4 @@
-// What a row wants.
+//! What a row wants.
 use std::fmt::Debug;
 use std::process::Abort;
 

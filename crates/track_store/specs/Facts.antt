@@ -14,8 +14,8 @@ abbrev pub last_value : {A : Type 0} → Option A → List (Step A) → Option A
 last_value otherwise [] = otherwise
 last_value otherwise (step ∷ steps) = last_value step.value steps
 
--- what steps give at a place: the value of the last one at or below it; none where no step or an end mark (a step without a
--- value) is at or below it
+-- what steps give at a place: the value of the last one at or below it; none where no step or an end mark (a step
+-- without a value) is at or below it
 abbrev pub given_by : {A : Type 0} → List (Step A) → ℤ → Option A
 given_by steps place =
     if list_any (λ step. is_none step.value) (passed place steps) then None else last_value None (passed place steps)

@@ -9,7 +9,8 @@ use Rattle.units.specs.Stretches.{Span, over, least}
 use Rattle.restriction.specs.declared.restriction.Restriction.{Restriction}
 use Rattle.restriction.specs.Covering.{is_ended_by, reaches_past, limits_at}
 
--- what bears on restrictions: a restriction (packet 65), a revocation of those of a number (packet 66), a forgetting mark
+-- what bears on restrictions: a restriction (packet 65), a revocation of those of a number (packet 66), a forgetting
+-- mark
 pub data Entry : Type 0 where
   Restricted : Restriction → Entry
   Revoked : ℕ → Entry
@@ -61,6 +62,7 @@ in_force entries = record { mark = mark_of entries; restrictions = filter (reach
 abbrev pub speeds_at : InForce → Span → ℤ → List ℕ
 speeds_at track train place = map (λ restriction. restriction.speed) (filter (limits_at track.mark train place) track.restrictions)
 
--- the least of a speed and of all that limit a train at a centimetre from its least rear to its greatest front
+-- the least of a speed and of all that limit a train at a centimetre from its minimum safe rear to its maximum safe
+-- front
 abbrev pub least_speed : InForce → Span → ℕ → ℕ
 least_speed track train otherwise = least otherwise (over (speeds_at track train) train.rear train.max_front)

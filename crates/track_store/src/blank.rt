@@ -1,3 +1,4 @@
+//! Memory for a fact is taken ahead, and filled without asking for more.
 ghost use Rattle.std.specs.Prelude.{◌≡◌, ◌≤◌, length};
 
 use crate::fact::Fact;
@@ -30,8 +31,8 @@ impl<T: Copy> Blank<T> {
         })
     }
 
-    /// A profile from a first place on, in centimetres, as steps give it. Takes no memory. The caller owes at most `MOST_STEPS`
-    /// steps.
+    /// A profile from a first place on, in centimetres, as steps give it. Takes no memory. The caller owes at most
+    /// `MOST_STEPS` steps.
     pub fn fill(self, start: Cm, steps: &[Step<T>]) -> Fact<T>
         requires { length steps.now ≤ MOST_STEPS }
         ensures { result ≡ record { start = start; steps = steps.now; mark = start } }

@@ -1,3 +1,4 @@
+//! The steps of one profile message with their first place, looked up, forgotten and copied.
 ghost use Rattle.std.specs.Prelude.{◌≡◌, ℤ, List, IfOk};
 ghost use Rattle.track_store.specs.Facts.{given_by, from_mark};
 ghost use Rattle.track_store.specs.Changes.{nearer, nearest_in};
@@ -26,7 +27,8 @@ impl<T> Model for Fact<T> {
 }
 
 impl<T: Copy> Fact<T> {
-    /// A profile from a first place on, in centimetres, as steps give it. NoMemory where memory for their copy is refused.
+    /// A profile from a first place on, in centimetres, as steps give it. NoMemory where memory for their copy is
+    /// refused.
     pub fn new(alloc: Global, start: Cm, steps: &[Step<T>]) -> Result<Self, NoMemory>
         ensures { IfOk result (λ fact. fact ≡ record { start = start; steps = steps.now; mark = start }) }
     {

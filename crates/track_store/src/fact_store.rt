@@ -1,3 +1,4 @@
+//! A store that keeps each replacement of a profile, the newest first, and looks among them for the value.
 ghost use Rattle.std.specs.Prelude.{◌≤◌, ℤ, Option, IsOk, OnOk, vec_len};
 
 use crate::blank::Blank;

@@ -1,11 +1,12 @@
+//! Whether a profile has values somewhere, or all along a stretch of track.
 ghost use Rattle.std.specs.Prelude.{◌≡◌, ◌↔◌, IsTrue};
 ghost use Rattle.track_store.specs.Profiles.{is_known, is_known_over, IsKnownThroughout};
 
 use crate::Profile;
 use units::Cm;
 
-/// Whether a profile has a value at a centimetre from one to another, both included. It goes from change to change, and takes
-/// no memory.
+/// Whether a profile has a value at a centimetre from one to another, both included. It goes from change to change, and
+/// takes no memory.
 pub fn is_known_over<T: Copy, P: Profile<T>>(profile: &P, from: Cm, to: Cm) -> bool
     ensures { result ≡ is_known_over (P.value profile.now) from to }
 {
@@ -25,8 +26,8 @@ pub fn is_known_over<T: Copy, P: Profile<T>>(profile: &P, from: Cm, to: Cm) -> b
     false
 }
 
-/// Whether a profile has a value at each centimetre from one up to another, that one not included. It goes from change to
-/// change, and takes no memory.
+/// Whether a profile has a value at each centimetre from one up to another, that one not included. It goes from change
+/// to change, and takes no memory.
 pub fn is_known_throughout<T: Copy, P: Profile<T>>(profile: &P, from: Cm, end: Cm) -> bool
     ensures { IsTrue result ↔ IsKnownThroughout (P.value profile.now) from end }
 {

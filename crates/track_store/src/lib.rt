@@ -1,5 +1,5 @@
-//! What the track asks of a train: temporary speed restrictions (SUBSET-026, 3.11.5), and profiles of speeds and gradients
-//! along it (3.7.1.1, 3.11).
+//! What the track asks of a train: temporary speed restrictions (SUBSET-026, 3.11.5), and profiles of speeds and
+//! gradients along it (3.7.1.1, 3.11).
 #![tactic(auto)]
 
 mod blank;

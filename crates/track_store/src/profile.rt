@@ -1,3 +1,4 @@
+//! The traits of a profile: what is asked of it at a place, and how it is replaced, dropped and given room.
 ghost use Rattle.std.specs.Prelude.{◌≡◌, ◌≤◌, ◌+◌, ℕ, ℤ, max, length, Option, None, IsOk, OnOk, OnErr, IfOk};
 ghost use Rattle.track_store.specs.Profiles as profiles;
 ghost use Rattle.track_store.specs.Profiles.{Lasts, profile_with};
@@ -48,13 +49,13 @@ pub trait Profile<T> {
     fn at(&self, place: Cm) -> Option<T>
         ensures { result ≡ value self.now place };
 
-    /// Up to where the value of a centimetre lasts: it stays the same up to the place that is answered, which lies ahead
-    /// and isn't included; for ever where that is None.
+    /// Up to where the value of a centimetre lasts: it stays the same up to the place that is answered, which lies
+    /// ahead and isn't included; for ever where that is None.
     fn next(&self, place: Cm) -> Option<Cm>
         ensures { Lasts (value self.now) place result };
 
-    /// What `at` and `next` answer for a centimetre, at once. Who goes from piece to piece hands in what the one before gave
-    /// as near, and first 0; that bears on nothing but the cost.
+    /// What `at` and `next` answer for a centimetre, at once. Who goes from piece to piece hands in what the one before
+    /// gave as near, and first 0; that bears on nothing but the cost.
     fn piece(&self, place: Cm, near: usize) -> Piece<T>
         ensures value { result.value ≡ value self.now place }
         ensures next { Lasts (value self.now) place result.next }
@@ -82,9 +83,9 @@ pub trait ProfileStore<T>: Profile<T> {
         ensures value { (place : ℤ) → Self.value result place ≡ None }
         ensures size { size result ≡ 0 };
 
-    /// Takes the values from a first place on, in centimetres, in place of all that were there before. The last of the steps at
-    /// or below a centimetre holds there, and nothing where an end mark or no step is at or below it. The room that was made stays.
-    /// NoMemory where memory is refused, and then nothing changes.
+    /// Takes the values from a first place on, in centimetres, in place of all that were there before. The last of the
+    /// steps at or below a centimetre holds there, and nothing where an end mark or no step is at or below it. The room
+    /// that was made stays. NoMemory where memory is refused, and then nothing changes.
     fn replace_from(&mut self, start: Cm, steps: &[Step<T>]) -> Result<(), NoMemory>
         ensures ok { OnOk result ((place : ℤ) → Self.value self.new place ≡ replaced (Self.value self.old) start steps.now place) }
         ensures room { OnOk result (room self.new ≡ room self.old) }
@@ -94,8 +95,8 @@ pub trait ProfileStore<T>: Profile<T> {
     fn room(&self) -> usize
         ensures { result ≡ room self.now };
 
-    /// Makes room for so many replacements, unless there is room for more. NoMemory where memory is refused, and then nothing
-    /// changes.
+    /// Makes room for so many replacements, unless there is room for more. NoMemory where memory is refused, and then
+    /// nothing changes.
     fn make_room(&mut self, replacements: usize) -> Result<(), NoMemory>
         ensures ok { OnOk result (self.new ≡ with_room (max replacements (room self.old)) self.old) }
         ensures err { OnErr result (self.new ≡ self.old) };
@@ -105,8 +106,8 @@ pub trait ProfileStore<T>: Profile<T> {
         requires { replacements ≤ room self.old }
         ensures { self.new ≡ with_room replacements self.old };
 
-    /// What `replace_from` does, in the room that was made: it takes no memory. The caller owes at most `MOST_STEPS` steps, and
-    /// room for one replacement.
+    /// What `replace_from` does, in the room that was made: it takes no memory. The caller owes at most `MOST_STEPS`
+    /// steps, and room for one replacement.
     fn replace_reserved(&mut self, start: Cm, steps: &[Step<T>])
         requires steps { length steps.now ≤ MOST_STEPS }
         requires room { 1 ≤ room self.old }
@@ -125,7 +126,8 @@ pub trait ProfileStore<T>: Profile<T> {
         ensures room { room self.new ≡ room self.old }
         ensures size { size self.new ≤ size self.old };
 
-    /// An equal value: an equal profile, with room for as many replacements. NoMemory where memory is refused; one of size 0 takes none.
+    /// An equal value: an equal profile, with room for as many replacements. NoMemory where memory is refused; one of
+    /// size 0 takes none.
     fn copy(&self, alloc: Global) -> Result<Self, NoMemory>
         ensures value { IfOk result (λ copy. copy ≡ self.now) }
         ensures quiet { size self.now ≡ 0 → IsOk result };

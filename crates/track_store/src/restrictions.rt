@@ -1,3 +1,4 @@
+//! A store of temporary speed restrictions: taken, revoked, forgotten, and the least speed of them.
 ghost use Rattle.std.specs.Prelude.{◌≡◌, ◌≤◌, ◌+◌, List, [], ◌∷◌, filter, not, min, max, if◌then◌else◌, IsOk, OnOk, OnErr, IfOk, vec_len, vec_capacity};
 ghost use Rattle.restriction.specs.Covering.{is_ended_by, reaches_past};
 ghost use Rattle.restriction.specs.Meeting.{meets};
@@ -53,8 +54,8 @@ impl Restrictions {
         self.room
     }
 
-    /// Makes room for so many restrictions more, unless there is room for more than those. NoMemory where memory is refused,
-    /// and then nothing changes.
+    /// Makes room for so many restrictions more, unless there is room for more than those. NoMemory where memory is
+    /// refused, and then nothing changes.
     pub fn make_room(&mut self, restrictions: usize) -> Result<(), NoMemory>
         ensures ok { OnOk result (self.new ≡ record self.old { room = max restrictions self.old.room }) }
         ensures err { OnErr result (self.new ≡ self.old) }
@@ -73,8 +74,9 @@ impl Restrictions {
         self.room = restrictions;
     }
 
-    /// Takes a restriction, in place of the one of its number (but for 255). NoMemory where memory is refused, and then nothing
-    /// changes. The list holds the allocator that it takes memory of. This is for a caller who makes no room first.
+    /// Takes a restriction, in place of the one of its number (but for 255). NoMemory where memory is refused, and then
+    /// nothing changes. The list holds the allocator that it takes memory of. This is for a caller who makes no room
+    /// first.
     pub fn add(&mut self, _alloc: Global, restriction: Restriction) -> Result<(), NoMemory>
         ensures ok { OnOk result ((entries : List Entry) → self.old.track ≡ in_force entries
             → self.new.track ≡ in_force (Restricted restriction ∷ entries)) }

@@ -1,3 +1,4 @@
+//! Equality of speeds and of gradients that a proof can rely on.
 ghost use Rattle.std.specs.Prelude.{◌≡◌, ◌↔◌, IsTrue};
 
 use units::{Mph, Permille};

@@ -1,3 +1,4 @@
+//! A store that keeps a profile as segments, no two neighbours of one value, and so stays short.
 ghost use Rattle.std.specs.Prelude.{◌≡◌, ℤ, Option};
 ghost use Rattle.track_store.specs.Segments.{IsKept, count_of};
 
@@ -10,8 +11,8 @@ use units::{Cm, NoMemory};
 /// The most segments that a replacement adds: one a step, one before the first of them and one from an end mark on.
 const MOST_SEGMENTS: usize = MOST_STEPS + 2;
 
-/// A profile as segments of one value each (SUBSET-026, 3.11). What is replaced or dropped takes no place in it, so that
-/// it stays short however long the life.
+/// A profile as segments of one value each (SUBSET-026, 3.11). What is replaced or dropped takes no place in it, so
+/// that it stays short however long the life.
 #[derive(Drop)]
 pub struct SegmentStore<T> {
     // Each lasts up to the next one's start. Where nothing is known behind a value, a segment without one follows.

@@ -1,3 +1,4 @@
+//! Segments in a list: values are looked up, steps are taken in, and what lies before a mark is dropped.
 ghost use Rattle.std.specs.Prelude.{◌≡◌, ℕ, IsTrue, IfSome, ◌+◌, ◌<◌, ◌≤◌, ℤ, false, if◌then◌else◌, int_lt, is_none, Some, ◌||◌, ◌↔◌, None, length, vec_len, vec_capacity};
 ghost use Rattle.std.specs.List.{list_any};
 ghost use Rattle.track_store.specs.Facts.{from_mark, passed, replaced};

@@ -1,3 +1,4 @@
+//! The least speed of a profile along a stretch of track.
 ghost use Rattle.std.specs.Prelude.{◌≡◌};
 ghost use Rattle.units.specs.Stretches.{over, least};
 ghost use Rattle.track_store.specs.Profiles.{listed, lesser};

@@ -12,8 +12,8 @@ farthest = 2 ^ 40
 abbrev pub IsLength : ℕ → Type 0
 IsLength n = n ≤ farthest
 
--- where a balise group lies: so far away is the place of a fix, and so far each sum of movements, from one of which to the
--- other the train moved between the fix and the group
+-- where a balise group lies: so far away is the place of a fix, and so far each sum of movements, from one of which to
+-- the other the train moved between the fix and the group
 abbrev pub IsGroupPlace : ℤ → Type 0
 IsGroupPlace z = unsigned_abs z ≤ 3 * farthest
 
@@ -24,7 +24,8 @@ reach = 32_767_000
 abbrev pub IsReach : ℕ → Type 0
 IsReach n = n ≤ reach
 
--- the greatest place, forward and backward: behind a group 33 distances of a packet, one after another, still lead to a place
+-- the greatest place, forward and backward: behind a group 33 distances of a packet, one after another, still lead to a
+-- place
 abbrev pub outermost : ℕ
 outermost = 2 ^ 42
 

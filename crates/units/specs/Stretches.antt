@@ -1,7 +1,7 @@
 -- Stretches of track, by places in centimetres (this project's profile).
 use Rattle.std.specs.Prelude.{ℕ, zero, suc, ℤ, pos, negsuc, ◌+ℤ◌, ◌-ℤ◌, ◌≤ℤ◌, List, [], ◌∷◌, ◌++◌, min}
 
--- the track that a train may cover: its least rear, its least front, its greatest front
+-- the track that a train may cover: its minimum safe rear, its minimum safe front, its maximum safe front
 pub record Span : Type 0 where
   pub rear : ℤ
   pub min_front : ℤ

@@ -1,3 +1,4 @@
+//! Signed centimetres within 2^42 either way: sums and differences that are tested, and steps by a reach.
 ghost use Rattle.std.specs.Prelude.{◌≡◌, ◌↔◌, ◌+◌, ◌≤◌, pos, ◌+ℤ◌, ◌-ℤ◌, IsSome, IfSome};
 ghost use Rattle.std.specs.Int.RustNames.{unsigned_abs};
 ghost use Rattle.units.specs.Limits.{IsCm, HasReach, reach};
@@ -5,8 +6,8 @@ ghost use Rattle.units.specs.Limits.{IsCm, HasReach, reach};
 use crate::Reach;
 use std::marker::Model;
 
-/// A distance or a place, in centimetres: from -2^42 to 2^42 (this project's profile). Places behind the start of a life are
-/// negative.
+/// A distance or a place, in centimetres: from -2^42 to 2^42 (this project's profile). Places behind the start of a
+/// life are negative.
 #[derive(Clone, Copy, Debug, PartialEq, Eq, PartialOrd, Ord)]
 pub struct Cm {
     cm: i64,

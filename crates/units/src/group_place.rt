@@ -1,11 +1,12 @@
+//! Places of balise groups, within 3 * 2^40 cm, so that each reach ahead of one is still a place.
 ghost use Rattle.std.specs.Prelude.{◌≡◌, ◌↔◌, pos, ◌+ℤ◌, IsSome, IfSome};
 ghost use Rattle.units.specs.Limits.{IsGroupPlace};
 
 use crate::{Cm, Reach};
 use std::marker::Model;
 
-/// Where a balise group lies, from which the distances of its packets count, in centimetres: from -3 * 2^40 to 3 * 2^40 (this
-/// project's profile).
+/// Where a balise group lies, from which the distances of its packets count, in centimetres: from -3 * 2^40 to 3 * 2^40
+/// (this project's profile).
 #[derive(Clone, Copy)]
 pub struct GroupPlace {
     cm: i64,

@@ -1,3 +1,4 @@
+//! Unsigned centimetres up to 2^40: how long track, a train or a path is.
 ghost use Rattle.std.specs.Prelude.{◌≡◌, ◌↔◌, IsSome, IfSome};
 ghost use Rattle.units.specs.Limits.{IsLength};
 

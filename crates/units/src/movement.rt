@@ -1,10 +1,11 @@
+//! The signed movement between two readings of the odometer, at most 100 m.
 ghost use Rattle.std.specs.Prelude.{◌≡◌, ◌↔◌, IsSome, IfSome};
 ghost use Rattle.units.specs.Limits.{IsMovement};
 
 use std::marker::Model;
 
-/// What the odometer moved since its last reading, forward or backward, in centimetres: from -10,000 to 10,000 (this project's
-/// profile).
+/// What the odometer moved since its last reading, forward or backward, in centimetres: from -10,000 to 10,000 (this
+/// project's profile).
 #[derive(Clone, Copy)]
 pub struct Movement {
     cm: i64,

@@ -1,3 +1,4 @@
+//! Speeds up to 600 km/h, counted in metres per hour.
 ghost use Rattle.std.specs.Prelude.{◌≡◌, ◌↔◌, IsSome, IfSome};
 ghost use Rattle.units.specs.Limits.{IsMph};
 

@@ -1,3 +1,4 @@
+//! Moments and spans of time: milliseconds below 2^40, some 34 years.
 ghost use Rattle.std.specs.Prelude.{◌≡◌, ◌↔◌, IsSome, IfSome};
 ghost use Rattle.units.specs.Limits.{IsMs};
 

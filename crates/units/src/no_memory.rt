@@ -1,3 +1,4 @@
+//! The error that all crates above share for refused memory, made from the allocator's own.
 use std::alloc::{AllocError, AllocFailed};
 use thiserror::Error;
 

@@ -1,3 +1,4 @@
+//! Gradients of at most 254 per mille, up or down; uphill is positive.
 ghost use Rattle.std.specs.Prelude.{◌≡◌, ◌↔◌, IsSome, IfSome};
 ghost use Rattle.units.specs.Limits.{IsPermille};
 

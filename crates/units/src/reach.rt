@@ -1,11 +1,12 @@
+//! Unsigned centimetres up to 327.67 km, the farthest that a variable D_ or L_ of a packet tells.
 ghost use Rattle.std.specs.Prelude.{◌≡◌, ◌↔◌, pos, IsSome, IfSome};
 ghost use Rattle.units.specs.Limits.{IsReach};
 
 use crate::Cm;
 use std::marker::Model;
 
-/// How far a distance or a length of a packet reaches, in centimetres: from 0 to 32,767,000, which is 2^15 - 1 units of ten
-/// metres (SUBSET-026, 7.5.1).
+/// How far a distance or a length of a packet reaches, in centimetres: from 0 to 32,767,000, which is 2^15 - 1 units of
+/// ten metres (SUBSET-026, 7.5.1).
 #[derive(Clone, Copy, Debug, PartialEq, Eq)]
 pub struct Reach {
     cm: u32,

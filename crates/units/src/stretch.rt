@@ -1,3 +1,4 @@
+//! A train's minimum safe rear, minimum safe front and maximum safe front, kept in this order.
 ghost use Rattle.std.specs.Prelude.{◌≡◌, ◌↔◌, IsSome, IfSome};
 ghost use Rattle.units.specs.Stretches.{Span, IsOrdered};
 ghost use Rattle.units.specs.Limits.{IsCm};
@@ -5,8 +6,8 @@ ghost use Rattle.units.specs.Limits.{IsCm};
 use crate::Cm;
 use std::marker::Model;
 
-/// The track that a train may cover, in centimetres: from its least rear over its least front to its greatest front (this
-/// project's profile).
+/// The track that a train may cover, in centimetres: from its minimum safe rear over its minimum safe front to its
+/// maximum safe front (this project's profile).
 #[derive(Clone, Copy)]
 pub struct Stretch {
     rear: Cm,

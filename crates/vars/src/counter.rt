@@ -1,3 +1,4 @@
+//! M_MCOUNT, with the numbers for a telegram that fits all others (255) or none (254).
 ghost use Rattle.std.specs.Prelude.{◌≡◌, ◌↔◌, IsTrue};
 
 use crate::variable::{NoValue, Variable};

@@ -1,3 +1,4 @@
+//! Variables D_ and L_: steps of the packet's Q_SCALE, turned into centimetres.
 ghost use Rattle.std.specs.Prelude.{◌≡◌, ◌*◌};
 ghost use Rattle.vars.specs.Meanings.{centimetres_of};
 

@@ -1,3 +1,4 @@
+//! Q_GDIR and G_A, which together give a gradient or end the profile.
 ghost use Rattle.std.specs.Prelude.{◌≡◌, ◌≢◌, ◌↔◌, IsSome, IfSome};
 ghost use Rattle.vars.specs.Meanings.{signed_permille};
 

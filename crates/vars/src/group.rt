@@ -1,3 +1,4 @@
+//! The variables of a balise and its group: N_PIG, N_TOTAL, M_DUP, NID_C and NID_BG.
 use crate::variable::{NoValue, Variable};
 use std::marker::Model;
 

@@ -1,3 +1,4 @@
+//! Levels and modes that packets 41 and 80 ask for: M_LEVELTR, NID_STM and M_MAMODE.
 use crate::variable::{NoValue, Variable};
 use std::marker::Model;
 

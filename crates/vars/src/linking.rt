@@ -1,3 +1,4 @@
+//! The variables of an announced group in packet 5: Q_LINKORIENTATION, Q_LINKREACTION and Q_LOCACC.
 ghost use Rattle.std.specs.Prelude.{◌≡◌, ◌*◌, pos};
 
 use crate::variable::{NoValue, Variable};

@@ -1,3 +1,4 @@
+//! N_ITER, which counts the elements of a list, and NC_DIFF, the category of trains of an element.
 ghost use Rattle.std.specs.Prelude.{◌≡◌, ◌<◌, ◌^◌};
 
 use crate::variable::{NoValue, Variable};

@@ -1,3 +1,4 @@
+//! The head of a packet: NID_PACKET, Q_DIR (untested where the packet is skipped) and L_PACKET.
 ghost use Rattle.std.specs.Prelude.{◌≡◌, ◌<◌, ◌^◌};
 
 use crate::variable::{NoValue, Variable};

@@ -1,3 +1,4 @@
+//! NID_TSR, which temporary speed restriction it is, and Q_FRONT, whether train length delays a speed's end.
 ghost use Rattle.std.specs.Prelude.{◌≡◌, ◌↔◌, IsTrue};
 
 use crate::variable::{NoValue, Variable};

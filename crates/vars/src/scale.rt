@@ -1,3 +1,4 @@
+//! Q_SCALE: distances count in steps of 10 cm, 1 m or 10 m.
 ghost use Rattle.std.specs.Prelude.{◌≡◌, ◌≤◌};
 ghost use Rattle.vars.specs.Meanings.{centimetres_of};
 

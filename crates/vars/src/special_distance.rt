@@ -1,3 +1,4 @@
+//! Variables D_ and L_ whose number 32,767 isn't a distance, but means at once or no end.
 use crate::distance::Distance;
 use crate::variable::{NoValue, Variable};
 

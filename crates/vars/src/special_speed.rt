@@ -1,3 +1,4 @@
+//! Variables V_ with numbers that aren't speeds: V_RELEASEDP, V_RELEASEOL, V_STATIC and V_MAMODE.
 use crate::speed::SpeedStep;
 use crate::variable::{NoValue, Variable};
 

@@ -1,3 +1,4 @@
+//! Variables V_: steps of 5 km/h, turned into metres per hour.
 ghost use Rattle.std.specs.Prelude.{◌≡◌, ◌*◌};
 
 use crate::variable::{NoValue, Variable};

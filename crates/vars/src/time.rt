@@ -1,3 +1,4 @@
+//! Variables T_, in seconds: the timers of a movement authority, and T_NVOVTRP of an override.
 ghost use Rattle.std.specs.Prelude.{◌≡◌, ◌≢◌, ◌*◌, ◌↔◌, IsSome, IfSome};
 
 use crate::variable::{NoValue, Variable};

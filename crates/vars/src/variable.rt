@@ -1,3 +1,4 @@
+//! The trait of all variables, a qualifier of one bit (bool) among them, and why a number has no value.
 ghost use Rattle.std.specs.Prelude.{◌≡◌, ◌<◌, ◌^◌, ◌↔◌, IsTrue, Ok, ℕ};
 ghost use Rattle.bits.specs.Fitting.{HasNumber};
 ghost use Rattle.bits.specs.Layout.{Codes};

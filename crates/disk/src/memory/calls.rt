@@ -1,4 +1,4 @@
-// The calls of a disk in memory.
+//! The calls of a disk in memory.
 ghost use Rattle.std.specs.Prelude.{◌≡◌, ◌≢◌, length, IsTrue, OnOk, OnErr, is_err};
 ghost use Rattle.disk.specs.State.{contents_of, AreSectors, Counted, Touches, Holds, AreOpen, OpenOrSame, SameOpenOutside, SameOpen, IsSynced, SameBut};
 

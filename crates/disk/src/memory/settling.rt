@@ -1,4 +1,4 @@
-// What a cut leaves of a disk in memory.
+//! What a cut leaves of a disk in memory.
 ghost use Rattle.std.specs.Prelude.{◌≡◌, ℕ, ◌*◌, ◌<◌, length, vec_len, if◌then◌else◌, IfOk};
 ghost use Rattle.disk.specs.State.{now, contents_of, IsImage, sector_of, last_synced};
 ghost use Rattle.disk.specs.Choice.{chosen, settled_sector};
@@ -14,7 +14,8 @@ impl Memory {
     ghost use Rattle.disk.specs.Memory.{memory_state, handed_of, room_of, IsFresh};
 
     /// The disk after a cut, with the same room: the i-th open sector, in rising order, holds what the i-th choice
-    /// says, and all others hold what they held. An open sector beyond the list is Old. NoMemory where there is none for it.
+    /// says, and all others hold what they held. An open sector beyond the list is Old. NoMemory where there is none
+    /// for it.
     pub fn settle(&self, alloc: Global, choices: &[Choice]) -> Result<Memory, NoMemory>
         ensures sectors { IfOk result (λ m. (memory_state m).sectors ≡ (memory_state self.now).sectors) }
         ensures contents { IfOk result (λ m. (s : ℕ) →

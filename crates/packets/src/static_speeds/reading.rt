@@ -55,8 +55,8 @@ fn read_steps(
     Ok(())
 }
 
-/// Reads packet 27 behind its number, into the place of another packet; answers its L_PACKET, in bits. The error is the first
-/// fault in the order of the bits.
+/// Reads packet 27 behind its number, into the place of another packet; answers its L_PACKET, in bits. The error is the
+/// first fault in the order of the bits.
 #[tactic(auto, unfolding(crate::specs::Layouts::static_speeds_telling))]
 pub fn read_static_speeds<'a>(
     reader: &mut BitReader<'a>,

@@ -1,4 +1,4 @@
-// The mode areas ahead as targets.
+//! The mode areas ahead as targets.
 ghost use Rattle.std.specs.Prelude.{◌≡◌};
 ghost use Rattle.std.specs.Iterator.{at_most};
 ghost use Rattle.speed_profile.specs.Ahead.{over_ahead, area_targets};

@@ -1,4 +1,4 @@
-// The restrictions ahead as targets.
+//! The restrictions ahead as targets.
 ghost use Rattle.std.specs.Prelude.{◌≡◌};
 ghost use Rattle.std.specs.Iterator.{at_most};
 ghost use Rattle.speed_profile.specs.Ahead.{over_ahead, restriction_targets};

@@ -1,4 +1,4 @@
-// The static speeds ahead as targets.
+//! The static speeds ahead as targets.
 ghost use Rattle.std.specs.Prelude.{◌≡◌, [], None};
 ghost use Rattle.std.specs.Iterator.{at_most};
 ghost use Rattle.speed_profile.specs.Ahead.{over_ahead, static_targets};

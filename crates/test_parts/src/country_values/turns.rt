@@ -1,4 +1,4 @@
-// Which values are in force, and for which countries.
+//! Which values are in force, and for which countries.
 use crate::country_values::Event::{
     Announce, Enter, For, Forget, Keep, PowerUp, Reach, Roll, Speed, Turn,
 };

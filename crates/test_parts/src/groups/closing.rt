@@ -1,4 +1,4 @@
-// What a group closes to: its message, or the first cause that holds.
+//! What a group closes to: its message, or the first cause that holds.
 use crate::groups::rows::End::{Broken, Nothing, Whole};
 use crate::groups::rows::Step::{Go, Hear};
 use crate::groups::rows::{Balise, FIRST, OTHER, Row, SECOND, TOLD, Told, rows};

@@ -1,4 +1,4 @@
-// Groups of one to eight balises, with one of them missed or none.
+//! Groups of one to eight balises, with one of them missed or none.
 use crate::groups::rows::End::{Broken, Nothing, Whole};
 use crate::groups::rows::{Balise, End, FIRST, TOLD, Told, closes, hear};
 use balise_groups::{Assembler, Cause};

@@ -1,4 +1,4 @@
-// What the rows are written in: what balises tell and how the train moves, and which groups close by that.
+//! What the rows are written in: what balises tell and how the train moves, and which groups close by that.
 use crate::wanted::same;
 use balise_groups::{Assembler, Broken, Cause, Closed, Message, Reading, Taken};
 use bits::BitWriter;

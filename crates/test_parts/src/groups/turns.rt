@@ -1,4 +1,4 @@
-// When a group ends, and which telegrams count.
+//! When a group ends, and which telegrams count.
 use crate::groups::rows::End::{Broken, Nothing, Whole};
 use crate::groups::rows::Step::{Go, Hear};
 use crate::groups::rows::{Balise, FIRST, OTHER, Row, SECOND, TOLD, Told, rows};

@@ -1,4 +1,4 @@
-// Announced groups that are missed.
+//! Announced groups that are missed.
 use crate::links::rows::Event::{Announce, Break, InUse, Keep, Miss, Read, Turn};
 use crate::links::rows::Told::{Accepted, AcceptedAs, Ignored, Reacted};
 use crate::links::rows::{Announced, BOTH, Event, GROUP, Group, NONE, Row, SERVICE, rows};

@@ -1,4 +1,4 @@
-// Announced groups that are read or broken, and others.
+//! Announced groups that are read or broken, and others.
 use crate::links::rows::Event::{Announce, Break, InUse, Keep, Miss, Read, Turn};
 use crate::links::rows::Told::{Accepted, AcceptedAs, Ignored, Reacted};
 use crate::links::rows::{Announced, GROUP, Group, NONE, Row, SERVICE, TRIP, rows};

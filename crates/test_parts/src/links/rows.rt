@@ -1,4 +1,4 @@
-// What the rows are written in: what is announced, what happens, and what linking answers.
+//! What the rows are written in: what is announced, what happens, and what linking answers.
 use crate::numbers::{cm, group_place};
 use crate::wanted::same;
 use arrayvec::ArrayVec;
@@ -75,7 +75,7 @@ pub enum Event {
     Read(Group, Told, Effect),
     /// A group breaks, of a number; whether it may be announced.
     Break(u8, bool, Effect),
-    /// The least front is here.
+    /// The minimum safe front is here.
     Miss(i64, Effect),
     /// Whether a group is left.
     InUse(bool),

@@ -1,4 +1,4 @@
-// What is behind the end, and the speed there.
+//! What is behind the end, and the speed there.
 use crate::movement_authority::rows::Told::{Bare, Full};
 use crate::movement_authority::rows::{GRANTED, Granted, Row, rows};
 

@@ -1,4 +1,4 @@
-// What the rows are written in: authorities and what they answer, in plain numbers.
+//! What the rows are written in: authorities and what they answer, in plain numbers.
 use crate::numbers::{cm, distance, group_place, speed_step};
 use crate::wanted::same;
 use arrayvec::ArrayVec;
@@ -49,7 +49,7 @@ pub enum Told {
     Full(i64, u32, i64, Option<u32>),
 }
 
-/// A moment, the least and the greatest front then, and what the authority tells after that.
+/// A moment, the least and the maximum safe front then, and what the authority tells after that.
 pub type Event = (u64, i64, i64, Told);
 
 /// An authority that is accepted at moment 0 and counted from place 0, and what happens then.

@@ -1,4 +1,4 @@
-// What is stored.
+//! What is stored.
 use crate::movement_authority::rows::Told::Bare;
 use crate::movement_authority::rows::{
     GRANTED, Granted, Row, accept, happens, ms, packet, rows, tells,

@@ -1,4 +1,4 @@
-// Timers that run out, and where the end is taken back to.
+//! Timers that run out, and where the end is taken back to.
 use crate::movement_authority::rows::Told::Bare;
 use crate::movement_authority::rows::{GRANTED, Granted, Row, rows};
 

@@ -1,4 +1,4 @@
-// The definition, read centimetre by centimetre and speed by speed, beside the body.
+//! The definition, read centimetre by centimetre and speed by speed, beside the body.
 use crate::permitted_speed::trains::{Ahead, Asked, Gradient, Train, speed};
 use crate::wanted::same;
 use std::process::Abort;

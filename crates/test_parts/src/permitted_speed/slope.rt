@@ -1,3 +1,4 @@
+//! A gradient profile with one change.
 use track_store::Profile;
 use units::{Cm, Permille};
 

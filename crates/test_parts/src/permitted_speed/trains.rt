@@ -1,4 +1,4 @@
-// Trains, targets and gradients made of plain numbers, and the permitted speed as a number.
+//! Trains, targets and gradients made of plain numbers, and the permitted speed as a number.
 use crate::numbers::{cm, mph};
 use crate::permitted_speed::slope::Slope;
 use crate::wanted::same;

@@ -1,4 +1,4 @@
-// The permitted speed before stops and slower track, worked out by hand.
+//! The permitted speed before stops and slower track, worked out by hand.
 use crate::permitted_speed::trains::{Ahead, Asked, Gradient, Row, is_fitting, rows};
 use crate::wanted::same;
 use braking::{Deceleration, Reaction};

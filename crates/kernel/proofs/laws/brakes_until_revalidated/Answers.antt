@@ -5,8 +5,8 @@ use Rattle.driver.specs.Revalidating.{revalidation_of, is_whole}
 use Rattle.events.specs.declared.output.Brake.TheVariants as brake
 use Rattle.mode_table.specs.declared.mode.Mode.TheVariants.{Trip, SystemFailure}
 use Rattle.mode_table.specs.Modes.{is_mode}
-use Rattle.supervision.specs.History.{deeds, mode_of}
-use Rattle.supervision.specs.Life.{kept_of, driver_of}
+use Rattle.mode_control.specs.History.{deeds, mode_of}
+use Rattle.mode_control.specs.Life.{left_at_power_up, driver_of}
 use Rattle.kernel.specs.Brake.{brake_by, far_too_fast, has_rolled, is_service}
 use Rattle.kernel.specs.Lives.{life_of}
 use Rattle.kernel.proofs.laws.brakes_until_revalidated.Goals as goal
@@ -19,7 +19,7 @@ while_not false trip failure outstanding fast rolled service not_so = refl
 pub returns : goal.returns
 returns c events not_so =
     let life = life_of events in
-    let level_valid = is_valid (kept_of life).level in
+    let level_valid = is_valid (left_at_power_up life).level in
     let entries = deeds life.entries in
     let mode = mode_of life.entries in
     while_not (is_whole (revalidation_of level_valid entries)) (is_mode Trip mode) (is_mode SystemFailure mode) (driver_of life).trip_outstanding

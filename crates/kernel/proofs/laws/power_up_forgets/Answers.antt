@@ -3,7 +3,7 @@ use Rattle.events.specs.declared.input.Event.{Event}
 use Rattle.events.specs.declared.input.Event.TheVariants.{PowerUp}
 use Rattle.events.specs.declared.kept.Kept.{Kept}
 use Rattle.mode_table.specs.declared.statuses.Cold.{Cold}
-use Rattle.supervision.specs.Sentences.{begun_life}
+use Rattle.mode_control.specs.Sentences.{begun_life}
 use Rattle.kernel.specs.declared.counts.Counts.{Counts}
 use Rattle.kernel.specs.Lives.{counted, counts_of, life_after, life_of, kept_by}
 use Rattle.kernel.specs.Output.{output_of}

@@ -2,8 +2,8 @@ use Rattle.std.proofs.Common.{◌≡◌, Bool, true, false, not, ◌||◌, refl,
 use Rattle.events.specs.declared.output.Brake.TheVariants as brake
 use Rattle.mode_table.specs.declared.mode.Mode.TheVariants.{Trip, SystemFailure}
 use Rattle.mode_table.specs.Modes.{is_mode}
-use Rattle.supervision.specs.History.{mode_of}
-use Rattle.supervision.specs.Life.{driver_of}
+use Rattle.mode_control.specs.History.{mode_of}
+use Rattle.mode_control.specs.Life.{driver_of}
 use Rattle.kernel.specs.Brake.{brake_by, is_revalidated, far_too_fast, has_rolled, is_service}
 use Rattle.kernel.specs.Lives.{life_of}
 use Rattle.kernel.proofs.laws.trip_brakes.Goals as goal

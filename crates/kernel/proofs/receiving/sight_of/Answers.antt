@@ -1,10 +1,10 @@
 use Rattle.std.proofs.Common.{◌≡◌, Option, ap, sym, refl, ◌∙◌}
 use Rattle.events.specs.declared.input.Input.{Input}
 use Rattle.events.specs.declared.input.Input.TheVariants.{Telegram, Odometer, Clock, Driver}
-use Rattle.trackside.specs.StandsFor.{Known}
+use Rattle.track_picture.specs.StandsFor.{Known}
 use Rattle.kernel.specs.Brake.{reading_of, stands, backward_by}
-use Rattle.supervision.specs.Life.{Life, grown}
-use Rattle.supervision.specs.Sentences.{entry_of}
+use Rattle.mode_control.specs.Life.{Life, grown}
+use Rattle.mode_control.specs.Sentences.{entry_of}
 use Rattle.kernel.proofs.receiving.sight_of.Goals as goal
 
 reading_is : (life : Life) (input : Input) → (entry_of life input).track.begun.reading ≡ reading_of input

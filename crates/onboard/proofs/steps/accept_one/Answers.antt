@@ -6,7 +6,7 @@ use Rattle.journal.specs.Journals.{IsOpen}
 use Rattle.journal.specs.JournalState.{JournalState as Journal}
 use Rattle.onboard.specs.Events.{account_of, IsAhead}
 use Rattle.onboard.specs.Runs.{IsStepped}
-use Rattle.life_steps.specs.declared.step.Step.TheVariants.{Accept}
+use Rattle.events.specs.declared.step.Step.TheVariants.{Accept}
 use Rattle.onboard.specs.Written.{IsLastWritten}
 use Rattle.onboard.proofs.Stepping.{quiet_step}
 use Rattle.onboard.proofs.Stopping.{no_cause, accept_stops}

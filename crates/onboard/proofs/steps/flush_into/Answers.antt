@@ -1,7 +1,7 @@
 use Rattle.std.proofs.Common.{◌≡◌, ◌⊎◌, ◌<◌, ◌≤◌, ◌∙◌, [], List, length, inl, ⊎_elim, refl, sym, ap, subst, arith}
 use Rattle.std.proofs.lemmas.Bool.{cases_lt}
 use Rattle.disk.specs.State.{State, contents_of}
-use Rattle.life_steps.specs.declared.step.Step.TheVariants.{Flush}
+use Rattle.events.specs.declared.step.Step.TheVariants.{Flush}
 use Rattle.onboard.specs.declared.released.Released.{Released}
 use Rattle.onboard.specs.Written.{earlier_one, IsLastWritten}
 use Rattle.onboard.proofs.LastBlock.{still_last, next_last}

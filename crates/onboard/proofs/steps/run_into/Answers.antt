@@ -2,7 +2,7 @@ use Rattle.std.proofs.Common.{rules, ◌≡◌, Some, None, [], ◌++◌, sym, �
 use Rattle.std.proofs.lemmas.List.{take_all, append-nil}
 use Rattle.disk.specs.State.{State, contents_of}
 use Rattle.events.specs.declared.input.Event.{Event}
-use Rattle.life_steps.specs.declared.step.Step.{Step}
+use Rattle.events.specs.declared.step.Step.{Step}
 use Rattle.onboard.specs.Runs.{accepted_by, flush_one, durable_by}
 use Rattle.onboard.specs.Written.{earlier_one, earlier_by, IsLastWritten}
 use Rattle.onboard.proofs.LastBlock.{last_on}

@@ -1,5 +1,5 @@
 use Rattle.std.proofs.Common.{List, [], sym, subst}
-use Rattle.life_steps.specs.declared.step.Step.{Step}
+use Rattle.events.specs.declared.step.Step.{Step}
 use Rattle.disk.specs.State.{State, contents_of}
 use Rattle.onboard.specs.Runs.{flush_one, IsStepped, Took}
 use Rattle.onboard.specs.Written.{earlier_one, IsLastWritten}

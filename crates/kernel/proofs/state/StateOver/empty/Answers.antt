@@ -3,7 +3,7 @@ use Rattle.driver.specs.declared.datum.Datum.TheVariants.{Unknown}
 use Rattle.events.specs.declared.kept.Kept.{Kept}
 use Rattle.events.specs.Nothing.{nothing_kept}
 use Rattle.mode_table.specs.declared.statuses.Cold.TheVariants as cold
-use Rattle.supervision.specs.StandsFor.{StandsForLife}
+use Rattle.mode_control.specs.StandsFor.{StandsForLife}
 use Rattle.kernel.proofs.state.StateOver.empty.Goals as goal
 
 pub returns-clause-stands : goal.returns-clause-stands

@@ -1,7 +1,7 @@
 use Rattle.std.proofs.Common.{ap, sym, subst, ◌∙◌}
 use Rattle.events.specs.declared.kept.Kept.{Kept}
 use Rattle.events.specs.declared.input.Event.TheVariants as event
-use Rattle.supervision.specs.Sentences.{begun_life}
+use Rattle.mode_control.specs.Sentences.{begun_life}
 use Rattle.kernel.specs.Lives.{counted, left_by, kept_by}
 use Rattle.kernel.specs.Output.{output_of}
 use Rattle.kernel.proofs.Leaving.{left_alike, answered_alike}

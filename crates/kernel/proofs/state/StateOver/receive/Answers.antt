@@ -3,7 +3,7 @@ use Rattle.events.specs.declared.input.Event.TheVariants as event
 use Rattle.kernel.specs.Lives.{counted}
 use Rattle.kernel.specs.StandsFor.{Knowledge}
 use Rattle.kernel.proofs.Standing.{seen}
-use Rattle.supervision.specs.Sentences.{entry_of}
+use Rattle.mode_control.specs.Sentences.{entry_of}
 use Rattle.kernel.proofs.state.StateOver.receive.Goals as goal
 
 pub returns-clause-life : goal.returns-clause-life

@@ -1,0 +1,33 @@
+//! The mode, speed and acknowledgements that decide, with the driver's data, which actions are accepted.
+ghost use Rattle.std.specs.Prelude.{◌≡◌};
+ghost use Rattle.driver.specs.Accepting.{stands};
+
+use mode_table::Mode;
+use units::Mph;
+
+/// What bears on which actions are accepted beside the driver's data, as it is before the event (this project's
+/// profile).
+#[derive(Clone, Copy)]
+pub struct ActionSituation {
+    /// The mode.
+    pub mode: Mode,
+    /// The speed of the last reading, in metres per hour; 0 before the first.
+    pub speed: Mph,
+    /// The speed at or below which the trip may be overridden, in metres per hour (V_NVALLOWOVTRP).
+    pub override_allowed: Mph,
+    /// Whether an acknowledgement of On Sight is asked for or owed.
+    pub on_sight_waits: bool,
+    /// Whether an acknowledgement of Shunting is asked for or owed.
+    pub shunting_waits: bool,
+    /// Whether an acknowledgement of level 0 is asked for or owed.
+    pub level_0_waits: bool,
+}
+
+impl ActionSituation {
+    /// Whether the train is at standstill.
+    pub(crate) fn stands(&self) -> bool
+        ensures { result ≡ stands self.now }
+    {
+        self.speed.get() == 0
+    }
+}

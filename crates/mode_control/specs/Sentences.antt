@@ -1,0 +1,174 @@
+-- What an input does in a life, sentence by sentence in the order of one event (this project's profile). Places are
+-- centimetres, moments milliseconds, speeds metres per hour.
+use Rattle.std.specs.Prelude.{ℕ, Bool, false, not, ◌&&◌, if◌then◌else◌, Option, Some, None, unwrap_or, List, [], ◌∷◌}
+use Rattle.std.specs.Option.{option_map_or}
+use Rattle.units.specs.Stretches.{Span}
+use Rattle.areas.specs.Acknowledging.{waits}
+use Rattle.areas.specs.Areas.{any_asks, any_left}
+use Rattle.areas.specs.Levels.{coming, any_asks_for, is_level_0, is_level_0_announced}
+use Rattle.driver.specs.Accepting.{accepts}
+use Rattle.driver.specs.declared.action.Action.{Action}
+use Rattle.driver.specs.declared.occasion.Occasion.{Occasion}
+use Rattle.driver.specs.declared.action_situation.ActionSituation.{ActionSituation}
+use Rattle.events.specs.declared.input.Input as inputs
+use Rattle.events.specs.declared.kept.Kept.{Kept}
+use Rattle.events.specs.declared.input.Input.TheVariants.{Telegram, Odometer, Clock, Driver}
+use Rattle.mode_table.specs.declared.level.TrainLevel.{TrainLevel}
+use Rattle.mode_table.specs.declared.mode.Mode.{Mode}
+use Rattle.mode_table.specs.declared.statuses.Cold.{Cold}
+use Rattle.mode_table.specs.declared.mode.Mode.TheVariants.{OnSight, Shunting}
+use Rattle.mode_table.specs.Modes.{is_mode}
+use Rattle.mode_table.specs.Rows.{next_mode}
+use Rattle.national.specs.declared.values.Values.{Values}
+use Rattle.vars.specs.declared.level.AreaMode.{AreaMode}
+use Rattle.vars.specs.declared.level.AreaMode.TheVariants as area
+use Rattle.track_picture.specs.Entry as track
+use Rattle.track_picture.specs.Entry.{Begun, Used, so_far, looked, turned, marked}
+use Rattle.track_picture.specs.History.{place_of, speed_of, moment_of, areas_of, announced_level}
+use Rattle.track_picture.specs.Sentences.{received, standing, mark_behind, powered_up}
+use Rattle.track_picture.specs.StandsFor.{national_of}
+use Rattle.mode_control.specs.Conditions.{conditions, is_shunting_choice}
+use Rattle.mode_control.specs.declared.deed.Deed.{Deed}
+use Rattle.mode_control.specs.declared.calls.Call.{Call}
+use Rattle.mode_control.specs.declared.calls.Calls.{Calls}
+use Rattle.mode_control.specs.declared.calls.Left.{Left}
+use Rattle.mode_control.specs.Entry.{Entry, begun, seen, answered}
+use Rattle.mode_control.specs.History.{tracks, mode_of, done_in, on_sight_of, shunting_of, level_0_of}
+use Rattle.mode_control.specs.Life.{Life, track_of, driver_of, length_of, grown}
+
+-- ---- first what the input itself brings of the track, by the mode before the event; and an action of the driver
+-- counts where it is accepted in the situation before the event
+
+abbrev pub values_of : Life → Values
+values_of life = (national_of (track_of life)).in_force.values
+
+abbrev pub situation : Life → ActionSituation
+situation life = record {
+  mode = mode_of life.entries;
+  speed = speed_of (tracks life.entries);
+  override_allowed = (values_of life).override_allowed;
+  on_sight_waits = waits (on_sight_of life.entries);
+  shunting_waits = waits (shunting_of life.entries);
+  level_0_waits = waits (level_0_of life.entries);
+}
+
+abbrev pub occasion : Life → Occasion
+occasion life = record {
+  moment = moment_of (tracks life.entries);
+  path = (place_of (tracks life.entries)).sums.path;
+  override_time = (values_of life).override_time;
+  override_distance = (values_of life).override_distance;
+}
+
+abbrev pub deed_by : Life → Action → Option Deed
+deed_by life action =
+    if accepts (driver_of life) (situation life) action then Some (record { action = action; occasion = occasion life }) else None
+
+abbrev pub deed_of : Life → inputs.Input → Option Deed
+deed_of life (Telegram bytes) = None
+deed_of life (Odometer reading) = None
+deed_of life (Clock moment) = None
+deed_of life (Driver action) = deed_by life action
+
+abbrev pub told : Life → inputs.Input → track.Entry
+told life input = received (mode_of life.entries) (tracks life.entries) input
+
+-- ---- then where the train is, and the announced level that comes into force there
+
+abbrev pub standing_in : Life → Span
+standing_in life = standing (length_of life) (tracks life.entries)
+
+abbrev pub level_in : Life → Option TrainLevel
+level_in life = coming (standing_in life).max_front (announced_level (tracks life.entries))
+
+abbrev pub seen_from : Life → Begun → Used → Option Deed → Entry
+seen_from life tells used deed =
+    let here = grown life (begun (so_far tells used) deed) in
+    seen (looked tells used (Some (standing_in here))) deed (level_in here)
+
+-- ---- then one row of the mode table, by the life as the event has left it so far
+
+abbrev pub changed : Mode → Mode → Option Mode
+changed old new = if is_mode old new then None else Some new
+
+abbrev pub entered_in : Life → Span → Option Mode
+entered_in life train = changed (mode_of life.entries) (next_mode (mode_of life.entries) (conditions life train))
+
+-- ---- then the acknowledgements: the transition of a kind; what asks for it, unless its mode holds; and whether
+-- anything of the kind is left once the mode that was entered has deleted what it deletes
+
+abbrev pub has_entered : Mode → Option Mode → Bool
+has_entered mode None = false
+has_entered mode (Some other) = is_mode mode other
+
+abbrev pub mode_after : Mode → Option Mode → Mode
+mode_after old entered = unwrap_or entered old
+
+abbrev pub moment_where : Bool → ℕ → Option ℕ
+moment_where turned moment = if turned then Some moment else None
+
+abbrev pub is_coming_to_level_0 : Option TrainLevel → Bool
+is_coming_to_level_0 level = option_map_or is_level_0 level false
+
+-- of the kind of an area: its mode is entered, unless the driver chose that
+abbrev pub call_of_areas : AreaMode → Mode → Bool → Life → Span → Option Mode → Call
+call_of_areas kind mode chosen life train entered = record {
+  turned = moment_where (has_entered mode entered && not chosen) (moment_of (tracks life.entries));
+  asks = any_asks kind train (areas_of (tracks life.entries)) && not (is_mode mode (mode_after (mode_of life.entries) entered));
+}
+
+-- of level 0: its announcement came into force
+abbrev pub call_of_level : Life → Span → Option TrainLevel → Call
+call_of_level life train level = record {
+  turned = moment_where (is_coming_to_level_0 level) (moment_of (tracks life.entries));
+  asks = any_asks_for train.max_front (announced_level (tracks life.entries));
+}
+
+-- by the life before the mode is entered
+abbrev pub calls_in : Life → Span → Option TrainLevel → Option Mode → Calls
+calls_in life train level entered = record {
+  on_sight = call_of_areas area.OnSight OnSight false life train entered;
+  shunting = call_of_areas area.Shunting Shunting (is_shunting_choice (done_in life.entries)) life train entered;
+  level_0 = call_of_level life train level;
+}
+
+-- by what the track has sent once the mode is entered
+abbrev pub left_in : List track.Entry → Span → Left
+left_in told train = record {
+  on_sight = any_left area.OnSight train.min_front (areas_of told);
+  shunting = any_left area.Shunting train.min_front (areas_of told);
+  level_0 = is_level_0_announced (announced_level told);
+}
+
+abbrev pub answered_from : Life → Begun → Used → Span → Option Deed → Option TrainLevel → Entry
+answered_from life tells used train deed level =
+    let here = grown life (seen (looked tells used (Some train)) deed level) in
+    let entered = entered_in here train in
+    let after = turned tells used (Some train) entered in
+    answered after deed level (calls_in here train level entered) (left_in (after ∷ tracks life.entries) train)
+
+-- ---- at last the track is forgotten far behind the train
+
+abbrev pub ended_from : Life → Begun → Used → Span → Option Mode → Option Deed → Option TrainLevel → Calls → Left → Entry
+ended_from life tells used train mode deed level calls left =
+    let there = grown life (answered (turned tells used (Some train) mode) deed level calls left) in
+    answered (marked tells used (Some train) mode (mark_behind (standing_in there))) deed level calls left
+
+-- ---- the whole event
+
+abbrev pub entry_of : Life → inputs.Input → Entry
+entry_of life input =
+    let t = told life input in
+    let s = seen_from life t.begun t.used (deed_of life input) in
+    let train = standing_in (grown life (begun t (deed_of life input))) in
+    let a = answered_from life t.begun t.used train s.deed s.level in
+    ended_from life t.begun t.used train a.track.entered s.deed s.level a.calls a.left
+
+-- a power-up: nothing but the place and the forgetting mark
+abbrev pub powered_up_in : Life → Entry
+powered_up_in life = begun (powered_up (length_of life)) None
+
+-- a life begins with what was kept
+abbrev pub begun_life : Kept → Cold → Life
+begun_life kept cold =
+    let empty : Life = record { kept = kept; cold = cold; entries = [] } in grown empty (powered_up_in empty)

@@ -1,0 +1,101 @@
+//! What the driver does: an action counts where it is accepted in the situation before the event.
+ghost use Rattle.std.specs.Prelude.{◌≡◌, Some};
+ghost use Rattle.track_picture.specs.Entry.{Begun, Used, so_far};
+ghost use Rattle.mode_control.specs.Entry.{begun};
+ghost use Rattle.mode_control.specs.Life.{Life, grown};
+ghost use Rattle.mode_control.specs.Sentences.{situation, occasion, deed_by, deed_of};
+ghost use Rattle.mode_control.specs.StandsFor.{StandsForLife, parts_of};
+
+use crate::acknowledging::acknowledge;
+use crate::deed::Deed;
+use crate::parts::Parts;
+use crate::state::SupervisionOver;
+use driver::{Acknowledged, Action, ActionSituation, Occasion};
+use events::Input;
+use speed_profile::CategorySpeeds;
+use track_store::ProfileStore;
+use units::Permille;
+
+impl Parts {
+    // An action is accepted.
+    fn act(&mut self, deed: &Deed)
+        ensures { (life : Life) (tells : Begun) (used : Used) → self.old ≡ parts_of life
+            → self.new ≡ parts_of (grown life (begun (so_far tells used) (Some deed.now))) }
+    {
+        self.driver.act(&deed.action, &deed.occasion);
+        acknowledge(&mut self.on_sight, Acknowledged::OnSight, &deed.action);
+        acknowledge(&mut self.shunting, Acknowledged::Shunting, &deed.action);
+        acknowledge(&mut self.level_0, Acknowledged::Level0, &deed.action);
+        self.done = Some(deed.action);
+    }
+
+    /// What the driver did in an event.
+    pub fn note(&mut self, deed: &Option<Deed>)
+        ensures { (life : Life) (tells : Begun) (used : Used) → self.old ≡ parts_of life
+            → self.new ≡ parts_of (grown life (begun (so_far tells used) deed.now)) }
+    {
+        match deed {
+            None => self.done = None,
+            Some(deed) => self.act(deed),
+        }
+    }
+}
+
+impl<G: ProfileStore<Permille> + Drop, S: ProfileStore<CategorySpeeds> + Drop> SupervisionOver<
+    G,
+    S,
+> {
+    // What bears on which actions are accepted.
+    fn situation(&self) -> ActionSituation
+        ensures { (life : Life) → StandsForLife G.profile S.profile self.now life → result ≡ situation life }
+    {
+        ActionSituation {
+            mode: self.parts.mode,
+            speed: self.track.speed(),
+            override_allowed: self.track.national().values().override_allowed,
+            on_sight_waits: self.parts.on_sight.waits(),
+            shunting_waits: self.parts.shunting.waits(),
+            level_0_waits: self.parts.level_0.waits(),
+        }
+    }
+
+    // When an action is accepted now, and how long an override lasts.
+    fn occasion(&self) -> Occasion
+        ensures { (life : Life) → StandsForLife G.profile S.profile self.now life → result ≡ occasion life }
+    {
+        let values = self.track.national().values();
+        let override_time = match values.override_time {
+            None => None,
+            Some(time) => Some(time.to_ms()),
+        };
+        Occasion {
+            moment: self.track.moment(),
+            path: self.track.place().sums().path(),
+            override_time,
+            override_distance: values.override_distance,
+        }
+    }
+
+    // What an action does, if it is accepted.
+    fn deed_by(&self, action: &Action) -> Option<Deed>
+        ensures { (life : Life) → StandsForLife G.profile S.profile self.now life → result ≡ deed_by life action.now }
+    {
+        if !self.parts.driver.accepts(action, &self.situation()) {
+            return None;
+        }
+        Some(Deed {
+            action: *action,
+            occasion: self.occasion(),
+        })
+    }
+
+    /// What the driver does by an input, if it is accepted.
+    pub(crate) fn deed(&self, input: &Input) -> Option<Deed>
+        ensures { (life : Life) → StandsForLife G.profile S.profile self.now life → result ≡ deed_of life input.now }
+    {
+        match input {
+            Input::Driver(action) => self.deed_by(action),
+            Input::Telegram(_) | Input::Odometer(_) | Input::Clock(_) => None,
+        }
+    }
+}

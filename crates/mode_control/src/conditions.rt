@@ -1,0 +1,184 @@
+//! What the rows of the mode table ask for.
+ghost use Rattle.std.specs.Prelude.{◌≡◌, Bool, false};
+ghost use Rattle.mode_table.specs.declared.conditions.Conditions.{Conditions as Asked};
+ghost use Rattle.mode_table.specs.Rows.{next_mode};
+ghost use Rattle.mode_control.specs.Conditions.{is_level_0, is_level_1, is_full_to, is_full, is_overridden, is_beyond, is_beyond_end, trips, is_beyond_staff_distance, is_start, is_shunting_choice, is_leaving, is_override, is_desk_closing, is_trip_acknowledging, conditions};
+ghost use Rattle.mode_control.specs.History.{mode_of};
+ghost use Rattle.mode_control.specs.Life.{Life};
+ghost use Rattle.mode_control.specs.StandsFor.{StandsForLife};
+
+use crate::knowing::is_known;
+use crate::state::SupervisionOver;
+use authority::End;
+use driver::{Acknowledged, Action, Datum};
+use mode_table::{Conditions, Mode, TrainLevel, next_mode};
+use speed_profile::CategorySpeeds;
+use track_store::ProfileStore;
+use units::{Cm, Permille, Stretch};
+use vars::AreaMode;
+
+fn is_level_0(level: &Datum<TrainLevel>) -> bool
+    ensures { result ≡ is_level_0 level.now }
+{
+    matches!(level, Datum::Valid(TrainLevel::Level0))
+}
+
+fn is_level_1(level: &Datum<TrainLevel>) -> bool
+    ensures { result ≡ is_level_1 level.now }
+{
+    matches!(level, Datum::Valid(TrainLevel::Level1))
+}
+
+fn is_start(done: &Option<Action>) -> bool
+    ensures { result ≡ is_start done.now }
+{
+    matches!(done, Some(Action::Start))
+}
+
+/// Whether the driver's choice of Shunting was accepted.
+pub fn is_shunting_choice(done: &Option<Action>) -> bool
+    ensures { result ≡ is_shunting_choice done.now }
+{
+    matches!(done, Some(Action::ChooseShunting))
+}
+
+fn is_leaving(done: &Option<Action>) -> bool
+    ensures { result ≡ is_leaving done.now }
+{
+    matches!(done, Some(Action::LeaveShunting))
+}
+
+fn is_override(done: &Option<Action>) -> bool
+    ensures { result ≡ is_override done.now }
+{
+    matches!(done, Some(Action::Override))
+}
+
+fn is_desk_closing(done: &Option<Action>) -> bool
+    ensures { result ≡ is_desk_closing done.now }
+{
+    matches!(done, Some(Action::CloseDesk))
+}
+
+fn is_trip_acknowledging(done: &Option<Action>) -> bool
+    ensures { result ≡ is_trip_acknowledging done.now }
+{
+    matches!(done, Some(Action::Acknowledge(Acknowledged::Trip)))
+}
+
+// Whether rows of the mode table that start from a mode may ask for the track ahead to be known up to the end of
+// authority.
+fn asks_for_full(mode: Mode) -> bool
+    ensures { result ≡ false → (c : Asked) (full : Bool) → next_mode mode (record c { full = full }) ≡ next_mode mode c }
+{
+    matches!(
+        mode,
+        Mode::OnSight | Mode::StaffResponsible | Mode::Unfitted | Mode::StandBy
+    )
+}
+
+// Whether the minimum safe front is above the end of authority while no speed is allowed there.
+fn is_beyond(min_front: Cm, end: &End) -> bool
+    ensures { result ≡ is_beyond min_front end.now }
+{
+    end.end < min_front && end.speed.get() == 0
+}
+
+impl<G: ProfileStore<Permille> + Drop, S: ProfileStore<CategorySpeeds> + Drop> SupervisionOver<
+    G,
+    S,
+> {
+    // Whether the track ahead is known up to the end of authority.
+    fn is_full_to(&self, front: Cm, end: &End) -> bool
+        ensures { (life : Life) → StandsForLife G.profile S.profile self.now life → result ≡ is_full_to life front end.now }
+    {
+        front < end.end
+            && is_known(self.track.speeds(), front, end.end)
+            && is_known(self.track.gradients(), front, end.end)
+    }
+
+    // Whether an authority is stored, and the track ahead is known up to its end.
+    fn is_full(&self, train: &Stretch) -> bool
+        ensures { (life : Life) → StandsForLife G.profile S.profile self.now life → result ≡ is_full life train.now }
+    {
+        match self.track.authority().end() {
+            None => false,
+            Some(end) => self.is_full_to(train.max_front(), &end),
+        }
+    }
+
+    /// Whether the trip is overridden.
+    pub fn is_overridden(&self) -> bool
+        ensures { (life : Life) → StandsForLife G.profile S.profile self.now life → result ≡ is_overridden life }
+    {
+        let path = self.track.place().sums().path();
+        self.parts.driver.is_overridden(self.track.moment(), path)
+    }
+
+    // Whether the minimum safe front is above the end of authority while no speed is allowed there.
+    fn is_beyond_end(&self, train: &Stretch) -> bool
+        ensures { (life : Life) → StandsForLife G.profile S.profile self.now life → result ≡ is_beyond_end life train.now }
+    {
+        match self.track.authority().end() {
+            None => false,
+            Some(end) => is_beyond(train.min_front(), &end),
+        }
+    }
+
+    // Whether the train is to be tripped.
+    fn trips(&self, train: &Stretch) -> bool
+        ensures { (life : Life) → StandsForLife G.profile S.profile self.now life → result ≡ trips life train.now }
+    {
+        !self.is_overridden()
+            && (self.is_beyond_end(train)
+                || self.track.happened().asked.trip
+                || self.track.is_stopped())
+    }
+
+    // Whether the train has run too far in Staff Responsible.
+    fn is_beyond_staff_distance(&self) -> bool
+        ensures { (life : Life) → StandsForLife G.profile S.profile self.now life → result ≡ is_beyond_staff_distance life }
+    {
+        match self.track.national().values().staff_responsible_distance {
+            None => false,
+            Some(distance) => {
+                let end = self.parts.staff_from.get() + u64::from(distance.get());
+                end < self.track.place().sums().path().get()
+            }
+        }
+    }
+
+    // All conditions, where the train is there, but whether the track ahead is known, which is told.
+    fn conditions(&self, full: bool, train: &Stretch) -> Conditions
+        ensures { (life : Life) → StandsForLife G.profile S.profile self.now life → result ≡ record (conditions life train.now) { full = full } }
+    {
+        let level = self.parts.driver.level();
+        let done = &self.parts.done;
+        Conditions {
+            overrun: self.track.happened().overrun,
+            desk_closed: is_desk_closing(done),
+            trip: self.trips(train),
+            beyond_staff_distance: self.is_beyond_staff_distance(),
+            level_0: is_level_0(&level),
+            level_1: is_level_1(&level),
+            full,
+            on_sight_area: self.track.areas().is_met(AreaMode::OnSight, train),
+            shunting_area: self.track.areas().is_met(AreaMode::Shunting, train),
+            trip_acknowledged: is_trip_acknowledging(done),
+            override_accepted: is_override(done),
+            shunting_chosen: is_shunting_choice(done),
+            shunting_left: is_leaving(done),
+            started: is_start(done),
+        }
+    }
+
+    /// The mode behind the event, where the train is there. Whether the track ahead is known up to the end of authority
+    /// is looked for only where rows ask for it: in Full Supervision none does.
+    pub(crate) fn mode_behind(&self, train: &Stretch) -> Mode
+        ensures { (life : Life) → StandsForLife G.profile S.profile self.now life → result ≡ next_mode (mode_of life.entries) (conditions life train.now) }
+    {
+        let mode = self.parts.mode;
+        let full = asks_for_full(mode) && self.is_full(train);
+        next_mode(mode, &self.conditions(full, train))
+    }
+}

@@ -1,0 +1,67 @@
+//! What an input does, sentence by sentence in the order of one event.
+ghost use Rattle.std.specs.Prelude.{◌≡◌, ◌≤◌, IsOk, OnOk, OnErr, Option, Some};
+ghost use Rattle.mode_table.specs.declared.level.TrainLevel.{TrainLevel as Level};
+ghost use Rattle.mode_table.specs.declared.mode.Mode.{Mode};
+ghost use Rattle.units.specs.Stretches.{Span};
+ghost use Rattle.track_picture.specs.Entry.{Begun, Used, turned};
+ghost use Rattle.track_picture.specs.StandsFor.{size_in};
+ghost use Rattle.track_picture.specs.Steps.{packets_by, HasRoomFor};
+ghost use Rattle.mode_control.specs.declared.calls.Calls.{Calls};
+ghost use Rattle.mode_control.specs.declared.calls.Left.{Left};
+ghost use Rattle.mode_control.specs.declared.deed.Deed.{Deed};
+ghost use Rattle.mode_control.specs.Entry.{begun, answered};
+ghost use Rattle.mode_control.specs.Life.{Life, grown};
+ghost use Rattle.mode_control.specs.Sentences.{told, deed_of, ended_from, entry_of};
+ghost use Rattle.mode_control.specs.StandsFor.{StandsForLife};
+
+use crate::state::SupervisionOver;
+use events::Input;
+use speed_profile::CategorySpeeds;
+use track_store::ProfileStore;
+use units::{NoMemory, Permille};
+
+impl<G: ProfileStore<Permille> + Drop, S: ProfileStore<CategorySpeeds> + Drop> SupervisionOver<
+    G,
+    S,
+> {
+    // What the input itself brings, and the groups that it closes.
+    fn begin(&mut self, input: &Input) -> Result<(), NoMemory>
+        ensures quiet { HasRoomFor G.room S.room self.old.track input.now → IsOk result }
+        ensures idle { packets_by self.old.track.parts input.now ≡ 0 → OnOk result (size_in G.size S.size self.new.track ≡ size_in G.size S.size self.old.track) }
+        ensures stands { OnOk result ((life : Life) → StandsForLife G.profile S.profile self.old life
+            → StandsForLife G.profile S.profile self.new (grown life (begun (told life input.now) (deed_of life input.now)))) }
+        ensures err { OnErr result (self.new ≡ self.old) }
+    {
+        let deed = self.deed(input);
+        let mode = self.mode();
+        self.track.receive(mode, input)?;
+        self.parts.note(&deed);
+        Ok(())
+    }
+
+    // The track far behind the train is forgotten.
+    fn forget(&mut self)
+        ensures stands { (life : Life) (tells : Begun) (used : Used) (train : Span) (mode : Option Mode) (deed : Option Deed) (level : Option Level) (calls : Calls) (left : Left)
+            → StandsForLife G.profile S.profile self.old (grown life (answered (turned tells used (Some train) mode) deed level calls left))
+            → StandsForLife G.profile S.profile self.new (grown life (ended_from life tells used train mode deed level calls left)) }
+        ensures size { size_in G.size S.size self.new.track ≤ size_in G.size S.size self.old.track }
+    {
+        self.track.forget(self.parts.length());
+    }
+
+    /// All that an input does. Where memory is refused, nothing changes; none is refused where there is room for what
+    /// the input may use. An input that uses no packet keeps no more track.
+    pub fn receive(&mut self, input: &Input) -> Result<(), NoMemory>
+        ensures quiet { HasRoomFor G.room S.room self.old.track input.now → IsOk result }
+        ensures idle { packets_by self.old.track.parts input.now ≡ 0 → OnOk result (size_in G.size S.size self.new.track ≤ size_in G.size S.size self.old.track) }
+        ensures stands { OnOk result ((life : Life) → StandsForLife G.profile S.profile self.old life
+            → StandsForLife G.profile S.profile self.new (grown life (entry_of life input.now))) }
+        ensures err { OnErr result (self.new ≡ self.old) }
+    {
+        self.begin(input)?;
+        let seen = self.see();
+        self.turn(&seen);
+        self.forget();
+        Ok(())
+    }
+}

@@ -1,0 +1,75 @@
+//! The look at the train, once the groups of an event are used.
+ghost use Rattle.std.specs.Prelude.{◌≡◌, List, Option, Some};
+ghost use Rattle.driver.specs.declared.kept.Kept.{Kept as DriverKept};
+ghost use Rattle.driver.specs.Entries.{Entry as DriverEntry};
+ghost use Rattle.driver.specs.Known.{known};
+ghost use Rattle.units.specs.Stretches.{Span};
+ghost use Rattle.track_picture.specs.Entry.{Begun, Used, so_far, looked};
+ghost use Rattle.mode_control.specs.declared.deed.Deed.{Deed};
+ghost use Rattle.mode_control.specs.Entry.{begun, seen};
+ghost use Rattle.mode_control.specs.History.{after_level};
+ghost use Rattle.mode_control.specs.Life.{Life, grown};
+ghost use Rattle.mode_control.specs.Sentences.{standing_in, seen_from, level_in};
+ghost use Rattle.mode_control.specs.StandsFor.{StandsForLife, parts_of};
+ghost use Rattle.track_picture.specs.StandsFor.{size_in};
+
+use crate::parts::Parts;
+use crate::state::SupervisionOver;
+use driver::Driver;
+use mode_table::TrainLevel;
+use speed_profile::CategorySpeeds;
+use track_store::ProfileStore;
+use units::{Permille, Stretch};
+
+/// What was seen of the train.
+#[derive(Clone, Copy)]
+pub struct Seen {
+    /// Where it is.
+    pub train: Stretch,
+    /// The announced level that came into force.
+    pub level: Option<TrainLevel>,
+}
+
+fn come_in(driver: &mut Driver, level: &Option<TrainLevel>)
+    ensures { (kept : DriverKept) (entries : List DriverEntry) → driver.old ≡ known kept entries → driver.new ≡ known kept (after_level level.now entries) }
+{
+    if let Some(level) = level {
+        driver.come_in(*level);
+    }
+}
+
+impl Parts {
+    // An announced level comes into force, if one does.
+    fn come_in(&mut self, level: &Option<TrainLevel>)
+        ensures { (life : Life) (tells : Begun) (used : Used) (train : Span) (deed : Option Deed)
+            → self.old ≡ parts_of (grown life (begun (so_far tells used) deed))
+            → self.new ≡ parts_of (grown life (seen (looked tells used (Some train)) deed level.now)) }
+    {
+        come_in(&mut self.driver, level);
+    }
+}
+
+impl<G: ProfileStore<Permille> + Drop, S: ProfileStore<CategorySpeeds> + Drop> SupervisionOver<
+    G,
+    S,
+> {
+    /// The look at the train: what is announced comes into force where the maximum safe front has reached its place.
+    pub(crate) fn see(&mut self) -> Seen
+        ensures train { (life : Life) (tells : Begun) (used : Used) (deed : Option Deed)
+            → StandsForLife G.profile S.profile self.old (grown life (begun (so_far tells used) deed))
+            → result.train ≡ standing_in (grown life (begun (so_far tells used) deed)) }
+        ensures level { (life : Life) (tells : Begun) (used : Used) (deed : Option Deed)
+            → StandsForLife G.profile S.profile self.old (grown life (begun (so_far tells used) deed))
+            → result.level ≡ level_in (grown life (begun (so_far tells used) deed)) }
+        ensures stands { (life : Life) (tells : Begun) (used : Used) (deed : Option Deed)
+            → StandsForLife G.profile S.profile self.old (grown life (begun (so_far tells used) deed))
+            → StandsForLife G.profile S.profile self.new (grown life (seen_from life tells used deed)) }
+        ensures size { size_in G.size S.size self.new.track ≡ size_in G.size S.size self.old.track }
+    {
+        let length = self.parts.length();
+        let train = self.track.place().stretch(length);
+        let level = self.track.look(length);
+        self.parts.come_in(&level);
+        Seen { train, level }
+    }
+}

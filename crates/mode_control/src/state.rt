@@ -1,0 +1,134 @@
+//! The supervision of a train: as a life begins, copied, and what it tells.
+ghost use Rattle.std.specs.Prelude.{◌≡◌, [], IsOk, IfOk};
+ghost use Rattle.mode_control.specs.Life.{Life, length_by};
+ghost use Rattle.mode_control.specs.Sentences.{begun_life, standing_in};
+ghost use Rattle.mode_control.specs.StandsFor.{StandsForLife};
+ghost use Rattle.track_picture.specs.StandsFor.{size_in};
+
+use crate::parts::Parts;
+use areas::Acknowledgement;
+use driver::Driver;
+use events::Kept;
+use mode_table::{Cold, Mode};
+use speed_profile::CategorySpeeds;
+use std::alloc::Global;
+use std::marker::Model;
+use track_picture::TracksideOver;
+use track_store::{ProfileStore, SegmentStore};
+use units::{Length, NoMemory, Permille, Stretch};
+
+/// The supervision of a train, with stores for the gradients and the static speeds (this project's profile).
+#[derive(Drop)]
+pub struct SupervisionOver<G, S> {
+    pub(crate) parts: Parts,
+    pub(crate) track: TracksideOver<G, S>,
+}
+
+/// With stores that stay short however long the life.
+pub type Supervision = SupervisionOver<SegmentStore<Permille>, SegmentStore<CategorySpeeds>>;
+
+impl<G, S> Model for SupervisionOver<G, S> {
+    ghost use Rattle.mode_control.specs.StandsFor.{Knowledge};
+
+    ghost Value = { Knowledge G S };
+
+    ghost view = { λ s. record { parts = s.parts; track = s.track } };
+}
+
+impl<G: ProfileStore<Permille> + Drop, S: ProfileStore<CategorySpeeds> + Drop> SupervisionOver<
+    G,
+    S,
+> {
+    /// What is known before the first event of a life, of what was kept. Takes no memory.
+    pub fn new(alloc: Global, kept: Kept, cold: Cold) -> Self
+        ensures stands { StandsForLife G.profile S.profile result (record { kept = kept; cold = cold; entries = [] }) }
+        ensures size { size_in G.size S.size result.track ≡ 0 }
+    {
+        SupervisionOver {
+            parts: Parts::new(&kept, cold),
+            track: TracksideOver::new(alloc, kept.national),
+        }
+    }
+
+    /// A life begins with what was kept; what is known of movements while the power was off decides what of it stays
+    /// valid. Takes no memory.
+    pub fn power_up(alloc: Global, kept: Kept, cold: Cold) -> Self
+        ensures stands { StandsForLife G.profile S.profile result (begun_life kept cold) }
+        ensures size { size_in G.size S.size result.track ≡ 0 }
+    {
+        let parts = Parts::new(&kept, cold);
+        let mut track = TracksideOver::new(alloc, kept.national);
+        track.forget(parts.length());
+        SupervisionOver { parts, track }
+    }
+
+    /// Where the train is: from the minimum safe rear to the maximum safe front.
+    pub fn standing(&self) -> Stretch
+        ensures { (life : Life) → StandsForLife G.profile S.profile self.now life → result ≡ standing_in life }
+    {
+        self.track.place().stretch(self.parts.length())
+    }
+
+    /// An equal value; NoMemory where it is refused. None is taken where no restriction and no profile is kept, nor
+    /// room for one.
+    pub fn copy(&self, alloc: Global) -> Result<Self, NoMemory>
+        ensures value { IfOk result (λ copy. copy ≡ self.now) }
+        ensures quiet { size_in G.size S.size self.now.track ≡ 0 → IsOk result }
+    {
+        Ok(SupervisionOver {
+            parts: self.parts,
+            track: self.track.copy(alloc)?,
+        })
+    }
+}
+
+impl<G, S> SupervisionOver<G, S> {
+    /// What the track sent.
+    pub fn track(&self) -> &TracksideOver<G, S>
+        ensures { result.now ≡ self.now.track }
+    {
+        &self.track
+    }
+
+    /// The mode.
+    pub fn mode(&self) -> Mode
+        ensures { result ≡ self.now.parts.mode }
+    {
+        self.parts.mode
+    }
+
+    /// The driver's data.
+    pub fn driver(&self) -> &Driver
+        ensures { result.now ≡ self.now.parts.driver }
+    {
+        &self.parts.driver
+    }
+
+    /// The acknowledgement of On Sight.
+    pub fn on_sight(&self) -> Acknowledgement
+        ensures { result ≡ self.now.parts.on_sight }
+    {
+        self.parts.on_sight
+    }
+
+    /// The acknowledgement of Shunting.
+    pub fn shunting(&self) -> Acknowledgement
+        ensures { result ≡ self.now.parts.shunting }
+    {
+        self.parts.shunting
+    }
+
+    /// The acknowledgement of level 0.
+    pub fn level_0(&self) -> Acknowledgement
+        ensures { result ≡ self.now.parts.level_0 }
+    {
+        self.parts.level_0
+    }
+
+    /// The length of the train, in centimetres; 0 where its data aren't valid.
+    pub fn length(&self) -> Length
+        ensures { result ≡ length_by self.now.parts.driver.train_data }
+    {
+        self.parts.length()
+    }
+}

@@ -1,0 +1,209 @@
+//! The change of mode, and the acknowledgements.
+ghost use Rattle.std.specs.Prelude.{◌≡◌, ◌≤◌, Option, Some, List, ◌∷◌, if◌then◌else◌};
+ghost use Rattle.driver.specs.declared.kept.Kept.{Kept as DriverKept};
+ghost use Rattle.driver.specs.Entries.{Entry as DriverEntry};
+ghost use Rattle.driver.specs.Known.{known};
+ghost use Rattle.units.specs.Stretches.{Span};
+ghost use Rattle.track_picture.specs.Entry.{Begun, Used, looked, turned};
+ghost use Rattle.track_picture.specs.History.{place_of};
+ghost use Rattle.track_picture.specs.StandsFor.{Life as TrackLife, StandsForLife as StandsForTrack, parts_of as track_parts_of, grown as track_grown, size_in};
+ghost use Rattle.mode_table.specs.declared.level.TrainLevel.{TrainLevel as Level};
+ghost use Rattle.mode_control.specs.declared.deed.Deed.{Deed};
+ghost use Rattle.mode_control.specs.Entry.{seen as seen_as, answered};
+ghost use Rattle.mode_control.specs.History.{tracks, enters_staff, after_mode};
+ghost use Rattle.mode_control.specs.Life.{Life, grown};
+ghost use Rattle.mode_control.specs.Sentences.{changed, entered_in, has_entered, mode_after, moment_where, is_coming_to_level_0, call_of_areas, call_of_level, calls_in, left_in, answered_from};
+ghost use Rattle.mode_control.specs.StandsFor.{StandsForLife, parts_of};
+
+use crate::acknowledging::answer;
+use crate::calls::{Call, Calls, Left};
+use crate::conditions::is_shunting_choice;
+use crate::parts::Parts;
+use crate::seeing::Seen;
+use crate::state::SupervisionOver;
+use driver::Driver;
+use mode_table::{Mode, TrainLevel};
+use speed_profile::CategorySpeeds;
+use track_picture::TracksideOver;
+use track_store::ProfileStore;
+use units::{Length, Ms, Permille, Stretch};
+use vars::AreaMode;
+
+// The mode that is entered, if it is another one.
+fn changed(old: Mode, new: Mode) -> Option<Mode>
+    ensures { result ≡ changed old new }
+{
+    if old.number() == new.number() {
+        None
+    } else {
+        Some(new)
+    }
+}
+
+fn has_entered(mode: Mode, entered: &Option<Mode>) -> bool
+    ensures { result ≡ has_entered mode entered.now }
+{
+    match entered {
+        None => false,
+        Some(other) => other.number() == mode.number(),
+    }
+}
+
+fn moment_where(turned: bool, moment: Ms) -> Option<Ms>
+    ensures { result ≡ moment_where turned moment }
+{
+    if turned { Some(moment) } else { None }
+}
+
+fn is_coming_to_level_0(level: &Option<TrainLevel>) -> bool
+    ensures { result ≡ is_coming_to_level_0 level.now }
+{
+    matches!(level, Some(TrainLevel::Level0))
+}
+
+fn mode_after(old: Mode, entered: &Option<Mode>) -> Mode
+    ensures { result ≡ mode_after old entered.now }
+{
+    match entered {
+        None => old,
+        Some(mode) => *mode,
+    }
+}
+
+// The path from which the distance in Staff Responsible counts.
+fn staff_from(old: Length, entered: &Option<Mode>, path: Length) -> Length
+    ensures { result ≡ (if enters_staff entered.now then path else old) }
+{
+    match entered {
+        Some(Mode::StaffResponsible) => path,
+        _ => old,
+    }
+}
+
+fn turn_driver(driver: &mut Driver, entered: &Option<Mode>)
+    ensures { (kept : DriverKept) (entries : List DriverEntry) → driver.old ≡ known kept entries → driver.new ≡ known kept (after_mode entered.now entries) }
+{
+    if let Some(mode) = entered {
+        driver.turn(*mode);
+    }
+}
+
+impl Parts {
+    // A mode is entered, if another one is, at this path of the life; what is called for then, and what is left.
+    fn turn(&mut self, entered: &Option<Mode>, path: Length, calls: &Calls, left: &Left)
+        ensures { (life : Life) (tells : Begun) (used : Used) (train : Option Span) (deed : Option Deed) (level : Option Level)
+            → self.old ≡ parts_of (grown life (seen_as (looked tells used train) deed level))
+            → path ≡ (place_of (turned tells used train entered.now ∷ tracks life.entries)).sums.path
+            → self.new ≡ parts_of (grown life (answered (turned tells used train entered.now) deed level calls.now left.now)) }
+    {
+        turn_driver(&mut self.driver, entered);
+        self.mode = mode_after(self.mode, entered);
+        self.staff_from = staff_from(self.staff_from, entered, path);
+        answer(&mut self.on_sight, &calls.on_sight, entered, left.on_sight);
+        answer(&mut self.shunting, &calls.shunting, entered, left.shunting);
+        answer(&mut self.level_0, &calls.level_0, entered, left.level_0);
+    }
+}
+
+// What is left of what the track sent.
+fn left_by<G, S>(track: &TracksideOver<G, S>, train: &Stretch) -> Left
+    ensures { (life : TrackLife) → track.now.parts ≡ track_parts_of life → result ≡ left_in life.entries train.now }
+{
+    let front = train.min_front();
+    let areas = track.areas();
+    Left {
+        on_sight: areas.is_left(AreaMode::OnSight, front),
+        shunting: areas.is_left(AreaMode::Shunting, front),
+        level_0: track.level().is_left(),
+    }
+}
+
+// The track takes note of another mode that is entered.
+fn enter<G: ProfileStore<Permille> + Drop, S: ProfileStore<CategorySpeeds> + Drop>(
+    track: &mut TracksideOver<G, S>,
+    entered: &Option<Mode>,
+)
+    ensures stands { (life : TrackLife) (tells : Begun) (used : Used) (train : Option Span)
+        → StandsForTrack G.profile S.profile track.old (track_grown life (looked tells used train))
+        → StandsForTrack G.profile S.profile track.new (track_grown life (turned tells used train entered.now)) }
+    ensures size { size_in G.size S.size track.new ≤ size_in G.size S.size track.old }
+{
+    if let Some(mode) = entered {
+        track.enter(*mode);
+    }
+}
+
+impl<G: ProfileStore<Permille> + Drop, S: ProfileStore<CategorySpeeds> + Drop> SupervisionOver<
+    G,
+    S,
+> {
+    // The mode that is entered, if another one is, where the train is there.
+    fn entered(&self, train: &Stretch) -> Option<Mode>
+        ensures { (life : Life) → StandsForLife G.profile S.profile self.now life → result ≡ entered_in life train.now }
+    {
+        changed(self.parts.mode, self.mode_behind(train))
+    }
+
+    // What is called for by the areas of a kind that has its own mode.
+    fn call_of_areas(
+        &self,
+        kind: AreaMode,
+        mode: Mode,
+        chosen: bool,
+        train: &Stretch,
+        entered: &Option<Mode>,
+    ) -> Call
+        ensures { (life : Life) → StandsForLife G.profile S.profile self.now life → result ≡ call_of_areas kind mode chosen life train.now entered.now }
+    {
+        let after = mode_after(self.parts.mode, entered);
+        let holds = after.number() == mode.number();
+        Call {
+            turned: moment_where(has_entered(mode, entered) && !chosen, self.track.moment()),
+            asks: self.track.areas().asks(kind, train) && !holds,
+        }
+    }
+
+    // What is called for by the announcement of level 0.
+    fn call_of_level(&self, seen: &Seen) -> Call
+        ensures { (life : Life) → StandsForLife G.profile S.profile self.now life → result ≡ call_of_level life seen.now.train seen.now.level }
+    {
+        Call {
+            turned: moment_where(is_coming_to_level_0(&seen.level), self.track.moment()),
+            asks: self.track.level().asks(seen.train.max_front()),
+        }
+    }
+
+    // What is called for, where this mode is entered.
+    fn calls(&self, seen: &Seen, entered: &Option<Mode>) -> Calls
+        ensures { (life : Life) → StandsForLife G.profile S.profile self.now life → result ≡ calls_in life seen.now.train seen.now.level entered.now }
+    {
+        let train = &seen.train;
+        let chosen = is_shunting_choice(&self.parts.done);
+        Calls {
+            on_sight: self.call_of_areas(AreaMode::OnSight, Mode::OnSight, false, train, entered),
+            shunting: self.call_of_areas(
+                AreaMode::Shunting,
+                Mode::Shunting,
+                chosen,
+                train,
+                entered,
+            ),
+            level_0: self.call_of_level(seen),
+        }
+    }
+
+    /// One row of the mode table, then the acknowledgements, and what the mode deletes that is entered.
+    pub(crate) fn turn(&mut self, seen: &Seen)
+        ensures stands { (life : Life) (tells : Begun) (used : Used) (deed : Option Deed)
+            → StandsForLife G.profile S.profile self.old (grown life (seen_as (looked tells used (Some seen.now.train)) deed seen.now.level))
+            → StandsForLife G.profile S.profile self.new (grown life (answered_from life tells used seen.now.train deed seen.now.level)) }
+        ensures size { size_in G.size S.size self.new.track ≤ size_in G.size S.size self.old.track }
+    {
+        let entered = self.entered(&seen.train);
+        let calls = self.calls(seen, &entered);
+        enter(&mut self.track, &entered);
+        let left = left_by(&self.track, &seen.train);
+        let path = self.track.place().sums().path();
+        self.parts.turn(&entered, path, &calls, &left);
+    }
+}

@@ -1,0 +1,91 @@
+//! The permitted speed, in Full Supervision and On Sight.
+ghost use Rattle.std.specs.Prelude.{◌≡◌};
+ghost use Rattle.driver.specs.Limits.{Train};
+ghost use Rattle.speed_supervision.specs.Limit.{bounds_of, in_areas, along, permitted_speed, permitted_for};
+ghost use Rattle.speed_profile.specs.Track.{speeds_along};
+ghost use Rattle.mode_control.specs.Life.{Life, driver_of};
+ghost use Rattle.mode_control.specs.StandsFor.{StandsForLife};
+
+use crate::by_mode::values;
+use crate::release::released_by;
+use areas::NationalSpeeds;
+use driver::{Datum, TrainData};
+use mode_control::SupervisionOver;
+use national::Values;
+use speed_profile::{Ahead, Bounds, CategorySpeeds, Track, limit_on};
+use track_store::ProfileStore;
+use units::{Mph, Permille};
+
+// What limits the train wherever it is.
+fn bounds<G: ProfileStore<Permille> + Drop, S: ProfileStore<CategorySpeeds> + Drop>(
+    supervision: &SupervisionOver<G, S>,
+    train: &TrainData,
+) -> Bounds
+    ensures { (life : Life) → StandsForLife G.profile S.profile supervision.now life → result ≡ bounds_of life train.now }
+{
+    let authority = supervision.track().authority();
+    Bounds {
+        maximum: train.maximum(),
+        category: train.category(),
+        main: authority.main_speed(),
+        end: authority.end(),
+    }
+}
+
+// The national values for the speeds in areas.
+fn in_areas(values: &Values) -> NationalSpeeds
+    ensures { result ≡ in_areas values.now }
+{
+    NationalSpeeds {
+        on_sight: values.on_sight,
+        shunting: values.shunting,
+    }
+}
+
+// The speeds along the track.
+fn along<G: ProfileStore<Permille> + Drop, S: ProfileStore<CategorySpeeds> + Drop>(
+    supervision: &SupervisionOver<G, S>,
+) -> Track<'_, S>
+    ensures { (life : Life) → StandsForLife G.profile S.profile supervision.now life → speeds_along S.value result ≡ along life }
+{
+    let track = supervision.track();
+    Track {
+        speeds: track.speeds(),
+        restrictions: track.restrictions(),
+        areas: track.areas(),
+        national: in_areas(values(supervision)),
+    }
+}
+
+fn permitted_speed<G: ProfileStore<Permille> + Drop, S: ProfileStore<CategorySpeeds> + Drop>(
+    supervision: &SupervisionOver<G, S>,
+    train: &TrainData,
+) -> Mph
+    ensures { (life : Life) → StandsForLife G.profile S.profile supervision.now life → result ≡ permitted_speed life train.now }
+{
+    let stretch = supervision.standing();
+    let bounds = bounds(supervision, train);
+    let track = along(supervision);
+    let brakes = train.brakes();
+    let ahead = Ahead {
+        front: stretch.max_front(),
+        bounds: &bounds,
+        track: &track,
+        gradient: supervision.track().gradients(),
+        brakes: &brakes,
+    };
+    let limit = limit_on(&stretch, &bounds, &track);
+    released_by(&ahead, limit, &bounds.end, values(supervision).release)
+}
+
+/// The permitted speed, in metres per hour; 0 where the train data aren't valid (this project's profile).
+pub fn permitted_for<G: ProfileStore<Permille> + Drop, S: ProfileStore<CategorySpeeds> + Drop>(
+    supervision: &SupervisionOver<G, S>,
+) -> Mph
+    ensures { (life : Life) → StandsForLife G.profile S.profile supervision.now life → result ≡ permitted_for life (driver_of life).train_data }
+{
+    match supervision.driver().train_data() {
+        Datum::Valid(train) => permitted_speed(supervision, &train),
+        Datum::Unknown | Datum::Invalid(_) => Mph::new(0).unwrap(),
+    }
+}

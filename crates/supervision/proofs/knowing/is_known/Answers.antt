@@ -1,5 +1,0 @@
-use Rattle.supervision.proofs.Known.{known_by}
-use Rattle.supervision.proofs.knowing.is_known.Goals as goal
-
-pub returns : goal.returns
-returns g c = known_by (g.P.Profile.value c.args.profile.now) c.args.from c.args.end c.is_known_throughout.result c.is_known_throughout.ensures

@@ -1,0 +1,44 @@
+use Rattle.std.proofs.Common.{◌≡◌, ◌+◌, ◌≤◌, Option, length, refl, sym, subst}
+use Rattle.std.specs.Option.{option_map, option_map_or}
+use Rattle.std.proofs.lemmas.Result.{on_ok_weaker}
+use Rattle.telegram.specs.declared.message.Telegram.{Telegram}
+use Rattle.balise_groups.specs.Groups.Entry.{Read}
+use Rattle.balise_groups.specs.Rooms.{packets_in}
+use Rattle.track_picture.specs.Entry.{Begun, nothing_happened}
+use Rattle.track_picture.specs.History.{place_of}
+use Rattle.track_picture.specs.Sentences.{nothing, with_groups}
+use Rattle.track_picture.specs.StandsFor.{Life, StandsForLife, grown_so_far, room_in}
+use Rattle.track_picture.proofs.Carrying.{carried_in, refused_none}
+use Rattle.track_picture.proofs.Standing.{seen}
+use Rattle.track_picture.proofs.state.TracksideOver.listen.Goals as goal
+
+pub returns-in-Ok-clause-stands : goal.returns-in-Ok-clause-stands
+returns-in-Ok-clause-stands g c =
+    on_ok_weaker c.read.result
+    (λ taken life s. taken life c.args.bytes.now s (carried_in _ _ ((c.in-Ok.ensures.found _).0 refl)))
+    c.read.ensures.stands
+
+pub returns-in-Ok-clause-quiet : goal.returns-in-Ok-clause-quiet
+returns-in-Ok-clause-quiet g c room =
+    let packets = packets_in c.args.self.now.parts.groups.readings in
+    let most = room_in g.G.ProfileStore.room g.S.ProfileStore.room c.args.self.now in
+    c.read.ensures.quiet
+    (subst (λ (o : Option Telegram). option_map_or (λ t. packets + length t.packets.items) o 0 ≤ most) (carried_in _ _ ((c.in-Ok.ensures.found _).0 refl)) room)
+
+pub returns-in-Ok-clause-idle : goal.returns-in-Ok-clause-idle
+returns-in-Ok-clause-idle g c none =
+    let packets = packets_in c.args.self.now.parts.groups.readings in
+    c.read.ensures.idle
+    (subst (λ (o : Option Telegram). option_map_or (λ t. packets + length t.packets.items) o 0 ≡ 0) (carried_in _ _ ((c.in-Ok.ensures.found _).0 refl)) none)
+
+abbrev with_telegram : Life → Option Telegram → Begun
+with_telegram life o = record nothing { heard = option_map (λ t. Read (record { telegram = t; sums = (place_of life.entries).sums })) o }
+
+pub returns-in-Err-clause-stands : goal.returns-in-Err-clause-stands
+returns-in-Err-clause-stands g c life s =
+    let none = refused_none _ _ ((c.in-Err.ensures.fault _).0 refl) in
+    let before = seen c.self.view_is s in
+    subst
+    (λ (o : Option Telegram). StandsForLife g.G.ProfileStore.profile g.S.ProfileStore.profile (record { parts = c.pass_over.new.self; restrictions = c.self.inside.restrictions; gradients = c.self.inside.gradients; speeds = c.self.inside.speeds }) (grown_so_far life (with_telegram life o) (with_groups c.args.mode life.entries (with_telegram life o) nothing_happened)))
+    (sym none)
+    (record { parts_are = c.pass_over.ensures life before.parts_are; restrictions_are = before.restrictions_are; gradients_are = before.gradients_are; speeds_are = before.speeds_are })

@@ -1,0 +1,46 @@
+use Rattle.std.proofs.Common.{◌≡◌, ℕ, ◌+◌, Bool, true, false, List, ◌∷◌, length, refl, ap, sym, subst, add-one, arith, ◌∙◌}
+use Rattle.std.specs.Prelude.{◌||◌}
+use Rattle.std.specs.List.{list_any}
+use Rattle.packets.specs.declared.packet.Packet.{Packet}
+use Rattle.track_picture.specs.History.{after_facts}
+use Rattle.track_picture.specs.Steps.{facts}
+use Rattle.track_picture.specs.Told.{comes_later}
+use Rattle.track_picture.proofs.Walking.{one_packet}
+use Rattle.track_picture.proofs.using.take_all.Goals as goal
+
+or_next : (a b c : Bool) → (a || (b || c)) ≡ ((a || b) || c)
+or_next true b c = refl
+or_next false b c = refl
+
+-- one packet more is still to come
+pub take_one-requires : goal.take_one-requires
+take_one-requires g c =
+    let one : length c.loop-item.item-iterator ≡ length c.next.new.self + 1 = rw add-one (ap length c.in-Some.ensures.steps) in
+    (length c.next.new.self, subst (λ (n : ℕ). g.W.Walk.HasRoom n 0 c.loop-item.state) one (c.loop-item.invariant.1 0 c.requires))
+
+pub loop-item-preserved : goal.loop-item-preserved
+loop-item-preserved g c =
+    let one : length c.loop-item.item-iterator ≡ length c.next.new.self + 1 = rw add-one (ap length c.in-Some.ensures.steps) in (
+      λ told s. (let before = c.loop-item.invariant.0 told s in
+          let used = c.args.used.now in
+          let rest = c.next.new.self in
+          let packet = c.packet.result.now in (
+            _,
+            c.take_one.ensures.told before.0 before.1,
+            sym (one_packet g.W.Walk.after used packet rest before.0)
+                ∙ ap (λ (p : Packet). after_facts g.W.Walk.after (facts used (p ∷ rest)) before.0) c.packet.ensures
+                ∙ sym (ap (λ (ps : List Packet). after_facts g.W.Walk.after (facts used ps) before.0) c.in-Some.ensures.steps)
+                ∙ before.2,
+          )),
+      λ behind room. c.take_one.ensures.room (length c.next.new.self) behind
+          (subst (λ (n : ℕ). g.W.Walk.HasRoom n behind c.loop-item.state) one (c.loop-item.invariant.1 behind room)),
+      (let rest = c.next.new.self in
+          let packet = c.packet-in-loop-item.result.now in
+          c.loop-item.invariant.2
+          ∙ ap (λ (ps : List Packet). c.loop-item.later || list_any comes_later ps) c.in-Some.ensures.steps
+          ∙ ap (λ (p : Packet). c.loop-item.later || (comes_later p || list_any comes_later rest)) (sym c.packet-in-loop-item.ensures)
+          ∙ or_next c.loop-item.later (comes_later packet) (list_any comes_later rest)
+          ∙ ap (λ (b : Bool). b || list_any comes_later rest) (sym c.met_later-later.ensures)),
+      omega (arith, one, c.loop-item.invariant.3),
+      λ none. absurd (omega (arith, one, none, c.loop-item.invariant.3)),
+    )

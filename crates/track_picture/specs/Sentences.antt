@@ -1,0 +1,241 @@
+-- What an input brings in a life of the track and of the train on it, sentence by sentence in the order of one event
+-- (this project's profile; balise groups are those of SUBSET-026, 3.4 and 3.16.2). Distances and places are
+-- centimetres. The driver's actions don't matter here.
+use Rattle.std.specs.Prelude.{ℕ, ◌*◌, ℤ, pos, ◌-ℤ◌, Bool, true, false, not, ◌&&◌, Option, Some, None, is_some, List, [], ◌∷◌, map, filter, if◌then◌else◌}
+use Rattle.std.specs.Option.{option_map, option_map_or, option_or}
+use Rattle.units.specs.Stretches.{Span}
+use Rattle.vars.specs.declared.group.GroupIdentity.{GroupIdentity}
+use Rattle.vars.specs.declared.linking.LinkOrientation.{LinkOrientation}
+use Rattle.vars.specs.declared.linking.LinkOrientation.TheVariants as orientation
+use Rattle.vars.specs.declared.packet_head.ValidityDirection.{ValidityDirection}
+use Rattle.vars.specs.declared.packet_head.ValidityDirection.TheVariants.{Reverse, Nominal, Both}
+use Rattle.packets.specs.declared.packet.Packet.{Packet}
+use Rattle.packets.specs.declared.packet.Packet.TheVariants as packets
+use Rattle.packets.specs.Packets.{number_of}
+use Rattle.balise_groups.specs.declared.message.Closed.{Closed}
+use Rattle.balise_groups.specs.declared.message.Closed.TheVariants as closed
+use Rattle.balise_groups.specs.declared.message.Message.{Message}
+use Rattle.balise_groups.specs.declared.assembler.Taken.{Taken}
+use Rattle.balise_groups.specs.Groups as groups
+use Rattle.balise_groups.specs.Groups.Entry.{Read, Went}
+use Rattle.linking.specs.declared.announcement.Announcement.{Announcement}
+use Rattle.linking.specs.declared.judgement.GroupRead.{GroupRead}
+use Rattle.linking.specs.declared.judgement.Judgement.{Judgement}
+use Rattle.linking.specs.declared.judgement.Verdict.{Verdict}
+use Rattle.linking.specs.declared.judgement.Verdict.TheVariants.{Accept, Ignore, Reaction}
+use Rattle.linking.specs.Linking.{is_any, is_passed_by, misses}
+use Rattle.linking.specs.Judging.{judgement, broken_effect}
+use Rattle.mode_table.specs.declared.mode.Mode.{Mode}
+use Rattle.mode_table.specs.Packets.{uses}
+use Rattle.odometry.specs.Place as odometry
+use Rattle.odometry.specs.Sums.{Sums}
+use Rattle.odometry.specs.declared.fix.Fix.{Fix}
+use Rattle.track_picture.specs.declared.happened.Happened.{Happened}
+use Rattle.events.specs.declared.input.Input as inputs
+use Rattle.events.specs.declared.input.Input.TheVariants.{Telegram, Odometer, Clock, Driver}
+use Rattle.events.specs.declared.input.Reading.{Reading}
+use Rattle.track_picture.specs.Bytes.{telegram_in}
+use Rattle.track_store.specs.Profiles.{is_known}
+use Rattle.authority.specs.Entries.{accepted as granted}
+use Rattle.track_picture.specs.Entry.{Entry, Begun, Used, Outcome, Fact, so_far, marked, nothing_happened, no_groups, asking_for, added}
+use Rattle.track_picture.specs.Entry.Outcome.{Broken, Ignored, Rejected, Accepted}
+use Rattle.track_picture.specs.History.{place_of, groups_of, links_of, moment_of, authorities, gradients_of, speeds_of}
+
+-- ---- first what the input itself does: a movement, then the path and the announced groups that the train has passed;
+-- or a telegram; or a moment
+
+abbrev pub nothing : Begun
+nothing = record { clock = None; reading = None; heard = None; missed = [] }
+
+abbrev pub alone : Begun → Entry
+alone begun = so_far begun no_groups
+
+abbrev pub with_path : List Entry → Begun → Begun
+with_path entries begun = record begun { heard = Some (Went (place_of (alone begun ∷ entries)).sums.path) }
+
+-- the announced groups left that the train has passed
+abbrev pub passed : List Entry → Begun → List Announcement
+passed entries begun = filter (is_passed_by (odometry.min_front (place_of (alone begun ∷ entries)))) (links_of entries).left
+
+abbrev pub moved : List Entry → Reading → Begun
+moved entries reading =
+    let went = with_path entries (record nothing { reading = Some reading }) in record went { missed = passed entries went }
+
+abbrev pub heard : List Entry → List ℕ → Begun
+heard entries bytes =
+    record nothing { heard = option_map (λ t. Read (record { telegram = t; sums = (place_of entries).sums })) (telegram_in bytes) }
+
+abbrev pub begun : List Entry → inputs.Input → Begun
+begun entries (Telegram bytes) = heard entries bytes
+begun entries (Odometer reading) = moved entries reading
+begun entries (Clock moment) = record nothing { clock = Some moment }
+begun entries (Driver action) = nothing
+
+-- what a movement brings about: it is an overrun where it has no room, and the missed groups ask for something
+abbrev pub happened_by : List Entry → Reading → Happened
+happened_by entries reading =
+    record {
+      overrun = not (odometry.has_room (place_of entries) reading.movement);
+      asked = misses (links_of entries).has_missed (moved entries reading).missed;
+    }
+
+abbrev pub happened_first : List Entry → inputs.Input → Happened
+happened_first entries (Telegram bytes) = nothing_happened
+happened_first entries (Odometer reading) = happened_by entries reading
+happened_first entries (Clock moment) = nothing_happened
+happened_first entries (Driver action) = nothing_happened
+
+-- ---- then the groups that closed: the one that was ended, and behind it the one that is whole. Each is judged by
+-- linking, by the place of the train at its reading
+
+abbrev pub group_read : odometry.Known → Message → GroupRead
+group_read place message =
+    record { group = message.group; linked = message.linked; direction = message.direction; place = odometry.place_at place.fix message.sums }
+
+abbrev pub judged : List Entry → Message → Judgement
+judged entries message = judgement (links_of entries) (group_read (place_of entries) message)
+
+-- ---- an accepted group makes its fix: an announced one where it was announced, another one at its own place, but only
+-- while the track is free of all that lies at known places: no group is announced, no authority is stored, and no
+-- centimetre has a gradient or a static speed
+
+abbrev pub own_place : odometry.Known → Message → ℤ
+own_place place message = odometry.estimate_at place.fix message.sums
+
+abbrev pub fix_at : Message → ℤ → ℕ → Fix
+fix_at message at accuracy = record { at = at; accuracy = accuracy; sums = message.sums; missed = message.missed }
+
+abbrev pub is_free : List Entry → Bool
+is_free entries =
+    not (is_any (links_of entries).left) && not (is_some (granted (authorities entries)))
+    && not (is_known (gradients_of entries).value) && not (is_known (speeds_of entries).value)
+
+-- a fix that would lie too far isn't made
+abbrev pub made : Sums → Fix → Option Fix
+made now fix = if odometry.is_made now fix then Some fix else None
+
+abbrev pub fix_of : odometry.Known → Bool → Message → Option Announcement → Option Fix
+fix_of place free message (Some a) = made place.sums (fix_at message a.place (100 * a.accuracy))
+fix_of place free message None = if free then made place.sums (fix_at message (own_place place message) 0) else None
+
+-- ---- then those packets of an accepted group are used that the mode before the event uses and that are valid in the
+-- direction in which the group was passed. That is by its balises, or else by its announcement
+
+abbrev pub is_passed : ValidityDirection → Option LinkOrientation → Bool
+is_passed Both direction = true
+is_passed Nominal (Some orientation.Nominal) = true
+is_passed Nominal (Some orientation.Reverse) = false
+is_passed Nominal None = false
+is_passed Reverse (Some orientation.Nominal) = false
+is_passed Reverse (Some orientation.Reverse) = true
+is_passed Reverse None = false
+
+-- the direction in which a packet is valid; None of one that isn't known, which isn't used in any way
+abbrev pub valid_in : Packet → Option ValidityDirection
+valid_in (packets.NationalValues p) = Some p.direction
+valid_in (packets.Linking p) = Some p.direction
+valid_in (packets.MovementAuthority p) = Some p.direction
+valid_in (packets.Gradients p) = Some p.direction
+valid_in (packets.StaticSpeeds p) = Some p.direction
+valid_in (packets.LevelTransition p) = Some p.direction
+valid_in (packets.SpeedRestriction p) = Some p.direction
+valid_in (packets.RestrictionRevocation p) = Some p.direction
+valid_in (packets.ModeProfile p) = Some p.direction
+valid_in (packets.Other p) = None
+
+-- .. and by the mode before the event
+abbrev pub is_used : Mode → Option LinkOrientation → Packet → Bool
+is_used mode direction packet =
+    uses mode (number_of packet) && option_map_or (λ valid. is_passed valid direction) (valid_in packet) false
+
+abbrev pub direction_of : Message → Option Announcement → Option LinkOrientation
+direction_of message announced = option_or message.direction (option_map (λ a. a.direction) announced)
+
+-- distances count from the place of the group's fix, and where none was made from the group's own place
+abbrev pub place_by : ℤ → Option Fix → ℤ
+place_by own None = own
+place_by own (Some fix) = fix.at
+
+abbrev pub facts_of : Mode → GroupIdentity → ℤ → ℕ → Option LinkOrientation → List Packet → List Fact
+facts_of mode group place moment direction ps =
+    map (λ p. record { group = group; place = place; moment = moment; packet = p }) (filter (is_used mode direction) ps)
+
+-- an accepted group, up to its fix and with its facts; the entries are those with its acceptance
+abbrev pub accepted : Message → Option Announcement → Outcome
+accepted message announced = Accepted message announced None []
+
+abbrev pub fix_in : List Entry → Message → Option Announcement → Option Fix
+fix_in entries message announced = fix_of (place_of entries) (is_free entries) message announced
+
+abbrev pub facts_by : Mode → List Entry → Message → Option Announcement → Option Fix → List Fact
+facts_by mode entries message announced fix =
+    facts_of mode message.group (place_by (own_place (place_of entries) message) fix) (moment_of entries) (direction_of message announced) message.packets
+
+abbrev pub with_fix : List Entry → Message → Option Announcement → Outcome
+with_fix entries message announced = Accepted message announced (fix_in entries message announced) []
+
+abbrev pub with_facts : Mode → List Entry → Message → Option Announcement → Outcome
+with_facts mode entries message announced =
+    let fix = fix_in entries message announced in Accepted message announced fix (facts_by mode entries message announced fix)
+
+-- ---- what came of a group
+
+abbrev pub ruled : Message → Verdict → Outcome
+ruled message (Accept announced) = accepted message announced
+ruled message Ignore = Ignored message
+ruled message (Reaction a) = Rejected message a
+
+abbrev pub outcome_of : Mode → List Entry → Begun → Used → Message → Verdict → Outcome
+outcome_of mode entries begun used message (Accept announced) =
+    with_facts mode (so_far begun (added (accepted message announced) used) ∷ entries) message announced
+outcome_of mode entries begun used message Ignore = Ignored message
+outcome_of mode entries begun used message (Reaction a) = Rejected message a
+
+abbrev pub after_judgement : Mode → List Entry → Begun → Used → Message → Judgement → Used
+after_judgement mode entries begun used message j =
+    let asking = asking_for j.effect used in added (outcome_of mode entries begun asking message j.verdict) asking
+
+abbrev pub after_group : Mode → List Entry → Begun → Used → Closed → Used
+after_group mode entries begun used (closed.Broken b) =
+    added (Broken b) (asking_for (broken_effect (links_of (so_far begun used ∷ entries)) b.group b.linked) used)
+after_group mode entries begun used (closed.Whole message) =
+    after_judgement mode entries begun used message (judged (so_far begun used ∷ entries) message)
+
+abbrev pub with_closed : Mode → List Entry → Begun → Option Closed → Used → Used
+with_closed mode entries begun None used = used
+with_closed mode entries begun (Some group) used = after_group mode entries begun used group
+
+-- what was heard closes at most two groups
+abbrev pub closed_by : groups.Known → Option groups.Entry → Taken
+closed_by known None = record { ended = None; whole = None }
+closed_by known (Some (Read reading)) = groups.taken_by reading known
+closed_by known (Some (Went path)) = record { ended = groups.ended_by path known; whole = None }
+
+abbrev pub with_groups : Mode → List Entry → Begun → Happened → Used
+with_groups mode entries begun happened =
+    let closed = closed_by (groups_of entries) begun.heard in
+    with_closed mode entries begun closed.whole (with_closed mode entries begun closed.ended (record { groups = []; happened = happened }))
+
+abbrev pub used_by : Mode → List Entry → inputs.Input → Used
+used_by mode entries input = with_groups mode entries (begun entries input) (happened_first entries input)
+
+-- what an input brings, in a mode
+abbrev pub received : Mode → List Entry → inputs.Input → Entry
+received mode entries input = so_far (begun entries input) (used_by mode entries input)
+
+-- ---- then the timers of the authority see where the train is, and national values and the level that are announced
+-- come into force where the maximum safe front has reached their places
+
+-- where a train of some length is; 0 where the length isn't known
+abbrev pub standing : ℕ → List Entry → Span
+standing length entries = odometry.stretch (place_of entries) length
+
+-- ---- at last, once the mode is known, the track is forgotten that lies more than a kilometre behind the minimum safe
+-- rear
+
+abbrev pub mark_behind : Span → ℤ
+mark_behind train = train.rear -ℤ pos 100_000
+
+-- a power-up is an exact fix at 0, and the track is forgotten behind the minimum safe rear there too
+abbrev pub powered_up : ℕ → Entry
+powered_up length = marked nothing no_groups None None (mark_behind (standing length []))

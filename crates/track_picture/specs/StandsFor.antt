@@ -1,0 +1,96 @@
+-- What is known represents a life (this project's profile). Places are centimetres, moments milliseconds.
+use Rattle.std.specs.Prelude.{◌≡◌, ℕ, ◌+◌, min, ℤ, Bool, Option, List, ◌∷◌}
+use Rattle.areas.specs.declared.announcement.Announcement.{Announcement as AnnouncedLevel}
+use Rattle.areas.specs.declared.area.Area.{Area}
+use Rattle.authority.specs.Known.{Known as Authority}
+use Rattle.balise_groups.specs.Groups as groups
+use Rattle.linking.specs.Linking as linking
+use Rattle.national.specs.InForce as national
+use Rattle.national.specs.Values.{ValuesFor}
+use Rattle.odometry.specs.Place as odometry
+use Rattle.speed_profile.specs.declared.told.CategorySpeeds.{CategorySpeeds}
+use Rattle.track_store.specs.Profiles.{Profile}
+use Rattle.track_store.specs.Restrictions as track
+use Rattle.vars.specs.declared.group.GroupIdentity.{GroupIdentity}
+use Rattle.track_picture.specs.declared.happened.Happened.{Happened}
+use Rattle.track_picture.specs.Entry.{Entry, Begun, Used, so_far}
+use Rattle.track_picture.specs.History.{place_of, group_of_fix, speed_of, groups_of, links_of, national_entries, restrictions, moment_of, authority_of, areas_of, announced_level, gradients_of, speeds_of, happened_of, is_stopped}
+
+-- the national values that were kept as the life began, and what its events brought, the newest first
+pub record Life : Type 0 where
+  pub kept : ValuesFor
+  pub entries : List Entry
+
+abbrev pub national_of : Life → national.Known
+national_of life = national.known life.kept (national_entries life.entries)
+
+-- what each part knows but for the restrictions and the profiles of the track
+pub record Known : Type 0 where
+  pub place : odometry.Known
+  pub group : Option GroupIdentity
+  pub speed : ℕ
+  pub groups : groups.Known
+  pub links : linking.Known
+  pub national : national.Known
+  pub moment : ℕ
+  pub authority : Authority
+  pub areas : List Area
+  pub level : Option AnnouncedLevel
+  pub happened : Happened
+  pub stopped : Bool
+
+-- .. and what grows with what the track tells, as its stores keep it: restrictions and profiles
+pub record Knowledge (G S : Type 0) : Type 0 where
+  pub parts : Known
+  pub restrictions : track.Held
+  pub gradients : G
+  pub speeds : S
+
+-- what the parts know of a life
+abbrev pub parts_of : Life → Known
+parts_of life =
+    record {
+      place = place_of life.entries;
+      group = group_of_fix life.entries;
+      speed = speed_of life.entries;
+      groups = groups_of life.entries;
+      links = links_of life.entries;
+      national = national_of life;
+      moment = moment_of life.entries;
+      authority = authority_of life.entries;
+      areas = areas_of life.entries;
+      level = announced_level life.entries;
+      happened = happened_of life.entries;
+      stopped = is_stopped life.entries;
+    }
+
+-- It represents a life; what the two stores give is read off them so.
+pub record StandsForLife {G S : Type 0} (gradients_in : G → Profile ℤ) (speeds_in : S → Profile CategorySpeeds) (known : Knowledge G S) (life : Life) : Type 0 where
+  pub parts_are : known.parts ≡ parts_of life
+  pub restrictions_are : known.restrictions.track ≡ track.in_force (restrictions life.entries)
+  pub gradients_are : gradients_in known.gradients ≡ gradients_of life.entries
+  pub speeds_are : speeds_in known.speeds ≡ speeds_of life.entries
+
+-- for how many packets there is room in all of them
+abbrev pub room_in : {G S : Type 0} → (G → ℕ) → (S → ℕ) → Knowledge G S → ℕ
+room_in gradients_room speeds_room known =
+    min known.restrictions.room (min (gradients_room known.gradients) (speeds_room known.speeds))
+
+-- how many restrictions and pieces of profiles it keeps or has room for
+abbrev pub size_in : {G S : Type 0} → (G → ℕ) → (S → ℕ) → Knowledge G S → ℕ
+size_in gradients_size speeds_size known =
+    track.size_of known.restrictions + (gradients_size known.gradients + speeds_size known.speeds)
+
+-- the restrictions and profiles are the same, with their room
+pub record SameTrack {G S : Type 0} (old new : Knowledge G S) : Type 0 where
+  pub restrictions_same : new.restrictions ≡ old.restrictions
+  pub gradients_same : new.gradients ≡ old.gradients
+  pub speeds_same : new.speeds ≡ old.speeds
+
+-- a life with one entry more
+abbrev pub grown : Life → Entry → Life
+grown life entry = record life { entries = entry ∷ life.entries }
+
+-- .. up to the groups that closed
+abbrev pub grown_so_far : Life → Begun → Used → Life
+grown_so_far life begun used = grown life (so_far begun used)

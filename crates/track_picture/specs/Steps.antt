@@ -1,0 +1,54 @@
+-- What lies between the sentences of one event (this project's profile). Places are centimetres, moments milliseconds.
+use Rattle.std.specs.Prelude.{ℕ, ◌+◌, ◌*◌, ◌≤◌, ℤ, Bool, if◌then◌else◌, Option, Some, None, is_none, List, [], length}
+use Rattle.std.specs.Option.{option_map_or}
+use Rattle.packets.specs.declared.packet.Packet.{Packet}
+use Rattle.linking.specs.declared.announcement.Announcement.{Announcement}
+use Rattle.track_picture.specs.declared.fixing.Wanted.{Wanted}
+use Rattle.balise_groups.specs.declared.message.Closed.{Closed}
+use Rattle.balise_groups.specs.Rooms.{packets_in}
+use Rattle.events.specs.declared.input.Input.{Input}
+use Rattle.events.specs.declared.input.Input.TheVariants.{Telegram, Odometer, Clock, Driver}
+use Rattle.events.specs.declared.input.Reading.{Reading}
+use Rattle.track_picture.specs.declared.using.Use.{Use}
+use Rattle.track_picture.specs.Bytes.{telegram_in}
+use Rattle.track_picture.specs.Entry.{Entry, Fact, Used}
+use Rattle.track_picture.specs.History.{groups_of}
+use Rattle.track_picture.specs.Sentences.{facts_of, moved, happened_by, closed_by}
+use Rattle.track_picture.specs.StandsFor.{Life, Known, Knowledge, parts_of, grown_so_far, room_in}
+
+-- the group that a movement leaves
+abbrev pub left_by : List Entry → Reading → Option Closed
+left_by entries reading = (closed_by (groups_of entries) (moved entries reading).heard).ended
+
+-- what a movement brings about, before the groups are used that it closes
+abbrev pub after_moving : List Entry → Reading → Used
+after_moving entries reading = record { groups = []; happened = happened_by entries reading }
+
+-- what the parts know after a movement, but that the group being read hasn't taken it yet
+abbrev pub still_reading : Life → Reading → Known
+still_reading life reading =
+    record (parts_of (grown_so_far life (moved life.entries reading) (after_moving life.entries reading))) { groups = groups_of life.entries }
+
+-- a packet that is used so
+abbrev pub fact_of : Use → Packet → Fact
+fact_of used packet = record { group = used.group; place = used.place; moment = used.moment; packet = packet }
+
+abbrev pub facts : Use → List Packet → List Fact
+facts used packets = facts_of used.mode used.group used.place used.moment used.direction packets
+
+-- the place at which a fix is wanted, and how exactly it is known
+abbrev pub fix_wanted : Bool → ℤ → Option Announcement → Option Wanted
+fix_wanted free own (Some a) = Some (record { place = a.place; accuracy = 100 * a.accuracy })
+fix_wanted free own None = if free then Some (record { place = own; accuracy = 0 }) else None
+
+-- how many packets may be used by an input: those of the group being read, which may close by it, and of a telegram its
+-- own
+abbrev pub packets_by : Known → Input → ℕ
+packets_by known (Telegram bytes) = option_map_or (λ t. packets_in known.groups.readings + length t.packets.items) (telegram_in bytes) 0
+packets_by known (Odometer reading) = if is_none known.groups.current then 0 else packets_in known.groups.readings
+packets_by known (Clock moment) = 0
+packets_by known (Driver action) = 0
+
+-- there is room for them
+abbrev pub HasRoomFor : {G S : Type 0} → (G → ℕ) → (S → ℕ) → Knowledge G S → Input → Type 0
+HasRoomFor gradients_room speeds_room known input = packets_by known.parts input ≤ room_in gradients_room speeds_room known

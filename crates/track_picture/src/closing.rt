@@ -1,0 +1,170 @@
+//! What a balise group does that closed: it is judged, it makes its fix, its packets are used.
+ghost use Rattle.std.specs.Prelude.{◌≡◌, ◌∷◌, ◌+◌, ◌≤◌, [], length, Option, Some};
+ghost use Rattle.std.specs.Option.{option_map, option_or};
+ghost use Rattle.balise_groups.specs.declared.message.Closed.TheVariants as closed;
+ghost use Rattle.balise_groups.specs.declared.message.Message.{Message};
+ghost use Rattle.balise_groups.specs.Rooms.{packets_of_closed};
+ghost use Rattle.linking.specs.declared.announcement.Announcement.{Announcement};
+ghost use Rattle.linking.specs.Judging.{broken_effect};
+ghost use Rattle.odometry.specs.declared.fix.Fix.{Fix};
+ghost use Rattle.track_picture.specs.Entry.{Begun, Used, added, asking_for, so_far};
+ghost use Rattle.track_picture.specs.Entry.Outcome.{Accepted, Broken as NoMessage};
+ghost use Rattle.track_picture.specs.History.{links_of};
+ghost use Rattle.track_picture.specs.Sentences.{judged, ruled, accepted, with_facts, outcome_of, after_group, with_closed};
+ghost use Rattle.track_picture.specs.Steps.{facts};
+ghost use Rattle.track_picture.specs.StandsFor.{Life, StandsForLife, SameTrack, parts_of, grown_so_far, room_in};
+
+use crate::parts::Parts;
+use crate::state::TracksideOver;
+use crate::using::{Earlier, Later, Use, take_all};
+use balise_groups::{Broken, Closed, GroupPackets, Message};
+use linking::{Announcement, GroupRead, Verdict};
+use mode_table::Mode;
+use speed_profile::CategorySpeeds;
+use track_store::ProfileStore;
+use units::Permille;
+use vars::LinkOrientation;
+
+impl Parts {
+    // Linking judges a group, and asks for something. One that is accepted counts for the national values by its
+    // country.
+    fn judge(&mut self, message: &Message) -> Verdict
+        ensures answer { (life : Life) (begun : Begun) (used : Used) → self.old ≡ parts_of (grown_so_far life begun used)
+            → result ≡ (judged (so_far begun used ∷ life.entries) message.now).verdict }
+        ensures stands { (life : Life) (begun : Begun) (used : Used) → self.old ≡ parts_of (grown_so_far life begun used)
+            → (let j = judged (so_far begun used ∷ life.entries) message.now in
+            self.new ≡ parts_of (grown_so_far life begun (added (ruled message.now j.verdict) (asking_for j.effect used)))) }
+    {
+        let place = self.place.place_at(&message.sums);
+        let judgement = self.links.judge(&GroupRead {
+            group: message.group,
+            linked: message.linked,
+            direction: message.direction,
+            place,
+        });
+        self.happened = self.happened.asking(judgement.effect);
+        if let Verdict::Accept(_) = judgement.verdict {
+            self.national.enter(message.group.country);
+        }
+        judgement.verdict
+    }
+
+    // A broken group: what linking asks for it.
+    fn give_up(&mut self, group: &Broken)
+        ensures { (life : Life) (begun : Begun) (used : Used) → self.old ≡ parts_of (grown_so_far life begun used)
+            → self.new ≡ parts_of (grown_so_far life begun (added (NoMessage group.now)
+            (asking_for (broken_effect (links_of (so_far begun used ∷ life.entries)) group.now.group group.now.linked) used))) }
+    {
+        let asked = self.links.broken(group.group, group.linked);
+        self.happened = self.happened.asking(asked);
+    }
+}
+
+impl<G: ProfileStore<Permille> + Drop, S: ProfileStore<CategorySpeeds> + Drop> TracksideOver<G, S> {
+    // The packets of an accepted group are used: in rising number, equal numbers in the order of the message. A message
+    // without a packet for the second walk is read once. There is room for them, so that no memory is taken; so it is
+    // up to `close`.
+    fn take_packets(&mut self, packets: &GroupPackets, used: &Use)
+        requires { length packets.now ≤ room_in G.room S.room self.old }
+        ensures stands { (life : Life) (begun : Begun) (groups : Used) (message : Message) (announced : Option Announcement) (fix : Option Fix)
+            → StandsForLife G.profile S.profile self.old (grown_so_far life begun (added (Accepted message announced fix []) groups))
+            → StandsForLife G.profile S.profile self.new (grown_so_far life begun (added (Accepted message announced fix (facts used.now packets.now)) groups)) }
+        ensures room { room_in G.room S.room self.old ≤ room_in G.room S.room self.new + length packets.now }
+        ensures idle { length packets.now ≡ 0 → SameTrack self.old self.new }
+    {
+        if take_all::<TracksideOver<G, S>, Earlier>(self, packets, used) {
+            take_all::<TracksideOver<G, S>, Later>(self, packets, used);
+        }
+    }
+
+    // An accepted group is used.
+    fn accept(&mut self, mode: Mode, message: &Message, announced: &Option<Announcement>)
+        requires { length message.now.packets ≤ room_in G.room S.room self.old }
+        ensures stands { (life : Life) (begun : Begun) (used : Used)
+            → StandsForLife G.profile S.profile self.old (grown_so_far life begun (added (accepted message.now announced.now) used))
+            → StandsForLife G.profile S.profile self.new (grown_so_far life begun (added (with_facts mode (so_far begun (added (accepted message.now announced.now) used) ∷ life.entries) message.now announced.now) used)) }
+        ensures room { room_in G.room S.room self.old ≤ room_in G.room S.room self.new + length message.now.packets }
+        ensures idle { length message.now.packets ≡ 0 → SameTrack self.old self.new }
+    {
+        let free = self.is_free();
+        let place = self.parts.fix(message, announced, free);
+        let used = Use {
+            mode,
+            group: message.group,
+            place,
+            moment: self.parts.moment,
+            direction: direction_by(&message.direction, announced),
+        };
+        self.take_packets(&message.packets, &used);
+    }
+
+    // A whole group that was judged: one that is accepted is used.
+    fn follow(&mut self, mode: Mode, message: &Message, verdict: Verdict)
+        requires { length message.now.packets ≤ room_in G.room S.room self.old }
+        ensures stands { (life : Life) (begun : Begun) (used : Used)
+            → StandsForLife G.profile S.profile self.old (grown_so_far life begun (added (ruled message.now verdict) used))
+            → StandsForLife G.profile S.profile self.new (grown_so_far life begun (added (outcome_of mode life.entries begun used message.now verdict) used)) }
+        ensures room { room_in G.room S.room self.old ≤ room_in G.room S.room self.new + length message.now.packets }
+        ensures idle { length message.now.packets ≡ 0 → SameTrack self.old self.new }
+    {
+        match verdict {
+            Verdict::Accept(announced) => self.accept(mode, message, &announced),
+            Verdict::Ignore | Verdict::Reaction(_) => {}
+        }
+    }
+
+    // A whole group.
+    fn close_whole(&mut self, mode: Mode, message: &Message)
+        requires { length message.now.packets ≤ room_in G.room S.room self.old }
+        ensures stands { (life : Life) (begun : Begun) (used : Used) → StandsForLife G.profile S.profile self.old (grown_so_far life begun used)
+            → StandsForLife G.profile S.profile self.new (grown_so_far life begun (after_group mode life.entries begun used (closed.Whole message.now))) }
+        ensures room { room_in G.room S.room self.old ≤ room_in G.room S.room self.new + length message.now.packets }
+        ensures idle { length message.now.packets ≡ 0 → SameTrack self.old self.new }
+    {
+        let verdict = self.parts.judge(message);
+        self.follow(mode, message, verdict);
+    }
+
+    // A group that closed. It stands out of line, since few events close one.
+    #[inline(never)]
+    fn close_one(&mut self, mode: Mode, group: &Closed)
+        requires { packets_of_closed (Some group.now) ≤ room_in G.room S.room self.old }
+        ensures stands { (life : Life) (begun : Begun) (used : Used) → StandsForLife G.profile S.profile self.old (grown_so_far life begun used)
+            → StandsForLife G.profile S.profile self.new (grown_so_far life begun (after_group mode life.entries begun used group.now)) }
+        ensures room { room_in G.room S.room self.old ≤ room_in G.room S.room self.new + packets_of_closed (Some group.now) }
+        ensures idle { packets_of_closed (Some group.now) ≡ 0 → SameTrack self.old self.new }
+    {
+        match group {
+            Closed::Whole(message) => self.close_whole(mode, message),
+            Closed::Broken(broken) => self.parts.give_up(broken),
+        }
+    }
+
+    /// A group that closed, if one did.
+    pub(crate) fn close(&mut self, mode: Mode, group: &Option<Closed>)
+        requires { packets_of_closed group.now ≤ room_in G.room S.room self.old }
+        ensures stands { (life : Life) (begun : Begun) (used : Used) → StandsForLife G.profile S.profile self.old (grown_so_far life begun used)
+            → StandsForLife G.profile S.profile self.new (grown_so_far life begun (with_closed mode life.entries begun group.now used)) }
+        ensures room { room_in G.room S.room self.old ≤ room_in G.room S.room self.new + packets_of_closed group.now }
+        ensures idle { packets_of_closed group.now ≡ 0 → SameTrack self.old self.new }
+    {
+        match group {
+            None => {}
+            Some(group) => self.close_one(mode, group),
+        }
+    }
+}
+
+// The direction in which a group was passed: that of its balises, else the announced one.
+fn direction_by(
+    told: &Option<LinkOrientation>,
+    announced: &Option<Announcement>,
+) -> Option<LinkOrientation>
+    ensures { result ≡ option_or told.now (option_map (λ a. a.direction) announced.now) }
+{
+    match (told, announced) {
+        (Some(direction), _) => Some(*direction),
+        (None, Some(announcement)) => Some(announcement.direction),
+        (None, None) => None,
+    }
+}

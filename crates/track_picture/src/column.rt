@@ -1,0 +1,105 @@
+//! What a mode deletes that is entered.
+ghost use Rattle.std.specs.Prelude.{◌≡◌, ◌≤◌, List, Option, Some};
+ghost use Rattle.units.specs.Stretches.{Span};
+ghost use Rattle.areas.specs.Areas.{stored};
+ghost use Rattle.areas.specs.Entries.{Entry as AreaEntry};
+ghost use Rattle.areas.specs.Levels.{Entry as LevelEntry, waiting};
+ghost use Rattle.authority.specs.Entries.{Entry as AuthorityEntry};
+ghost use Rattle.authority.specs.Known.{known as known_authority};
+ghost use Rattle.linking.specs.Linking.{Entry as LinkEntry, known as known_links};
+ghost use Rattle.mode_table.specs.declared.statuses.Item.TheVariants as item;
+ghost use Rattle.mode_table.specs.Statuses.{status_on};
+ghost use Rattle.track_store.specs.Facts.{Told, profile_of};
+ghost use Rattle.track_store.specs.Profiles.{profile_with};
+ghost use Rattle.track_picture.specs.Entry.{Begun, Used, looked, turned};
+ghost use Rattle.track_picture.specs.History.{is_deleted, after_column, links_deleted, authority_deleted, areas_deleted, level_deleted, none_told};
+ghost use Rattle.track_picture.specs.StandsFor.{Life, StandsForLife, parts_of, grown, size_in};
+
+use crate::parts::Parts;
+use crate::state::TracksideOver;
+use areas::{AnnouncedLevel, Areas};
+use authority::Authority;
+use linking::Links;
+use mode_table::{Fate, Item, Mode, status_on};
+use speed_profile::CategorySpeeds;
+use track_store::ProfileStore;
+use units::Permille;
+
+// Whether a mode deletes an item that is entered.
+fn is_deleted(item: Item, mode: Mode) -> bool
+    ensures { result ≡ is_deleted (status_on item mode) }
+{
+    matches!(status_on(item, mode), Fate::Deleted)
+}
+
+fn leave_links(links: &mut Links, mode: Mode)
+    ensures { (entries : List LinkEntry) → links.old ≡ known_links entries
+        → links.new ≡ known_links (after_column item.Linking links_deleted (Some mode) entries) }
+{
+    if is_deleted(Item::Linking, mode) {
+        links.clear();
+    }
+}
+
+fn leave_authority(authority: &mut Authority, mode: Mode)
+    ensures { (entries : List AuthorityEntry) → authority.old ≡ known_authority entries
+        → authority.new ≡ known_authority (after_column item.Authority authority_deleted (Some mode) entries) }
+{
+    if is_deleted(Item::Authority, mode) {
+        authority.clear();
+    }
+}
+
+fn leave_areas(areas: &mut Areas, mode: Mode)
+    ensures { (entries : List AreaEntry) → areas.old ≡ stored entries
+        → areas.new ≡ stored (after_column item.ModeAreas areas_deleted (Some mode) entries) }
+{
+    if is_deleted(Item::ModeAreas, mode) {
+        areas.clear();
+    }
+}
+
+fn leave_level(level: &mut AnnouncedLevel, mode: Mode)
+    ensures { (entries : List LevelEntry) → level.old ≡ waiting entries
+        → level.new ≡ waiting (after_column item.LevelAnnouncement level_deleted (Some mode) entries) }
+{
+    if is_deleted(Item::LevelAnnouncement, mode) {
+        level.clear();
+    }
+}
+
+fn leave_profile<T, P: ProfileStore<T>>(profile: &mut P, mode: Mode)
+    ensures profile { (told : Told T) → P.profile profile.old ≡ profile_of told
+        → P.profile profile.new ≡ profile_of (record told { facts = after_column item.Profiles none_told (Some mode) told.facts }) }
+    ensures size { P.size profile.new ≤ P.size profile.old }
+{
+    if is_deleted(Item::Profiles, mode) {
+        profile.clear();
+    }
+}
+
+impl Parts {
+    // A mode is entered.
+    fn enter(&mut self, mode: Mode)
+        ensures { (life : Life) (begun : Begun) (used : Used) (train : Option Span) → self.old ≡ parts_of (grown life (looked begun used train))
+            → self.new ≡ parts_of (grown life (turned begun used train (Some mode))) }
+    {
+        leave_links(&mut self.links, mode);
+        leave_authority(&mut self.authority, mode);
+        leave_areas(&mut self.areas, mode);
+        leave_level(&mut self.level, mode);
+    }
+}
+
+impl<G: ProfileStore<Permille> + Drop, S: ProfileStore<CategorySpeeds> + Drop> TracksideOver<G, S> {
+    /// Another mode is entered: what the table of statuses deletes there is deleted.
+    pub fn enter(&mut self, mode: Mode)
+        ensures stands { (life : Life) (begun : Begun) (used : Used) (train : Option Span) → StandsForLife G.profile S.profile self.old (grown life (looked begun used train))
+            → StandsForLife G.profile S.profile self.new (grown life (turned begun used train (Some mode))) }
+        ensures size { size_in G.size S.size self.new ≤ size_in G.size S.size self.old }
+    {
+        self.parts.enter(mode);
+        leave_profile(&mut self.gradients, mode);
+        leave_profile(&mut self.speeds, mode);
+    }
+}

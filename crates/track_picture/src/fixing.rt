@@ -1,0 +1,102 @@
+//! The fix of a group that was accepted.
+ghost use Rattle.std.specs.Prelude.{◌≡◌, not, ◌&&◌, ◌∷◌, []};
+ghost use Rattle.track_picture.specs.Entry.{Begun, Used, added, so_far};
+ghost use Rattle.track_picture.specs.Entry.Outcome.{Accepted};
+ghost use Rattle.track_picture.specs.History.{place_of};
+ghost use Rattle.track_picture.specs.Sentences.{accepted, own_place, place_by, is_free, fix_of};
+ghost use Rattle.track_picture.specs.Steps.{fix_wanted};
+ghost use Rattle.track_picture.specs.StandsFor.{Life, StandsForLife, parts_of, grown_so_far};
+
+use crate::parts::Parts;
+use crate::state::TracksideOver;
+use balise_groups::Message;
+use linking::Announcement;
+use odometry::Fix;
+use speed_profile::CategorySpeeds;
+use track_store::{ProfileStore, is_known};
+use units::{Cm, GroupPlace, Length, Permille};
+use vars::Variable;
+
+// Where a group is to be fixed, and how exactly that is known.
+#[derive(Clone, Copy)]
+struct Wanted {
+    place: Cm,
+    accuracy: Length,
+}
+
+impl Parts {
+    /// An accepted group makes its fix, which may depend on whether the track is free: the place from which its
+    /// distances count.
+    pub fn fix(
+        &mut self,
+        message: &Message,
+        announced: &Option<Announcement>,
+        free: bool,
+    ) -> GroupPlace
+        ensures answer { (life : Life) (begun : Begun) (used : Used) → self.old ≡ parts_of (grown_so_far life begun (added (accepted message.now announced.now) used))
+            → (let here = place_of (so_far begun (added (accepted message.now announced.now) used) ∷ life.entries) in
+            result ≡ place_by (own_place here message.now) (fix_of here free message.now announced.now)) }
+        ensures stands { (life : Life) (begun : Begun) (used : Used) → self.old ≡ parts_of (grown_so_far life begun (added (accepted message.now announced.now) used))
+            → (let here = place_of (so_far begun (added (accepted message.now announced.now) used) ∷ life.entries) in
+            self.new ≡ parts_of (grown_so_far life begun (added (Accepted message.now announced.now (fix_of here free message.now announced.now) []) used))) }
+    {
+        let own = self.place.place_at(&message.sums).estimate;
+        let Some(wanted) = fix_wanted(free, own, announced) else {
+            return own;
+        };
+        let fix = Fix {
+            at: wanted.place,
+            accuracy: wanted.accuracy,
+            sums: message.sums,
+            missed: message.missed,
+        };
+        match self.place.fix(fix) {
+            Ok(place) => {
+                self.group = Some(message.group);
+                place
+            }
+            Err(_) => own,
+        }
+    }
+}
+
+impl<G: ProfileStore<Permille> + Drop, S: ProfileStore<CategorySpeeds> + Drop> TracksideOver<G, S> {
+    /// Whether a group that wasn't announced makes a fix: nothing is known that lies at places of its own.
+    pub(crate) fn is_free(&self) -> bool
+        ensures { (life : Life) → StandsForLife G.profile S.profile self.now life → result ≡ is_free life.entries }
+    {
+        let announced = self.parts.links.is_in_use();
+        let authorised = self.parts.authority.is_stored();
+        let gradient = is_known(&self.gradients);
+        let speed = is_known(&self.speeds);
+        is_none(announced, authorised, gradient, speed)
+    }
+}
+
+// Whether none of these is so.
+fn is_none(announced: bool, authorised: bool, gradient: bool, speed: bool) -> bool
+    ensures { result ≡ (not announced && not authorised && not gradient && not speed) }
+{
+    !announced && !authorised && !gradient && !speed
+}
+
+// Where an accepted group is to be fixed: where it was announced, else at its own place, but only while the track is
+// free.
+fn fix_wanted(free: bool, own: GroupPlace, announced: &Option<Announcement>) -> Option<Wanted>
+    ensures { result ≡ fix_wanted free own announced.now }
+{
+    match announced {
+        Some(announcement) => {
+            let accuracy = 100 * announcement.accuracy.number();
+            Some(Wanted {
+                place: announcement.place,
+                accuracy: Length::new(accuracy).unwrap(),
+            })
+        }
+        None if free => Some(Wanted {
+            place: own.to_cm(),
+            accuracy: Length::ZERO,
+        }),
+        None => None,
+    }
+}

@@ -1,0 +1,22 @@
+//! What the track sends to the train and where the train is: the balise groups that were read, what they announce, the
+//! authority, the profiles of the track, the restrictions, the mode areas and the national values, for every list of
+//! events of one life (SUBSET-026, 3; the order of one event: this project's profile). Distances are centimetres,
+//! speeds metres per hour, moments milliseconds.
+#![tactic(auto)]
+
+mod asking;
+mod closing;
+mod column;
+mod fixing;
+mod happened;
+mod laws;
+mod looking;
+mod parts;
+mod receiving;
+mod rooms;
+mod state;
+mod using;
+
+pub use happened::Happened;
+pub use laws::telegrams_are_carried;
+pub use state::{Trackside, TracksideOver};

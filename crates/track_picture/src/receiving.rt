@@ -1,0 +1,202 @@
+//! What an input does: its own effect, and then that of the groups which it closes.
+ghost use Rattle.std.specs.Prelude.{◌≡◌, ◌≤◌, ◌+◌, ℕ, length, true, false, List, ◌∷◌, IsOk, OnOk, OnErr, Some, None, is_none};
+ghost use Rattle.events.specs.declared.input.Reading.{Reading as Told};
+ghost use Rattle.balise_groups.specs.Rooms.{packets_in, packets_of_closed};
+ghost use Rattle.track_picture.specs.Bytes.{telegram_in};
+ghost use Rattle.track_picture.specs.Entry.{nothing_happened, no_groups};
+ghost use Rattle.track_picture.specs.History.{groups_of};
+ghost use Rattle.track_picture.specs.Sentences.{nothing, moved, happened_by, heard, begun, closed_by, with_groups, used_by, received};
+ghost use Rattle.track_picture.specs.StandsFor.{Life, StandsForLife, SameTrack, parts_of, grown, grown_so_far, room_in, size_in};
+ghost use Rattle.events.specs.declared.input.Input.TheVariants as inputs;
+ghost use Rattle.track_picture.specs.Steps.{left_by, after_moving, still_reading, packets_by, HasRoomFor};
+
+use crate::happened::Happened;
+use crate::parts::Parts;
+use crate::state::TracksideOver;
+use balise_groups::{Closed, Reading as GroupReading, Taken};
+use events::{Input, Reading};
+use mode_table::Mode;
+use speed_profile::CategorySpeeds;
+use telegram::Received;
+use track_store::ProfileStore;
+use units::{Ms, NoMemory, Permille};
+
+impl Parts {
+    // An event begins.
+    fn begin(&mut self)
+        ensures { self.new ≡ record self.old { happened = nothing_happened; stopped = false } }
+    {
+        self.happened = Happened::NOTHING;
+        self.stopped = false;
+    }
+
+    // An input without effect here.
+    fn pass_over(&mut self)
+        ensures { (life : Life) → self.old ≡ parts_of life → self.new ≡ parts_of (grown_so_far life nothing no_groups) }
+    {
+        self.begin();
+    }
+
+    // A movement: announced groups are missed that the train has passed. A movement that leads too far isn't added.
+    // Answers whether the group being read is left by it, and so has to end.
+    fn go(&mut self, reading: &Reading) -> bool
+        ensures moved { (life : Life) → self.old ≡ parts_of life → self.new ≡ still_reading life reading.now }
+        ensures none { (life : Life) → self.old ≡ parts_of life → result ≡ false → left_by life.entries reading.now ≡ None }
+        ensures idle { is_none self.old.groups.current ≡ true → result ≡ false }
+        ensures groups { self.new.groups ≡ self.old.groups }
+        ensures stands { (life : Life) → self.old ≡ parts_of life → result ≡ false
+            → self.new ≡ parts_of (grown_so_far life (moved life.entries reading.now) (after_moving life.entries reading.now)) }
+    {
+        self.begin();
+        self.speed = reading.speed;
+        let overrun = self.place.moved(reading.movement).is_err();
+        let asked = self.links.missed(self.place.min_front());
+        self.happened = Happened { overrun, asked };
+        self.groups.is_leaving(self.place.sums().path())
+    }
+
+    // The group being read is left, and ends.
+    fn leave(&mut self) -> Option<Closed>
+        ensures answer { (life : Life) (reading : Told) → self.old ≡ still_reading life reading → result ≡ left_by life.entries reading }
+        ensures stands { (life : Life) (reading : Told) → self.old ≡ still_reading life reading
+            → self.new ≡ parts_of (grown_so_far life (moved life.entries reading) (after_moving life.entries reading)) }
+        ensures packets { packets_of_closed result ≤ packets_in self.old.groups.readings }
+    {
+        self.groups.moved(self.place.sums().path())
+    }
+
+    // A telegram: the groups that it closes.
+    fn hear(&mut self, telegram: Received) -> Taken
+        ensures answer { (life : Life) (bytes : List ℕ) → self.old ≡ parts_of life → telegram_in bytes ≡ Some telegram
+            → result ≡ closed_by (groups_of life.entries) (heard life.entries bytes).heard }
+        ensures stands { (life : Life) (bytes : List ℕ) → self.old ≡ parts_of life → telegram_in bytes ≡ Some telegram
+            → self.new ≡ parts_of (grown_so_far life (heard life.entries bytes) no_groups) }
+        ensures packets { packets_of_closed result.ended + packets_of_closed result.whole
+            ≤ packets_in self.old.groups.readings + length telegram.packets.items }
+    {
+        self.begin();
+        self.groups.take(GroupReading {
+            telegram,
+            sums: self.place.sums(),
+        })
+    }
+
+    // The clock gives a moment.
+    fn tick(&mut self, moment: Ms)
+        ensures { (life : Life) → self.old ≡ parts_of life
+            → self.new ≡ parts_of (grown_so_far life (record nothing { clock = Some moment }) no_groups) }
+    {
+        self.begin();
+        self.moment = moment;
+        self.authority.tick(moment);
+    }
+}
+
+impl<G: ProfileStore<Permille> + Drop, S: ProfileStore<CategorySpeeds> + Drop> TracksideOver<G, S> {
+    // A movement while a group is being read, and the group that closes by it. There is room for its packets.
+    fn move_on(&mut self, mode: Mode, reading: &Reading)
+        requires { packets_in self.old.parts.groups.readings ≤ room_in G.room S.room self.old }
+        ensures idle { packets_in self.old.parts.groups.readings ≡ 0 → SameTrack self.old self.new }
+        ensures stands { (life : Life) → StandsForLife G.profile S.profile self.old life
+            → StandsForLife G.profile S.profile self.new (grown_so_far life (moved life.entries reading.now)
+            (with_groups mode life.entries (moved life.entries reading.now) (happened_by life.entries reading.now))) }
+    {
+        if self.parts.go(reading) {
+            let ended = self.parts.leave();
+            self.close(mode, &ended);
+        }
+    }
+
+    // A movement, and the group that closed by it. Where memory is refused, nothing changes.
+    fn move_by(&mut self, mode: Mode, reading: &Reading) -> Result<(), NoMemory>
+        ensures quiet { HasRoomFor G.room S.room self.old (inputs.Odometer reading.now) → IsOk result }
+        ensures idle { packets_by self.old.parts (inputs.Odometer reading.now) ≡ 0 → OnOk result (SameTrack self.old self.new) }
+        ensures stands { OnOk result ((life : Life) → StandsForLife G.profile S.profile self.old life
+            → StandsForLife G.profile S.profile self.new (grown_so_far life (moved life.entries reading.now)
+            (with_groups mode life.entries (moved life.entries reading.now) (happened_by life.entries reading.now)))) }
+        ensures err { OnErr result (self.new ≡ self.old) }
+    {
+        if self.parts.groups.is_idle() {
+            self.parts.go(reading);
+            return Ok(());
+        }
+        let packets = self.parts.groups.packets();
+        self.make_room(packets)?;
+        self.move_on(mode, reading);
+        Ok(())
+    }
+
+    // A telegram: the group that it ends closes, and behind that its own where that is whole now. There is room for the
+    // packets of both.
+    fn take(&mut self, mode: Mode, telegram: Received)
+        requires { packets_in self.old.parts.groups.readings + length telegram.packets.items ≤ room_in G.room S.room self.old }
+        ensures idle { packets_in self.old.parts.groups.readings + length telegram.packets.items ≡ 0 → SameTrack self.old self.new }
+        ensures stands { (life : Life) (bytes : List ℕ) → StandsForLife G.profile S.profile self.old life → telegram_in bytes ≡ Some telegram
+            → StandsForLife G.profile S.profile self.new (grown_so_far life (heard life.entries bytes)
+            (with_groups mode life.entries (heard life.entries bytes) nothing_happened)) }
+    {
+        let taken = self.parts.hear(telegram);
+        self.close(mode, &taken.ended);
+        self.close(mode, &taken.whole);
+    }
+
+    // A telegram, once there is room for what it may close. It stands out of line, so that other inputs clear no room
+    // for groups. Where memory is refused, nothing changes.
+    #[inline(never)]
+    fn read(&mut self, mode: Mode, telegram: Received) -> Result<(), NoMemory>
+        ensures quiet { packets_in self.old.parts.groups.readings + length telegram.packets.items ≤ room_in G.room S.room self.old → IsOk result }
+        ensures idle { packets_in self.old.parts.groups.readings + length telegram.packets.items ≡ 0 → OnOk result (SameTrack self.old self.new) }
+        ensures stands { OnOk result ((life : Life) (bytes : List ℕ) → StandsForLife G.profile S.profile self.old life → telegram_in bytes ≡ Some telegram
+            → StandsForLife G.profile S.profile self.new (grown_so_far life (heard life.entries bytes)
+            (with_groups mode life.entries (heard life.entries bytes) nothing_happened))) }
+        ensures err { OnErr result (self.new ≡ self.old) }
+    {
+        let packets = self.parts.groups.packets() + telegram.packets().len() as usize;
+        self.make_room(packets)?;
+        self.take(mode, telegram);
+        Ok(())
+    }
+
+    // The bytes of a balise. Those that carry no telegram do nothing.
+    fn listen(&mut self, mode: Mode, bytes: &[u8]) -> Result<(), NoMemory>
+        ensures quiet { HasRoomFor G.room S.room self.old (inputs.Telegram bytes.now) → IsOk result }
+        ensures idle { packets_by self.old.parts (inputs.Telegram bytes.now) ≡ 0 → OnOk result (SameTrack self.old self.new) }
+        ensures stands { OnOk result ((life : Life) → StandsForLife G.profile S.profile self.old life
+            → StandsForLife G.profile S.profile self.new (grown_so_far life (heard life.entries bytes.now)
+            (with_groups mode life.entries (heard life.entries bytes.now) nothing_happened))) }
+        ensures err { OnErr result (self.new ≡ self.old) }
+    {
+        match Received::new(bytes) {
+            Ok(telegram) => self.read(mode, telegram),
+            Err(_) => {
+                self.parts.pass_over();
+                Ok(())
+            }
+        }
+    }
+
+    /// What an input brings in a mode, and the groups that it closes: first its own effect, then each group is judged,
+    /// makes its fix, and the packets are used that the mode uses. Room is made first for all that they may add; where
+    /// memory is refused for it, nothing changes. Where there is room for them, none is refused. An input that uses no
+    /// packet keeps no more track.
+    pub fn receive(&mut self, mode: Mode, input: &Input) -> Result<(), NoMemory>
+        ensures quiet { HasRoomFor G.room S.room self.old input.now → IsOk result }
+        ensures idle { packets_by self.old.parts input.now ≡ 0 → OnOk result (size_in G.size S.size self.new ≡ size_in G.size S.size self.old) }
+        ensures stands { OnOk result ((life : Life) → StandsForLife G.profile S.profile self.old life
+            → StandsForLife G.profile S.profile self.new (grown life (received mode life.entries input.now))) }
+        ensures err { OnErr result (self.new ≡ self.old) }
+    {
+        match input {
+            Input::Telegram(bytes) => self.listen(mode, bytes.as_slice()),
+            Input::Odometer(reading) => self.move_by(mode, reading),
+            Input::Clock(moment) => {
+                self.parts.tick(*moment);
+                Ok(())
+            }
+            Input::Driver(_) => {
+                self.parts.pass_over();
+                Ok(())
+            }
+        }
+    }
+}

@@ -1,0 +1,47 @@
+//! Room for all that the groups of an event may add, so that behind it nothing can be refused.
+ghost use Rattle.std.specs.Prelude.{◌≡◌, ◌≤◌, IsOk, OnOk, OnErr};
+ghost use Rattle.track_picture.specs.StandsFor.{Life, StandsForLife, room_in};
+
+use crate::state::TracksideOver;
+use speed_profile::CategorySpeeds;
+use track_store::ProfileStore;
+use units::{NoMemory, Permille};
+
+impl<G: ProfileStore<Permille> + Drop, S: ProfileStore<CategorySpeeds> + Drop> TracksideOver<G, S> {
+    // For how many packets there is room.
+    fn room(&self) -> usize
+        ensures { result ≡ room_in G.room S.room self.now }
+    {
+        let profiles = self.gradients.room().min(self.speeds.room());
+        self.restrictions.room().min(profiles)
+    }
+
+    /// Makes room for so many packets, unless there is room for them: then, and where memory is refused, nothing
+    /// changes.
+    pub(crate) fn make_room(&mut self, packets: usize) -> Result<(), NoMemory>
+        ensures quiet { packets ≤ room_in G.room S.room self.old → IsOk result }
+        ensures same { packets ≤ room_in G.room S.room self.old → self.new ≡ self.old }
+        ensures room { OnOk result (packets ≤ room_in G.room S.room self.new) }
+        ensures parts { OnOk result (self.new.parts ≡ self.old.parts) }
+        ensures stands { OnOk result ((life : Life) → StandsForLife G.profile S.profile self.old life
+            → StandsForLife G.profile S.profile self.new life) }
+        ensures err { OnErr result (self.new ≡ self.old) }
+    {
+        if packets <= self.room() {
+            return Ok(());
+        }
+        let restrictions = self.restrictions.room();
+        let gradients = self.gradients.room();
+        self.restrictions.make_room(packets)?;
+        if let Err(refused) = self.gradients.make_room(packets) {
+            self.restrictions.limit_room(restrictions);
+            return Err(refused);
+        }
+        if let Err(refused) = self.speeds.make_room(packets) {
+            self.gradients.limit_room(gradients);
+            self.restrictions.limit_room(restrictions);
+            return Err(refused);
+        }
+        Ok(())
+    }
+}

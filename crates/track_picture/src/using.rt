@@ -1,0 +1,223 @@
+//! How the packets of a group that was accepted are used. They are taken in rising number, equal numbers in the order
+//! of the message, and most kinds go to a part of their own: so two walks over the message are enough, and the second
+//! one is made only where the first met a packet for it.
+ghost use Rattle.std.specs.Prelude.{◌≡◌, ◌+◌, ◌≤◌, ◌||◌, ℕ, length, if◌then◌else◌};
+ghost use Rattle.std.specs.List.{list_any};
+ghost use Rattle.track_picture.specs.Entry.{Fact};
+ghost use Rattle.track_picture.specs.History.{after_facts};
+ghost use Rattle.track_picture.specs.Sentences.{is_passed, valid_in, is_used};
+ghost use Rattle.track_picture.specs.StandsFor.{room_in};
+ghost use Rattle.track_picture.specs.Steps.{fact_of, facts};
+ghost use Rattle.track_picture.specs.Told.{Told as AllTold, IsTold as IsAllTold, known_of, comes_later, after_earlier, after_later};
+
+mod gradients;
+mod grants;
+mod levels;
+mod links;
+mod mode_areas;
+mod restrictions;
+mod revocations;
+mod speeds;
+mod values;
+
+use crate::parts::Parts;
+use crate::state::TracksideOver;
+use balise_groups::GroupPackets;
+use mode_table::{Mode, uses};
+use packets::Packet;
+use speed_profile::CategorySpeeds;
+use track_store::ProfileStore;
+use units::{GroupPlace, Ms, Permille};
+use vars::{GroupIdentity, LinkOrientation, ValidityDirection, Variable};
+
+/// How the packets of a group are used.
+#[derive(Clone, Copy)]
+pub struct Use {
+    /// The mode before the event.
+    pub mode: Mode,
+    /// Which group it is.
+    pub group: GroupIdentity,
+    /// From where its distances count, in centimetres.
+    pub place: GroupPlace,
+    /// When it closed, in milliseconds of the life.
+    pub moment: Ms,
+    /// The direction in which it was passed, where that is known.
+    pub direction: Option<LinkOrientation>,
+}
+
+// Whether a packet counts that is valid in this direction.
+fn is_passed(valid: ValidityDirection, direction: &Option<LinkOrientation>) -> bool
+    ensures { result ≡ is_passed valid direction.now }
+{
+    match (valid, direction) {
+        (ValidityDirection::Both, _) => true,
+        (ValidityDirection::Nominal, Some(LinkOrientation::Nominal)) => true,
+        (ValidityDirection::Reverse, Some(LinkOrientation::Reverse)) => true,
+        _ => false,
+    }
+}
+
+// The direction in which a packet is valid; None of one that isn't known.
+fn valid_in(packet: &Packet<'_>) -> Option<ValidityDirection>
+    ensures { result ≡ valid_in packet.now }
+{
+    match packet {
+        Packet::NationalValues(packet) => Some(packet.direction),
+        Packet::Linking(packet) => Some(packet.direction),
+        Packet::MovementAuthority(packet) => Some(packet.direction),
+        Packet::Gradients(packet) => Some(packet.direction),
+        Packet::StaticSpeeds(packet) => Some(packet.direction),
+        Packet::LevelTransition(packet) => Some(packet.direction),
+        Packet::SpeedRestriction(packet) => Some(packet.direction),
+        Packet::RestrictionRevocation(packet) => Some(packet.direction),
+        Packet::ModeProfile(packet) => Some(packet.direction),
+        Packet::Other(_) => None,
+    }
+}
+
+// Whether a packet is used.
+fn is_used(packet: &Packet<'_>, used: &Use) -> bool
+    ensures { result ≡ is_used used.now.mode used.now.direction packet.now }
+{
+    let Some(valid) = valid_in(packet) else {
+        return false;
+    };
+    uses(used.mode, packet.number().number() as u8) && is_passed(valid, &used.direction)
+}
+
+// Whether a packet is for the second walk.
+fn comes_later(packet: &Packet<'_>) -> bool
+    ensures { result ≡ comes_later packet.now }
+{
+    matches!(
+        packet,
+        Packet::RestrictionRevocation(_) | Packet::ModeProfile(_)
+    )
+}
+
+// Whether such a packet was met, with one packet more.
+fn met_later(before: bool, packet: &Packet<'_>) -> bool
+    ensures { result ≡ (before || comes_later packet.now) }
+{
+    before || comes_later(packet)
+}
+
+/// A walk over the packets of a message, and what a state takes of them one after another. It takes no memory, in the
+/// room that was made for so many packets of the walk, and for more behind them.
+pub trait Walk<T> {
+    ghost Told: { Type 0 };
+
+    ghost IsTold: { T → Told → Type 0 };
+
+    ghost HasRoom: { ℕ → ℕ → T → Type 0 };
+
+    ghost after: { Fact → Told → Told };
+
+    /// Takes what concerns this walk of a packet that is used.
+    fn take(state: &mut T, packet: &Packet<'_>, used: &Use)
+        requires { (left : ℕ) × HasRoom (left + 1) 0 state.old }
+        ensures told { (told : Told) → IsTold state.old told → IsTold state.new (after (fact_of used.now packet.now) told) }
+        ensures room { (left behind : ℕ) → HasRoom (left + 1) behind state.old → HasRoom left behind state.new };
+
+    ghost less: { (left behind : ℕ) (state : T) → HasRoom (left + 1) behind state → HasRoom left behind state };
+}
+
+// One packet of a walk.
+fn take_one<T, W: Walk<T>>(state: &mut T, packet: &Packet<'_>, used: &Use)
+    requires { (left : ℕ) × W.HasRoom (left + 1) 0 state.old }
+    ensures told { (told : W.Told) → W.IsTold state.old told
+        → W.IsTold state.new (if is_used used.now.mode used.now.direction packet.now then W.after (fact_of used.now packet.now) told else told) }
+    ensures room { (left behind : ℕ) → W.HasRoom (left + 1) behind state.old → W.HasRoom left behind state.new }
+{
+    if is_used(packet, used) {
+        W::take(state, packet, used);
+    }
+}
+
+/// A whole walk. Answers whether it met a packet for the second one. The caller owes room for as many packets of the
+/// walk as the message has.
+pub fn take_all<T, W: Walk<T>>(state: &mut T, packets: &GroupPackets, used: &Use) -> bool
+    requires { W.HasRoom (length packets.now) 0 state.old }
+    ensures told { (told : W.Told) → W.IsTold state.old told → W.IsTold state.new (after_facts W.after (facts used.now packets.now) told) }
+    ensures room { (behind : ℕ) → W.HasRoom (length packets.now) behind state.old → W.HasRoom 0 behind state.new }
+    ensures later { result ≡ list_any comes_later packets.now }
+    ensures none { length packets.now ≡ 0 → state.new ≡ state.old }
+{
+    let mut later = false;
+    for item in packets.iter() {
+        take_one::<T, W>(state, item.packet(), used);
+        later = met_later(later, item.packet());
+    }
+    later
+}
+
+impl Parts {
+    // Takes what a packet has for one of these parts in the first walk.
+    fn tell(&mut self, packet: &Packet<'_>, used: &Use)
+        ensures { (told : AllTold) → self.old ≡ known_of told → self.new ≡ known_of (after_earlier (fact_of used.now packet.now) told) }
+    {
+        values::take(&mut self.national, packet, used);
+        links::take(&mut self.links, packet, used);
+        grants::take(&mut self.authority, packet, used);
+        grants::note_stop(&mut self.stopped, packet);
+        mode_areas::clear(&mut self.areas, packet);
+        levels::take(&mut self.level, packet, used);
+    }
+
+    // .. and in the second.
+    fn tell_later(&mut self, packet: &Packet<'_>, used: &Use)
+        ensures { (told : AllTold) → self.old ≡ known_of told → self.new ≡ known_of (after_later (fact_of used.now packet.now) told) }
+    {
+        mode_areas::take(&mut self.areas, packet, used);
+    }
+}
+
+/// The walk over all kinds of packets but those that come behind another kind of the same part.
+pub struct Earlier;
+
+impl<G: ProfileStore<Permille> + Drop, S: ProfileStore<CategorySpeeds> + Drop> Walk<
+    TracksideOver<G, S>,
+> for Earlier {
+    ghost use Rattle.std.proofs.Common.{arith};
+
+    ghost Told = { AllTold };
+
+    ghost IsTold = { λ state told. IsAllTold G.profile S.profile state told };
+
+    ghost HasRoom = { λ left behind state. left + behind ≤ room_in G.room S.room state };
+
+    ghost after = { after_earlier };
+
+    ghost less = { λ left behind state room. omega arith };
+
+    fn take(state: &mut TracksideOver<G, S>, packet: &Packet<'_>, used: &Use) {
+        let mark = state.restrictions.mark();
+        state.parts.tell(packet, used);
+        restrictions::take(&mut state.restrictions, packet, used);
+        gradients::take(&mut state.gradients, mark, packet, used);
+        speeds::take(&mut state.speeds, mark, packet, used);
+    }
+}
+
+/// The walk over the revocations, behind the restrictions, and over the mode areas, behind the authorities. It needs no
+/// room.
+pub struct Later;
+
+impl<G: ProfileStore<Permille> + Drop, S: ProfileStore<CategorySpeeds> + Drop> Walk<
+    TracksideOver<G, S>,
+> for Later {
+    ghost Told = { AllTold };
+
+    ghost IsTold = { λ state told. IsAllTold G.profile S.profile state told };
+
+    ghost HasRoom = { λ left behind state. behind ≤ room_in G.room S.room state };
+
+    ghost after = { after_later };
+
+    ghost less = { λ left behind state room. room };
+
+    fn take(state: &mut TracksideOver<G, S>, packet: &Packet<'_>, used: &Use) {
+        state.parts.tell_later(packet, used);
+        revocations::take(&mut state.restrictions, packet, used);
+    }
+}

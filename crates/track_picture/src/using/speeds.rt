@@ -1,0 +1,34 @@
+//! Static speeds (packet 27).
+ghost use Rattle.std.specs.Prelude.{◌≡◌, ◌≤◌, ◌+◌};
+ghost use Rattle.speed_profile.specs.declared.told.CategorySpeeds.{CategorySpeeds};
+ghost use Rattle.track_store.specs.Facts.{Told, profile_of};
+ghost use Rattle.track_store.specs.Profiles.{profile_with};
+ghost use Rattle.track_picture.specs.History.{after_speeds};
+ghost use Rattle.track_picture.specs.Steps.{fact_of};
+
+use crate::using::Use;
+use packets::Packet;
+use speed_profile::{CategorySpeeds, static_speeds};
+use track_store::ProfileStore;
+use units::Cm;
+
+/// Takes a packet, where it has static speeds; no track before the forgetting mark counts. There is room for one
+/// replacement.
+pub fn take<S: ProfileStore<CategorySpeeds>>(
+    store: &mut S,
+    mark: Cm,
+    packet: &Packet<'_>,
+    used: &Use,
+)
+    requires { 1 ≤ S.room store.old }
+    ensures profile { (told : Told CategorySpeeds) → told.mark ≡ mark → profile_with S.value store.old ≡ profile_of told
+        → profile_with S.value store.new ≡ profile_of (record told { facts = after_speeds (fact_of used.now packet.now) told.facts }) }
+    ensures room { S.room store.old ≤ S.room store.new + 1 }
+{
+    let Packet::StaticSpeeds(packet) = packet else {
+        return;
+    };
+    let told = static_speeds(packet, used.place);
+    store.replace_reserved(told.start, told.steps.as_slice());
+    store.drop_behind(mark);
+}

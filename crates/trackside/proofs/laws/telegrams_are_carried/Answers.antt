@@ -1,5 +1,0 @@
-use Rattle.trackside.proofs.Carrying.{carried_in, in_carried}
-use Rattle.trackside.proofs.laws.telegrams_are_carried.Goals as goal
-
-pub returns : goal.returns
-returns c bytes t = (in_carried bytes t, carried_in bytes t)

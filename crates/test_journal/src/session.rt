@@ -2,7 +2,7 @@
 use crate::batches::{batch, kept_of};
 use blocks::Block;
 use disk::{Choice, Disk, Memory, Plan, SECTOR_BYTES};
-use journal::{BlockError, CommitError, FormatError, Found, Journal, OpenError, Run};
+use journal::{BlockError, BlockRun, CommitError, FormatError, Found, Journal, OpenError};
 use std::alloc::Global;
 use units::NoMemory;
 

@@ -106,7 +106,7 @@ impl Session {
     }
 
     /// The run of the journal that is open.
-    pub fn run(&self) -> Option<Run> {
+    pub fn run(&self) -> Option<BlockRun> {
         let journal = self.journal.as_ref()?;
         Some(journal.blocks())
     }

@@ -1,5 +1,6 @@
-pub mod Values
-pub mod Groups
 pub mod Actions
-pub mod Steps
+pub mod Groups
 pub mod Lives
+pub mod Numbers
+pub mod Steps
+pub mod Values

@@ -1,4 +1,7 @@
 //! The faults for which a scenario is refused.
+ghost use Rattle.std.specs.Prelude.{◌≡◌};
+ghost use Rattle.scenario_values.specs.Numbers.{fault_number};
+
 use std::alloc::{AllocError, AllocFailed};
 use thiserror::Error;
 use units::NoMemory;
@@ -8,19 +11,28 @@ use units::NoMemory;
 pub enum ScenarioFault {
     /// The bytes are no JSON value.
     #[error("NotJson")]
-    NotJson,
+    NotJson = 1,
     /// A key is missing or one too many, a value has the wrong kind, or a list the wrong count.
     #[error("Shape")]
-    Shape,
+    Shape = 2,
     /// A number or the length of a text is outside its limits.
     #[error("OutOfRange")]
-    OutOfRange,
+    OutOfRange = 3,
     /// The text of a telegram isn't hexadecimal digits, two a byte.
     #[error("BadHex")]
-    BadHex,
+    BadHex = 4,
     /// Memory was refused.
     #[error("NoMemory")]
-    NoMemory,
+    NoMemory = 5,
+}
+
+impl ScenarioFault {
+    /// The number by which the refusal is told.
+    pub fn number(self) -> u8
+        ensures { result ≡ fault_number self }
+    {
+        self as u8
+    }
 }
 
 impl From<AllocError> for ScenarioFault {

@@ -3,8 +3,10 @@
 use Rattle.std.specs.Prelude.{ℕ, List, [], ◌++◌, Result, Ok, Err, codes, decimal}
 use Rattle.exit_status.specs.declared.status.Status.{Status}
 use Rattle.exit_status.specs.declared.status.Status.TheVariants.{Done, Refused, Device}
+use Rattle.journal.specs.Numbers.{format_number}
 use Rattle.journal.specs.declared.errors.FormatError.{FormatError}
 use Rattle.journal.specs.declared.errors.FormatError.TheVariants as a_format
+use Rattle.onboard.specs.Numbers.{open_number, accept_number, flush_number}
 use Rattle.onboard.specs.declared.errors.OpenError.{OpenError}
 use Rattle.onboard.specs.declared.errors.OpenError.TheVariants as an_open
 use Rattle.onboard.specs.declared.errors.LiveError.{LiveError}
@@ -13,36 +15,47 @@ use Rattle.onboard.specs.declared.errors.AcceptError.{AcceptError}
 use Rattle.onboard.specs.declared.errors.AcceptError.TheVariants as an_accept
 use Rattle.onboard.specs.declared.errors.FlushError.{FlushError}
 use Rattle.onboard.specs.declared.errors.FlushError.TheVariants as a_flush
+use Rattle.reader.specs.Numbers.{listing_number}
 use Rattle.reader.specs.declared.errors.ListingError.{ListingError}
 use Rattle.reader.specs.declared.errors.ListingError.TheVariants as a_listing
+use Rattle.scenario_values.specs.Numbers.{fault_number}
 use Rattle.scenario_values.specs.declared.fault.ScenarioFault.{ScenarioFault}
 use Rattle.scenario_values.specs.declared.fault.ScenarioFault.TheVariants as a_fault
 
 -- ---- why a life stopped: a number and a name
 
+abbrev pub open_name : OpenError → List ℕ
+open_name an_open.DeviceFault = codes "DeviceFault"
+open_name an_open.NotFormatted = codes "NotFormatted"
+open_name an_open.Damaged = codes "Damaged"
+open_name an_open.NoMemory = codes "NoMemory"
+open_name an_open.WornOut = codes "WornOut"
+
 abbrev pub open_reason : OpenError → ℕ × List ℕ
-open_reason an_open.DeviceFault = (1, codes "DeviceFault")
-open_reason an_open.NotFormatted = (2, codes "NotFormatted")
-open_reason an_open.Damaged = (3, codes "Damaged")
-open_reason an_open.NoMemory = (4, codes "NoMemory")
-open_reason an_open.WornOut = (6, codes "WornOut")
+open_reason error = (open_number error, open_name error)
+
+abbrev pub accept_name : AcceptError → List ℕ
+accept_name an_accept.PendingFull = codes "PendingFull"
+accept_name an_accept.ClockBack = codes "ClockBack"
+accept_name an_accept.NoMemory = codes "NoMemory"
+accept_name an_accept.Failed = codes "Failed"
 
 abbrev pub accept_reason : AcceptError → ℕ × List ℕ
-accept_reason an_accept.PendingFull = (10, codes "PendingFull")
-accept_reason an_accept.ClockBack = (11, codes "ClockBack")
-accept_reason an_accept.NoMemory = (12, codes "NoMemory")
-accept_reason an_accept.Failed = (13, codes "Failed")
+accept_reason error = (accept_number error, accept_name error)
+
+abbrev pub flush_name : FlushError → List ℕ
+flush_name a_flush.DeviceFault = codes "DeviceFault"
+flush_name a_flush.Failed = codes "Failed"
+flush_name a_flush.WornOut = codes "WornOut"
 
 abbrev pub flush_reason : FlushError → ℕ × List ℕ
-flush_reason a_flush.DeviceFault = (20, codes "DeviceFault")
-flush_reason a_flush.Failed = (21, codes "Failed")
-flush_reason a_flush.WornOut = (23, codes "WornOut")
+flush_reason error = (flush_number error, flush_name error)
 
 abbrev pub stop_reason : LiveError → ℕ × List ℕ
 stop_reason (a_live.Open e) = open_reason e
 stop_reason (a_live.Accept k e) = accept_reason e
 stop_reason (a_live.Flush k e) = flush_reason e
-stop_reason (a_live.NoMemory k) = (12, codes "NoMemory")
+stop_reason (a_live.NoMemory k) = accept_reason an_accept.NoMemory
 
 -- a word, a number and a name, in a line
 abbrev pub line_with : List ℕ → ℕ × List ℕ → List ℕ
@@ -72,22 +85,28 @@ status_of (Err e) = stop_status e
 
 -- ---- why something was refused
 
+abbrev pub format_name : FormatError → List ℕ
+format_name a_format.DeviceFault = codes "DeviceFault"
+format_name a_format.BadSlots = codes "BadSlots"
+format_name a_format.WrongSize = codes "WrongSize"
+
 abbrev pub format_reason : FormatError → ℕ × List ℕ
-format_reason a_format.DeviceFault = (40, codes "DeviceFault")
-format_reason a_format.BadSlots = (41, codes "BadSlots")
-format_reason a_format.WrongSize = (42, codes "WrongSize")
+format_reason error = (format_number error, format_name error)
 
 abbrev pub format_status : FormatError → Status
 format_status a_format.DeviceFault = Device
 format_status a_format.BadSlots = Refused
 format_status a_format.WrongSize = Refused
 
+abbrev pub listing_name : ListingError → List ℕ
+listing_name a_listing.DeviceFault = codes "DeviceFault"
+listing_name a_listing.NotFormatted = codes "NotFormatted"
+listing_name a_listing.Damaged = codes "Damaged"
+listing_name a_listing.Write = codes "Write"
+listing_name a_listing.NoMemory = codes "NoMemory"
+
 abbrev pub listing_reason : ListingError → ℕ × List ℕ
-listing_reason a_listing.DeviceFault = (30, codes "DeviceFault")
-listing_reason a_listing.NotFormatted = (31, codes "NotFormatted")
-listing_reason a_listing.Damaged = (32, codes "Damaged")
-listing_reason a_listing.Write = (33, codes "Write")
-listing_reason a_listing.NoMemory = (34, codes "NoMemory")
+listing_reason error = (listing_number error, listing_name error)
 
 abbrev pub listing_status : ListingError → Status
 listing_status a_listing.DeviceFault = Device
@@ -96,12 +115,15 @@ listing_status a_listing.Damaged = Refused
 listing_status a_listing.Write = Refused
 listing_status a_listing.NoMemory = Refused
 
+abbrev pub fault_name : ScenarioFault → List ℕ
+fault_name a_fault.NotJson = codes "NotJson"
+fault_name a_fault.Shape = codes "Shape"
+fault_name a_fault.OutOfRange = codes "OutOfRange"
+fault_name a_fault.BadHex = codes "BadHex"
+fault_name a_fault.NoMemory = codes "NoMemory"
+
 abbrev pub fault_reason : ScenarioFault → ℕ × List ℕ
-fault_reason a_fault.NotJson = (1, codes "NotJson")
-fault_reason a_fault.Shape = (2, codes "Shape")
-fault_reason a_fault.OutOfRange = (3, codes "OutOfRange")
-fault_reason a_fault.BadHex = (4, codes "BadHex")
-fault_reason a_fault.NoMemory = (5, codes "NoMemory")
+fault_reason error = (fault_number error, fault_name error)
 
 abbrev pub refusal_of : ℕ × List ℕ → List ℕ
 refusal_of reason = line_with (codes "refused") reason

@@ -1,0 +1,26 @@
+-- The numbers by which refusals are told (this project's profile).
+use Rattle.std.specs.Prelude.{ℕ}
+use Rattle.onboard.specs.declared.errors.OpenError.{OpenError}
+use Rattle.onboard.specs.declared.errors.OpenError.TheVariants as an_open
+use Rattle.onboard.specs.declared.errors.AcceptError.{AcceptError}
+use Rattle.onboard.specs.declared.errors.AcceptError.TheVariants as an_accept
+use Rattle.onboard.specs.declared.errors.FlushError.{FlushError}
+use Rattle.onboard.specs.declared.errors.FlushError.TheVariants as a_flush
+
+abbrev pub open_number : OpenError → ℕ
+open_number an_open.DeviceFault = 1
+open_number an_open.NotFormatted = 2
+open_number an_open.Damaged = 3
+open_number an_open.NoMemory = 4
+open_number an_open.WornOut = 6
+
+abbrev pub accept_number : AcceptError → ℕ
+accept_number an_accept.PendingFull = 10
+accept_number an_accept.ClockBack = 11
+accept_number an_accept.NoMemory = 12
+accept_number an_accept.Failed = 13
+
+abbrev pub flush_number : FlushError → ℕ
+flush_number a_flush.DeviceFault = 20
+flush_number a_flush.Failed = 21
+flush_number a_flush.WornOut = 23

@@ -8,3 +8,4 @@ pub mod Known
 pub mod Accepting
 pub mod Laws
 pub mod LastGiven
+pub mod Numbers

@@ -5,15 +5,14 @@ use Rattle.std.specs.List.{list_all}
 use Rattle.std.specs.Ordering.{int_eq}
 use Rattle.serde_json.specs.Data.{Data}
 use Rattle.mode_table.specs.declared.level.TrainLevel.{TrainLevel}
-use Rattle.mode_table.specs.declared.level.TrainLevel.TheVariants.{Level0, Level1}
+use Rattle.mode_table.specs.Numbers.{level_by}
 use Rattle.brakes.specs.declared.brakes.Brakes.{Brakes}
 use Rattle.driver.specs.declared.action.Action.{Action}
 use Rattle.driver.specs.declared.action.Action.TheVariants.{EnterIdentity, EnterRunningNumber, EnterTrainData, ChooseLevel, Confirm, Start, ChooseShunting, LeaveShunting, Override, Acknowledge, CloseDesk}
 use Rattle.driver.specs.declared.action.Confirmed.{Confirmed}
-use Rattle.driver.specs.declared.action.Confirmed.TheVariants as an_item
+use Rattle.driver.specs.Numbers.{item_by, reason_by}
 use Rattle.driver.specs.declared.action.Acknowledged.{Acknowledged}
-use Rattle.driver.specs.declared.action.Acknowledged.TheVariants as a_kind
-use Rattle.scenario_values.specs.Values.{◌>>=◌, given, whole_item, text_item, within}
+use Rattle.scenario_values.specs.Values.{◌>>=◌, given, whole_item, text_item, within, numbered}
 use Rattle.scenario_values.specs.declared.fault.ScenarioFault.{ScenarioFault}
 use Rattle.scenario_values.specs.declared.fault.ScenarioFault.TheVariants.{Shape, OutOfRange}
 
@@ -22,23 +21,13 @@ abbrev pub is_identity : List ℕ → Bool
 is_identity text = nat_le 1 (length text) && nat_le (length text) 16 && list_all (λ byte. nat_le 0x20 byte && nat_le byte 0x7E) text
 
 abbrev pub level : ℤ → Result TrainLevel ScenarioFault
-level z = if int_eq z (pos 0) then Ok Level0 else if int_eq z (pos 1) then Ok Level1 else Err OutOfRange
+level z = numbered level_by z
 
 abbrev pub confirmed : ℤ → Result Confirmed ScenarioFault
-confirmed z =
-    if int_eq z (pos 1) then Ok an_item.Identity
-    else if int_eq z (pos 2) then Ok an_item.RunningNumber
-    else if int_eq z (pos 3) then Ok an_item.TrainData
-    else if int_eq z (pos 4) then Ok an_item.Level
-    else Err OutOfRange
+confirmed z = numbered item_by z
 
 abbrev pub acknowledged : ℤ → Result Acknowledged ScenarioFault
-acknowledged z =
-    if int_eq z (pos 1) then Ok a_kind.Trip
-    else if int_eq z (pos 2) then Ok a_kind.OnSight
-    else if int_eq z (pos 3) then Ok a_kind.Shunting
-    else if int_eq z (pos 4) then Ok a_kind.Level0
-    else Err OutOfRange
+acknowledged z = numbered reason_by z
 
 -- ---- actions with values behind their code
 

@@ -1,20 +1,20 @@
 -- The life that the JSON value of a scenario asks for, or its first fault (this project's profile). Distances are
 -- centimetres, speeds metres per hour, moments milliseconds.
 use Rattle.std.specs.Prelude.{ℕ, ◌&&◌, ℤ, pos, List, [], ◌∷◌, codes, is_some, Bool, if◌then◌else◌, Option, Some, None, Result, Ok, Err}
-use Rattle.std.specs.Ordering.{int_eq}
 use Rattle.serde_json.specs.Data.{Data}
 use Rattle.serde_json.specs.Find.{get}
 use Rattle.mode_table.specs.declared.statuses.Cold.{Cold}
-use Rattle.mode_table.specs.declared.statuses.Cold.TheVariants.{Unknown, Moved, NotMoved}
+use Rattle.mode_table.specs.declared.statuses.Cold.TheVariants.{Unknown}
+use Rattle.mode_table.specs.Numbers.{word_by}
 use Rattle.events.specs.declared.step.Step.{Step}
 use Rattle.course.specs.Passing.{passed}
 use Rattle.course.specs.Course.{Run, start, taken, ended}
 use Rattle.course.specs.declared.balise.Balise.{Balise}
-use Rattle.scenario_values.specs.Values.{◌>>=◌, shaped, given, has_members, list_in, whole}
+use Rattle.scenario_values.specs.Values.{◌>>=◌, shaped, given, has_members, list_in, whole, numbered}
 use Rattle.scenario_values.specs.Groups.{groups}
 use Rattle.scenario_values.specs.Steps.{asked}
 use Rattle.scenario_values.specs.declared.fault.ScenarioFault.{ScenarioFault}
-use Rattle.scenario_values.specs.declared.fault.ScenarioFault.TheVariants.{Shape, OutOfRange}
+use Rattle.scenario_values.specs.declared.fault.ScenarioFault.TheVariants.{Shape}
 
 -- the steps in order, up to the first fault
 abbrev pub lived : (ℤ → ℕ → List Balise) → List Data → Run → Result Run ScenarioFault
@@ -34,11 +34,7 @@ has_keys d = has_members (if is_some (get (codes "cold") d) then 3 else 2) d && 
 
 -- whether the train was moved without power
 abbrev pub cold_word : ℤ → Result Cold ScenarioFault
-cold_word z =
-    if int_eq z (pos 0) then Ok Unknown
-    else if int_eq z (pos 1) then Ok Moved
-    else if int_eq z (pos 2) then Ok NotMoved
-    else Err OutOfRange
+cold_word z = numbered word_by z
 
 abbrev pub cold_of : Option Data → Result Cold ScenarioFault
 cold_of None = Ok Unknown

@@ -61,6 +61,15 @@ text_item ds n = shaped (option_and_then as_str (slice_get ds n))
 abbrev pub within : ℕ → ℕ → ℤ → Result ℕ ScenarioFault
 within low high z = if int_le (pos low) z && int_le z (pos high) then Ok (natural z) else Err OutOfRange
 
+-- what there is, or OutOfRange
+abbrev pub known : {A : Type 0} → Option A → Result A ScenarioFault
+known (Some x) = Ok x
+known None = Err OutOfRange
+
+-- the value that a number of one byte tells
+abbrev pub numbered : {A : Type 0} → (ℕ → Option A) → ℤ → Result A ScenarioFault
+numbered value z = within 0 255 z >>= λ n. known (value n)
+
 -- the bytes of a hex text
 abbrev pub hex_bytes : Result (List ℕ) FromHexError → Result (List ℕ) ScenarioFault
 hex_bytes (Ok bytes) = Ok bytes

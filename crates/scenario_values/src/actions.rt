@@ -5,7 +5,7 @@ ghost use Rattle.scenario_values.specs.Values.{within};
 ghost use Rattle.scenario_values.specs.Actions.{level, confirmed, acknowledged, lone_value, identity, entered_identity, entered_number, brakes, train, entered_train, chosen_level, confirmed_item, acknowledged_kind, bare, by_code, action};
 
 use crate::ScenarioFault;
-use crate::values::{text_item, whole_item, within};
+use crate::values::{byte_of, text_item, whole_item, within};
 use brakes::{Brakes, Deceleration, Reaction};
 use driver::{Acknowledged, Action, Confirmed, DriverIdentity, RunningNumber, TrainData};
 use mode_table::TrainLevel;
@@ -16,35 +16,19 @@ use vars::{TrainCategory, Variable};
 fn level_of(number: i64) -> Result<TrainLevel, ScenarioFault>
     ensures { result ≡ level number }
 {
-    match number {
-        0 => Ok(TrainLevel::Level0),
-        1 => Ok(TrainLevel::Level1),
-        _ => Err(ScenarioFault::OutOfRange),
-    }
+    TrainLevel::of_number(byte_of(number)?).ok_or(ScenarioFault::OutOfRange)
 }
 
 fn confirmed_of(number: i64) -> Result<Confirmed, ScenarioFault>
     ensures { result ≡ confirmed number }
 {
-    match number {
-        1 => Ok(Confirmed::Identity),
-        2 => Ok(Confirmed::RunningNumber),
-        3 => Ok(Confirmed::TrainData),
-        4 => Ok(Confirmed::Level),
-        _ => Err(ScenarioFault::OutOfRange),
-    }
+    Confirmed::of_number(byte_of(number)?).ok_or(ScenarioFault::OutOfRange)
 }
 
 fn acknowledged_of(number: i64) -> Result<Acknowledged, ScenarioFault>
     ensures { result ≡ acknowledged number }
 {
-    match number {
-        1 => Ok(Acknowledged::Trip),
-        2 => Ok(Acknowledged::OnSight),
-        3 => Ok(Acknowledged::Shunting),
-        4 => Ok(Acknowledged::Level0),
-        _ => Err(ScenarioFault::OutOfRange),
-    }
+    Acknowledged::of_number(byte_of(number)?).ok_or(ScenarioFault::OutOfRange)
 }
 
 fn identity_of(text: &str) -> Result<Action, ScenarioFault>

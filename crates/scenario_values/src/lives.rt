@@ -10,7 +10,7 @@ ghost use Rattle.scenario_values.specs.Lives.{lived, steps_in, has_keys, cold_wo
 use crate::ScenarioFault;
 use crate::asking::asked_of;
 use crate::groups::lay_all;
-use crate::values::{has_members, list_of};
+use crate::values::{byte_of, has_members, list_of};
 use course::{Course, Track};
 use events::Step;
 use mode_table::Cold;
@@ -27,12 +27,7 @@ fn has_keys(value: &Value) -> bool
 fn cold_word(number: i64) -> Result<Cold, ScenarioFault>
     ensures { result ≡ cold_word number }
 {
-    match number {
-        0 => Ok(Cold::Unknown),
-        1 => Ok(Cold::Moved),
-        2 => Ok(Cold::NotMoved),
-        _ => Err(ScenarioFault::OutOfRange),
-    }
+    Cold::of_number(byte_of(number)?).ok_or(ScenarioFault::OutOfRange)
 }
 
 fn cold_of(value: &Value) -> Result<Cold, ScenarioFault>

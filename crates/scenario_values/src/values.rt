@@ -57,3 +57,10 @@ pub(crate) fn within(low: u64, high: u64, number: i64) -> Result<u64, ScenarioFa
         _ => Err(ScenarioFault::OutOfRange),
     }
 }
+
+/// A number of one byte.
+pub(crate) fn byte_of(number: i64) -> Result<u8, ScenarioFault>
+    ensures { result ≡ within 0 255 number }
+{
+    Ok(within(0, 255, number)? as u8)
+}

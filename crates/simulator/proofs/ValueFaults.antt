@@ -12,7 +12,9 @@ use Rattle.course.specs.declared.asked.Asked.{Asked}
 use Rattle.course.specs.declared.balise.Balise.{Balise}
 use Rattle.driver.specs.declared.action.Action.{Action}
 use Rattle.driver.specs.declared.action.Action.TheVariants.{Start, ChooseShunting, LeaveShunting, Override, CloseDesk}
-use Rattle.scenario_values.specs.Values.{◌>>=◌, shaped, given, has_members, list_in, whole, within, hex_bytes, bytes_in, whole_item, text_item}
+use Rattle.mode_table.specs.Numbers.{level_by, word_by}
+use Rattle.driver.specs.Numbers.{item_by, reason_by}
+use Rattle.scenario_values.specs.Values.{◌>>=◌, shaped, given, has_members, list_in, whole, within, known, numbered, hex_bytes, bytes_in, whole_item, text_item}
 use Rattle.scenario_values.specs.Groups.{whole_at, list_at, are_texts, laid_one, laid, group, groups}
 use Rattle.scenario_values.specs.Actions.{is_identity, level, confirmed, acknowledged, identity, entered_identity, lone_value, entered_number, brakes, train, entered_train, chosen_level, confirmed_item, acknowledged_kind, bare, by_code, action}
 use Rattle.scenario_values.specs.Steps.{drive, telegram, clock, driver, flush, or_else, by_key, asked}
@@ -64,6 +66,13 @@ of_given false fault is = of_err fault is
 of_within : (low high : ℕ) (z : ℤ) → Fits (within low high z)
 of_within low high z = either (int_le (pos low) z && int_le z (pos high)) _ _ (of_ok _) (of_err OutOfRange tt)
 
+of_known : {A : Type 0} (o : Option A) → Fits (known o)
+of_known (Some x) = of_ok x
+of_known None = of_err OutOfRange tt
+
+of_numbered : {A : Type 0} (value : ℕ → Option A) (z : ℤ) → Fits (numbered value z)
+of_numbered value z = bind _ _ (of_within 0 255 z) (λ n. of_known (value n))
+
 of_hex : (r : Result (List ℕ) FromHexError) → Fits (hex_bytes r)
 of_hex (Ok bytes) = of_ok bytes
 of_hex (Err fault) = of_err BadHex tt
@@ -101,17 +110,13 @@ of_groups (d ∷ ds) bs = bind _ _ (of_group d bs) (of_groups ds)
 -- ---- actions
 
 of_level : (z : ℤ) → Fits (level z)
-of_level z = either (int_eq z (pos 0)) _ _ (of_ok _) (either (int_eq z (pos 1)) _ _ (of_ok _) (of_err OutOfRange tt))
+of_level z = of_numbered level_by z
 
 of_confirmed : (z : ℤ) → Fits (confirmed z)
-of_confirmed z =
-    either (int_eq z (pos 1)) _ _ (of_ok _) (either (int_eq z (pos 2)) _ _ (of_ok _)
-    (either (int_eq z (pos 3)) _ _ (of_ok _) (either (int_eq z (pos 4)) _ _ (of_ok _) (of_err OutOfRange tt))))
+of_confirmed z = of_numbered item_by z
 
 of_acknowledged : (z : ℤ) → Fits (acknowledged z)
-of_acknowledged z =
-    either (int_eq z (pos 1)) _ _ (of_ok _) (either (int_eq z (pos 2)) _ _ (of_ok _)
-    (either (int_eq z (pos 3)) _ _ (of_ok _) (either (int_eq z (pos 4)) _ _ (of_ok _) (of_err OutOfRange tt))))
+of_acknowledged z = of_numbered reason_by z
 
 of_identity : (text : List ℕ) → Fits (identity text)
 of_identity text = either (is_identity text) _ _ (of_ok _) (of_err OutOfRange tt)
@@ -203,8 +208,7 @@ of_steps : (ahead : ℤ → ℕ → List Balise) (ds : List Data) → Fits (step
 of_steps ahead ds = bind _ _ (of_lived ahead ds start) (λ run. of_ok _)
 
 of_cold_word : (z : ℤ) → Fits (cold_word z)
-of_cold_word z =
-    either (int_eq z (pos 0)) _ _ (of_ok _) (either (int_eq z (pos 1)) _ _ (of_ok _) (either (int_eq z (pos 2)) _ _ (of_ok _) (of_err OutOfRange tt)))
+of_cold_word z = of_numbered word_by z
 
 of_cold : (o : Option Data) → Fits (cold_of o)
 of_cold None = of_ok _

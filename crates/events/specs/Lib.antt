@@ -1,3 +1,4 @@
+pub mod Blank
 pub mod Limits
 pub mod Kept
 pub mod Indications

@@ -1,5 +1,6 @@
 //! The answer to an event: mode, level, brakes, limit and indications (this project's profile).
 ghost use Rattle.std.specs.Prelude.{◌≡◌};
+ghost use Rattle.events.specs.Blank.{blank_answer};
 ghost use Rattle.events.specs.Indications.{number_of};
 
 use mode_table::{Mode, TrainLevel};
@@ -64,4 +65,28 @@ pub struct Output {
     pub limit: Mph,
     /// What the driver is shown.
     pub indications: Indications,
+}
+
+impl Output {
+    /// The answer while nothing is known: Stand By, no valid level, the emergency brake, the limit 0, and shown alone
+    /// that nothing is revalidated.
+    pub fn blank() -> Output
+        ensures { result ≡ blank_answer }
+    {
+        Output {
+            mode: Mode::StandBy,
+            level: None,
+            brake: Brake::Emergency,
+            limit: Mph::new(0).unwrap(),
+            indications: Indications {
+                on_sight: false,
+                shunting: false,
+                level_0: false,
+                trip: false,
+                overridden: false,
+                not_revalidated: true,
+                overspeed: false,
+            },
+        }
+    }
 }

@@ -1,8 +1,7 @@
 -- What contracts see of an output that may reach the train (this project's profile). Limits are in metres per hour.
-use Rattle.std.specs.Prelude.{ℕ, true, false, None}
-use Rattle.events.specs.declared.output.Brake.TheVariants.{Emergency}
+use Rattle.std.specs.Prelude.{ℕ}
+use Rattle.events.specs.Blank.{blank_answer}
 use Rattle.events.specs.declared.output.Output.{Output}
-use Rattle.mode_table.specs.declared.mode.Mode.TheVariants.{StandBy}
 
 -- the number of an event, from 0 on, and what the kernel answered to it
 pub record Release : Type 0 where
@@ -12,13 +11,4 @@ pub record Release : Type 0 where
 -- before the first event: Stand By, no valid level, the emergency brake, the limit 0, and shown alone that nothing is
 -- revalidated
 abbrev pub nothing_released : Release
-nothing_released = record {
-  number = 0;
-  output = record {
-    mode = StandBy;
-    level = None;
-    brake = Emergency;
-    limit = 0;
-    indications = record { on_sight = false; shunting = false; level_0 = false; trip = false; overridden = false; not_revalidated = true; overspeed = false };
-  };
-}
+nothing_released = record { number = 0; output = blank_answer }

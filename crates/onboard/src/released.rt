@@ -2,10 +2,8 @@
 ghost use Rattle.std.specs.Prelude.{◌≡◌};
 ghost use Rattle.onboard.specs.Releases.{nothing_released};
 
-use events::{Brake, Indications, Output};
-use mode_table::Mode;
+use events::Output;
 use std::marker::Model;
-use units::Mph;
 
 /// An output that may reach the train, with the number of its event (this project's profile). Beside the default, which
 /// commands the emergency brake, only `Onboard::flush` makes one.
@@ -56,21 +54,7 @@ impl Default for Released {
     fn default() -> Released {
         Released {
             number: 0,
-            output: Output {
-                mode: Mode::StandBy,
-                level: None,
-                brake: Brake::Emergency,
-                limit: Mph::new(0).unwrap(),
-                indications: Indications {
-                    on_sight: false,
-                    shunting: false,
-                    level_0: false,
-                    trip: false,
-                    overridden: false,
-                    not_revalidated: true,
-                    overspeed: false,
-                },
-            },
+            output: Output::blank(),
         }
     }
 }

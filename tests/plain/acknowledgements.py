@@ -1,8 +1,29 @@
-"""The acknowledgement of a kind: none, asked, done, or owed since a moment (this project's profile)."""
+"""The acknowledgement of a kind: nothing, asked, done, or owed since a moment (SUBSET-026, 5.7, 5.9 and 5.10; the table is this
+project's)."""
 from collections import namedtuple
 
-NONE, ASKED, DONE, OWED = "none", "asked", "done", "owed"
+NONE, ASKED, DONE, OWED = "nothing", "asked", "done", "owed"
 BRAKES_AFTER_MS = 5000
+
+# What becomes of it, by what it was before. What is owed is owed from the moment of the event on.
+BECOMES = """
+              nothing  asked    done     owed
+acknowledged  same     done     same     nothing
+entered       owed     owed     nothing  owed
+asked         asked    same     same     same
+deleted       nothing  nothing  nothing  nothing
+settled       nothing  nothing  nothing  same
+"""
+
+
+def cells_told():
+    head, *lines = BECOMES.strip("\n").splitlines()
+    for line in lines:
+        happening, *cells = line.split()
+        yield happening, dict(zip(head.split(), cells))
+
+
+TABLE = dict(cells_told())
 
 
 class Acknowledgement(namedtuple("Acknowledgement", "state since")):
@@ -14,19 +35,27 @@ class Acknowledgement(namedtuple("Acknowledgement", "state since")):
     def brakes(self, now):
         return self.state == OWED and now - self.since >= BRAKES_AFTER_MS
 
+    def after(self, happening, now=None):
+        state = TABLE[happening][self.state]
+        return self if state == "same" else Acknowledgement(state, now if state == OWED else None)
+
     def acknowledged(self):
-        return {ASKED: Acknowledgement(DONE, None), OWED: NOTHING}.get(self.state, self)
+        return self.after("acknowledged")
 
     def turned(self, now):
-        """The transition: done becomes none, anything else is owed from now on."""
-        return NOTHING if self.state == DONE else Acknowledgement(OWED, now)
+        """The transition: its mode is entered, or an announced level 0 comes into force."""
+        return self.after("entered", now)
 
     def asked(self):
-        return Acknowledgement(ASKED, None) if self.state == NONE else self
+        return self.after("asked")
+
+    def deleted(self):
+        """A mode is entered that deletes it."""
+        return self.after("deleted")
 
     def settled(self):
         """No area or announcement of the kind is left."""
-        return NOTHING if self.state in (ASKED, DONE) else self
+        return self.after("settled")
 
 
 NOTHING = Acknowledgement(NONE, None)

@@ -87,7 +87,7 @@ class Life(History):
             if fate("linking", self.mode()) == "D":
                 self.links.left = []
             if fate("acknowledgements", self.mode()) == "D":
-                told = {kind: NOTHING for kind in told}
+                told = {kind: told[kind].deleted() for kind in told}
         left = self.left()
         self.now.acknowledgements = {kind: told[kind] if left[kind] else told[kind].settled() for kind in told}
         self.remember()
@@ -106,7 +106,7 @@ class Life(History):
             "overrun": self.now.overrun, "desk_closed": word == "close-desk", "trip": self.trips(),
             "beyond_staff_distance": self.is_too_far(), "level_0": self.level() == 0, "level_1": self.level() == 1,
             "full": self.is_full(), "on_sight_area": self.is_in("on-sight"), "shunting_area": self.is_in("shunting"),
-            "trip_acknowledged": (word, value) == ("acknowledge", "trip"), "overridden": word == "override",
+            "trip_acknowledged": (word, value) == ("acknowledge", "trip"), "override_accepted": word == "override",
             "shunting_chosen": word == "choose-shunting", "shunting_left": word == "leave-shunting", "started": word == "start",
         }
         return {name for name, holds in held.items() if holds}

@@ -13,7 +13,7 @@ ROWS = """
  8  UN                       FS  level_1 full
  9  UN                       TR  level_1
 10  TR                       PT  trip_acknowledged
-11  PT                       SR  overridden
+11  PT                       SR  override_accepted
 12  PT                       SH  shunting_chosen
 13  PT                       SR  started level_1
 14  PT                       UN  started level_0
@@ -26,8 +26,8 @@ ROWS = """
 21  OS                       SH  shunting_chosen
 22  SR                       SH  shunting_chosen
 23  UN                       SH  shunting_chosen
-24  FS                       SR  overridden
-25  OS                       SR  overridden
+24  FS                       SR  override_accepted
+25  OS                       SR  override_accepted
 26  FS                       UN  level_0
 27  OS                       UN  level_0
 28  SR                       UN  level_0
@@ -55,6 +55,10 @@ restrictions           D  D  K  K  K  K  K  K  K  K  K
 level-announcement     D  D  D  K  K  K  K  K  D  K  K
 acknowledgements       D  D  D  K  K  K  K  K  D  K  D
 override               D  D  D  D  K  D  D  D  D  D  D
+national-values        K  K  K  K  K  K  K  K  K  K  K
+announced-values       D  D  K  K  K  K  K  K  K  K  K
+outstanding-trip       K  K  K  K  K  K  K  K  K  K  K
+counts                 K  K  K  K  K  K  K  K  K  K  K
 """
 
 EVERY_PACKET = (3, 5, 12, 21, 27, 41, 65, 66, 80)

@@ -1,12 +1,34 @@
 """The output of an event: mode, level, brake, limit and indications (this project's profile)."""
+import re
 from collections import namedtuple
 
 NONE, SERVICE, EMERGENCY = "none", "service", "emergency"
 
 Output = namedtuple("Output", "mode level brake limit indications")
 
-FAR_ABOVE, ABOVE = 10_000, 5_000
+# The first row that holds commands its brake. Behind `from` stands what an event brings, behind `until` what ends it; where both
+# are at one event it begins. What is above the limit is metres per hour.
+ROWS = """
+emergency  while  not revalidated
+emergency  while  mode TR
+emergency  while  mode SF
+emergency  while  trip outstanding
+emergency  from   above the limit by 10000  until  speed 0 read
+emergency  while  rolled back too far
+service    from   service asked for         until  speed 0 read
+service    from   above the limit by 5000   until  within the limit
+service    while  moves in standstill
+service    while  owed too long
+"""
 
+
+def rows_told():
+    for line in ROWS.strip().splitlines():
+        brake, how, *words = re.split(" {2,}", line)
+        yield brake, how, words[0], words[2] if how == "from" else None
+
+
+TABLE = tuple(rows_told())
 
 def limit_of(life, mode):
     values = life.national.in_force.values
@@ -20,44 +42,58 @@ def limit_of(life, mode):
     return values.shunting if mode == "SH" else 0
 
 
-def limits_of(entries, limit):
-    """Speed and limit after each event, the last of which has no output yet."""
-    return [(entry.speed, limit if entry.output is None else entry.output.limit) for entry in entries]
+def since(ends, moments):
+    """The moments from the last one that ends a window on, that one included; all of them where none does."""
+    halts = [at for at, moment in enumerate(moments) if ends(moment)]
+    return moments[halts[-1] if halts else 0:]
 
 
-def emergency_causes(life, mode, limit):
-    """Since the last reading with speed 0, itself included, else since power-up, there was an event after which the speed was far
-    above its limit, or backward movements sum to more than the distance of now."""
-    halts = [at for at, entry in enumerate(life.entries) if entry.is_reading and entry.speed == 0]
-    window = life.entries[halts[-1] if halts else 0:]
-    back = sum(-entry.moved for entry in window if entry.moved < 0)
+def moments_of(life, limit):
+    """Each event with the speed and the limit behind it; the last one has no output yet."""
+    return [(entry, entry.speed, limit if entry.output is None else entry.output.limit) for entry in life.entries]
+
+
+def stood(moment):
+    return moment[0].is_reading and moment[0].speed == 0
+
+
+HAPPENS = {
+    "above the limit by 10000": lambda moment: moment[1] > moment[2] + 10_000,
+    "above the limit by 5000": lambda moment: moment[1] > moment[2] + 5_000,
+    "within the limit": lambda moment: moment[1] <= moment[2],
+    "service asked for": lambda moment: moment[0].asks_service(),
+    "speed 0 read": stood,
+}
+
+IS_SO = {
+    "not revalidated": lambda life, mode, moments: not life.is_revalidated(),
+    "mode TR": lambda life, mode, moments: mode == "TR",
+    "mode SF": lambda life, mode, moments: mode == "SF",
+    "trip outstanding": lambda life, mode, moments: life.is_tripped(),
+    "rolled back too far": lambda life, mode, moments: rolled(moments) > life.national.in_force.values.roll,
+    "moves in standstill": lambda life, mode, moments: mode in ("SB", "PT") and life.speed() > 0,
+    "owed too long": lambda life, mode, moments: any(
+        life.acknowledgement(kind).brakes(life.moment()) for kind in ("on-sight", "shunting", "level-0")),
+}
+
+
+def rolled(moments):
+    """The backward movements since the last reading with speed 0, that one's included, else since power-up."""
+    return sum(-entry.moved for entry, *_ in since(stood, moments) if entry.moved < 0)
+
+
+def causes(life, mode, limit):
+    """Of each row of the table, by its brake and what it asks for, whether it holds."""
+    moments = moments_of(life, limit)
     return {
-        "not revalidated": not life.is_revalidated(),
-        "mode": mode in ("TR", "SF"),
-        "trip outstanding": life.is_tripped(),
-        "far too fast": any(speed > allowed + FAR_ABOVE for speed, allowed in limits_of(window, limit)),
-        "rolled back": back > life.national.in_force.values.roll,
-    }
-
-
-def service_causes(life, mode, limit):
-    halts = [at for at, entry in enumerate(life.entries) if entry.is_reading and entry.speed == 0]
-    window = life.entries[halts[-1] if halts else 0:]
-    fast = False
-    for speed, allowed in limits_of(life.entries, limit):
-        fast = speed > allowed + ABOVE or (fast and speed > allowed)
-    return {
-        "linking": any(entry.asks_service() for entry in window),
-        "too fast": fast,
-        "moves": mode in ("SB", "PT") and life.speed() > 0,
-        "owed": any(life.acknowledgement(kind).brakes(life.moment()) for kind in ("on-sight", "shunting", "level-0")),
+        (brake, wanted): any(map(HAPPENS[wanted], since(HAPPENS[ends], moments))) if how == "from"
+        else IS_SO[wanted](life, mode, moments)
+        for brake, how, wanted, ends in TABLE
     }
 
 
 def brake_of(life, mode, limit):
-    if any(emergency_causes(life, mode, limit).values()):
-        return EMERGENCY
-    return SERVICE if any(service_causes(life, mode, limit).values()) else NONE
+    return next((brake for (brake, _), holds in causes(life, mode, limit).items() if holds), NONE)
 
 
 def indications_of(life, limit):

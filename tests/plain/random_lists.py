@@ -140,11 +140,10 @@ class Made:
         self.counted[f"mode {mode}"] += 1
         self.counted[f"row {now.row}"] += now.row is not None
         self.counted[f"power-up {value}"] += word == "power-up"
-        emergency, service = output.emergency_causes(self.life, mode, limit), output.service_causes(self.life, mode, limit)
-        for name, holds in (emergency if brake == "emergency" else service).items():
-            self.counted[f"{brake}: {name}"] += holds
-        if sum(emergency.values()) == 1 and brake == "emergency":
-            self.counted.update(f"alone {brake}: {name}" for name, holds in emergency.items() if holds)
+        held = [name for (commanded, name), holds in output.causes(self.life, mode, limit).items() if holds and commanded == brake]
+        self.counted.update(f"{brake}: {name}" for name in held)
+        if len(held) == 1 and brake == "emergency":
+            self.counted[f"alone {brake}: {held[0]}"] += 1
 
     def text(self):
         said = [f"row {self.row.name}"]
@@ -157,9 +156,8 @@ WANTED = (
     *(f"mode {mode}" for mode in ("FS", "OS", "SR", "SH", "UN", "SB", "TR", "PT")),
     *(f"row {number}" for number, *_ in modes.TABLE if number > 1),
     *(f"power-up {word}" for word in COLD),
-    *(f"emergency: {cause}" for cause in ("not revalidated", "mode", "trip outstanding", "far too fast", "rolled back")),
-    *(f"alone emergency: {cause}" for cause in ("not revalidated", "far too fast", "rolled back")),
-    *(f"service: {cause}" for cause in ("linking", "too fast", "moves", "owed")),
+    *(f"{brake}: {cause}" for brake, _, cause, _ in output.TABLE if cause != "mode SF"),
+    *(f"alone emergency: {cause}" for cause in ("not revalidated", "above the limit by 10000", "rolled back too far")),
 )
 
 

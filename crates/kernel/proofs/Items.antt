@@ -1,5 +1,5 @@
 -- What is kept, read off the whole list of events.
-use Rattle.std.proofs.Common.{◌≡◌, ℕ, ◌-◌, ◌^◌, min, Bool, true, false, List, [], ◌∷◌, ◌++◌, length, cond, refl, ap, sym, ◌∙◌, subst, inl, inr, ◌⊎◌, arith}
+use Rattle.std.proofs.Common.{◌≡◌, ◌-◌, ◌^◌, min, Bool, true, false, List, [], ◌∷◌, ◌++◌, length, cond, refl, ap, sym, ◌∙◌, inl, inr, arith}
 use Rattle.std.specs.Prelude.{Option, Some, None, ◌↔◌, IsTrue}
 use Rattle.std.specs.Option.{option_or}
 use Rattle.driver.specs.declared.datum.Datum.{Datum}
@@ -9,7 +9,6 @@ use Rattle.driver.specs.Entries.{Entry as DriverEntry, after_all}
 use Rattle.driver.specs.Known.{trip_after}
 use Rattle.driver.specs.LastGiven.{HasValue, WasGiven}
 use Rattle.driver.specs.Laws.{HasTripped, IsOutstanding}
-use Rattle.driver.specs.Limits.{Train}
 use Rattle.driver.specs.Telling.{Told, after_told, datum_after, deletes, identity_told, running_number_told, train_data_told, level_told}
 use Rattle.driver.specs.Telling.Told.{Gives, Confirms, Leaves, Nothing}
 use Rattle.driver.proofs.Giving.{value_so}
@@ -28,16 +27,15 @@ use Rattle.mode_table.specs.Statuses.{power_up_status}
 use Rattle.odometry.specs.Place.{Known as Place}
 use Rattle.track_picture.specs.Entry.{Outcome}
 use Rattle.track_picture.specs.History.{after_fixing, fixed_by, group_of_fix, place_of}
-use Rattle.units.specs.Limits.{farthest}
 use Rattle.vars.specs.declared.group.GroupIdentity.{GroupIdentity}
 use Rattle.mode_control.specs.declared.deed.Deed.{Deed}
 use Rattle.mode_control.specs.Entry.{Entry}
 use Rattle.mode_control.specs.History.{deeds, after_deed, after_level, after_mode, tracks}
-use Rattle.mode_control.specs.Life.{Life, entered, left_at_power_up, driver_of}
+use Rattle.mode_control.specs.Life.{Life, entered, left_at_power_up}
 use Rattle.mode_control.specs.Sentences.{entry_of}
 use Rattle.kernel.specs.Laws.{power_ups, all_deeds, last_group, group_in, IsLastGiven}
 use Rattle.kernel.specs.Lives.{counts_of, life_of, kept_by}
-use Rattle.kernel.specs.Position.{gone_on, went_on, position_by, position_at_power_up, position_of}
+use Rattle.kernel.specs.Position.{position_by, position_at_power_up, position_of}
 
 -- ---- the counts
 

@@ -1,5 +1,5 @@
 -- What is answered after each event (this project's profile). Places are centimetres, speeds metres per hour.
-use Rattle.std.specs.Prelude.{ℕ, ℤ, nat_lt, not, Option, Some, None, List}
+use Rattle.std.specs.Prelude.{ℕ, ℤ, nat_lt, Option, Some, None, List}
 use Rattle.areas.specs.Acknowledging.{waits}
 use Rattle.driver.specs.declared.datum.Datum.{Datum}
 use Rattle.driver.specs.declared.datum.Datum.TheVariants.{Unknown, Valid, Invalid}
@@ -12,7 +12,7 @@ use Rattle.mode_control.specs.Conditions.{is_overridden}
 use Rattle.mode_control.specs.History.{tracks, mode_of, on_sight_of, shunting_of, level_0_of}
 use Rattle.mode_control.specs.Life.{Life, driver_of}
 use Rattle.track_picture.specs.History.{place_of, speed_of}
-use Rattle.kernel.specs.Brake.{brake_of, is_revalidated}
+use Rattle.kernel.specs.Brake.{brake_of, is_not_revalidated}
 use Rattle.kernel.specs.Lives.{life_of}
 
 -- a datum that holds
@@ -28,7 +28,7 @@ indications_of life = record {
   level_0 = waits (level_0_of life.entries);
   trip = (driver_of life).trip_outstanding;
   overridden = is_overridden life;
-  not_revalidated = not (is_revalidated life);
+  not_revalidated = is_not_revalidated life;
   overspeed = nat_lt (limit life) (speed_of (tracks life.entries));
 }
 

@@ -1,28 +1,56 @@
 -- What the kernel knows represents a life, and so a list of events (this project's profile). Distances are centimetres,
 -- speeds metres per hour.
-use Rattle.std.specs.Prelude.{◌≡◌, ℕ, ◌-◌, ◌^◌, ℤ, min, List}
+use Rattle.std.specs.Prelude.{◌≡◌, ℕ, ◌-◌, ◌^◌, ℤ, min, Option, Some, None, List, ◌∷◌}
 use Rattle.driver.specs.declared.datum.Datum.{Datum}
 use Rattle.events.specs.declared.input.Event.{Event}
+use Rattle.events.specs.declared.input.Input.{Input}
+use Rattle.events.specs.declared.input.Input.TheVariants.{Telegram, Odometer, Clock, Driver}
+use Rattle.events.specs.declared.input.Reading.{Reading}
 use Rattle.events.specs.Kept.{PositionFrom}
 use Rattle.speed_profile.specs.declared.told.CategorySpeeds.{CategorySpeeds}
 use Rattle.track_store.specs.Profiles.{Profile}
 use Rattle.speed_supervision.specs.Limit.{limit}
-use Rattle.mode_control.specs.Life.{Life}
+use Rattle.track_picture.specs.History.{speed_of}
+use Rattle.mode_control.specs.Entry.{Entry}
+use Rattle.mode_control.specs.History.{tracks}
+use Rattle.mode_control.specs.Life.{Life, grown}
 use Rattle.mode_control.specs.StandsFor as mode_control
 use Rattle.kernel.specs.declared.counts.Counts.{Counts}
+use Rattle.kernel.specs.declared.sight.Sight.{Sight}
 use Rattle.kernel.specs.declared.window.Window.{Window}
-use Rattle.kernel.specs.Brake.{far_too_fast, asked_for_service, rolled_backward, too_fast}
+use Rattle.kernel.specs.Brake.{stands, train_stood, was_within_limit, is_above_limit_by, asked_for_service, backward_at, rolled_backward, has_begun}
 use Rattle.kernel.specs.Lives.{counts_of, life_of}
 use Rattle.kernel.specs.Position.{position_at_power_up}
 
--- what the brakes remember; the movement backward stays at the greatest number of 64 bits
+-- what the brakes remember, of the rows of their table that begin at one event and end at another; the movement
+-- backward stays at the greatest number of 64 bits
 abbrev pub window_of : Life → Window
 window_of life = record {
-  far_too_fast = far_too_fast life.kept life.cold life.entries;
-  asked_for_service = asked_for_service life.entries;
-  backward = min (rolled_backward life.entries) (2 ^ 64 - 1);
-  too_fast = too_fast life.kept life.cold life.entries;
+  far_too_fast = has_begun (is_above_limit_by 10_000) train_stood life;
+  asked_for_service = has_begun asked_for_service train_stood life;
+  backward = min (rolled_backward life) (2 ^ 64 - 1);
+  too_fast = has_begun (is_above_limit_by 5_000) was_within_limit life;
 }
+
+-- ---- what an event shows the brakes, in a life that its entry is added to
+
+-- the odometer's reading, if an input is one
+abbrev pub reading_of : Input → Option Reading
+reading_of (Odometer reading) = Some reading
+reading_of (Telegram bytes) = None
+reading_of (Clock moment) = None
+reading_of (Driver action) = None
+
+abbrev pub sight_at : Life → Entry → Sight
+sight_at life entry = record {
+  stands = stands entry.track.begun.reading;
+  backward = backward_at entry;
+  asked_for_service = entry.track.used.happened.asked.service;
+  speed = speed_of (tracks (entry ∷ life.entries));
+  limit = limit (grown life entry);
+}
+
+-- ---- what is known
 
 -- what is known beside what is supervised
 pub record Known : Type 0 where

@@ -1,6 +1,6 @@
-//! What the brakes are commanded to do.
+//! What the brakes are commanded to do, row by row of their table.
 ghost use Rattle.std.specs.Prelude.{◌≡◌};
-ghost use Rattle.kernel.specs.Brake.{has_rolled, is_emergency, must_stand, owes_too_long, is_service, brake_by, brake_of};
+ghost use Rattle.kernel.specs.Brake.{has_rolled_too_far, must_stand, owes_too_long, brake_of};
 ghost use Rattle.kernel.specs.StandsFor.{StandsForLife};
 ghost use Rattle.mode_control.specs.Life.{Life};
 
@@ -11,40 +11,13 @@ use speed_profile::CategorySpeeds;
 use track_store::ProfileStore;
 use units::Permille;
 
-// The first that holds.
-fn brake_by(emergency: bool, service: bool) -> Brake
-    ensures { result ≡ brake_by emergency service }
-{
-    if emergency {
-        Brake::Emergency
-    } else if service {
-        Brake::Service
-    } else {
-        Brake::None
-    }
-}
-
 impl<G: ProfileStore<Permille> + Drop, S: ProfileStore<CategorySpeeds> + Drop> StateOver<G, S> {
     // Whether the train has rolled backward too far.
-    fn has_rolled(&self) -> bool
-        ensures { (life : Life) → StandsForLife G.profile S.profile self.now life → result ≡ has_rolled life }
+    fn has_rolled_too_far(&self) -> bool
+        ensures { (life : Life) → StandsForLife G.profile S.profile self.now life → result ≡ has_rolled_too_far life }
     {
         let roll = self.supervision.track().national().values().roll;
         u64::from(roll.get()) < self.parts.window.backward
-    }
-
-    // Whether the emergency brake is commanded.
-    fn is_emergency(&self) -> bool
-        ensures { (life : Life) → StandsForLife G.profile S.profile self.now life → result ≡ is_emergency life }
-    {
-        let mode = self.supervision.mode();
-        let driver = self.supervision.driver();
-        !driver.is_revalidated()
-            || mode.number() == Mode::Trip.number()
-            || mode.number() == Mode::SystemFailure.number()
-            || driver.is_trip_outstanding()
-            || self.parts.window.far_too_fast
-            || self.has_rolled()
     }
 
     // Whether it moves where it must stand.
@@ -66,20 +39,29 @@ impl<G: ProfileStore<Permille> + Drop, S: ProfileStore<CategorySpeeds> + Drop> S
             || self.supervision.level_0().brakes(now)
     }
 
-    // Whether the service brake is commanded, if the emergency brake isn't.
-    fn is_service(&self) -> bool
-        ensures { (life : Life) → StandsForLife G.profile S.profile self.now life → result ≡ is_service life }
-    {
-        self.parts.window.asked_for_service
-            || self.parts.window.too_fast
-            || self.must_stand()
-            || self.owes_too_long()
-    }
-
     /// What the brakes are commanded to do.
     pub(crate) fn brake(&self) -> Brake
         ensures { (life : Life) → StandsForLife G.profile S.profile self.now life → result ≡ brake_of life }
     {
-        brake_by(self.is_emergency(), self.is_service())
+        let mode = self.supervision.mode();
+        let driver = self.supervision.driver();
+        let window = &self.parts.window;
+        if !driver.is_revalidated()
+            || mode.number() == Mode::Trip.number()
+            || mode.number() == Mode::SystemFailure.number()
+            || driver.is_trip_outstanding()
+            || window.far_too_fast
+            || self.has_rolled_too_far()
+        {
+            Brake::Emergency
+        } else if window.asked_for_service
+            || window.too_fast
+            || self.must_stand()
+            || self.owes_too_long()
+        {
+            Brake::Service
+        } else {
+            Brake::None
+        }
     }
 }

@@ -2,10 +2,9 @@
 ghost use Rattle.std.specs.Prelude.{◌≡◌, List, ◌∷◌, IsOk, OnOk, OnErr};
 ghost use Rattle.events.specs.declared.input.Event.{Event};
 ghost use Rattle.events.specs.declared.input.Event.TheVariants as event;
-ghost use Rattle.kernel.specs.Brake.{sight_at};
 ghost use Rattle.kernel.specs.Lives.{counted};
 ghost use Rattle.kernel.specs.Quiet.{HasRoomFor, HasNoTrack};
-ghost use Rattle.kernel.specs.StandsFor.{StandsForLife, StandsFor, parts_of};
+ghost use Rattle.kernel.specs.StandsFor.{StandsForLife, StandsFor, parts_of, sight_at};
 ghost use Rattle.mode_control.specs.Entry.{Entry};
 ghost use Rattle.mode_control.specs.Life.{Life, grown};
 ghost use Rattle.mode_control.specs.Sentences.{entry_of};

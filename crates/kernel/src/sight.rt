@@ -1,6 +1,7 @@
 //! What an event shows the brakes.
-ghost use Rattle.std.specs.Prelude.{◌≡◌, ◌+◌, ◌-◌, ◌^◌, min, nat_lt, not, ◌&&◌, ℕ, if◌then◌else◌};
-ghost use Rattle.kernel.specs.Brake.{reading_of, stands, backward, backward_by};
+ghost use Rattle.std.specs.Prelude.{◌≡◌, ◌+◌, ◌-◌, ◌^◌, min, nat_lt, ℕ, if◌then◌else◌};
+ghost use Rattle.kernel.specs.Brake.{stands, backward, backward_by};
+ghost use Rattle.kernel.specs.StandsFor.{reading_of};
 
 use events::{Input, Reading};
 use units::{Movement, Mph};
@@ -28,21 +29,14 @@ impl Sight {
         self.limit.get() + u32::from(margin) < self.speed.get()
     }
 
-    /// What was so before the event still counts, unless it is a standstill.
-    pub fn unless_standing(&self, before: bool) -> bool
-        ensures { result ≡ (not self.now.stands && before) }
-    {
-        !self.stands && before
-    }
-
     /// How far the train has rolled backward since its last standstill, in centimetres, where it was so far before the
     /// event.
     pub fn rolled(&self, before: u64) -> u64
         ensures { (n : ℕ) → before ≡ min n (2 ^ 64 - 1)
-            → result ≡ min ((if self.now.stands then 0 else n) + self.now.backward) (2 ^ 64 - 1) }
+            → result ≡ min (self.now.backward + (if self.now.stands then 0 else n)) (2 ^ 64 - 1) }
     {
         let counted = if self.stands { 0 } else { before };
-        counted.saturating_add(self.backward)
+        self.backward.saturating_add(counted)
     }
 }
 

@@ -1,8 +1,9 @@
-use Rattle.std.proofs.Common.{◌≡◌, Option, ap, sym, refl, ◌∙◌}
+use Rattle.std.proofs.Common.{◌≡◌, ap, sym, refl, ◌∙◌}
 use Rattle.events.specs.declared.input.Input.{Input}
 use Rattle.events.specs.declared.input.Input.TheVariants.{Telegram, Odometer, Clock, Driver}
 use Rattle.track_picture.specs.StandsFor.{Known}
-use Rattle.kernel.specs.Brake.{reading_of, stands, backward_by}
+use Rattle.kernel.specs.Brake.{stands, backward_by}
+use Rattle.kernel.specs.StandsFor.{reading_of}
 use Rattle.mode_control.specs.Life.{Life, grown}
 use Rattle.mode_control.specs.Sentences.{entry_of}
 use Rattle.kernel.proofs.receiving.sight_of.Goals as goal

@@ -1,9 +1,8 @@
-use Rattle.std.proofs.Common.{ap, sym, subst, ◌∙◌}
+use Rattle.std.proofs.Common.{ap, ◌∙◌}
 use Rattle.events.specs.declared.kept.Kept.{Kept}
 use Rattle.events.specs.declared.input.Event.TheVariants as event
 use Rattle.mode_control.specs.Sentences.{begun_life}
 use Rattle.kernel.specs.Lives.{counted, left_by, kept_by}
-use Rattle.kernel.specs.Output.{output_of}
 use Rattle.kernel.proofs.Leaving.{left_alike, answered_alike}
 use Rattle.kernel.proofs.state.StateOver.power_up.Goals as goal
 

@@ -1,8 +1,9 @@
 //! What the brakes are commanded to do, row by row of their table.
-ghost use Rattle.std.specs.Prelude.{◌≡◌};
+ghost use Rattle.std.specs.Prelude.{◌≡◌, ◌||◌};
 ghost use Rattle.kernel.specs.Brake.{has_rolled_too_far, must_stand, owes_too_long, brake_of};
 ghost use Rattle.kernel.specs.StandsFor.{StandsForLife};
 ghost use Rattle.mode_control.specs.Life.{Life};
+ghost use Rattle.mode_table.specs.Modes.{is_mode};
 
 use crate::state::StateOver;
 use events::Brake;
@@ -10,6 +11,20 @@ use mode_table::Mode;
 use speed_profile::CategorySpeeds;
 use track_store::ProfileStore;
 use units::Permille;
+
+// A mode in which the emergency brake is commanded.
+fn is_stopped_in(mode: Mode) -> bool
+    ensures { result ≡ (is_mode Mode.Trip mode || is_mode Mode.SystemFailure mode) }
+{
+    matches!(mode, Mode::Trip | Mode::SystemFailure)
+}
+
+// A mode in which the train must stand.
+fn must_stand_in(mode: Mode) -> bool
+    ensures { result ≡ (is_mode Mode.StandBy mode || is_mode Mode.PostTrip mode) }
+{
+    matches!(mode, Mode::StandBy | Mode::PostTrip)
+}
 
 impl<G: ProfileStore<Permille> + Drop, S: ProfileStore<CategorySpeeds> + Drop> StateOver<G, S> {
     // Whether the train has rolled backward too far.
@@ -25,8 +40,7 @@ impl<G: ProfileStore<Permille> + Drop, S: ProfileStore<CategorySpeeds> + Drop> S
         ensures { (life : Life) → StandsForLife G.profile S.profile self.now life → result ≡ must_stand life }
     {
         let mode = self.supervision.mode();
-        (mode.number() == Mode::StandBy.number() || mode.number() == Mode::PostTrip.number())
-            && 0 < self.supervision.track().speed().get()
+        must_stand_in(mode) && 0 < self.supervision.track().speed().get()
     }
 
     // Whether an acknowledgement has been owed too long.
@@ -47,8 +61,7 @@ impl<G: ProfileStore<Permille> + Drop, S: ProfileStore<CategorySpeeds> + Drop> S
         let driver = self.supervision.driver();
         let window = &self.parts.window;
         if !driver.is_revalidated()
-            || mode.number() == Mode::Trip.number()
-            || mode.number() == Mode::SystemFailure.number()
+            || is_stopped_in(mode)
             || driver.is_trip_outstanding()
             || window.far_too_fast
             || self.has_rolled_too_far()

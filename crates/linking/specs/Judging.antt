@@ -1,6 +1,9 @@
--- What follows where a balise group was read, or a broken one was (SUBSET-026, 3.4.4 and 3.16.2; that the wrong
--- direction gives a trip: this project's profile). Places are centimetres.
-use Rattle.std.specs.Prelude.{ℕ, ℤ, ◌+ℤ◌, int_lt, Bool, true, false, ◌==◌, ◌&&◌, ◌||◌, nat_lt, if◌then◌else◌, Option, Some, None, List, ◌∷◌, filter, find}
+-- What becomes of a balise group that was read, or of a broken one (SUBSET-026, 3.4.4 and 3.16.2; the order of the rows,
+-- and that the wrong direction gives a trip: this project's profile). Places are centimetres. Lists of entries have the
+-- newest first; lists of announcements are in the order of packet 5, and their numbers rise. A reader may take for
+-- granted that the place of a group is that of the front when the group's balise was read, and that what is known of
+-- linking holds all that the life brought before this group.
+use Rattle.std.specs.Prelude.{ℕ, ℤ, ◌+ℤ◌, int_lt, Bool, true, false, not, ◌==◌, ◌&&◌, nat_lt, if◌then◌else◌, Option, Some, None, List, [], ◌∷◌, filter, find}
 use Rattle.std.specs.Option.{option_map_or}
 use Rattle.vars.specs.declared.group.GroupIdentity.{GroupIdentity}
 use Rattle.vars.specs.declared.linking.LinkOrientation.{LinkOrientation}
@@ -41,21 +44,49 @@ is_other Nominal Nominal = false
 abbrev pub is_wrong_way : GroupRead → Announcement → Bool
 is_wrong_way group a = option_map_or (is_other a.direction) group.direction false
 
--- what a linked group comes to while others are left, by the announcement that is meant, if there is one
-abbrev pub verdict_on : GroupRead → Option Announcement → Verdict
-verdict_on group None = Ignore
-verdict_on group (Some a) = if is_wrong_way group a || is_too_early group a then Reaction a else Accept (Some a)
+-- ---- the verdict: the first row that holds, and else what stands behind the rows
 
--- a group that isn't linked is accepted, and so is each group where linking isn't in use
+pub record Row : Type 0 where
+  pub holds : Bool
+  pub verdict : Verdict
+
+abbrev pub row : Bool → Verdict → Row
+row holds verdict = record { holds = holds; verdict = verdict }
+
+abbrev pub first_that_holds : List Row → Verdict → Verdict
+first_that_holds [] otherwise = otherwise
+first_that_holds (row ∷ later) otherwise = if row.holds then row.verdict else first_that_holds later otherwise
+
+-- of a linked group while others are announced, by the announcement that is meant, if there is one
+abbrev pub verdict_announced : GroupRead → Option Announcement → Verdict
+verdict_announced group None = Ignore  -- 3.4.4
+verdict_announced group (Some a) = first_that_holds (
+    row (is_wrong_way group a) (Reaction a)  -- 3.4.4
+    ∷ row (is_too_early group a) (Reaction a)  -- 3.16.2
+    ∷ [])
+    (Accept (Some a))
+
+abbrev pub is_unlinked : GroupRead → Bool
+is_unlinked group = not group.linked
+
+-- no announcement is left
+abbrev pub linking_is_unused : Known → Bool
+linking_is_unused known = not (is_any known.left)
+
 abbrev pub verdict : Known → GroupRead → Verdict
-verdict known group =
-    if group.linked && is_any known.left then verdict_on group (first_of group.group known.left) else Accept None
+verdict known group = first_that_holds (
+    row (is_unlinked group) (Accept None)  -- 3.4.4
+    ∷ row (linking_is_unused known) (Accept None)  -- 3.4.4
+    ∷ [])
+    (verdict_announced group (first_of group.group known.left))
+
+-- ---- what linking asks for by a verdict
 
 -- an accepted group passes the announcements before its own, which are missed
 abbrev pub is_before : ℕ → Announcement → Bool
 is_before number a = nat_lt a.number number
 
--- what a verdict asks for: the wrong direction a trip alone, whatever the announcement's own reaction is
+-- the wrong direction gives a trip alone, whatever the announcement's own reaction is (this project's profile)
 abbrev pub effect : Known → GroupRead → Verdict → Effect
 effect known group (Accept None) = no_effect
 effect known group (Accept (Some a)) = misses known.has_missed (filter (is_before a.number) known.left)

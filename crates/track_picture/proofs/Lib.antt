@@ -5,3 +5,4 @@ pub mod Walking
 pub mod Wanting
 pub mod Marking
 pub mod Idling
+pub mod Judging

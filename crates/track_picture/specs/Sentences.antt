@@ -1,14 +1,16 @@
 -- What an input brings in a life of the track and of the train on it, sentence by sentence in the order of one event
--- (this project's profile; balise groups are those of SUBSET-026, 3.4 and 3.16.2). Distances and places are
--- centimetres. The driver's actions don't matter here.
+-- (this project's profile; balise groups and their packets: SUBSET-026, 3.4, 3.4.4, 3.16.2 and 4.8). Distances and places
+-- are centimetres, moments milliseconds. Lists of entries and of the groups that closed have the newest first; the
+-- packets of a message stand in its order. A reader may take for granted that the entries are all that the life brought
+-- before the event, that a clock's moment comes before what it bears on, and that an event closes at most two groups.
+-- The driver's actions don't matter here.
 use Rattle.std.specs.Prelude.{ℕ, ◌*◌, ℤ, pos, ◌-ℤ◌, Bool, true, false, not, ◌&&◌, Option, Some, None, is_some, List, [], ◌∷◌, map, filter, if◌then◌else◌}
 use Rattle.std.specs.Option.{option_map, option_map_or, option_or}
 use Rattle.units.specs.Stretches.{Span}
-use Rattle.vars.specs.declared.group.GroupIdentity.{GroupIdentity}
 use Rattle.vars.specs.declared.linking.LinkOrientation.{LinkOrientation}
 use Rattle.vars.specs.declared.linking.LinkOrientation.TheVariants as orientation
 use Rattle.vars.specs.declared.packet_head.ValidityDirection.{ValidityDirection}
-use Rattle.vars.specs.declared.packet_head.ValidityDirection.TheVariants.{Reverse, Nominal, Both}
+use Rattle.vars.specs.declared.packet_head.ValidityDirection.TheVariants as q_dir
 use Rattle.packets.specs.declared.packet.Packet.{Packet}
 use Rattle.packets.specs.declared.packet.Packet.TheVariants as packets
 use Rattle.packets.specs.Packets.{number_of}
@@ -118,17 +120,20 @@ abbrev pub fix_of : odometry.Known → Bool → Message → Option Announcement 
 fix_of place free message (Some a) = made place.sums (fix_at message a.place (100 * a.accuracy))
 fix_of place free message None = if free then made place.sums (fix_at message (own_place place message) 0) else None
 
--- ---- then those packets of an accepted group are used that the mode before the event uses and that are valid in the
--- direction in which the group was passed. That is by its balises, or else by its announcement
+-- ---- then those packets of an accepted group are used that the mode before the event uses (4.8) and that are valid in
+-- the direction in which the group was passed (3.4). That is by its balises, or else by its announcement
 
-abbrev pub is_passed : ValidityDirection → Option LinkOrientation → Bool
-is_passed Both direction = true
-is_passed Nominal (Some orientation.Nominal) = true
-is_passed Nominal (Some orientation.Reverse) = false
-is_passed Nominal None = false
-is_passed Reverse (Some orientation.Nominal) = false
-is_passed Reverse (Some orientation.Reverse) = true
-is_passed Reverse None = false
+-- a line of the table
+abbrev pub line : Bool → Bool → Bool → Option LinkOrientation → Bool
+line nominal reverse unknown (Some orientation.Nominal) = nominal
+line nominal reverse unknown (Some orientation.Reverse) = reverse
+line nominal reverse unknown None = unknown
+
+-- Q_DIR; in each line, by the direction in which the group was passed: nominal, reverse, not known
+abbrev pub is_valid : ValidityDirection → Option LinkOrientation → Bool
+is_valid q_dir.Both = line true true true
+is_valid q_dir.Nominal = line true false false
+is_valid q_dir.Reverse = line false true false
 
 -- the direction in which a packet is valid; None of one that isn't known, which isn't used in any way
 abbrev pub valid_in : Packet → Option ValidityDirection
@@ -143,10 +148,9 @@ valid_in (packets.RestrictionRevocation p) = Some p.direction
 valid_in (packets.ModeProfile p) = Some p.direction
 valid_in (packets.Other p) = None
 
--- .. and by the mode before the event
 abbrev pub is_used : Mode → Option LinkOrientation → Packet → Bool
 is_used mode direction packet =
-    uses mode (number_of packet) && option_map_or (λ valid. is_passed valid direction) (valid_in packet) false
+    uses mode (number_of packet) && option_map_or (λ valid. is_valid valid direction) (valid_in packet) false
 
 abbrev pub direction_of : Message → Option Announcement → Option LinkOrientation
 direction_of message announced = option_or message.direction (option_map (λ a. a.direction) announced)
@@ -156,44 +160,41 @@ abbrev pub place_by : ℤ → Option Fix → ℤ
 place_by own None = own
 place_by own (Some fix) = fix.at
 
-abbrev pub facts_of : Mode → GroupIdentity → ℤ → ℕ → Option LinkOrientation → List Packet → List Fact
-facts_of mode group place moment direction ps =
-    map (λ p. record { group = group; place = place; moment = moment; packet = p }) (filter (is_used mode direction) ps)
+-- ---- an accepted group in its order: its announcement goes, and those before it; then it makes its fix; then its packets
+-- are used, whose distances count from that fix. All by the life with the event as it is written so far, the acceptance
+-- included
 
--- an accepted group, up to its fix and with its facts; the entries are those with its acceptance
-abbrev pub accepted : Message → Option Announcement → Outcome
-accepted message announced = Accepted message announced None []
+abbrev pub fix_made : List Entry → Message → Option Announcement → Option Fix
+fix_made now message announced = fix_of (place_of now) (is_free now) message announced
 
-abbrev pub fix_in : List Entry → Message → Option Announcement → Option Fix
-fix_in entries message announced = fix_of (place_of entries) (is_free entries) message announced
+abbrev pub facts_used : Mode → List Entry → Message → Option Announcement → Option Fix → List Fact
+facts_used mode now message announced fix =
+    let place = place_by (own_place (place_of now) message) fix in
+    map (λ packet. record { group = message.group; place = place; moment = moment_of now; packet = packet })
+    (filter (is_used mode (direction_of message announced)) message.packets)
 
-abbrev pub facts_by : Mode → List Entry → Message → Option Announcement → Option Fix → List Fact
-facts_by mode entries message announced fix =
-    facts_of mode message.group (place_by (own_place (place_of entries) message) fix) (moment_of entries) (direction_of message announced) message.packets
+abbrev pub accepted : Mode → List Entry → Message → Option Announcement → Outcome
+accepted mode now message announced =
+    let fix = fix_made now message announced in Accepted message announced fix (facts_used mode now message announced fix)
 
-abbrev pub with_fix : List Entry → Message → Option Announcement → Outcome
-with_fix entries message announced = Accepted message announced (fix_in entries message announced) []
+-- ---- the outcome of a group (3.4.4, 3.16.2 and 4.8): first its verdict is written, which takes announcements away, and
+-- then the outcome, by the life with the event as it is written then
 
-abbrev pub with_facts : Mode → List Entry → Message → Option Announcement → Outcome
-with_facts mode entries message announced =
-    let fix = fix_in entries message announced in Accepted message announced fix (facts_by mode entries message announced fix)
+abbrev pub outcome_at_first : Message → Verdict → Outcome
+outcome_at_first message (Accept announced) = Accepted message announced None []
+outcome_at_first message Ignore = Ignored message
+outcome_at_first message (Reaction a) = Rejected message a
 
--- ---- what came of a group
-
-abbrev pub ruled : Message → Verdict → Outcome
-ruled message (Accept announced) = accepted message announced
-ruled message Ignore = Ignored message
-ruled message (Reaction a) = Rejected message a
-
-abbrev pub outcome_of : Mode → List Entry → Begun → Used → Message → Verdict → Outcome
-outcome_of mode entries begun used message (Accept announced) =
-    with_facts mode (so_far begun (added (accepted message announced) used) ∷ entries) message announced
-outcome_of mode entries begun used message Ignore = Ignored message
-outcome_of mode entries begun used message (Reaction a) = Rejected message a
+abbrev pub outcome : Mode → List Entry → Message → Verdict → Outcome
+outcome mode now message (Accept announced) = accepted mode now message announced
+outcome mode now message Ignore = Ignored message
+outcome mode now message (Reaction a) = Rejected message a
 
 abbrev pub after_judgement : Mode → List Entry → Begun → Used → Message → Judgement → Used
 after_judgement mode entries begun used message j =
-    let asking = asking_for j.effect used in added (outcome_of mode entries begun asking message j.verdict) asking
+    let asking = asking_for j.effect used in
+    let now = so_far begun (added (outcome_at_first message j.verdict) asking) ∷ entries in
+    added (outcome mode now message j.verdict) asking
 
 abbrev pub after_group : Mode → List Entry → Begun → Used → Closed → Used
 after_group mode entries begun used (closed.Broken b) =

@@ -1,5 +1,5 @@
 -- What lies between the sentences of one event (this project's profile). Places are centimetres, moments milliseconds.
-use Rattle.std.specs.Prelude.{ℕ, ◌+◌, ◌*◌, ◌≤◌, ℤ, Bool, if◌then◌else◌, Option, Some, None, is_none, List, [], length}
+use Rattle.std.specs.Prelude.{ℕ, ◌+◌, ◌*◌, ◌≤◌, ℤ, Bool, if◌then◌else◌, Option, Some, None, is_none, List, [], length, map, filter}
 use Rattle.std.specs.Option.{option_map_or}
 use Rattle.packets.specs.declared.packet.Packet.{Packet}
 use Rattle.linking.specs.declared.announcement.Announcement.{Announcement}
@@ -13,7 +13,7 @@ use Rattle.track_picture.specs.declared.using.Use.{Use}
 use Rattle.track_picture.specs.Bytes.{telegram_in}
 use Rattle.track_picture.specs.Entry.{Entry, Fact, Used}
 use Rattle.track_picture.specs.History.{groups_of}
-use Rattle.track_picture.specs.Sentences.{facts_of, moved, happened_by, closed_by}
+use Rattle.track_picture.specs.Sentences.{is_used, moved, happened_by, closed_by}
 use Rattle.track_picture.specs.StandsFor.{Life, Known, Knowledge, parts_of, grown_so_far, room_in}
 
 -- the group that a movement leaves
@@ -29,12 +29,12 @@ abbrev pub still_reading : Life → Reading → Known
 still_reading life reading =
     record (parts_of (grown_so_far life (moved life.entries reading) (after_moving life.entries reading))) { groups = groups_of life.entries }
 
--- a packet that is used so
+-- a packet that is used so, and all that are used of a message
 abbrev pub fact_of : Use → Packet → Fact
 fact_of used packet = record { group = used.group; place = used.place; moment = used.moment; packet = packet }
 
 abbrev pub facts : Use → List Packet → List Fact
-facts used packets = facts_of used.mode used.group used.place used.moment used.direction packets
+facts used packets = map (fact_of used) (filter (is_used used.mode used.direction) packets)
 
 -- the place at which a fix is wanted, and how exactly it is known
 abbrev pub fix_wanted : Bool → ℤ → Option Announcement → Option Wanted

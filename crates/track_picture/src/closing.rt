@@ -1,5 +1,5 @@
 //! What a balise group does that closed: it is judged, it makes its fix, its packets are used.
-ghost use Rattle.std.specs.Prelude.{◌≡◌, ◌∷◌, ◌+◌, ◌≤◌, [], length, Option, Some};
+ghost use Rattle.std.specs.Prelude.{◌≡◌, ◌∷◌, ◌+◌, ◌≤◌, [], length, Option, None, Some};
 ghost use Rattle.std.specs.Option.{option_map, option_or};
 ghost use Rattle.balise_groups.specs.declared.message.Closed.TheVariants as closed;
 ghost use Rattle.balise_groups.specs.declared.message.Message.{Message};
@@ -10,9 +10,9 @@ ghost use Rattle.odometry.specs.declared.fix.Fix.{Fix};
 ghost use Rattle.track_picture.specs.Entry.{Begun, Used, added, asking_for, so_far};
 ghost use Rattle.track_picture.specs.Entry.Outcome.{Accepted, Broken as NoMessage};
 ghost use Rattle.track_picture.specs.History.{links_of};
-ghost use Rattle.track_picture.specs.Sentences.{judged, ruled, accepted, with_facts, outcome_of, after_group, with_closed};
+ghost use Rattle.track_picture.specs.Sentences.{judged, accepted, outcome_at_first, outcome, after_group, with_closed};
 ghost use Rattle.track_picture.specs.Steps.{facts};
-ghost use Rattle.track_picture.specs.StandsFor.{Life, StandsForLife, SameTrack, parts_of, grown_so_far, room_in};
+ghost use Rattle.track_picture.specs.StandsFor.{Life, StandsForLife, SameTrack, parts_of, grown, grown_so_far, room_in};
 
 use crate::parts::Parts;
 use crate::state::TracksideOver;
@@ -33,7 +33,7 @@ impl Parts {
             → result ≡ (judged (so_far begun used ∷ life.entries) message.now).verdict }
         ensures stands { (life : Life) (begun : Begun) (used : Used) → self.old ≡ parts_of (grown_so_far life begun used)
             → (let j = judged (so_far begun used ∷ life.entries) message.now in
-            self.new ≡ parts_of (grown_so_far life begun (added (ruled message.now j.verdict) (asking_for j.effect used)))) }
+            self.new ≡ parts_of (grown_so_far life begun (added (outcome_at_first message.now j.verdict) (asking_for j.effect used)))) }
     {
         let place = self.place.place_at(&message.sums);
         let judgement = self.links.judge(&GroupRead {
@@ -81,8 +81,9 @@ impl<G: ProfileStore<Permille> + Drop, S: ProfileStore<CategorySpeeds> + Drop> T
     fn accept(&mut self, mode: Mode, message: &Message, announced: &Option<Announcement>)
         requires { length message.now.packets ≤ room_in G.room S.room self.old }
         ensures stands { (life : Life) (begun : Begun) (used : Used)
-            → StandsForLife G.profile S.profile self.old (grown_so_far life begun (added (accepted message.now announced.now) used))
-            → StandsForLife G.profile S.profile self.new (grown_so_far life begun (added (with_facts mode (so_far begun (added (accepted message.now announced.now) used) ∷ life.entries) message.now announced.now) used)) }
+            → (let judged_only = so_far begun (added (Accepted message.now announced.now None []) used) in
+            StandsForLife G.profile S.profile self.old (grown life judged_only)
+            → StandsForLife G.profile S.profile self.new (grown_so_far life begun (added (accepted mode (judged_only ∷ life.entries) message.now announced.now) used))) }
         ensures room { room_in G.room S.room self.old ≤ room_in G.room S.room self.new + length message.now.packets }
         ensures idle { length message.now.packets ≡ 0 → SameTrack self.old self.new }
     {
@@ -102,8 +103,9 @@ impl<G: ProfileStore<Permille> + Drop, S: ProfileStore<CategorySpeeds> + Drop> T
     fn follow(&mut self, mode: Mode, message: &Message, verdict: Verdict)
         requires { length message.now.packets ≤ room_in G.room S.room self.old }
         ensures stands { (life : Life) (begun : Begun) (used : Used)
-            → StandsForLife G.profile S.profile self.old (grown_so_far life begun (added (ruled message.now verdict) used))
-            → StandsForLife G.profile S.profile self.new (grown_so_far life begun (added (outcome_of mode life.entries begun used message.now verdict) used)) }
+            → (let judged_only = so_far begun (added (outcome_at_first message.now verdict) used) in
+            StandsForLife G.profile S.profile self.old (grown life judged_only)
+            → StandsForLife G.profile S.profile self.new (grown_so_far life begun (added (outcome mode (judged_only ∷ life.entries) message.now verdict) used))) }
         ensures room { room_in G.room S.room self.old ≤ room_in G.room S.room self.new + length message.now.packets }
         ensures idle { length message.now.packets ≡ 0 → SameTrack self.old self.new }
     {

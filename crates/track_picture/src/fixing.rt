@@ -1,9 +1,9 @@
 //! The fix of a group that was accepted.
-ghost use Rattle.std.specs.Prelude.{◌≡◌, not, ◌&&◌, ◌∷◌, []};
+ghost use Rattle.std.specs.Prelude.{◌≡◌, not, ◌&&◌, ◌∷◌, [], None};
 ghost use Rattle.track_picture.specs.Entry.{Begun, Used, added, so_far};
 ghost use Rattle.track_picture.specs.Entry.Outcome.{Accepted};
 ghost use Rattle.track_picture.specs.History.{place_of};
-ghost use Rattle.track_picture.specs.Sentences.{accepted, own_place, place_by, is_free, fix_of};
+ghost use Rattle.track_picture.specs.Sentences.{own_place, place_by, is_free, fix_of};
 ghost use Rattle.track_picture.specs.Steps.{fix_wanted};
 ghost use Rattle.track_picture.specs.StandsFor.{Life, StandsForLife, parts_of, grown_so_far};
 
@@ -33,11 +33,11 @@ impl Parts {
         announced: &Option<Announcement>,
         free: bool,
     ) -> GroupPlace
-        ensures answer { (life : Life) (begun : Begun) (used : Used) → self.old ≡ parts_of (grown_so_far life begun (added (accepted message.now announced.now) used))
-            → (let here = place_of (so_far begun (added (accepted message.now announced.now) used) ∷ life.entries) in
+        ensures answer { (life : Life) (begun : Begun) (used : Used) → self.old ≡ parts_of (grown_so_far life begun (added (Accepted message.now announced.now None []) used))
+            → (let here = place_of (so_far begun (added (Accepted message.now announced.now None []) used) ∷ life.entries) in
             result ≡ place_by (own_place here message.now) (fix_of here free message.now announced.now)) }
-        ensures stands { (life : Life) (begun : Begun) (used : Used) → self.old ≡ parts_of (grown_so_far life begun (added (accepted message.now announced.now) used))
-            → (let here = place_of (so_far begun (added (accepted message.now announced.now) used) ∷ life.entries) in
+        ensures stands { (life : Life) (begun : Begun) (used : Used) → self.old ≡ parts_of (grown_so_far life begun (added (Accepted message.now announced.now None []) used))
+            → (let here = place_of (so_far begun (added (Accepted message.now announced.now None []) used) ∷ life.entries) in
             self.new ≡ parts_of (grown_so_far life begun (added (Accepted message.now announced.now (fix_of here free message.now announced.now) []) used))) }
     {
         let own = self.place.place_at(&message.sums).estimate;

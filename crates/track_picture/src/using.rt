@@ -5,7 +5,7 @@ ghost use Rattle.std.specs.Prelude.{◌≡◌, ◌+◌, ◌≤◌, ◌||◌, ℕ
 ghost use Rattle.std.specs.List.{list_any};
 ghost use Rattle.track_picture.specs.Entry.{Fact};
 ghost use Rattle.track_picture.specs.History.{after_facts};
-ghost use Rattle.track_picture.specs.Sentences.{is_passed, valid_in, is_used};
+ghost use Rattle.track_picture.specs.Sentences.{is_valid, valid_in, is_used};
 ghost use Rattle.track_picture.specs.StandsFor.{room_in};
 ghost use Rattle.track_picture.specs.Steps.{fact_of, facts};
 ghost use Rattle.track_picture.specs.Told.{Told as AllTold, IsTold as IsAllTold, known_of, comes_later, after_earlier, after_later};
@@ -46,8 +46,8 @@ pub struct Use {
 }
 
 // Whether a packet counts that is valid in this direction.
-fn is_passed(valid: ValidityDirection, direction: &Option<LinkOrientation>) -> bool
-    ensures { result ≡ is_passed valid direction.now }
+fn is_valid(valid: ValidityDirection, direction: &Option<LinkOrientation>) -> bool
+    ensures { result ≡ is_valid valid direction.now }
 {
     match (valid, direction) {
         (ValidityDirection::Both, _) => true,
@@ -82,7 +82,7 @@ fn is_used(packet: &Packet<'_>, used: &Use) -> bool
     let Some(valid) = valid_in(packet) else {
         return false;
     };
-    uses(used.mode, packet.number().number() as u8) && is_passed(valid, &used.direction)
+    uses(used.mode, packet.number().number() as u8) && is_valid(valid, &used.direction)
 }
 
 // Whether a packet is for the second walk.

@@ -1,9 +1,10 @@
-use Rattle.std.proofs.Common.{List, ◌∷◌, Option, subst, ap, ◌∙◌}
+use Rattle.std.proofs.Common.{List, [], ◌∷◌, Option, None, subst, ap, ◌∙◌}
 use Rattle.odometry.specs.declared.fix.Fix.{Fix}
 use Rattle.track_picture.specs.Entry.{Entry, Fact, so_far, added}
 use Rattle.track_picture.specs.Entry.Outcome.{Accepted}
 use Rattle.track_picture.specs.History.{place_of}
-use Rattle.track_picture.specs.Sentences.{accepted, own_place, fix_of, place_by, facts_of}
+use Rattle.track_picture.specs.Sentences.{own_place, fix_of, place_by}
+use Rattle.track_picture.specs.Steps.{facts}
 use Rattle.track_picture.specs.StandsFor.{Known, StandsForLife, grown, grown_so_far}
 use Rattle.track_picture.proofs.Idling.{same_seen}
 use Rattle.track_picture.proofs.Standing.{seen}
@@ -18,7 +19,7 @@ pub returns-clause-stands : goal.returns-clause-stands
 returns-clause-stands g c life begun used s =
     let m = c.args.message.now in
     let a = c.args.announced.now in
-    let entry : Entry = so_far begun (added (accepted m a) used) in
+    let entry : Entry = so_far begun (added (Accepted m a None []) used) in
     let here = place_of (entry ∷ life.entries) in
     let inside = seen c.self.view_is s in
     let free = c.is_free-free.ensures (grown life entry) s in
@@ -28,6 +29,6 @@ returns-clause-stands g c life begun used s =
     let moment = ap (λ (k : Known). k.moment) (ap (λ w. w.parts) c.self-inside.view_is ∙ fixed) in
     let direction = c.direction_by.ensures in
     subst (λ (o : Option Fix × List Fact). StandsForLife g.G.ProfileStore.profile g.S.ProfileStore.profile c.take_packets.new.self (grown_so_far life begun (added (Accepted m a o.0 o.1) used)))
-    (λ i. (fix i, facts_of c.args.mode m.group (place i) (moment i) (direction i) m.packets))
+    (λ i. (fix i, facts (record { mode = c.args.mode; group = m.group; place = place i; moment = moment i; direction = direction i }) m.packets))
     (c.take_packets.ensures.stands life begun used m a (fix_of here c.is_free-free.result m a)
     (record { parts_are = fixed; restrictions_are = inside.restrictions_are; gradients_are = inside.gradients_are; speeds_are = inside.speeds_are }))

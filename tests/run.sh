@@ -2,7 +2,8 @@
 # The plain program beside the kernel's rows and the program's: the answers that the rows want are its own too, the numbers of rows and events
 # that the kernel's program is to print are counted from their text, and the random lists, the tracks, the rows of blocks and the lives
 # of the onboard unit, with all that its program is to print, are those that are made here. So are the answers that the rows of the
-# program and the examples want. The reader that was written from the page of the format alone lists what the plain unit wrote.
+# program and the examples want. The reader that was written from the page of the format alone lists what the plain unit wrote. The tables
+# of the plain program are those of the definitions.
 cd "$(dirname "$0")/plain" || exit 1
 export PYTHONDONTWRITEBYTECODE=1
 status=0
@@ -15,4 +16,5 @@ python3 limit_rows.py --check || status=1
 python3 onboard_lives.py --check || status=1
 python3 program_rows.py --check || status=1
 python3 page_rows.py || status=1
+python3 table_rows.py || status=1
 exit $status

@@ -1,57 +1,56 @@
--- What it says that an acknowledgement is owed, and that it was given before the transition, in words of the entries
--- (this project's profile). Moments are milliseconds.
+-- What it says that an acknowledgement is owed, and that it was given before the transition, in words of what happened
+-- (this project's profile). Moments are milliseconds. Lists have the newest first.
 use Rattle.std.specs.Prelude.{◌≡◌, ◌≢◌, ◌↔◌, ℕ, Bool, true, false, List, ◌∷◌, ◌++◌}
 use Rattle.std.specs.List.{list_any}
-use Rattle.areas.specs.declared.acknowledgement.Acknowledgement.TheVariants.{Asked, Done, Owed}
-use Rattle.areas.specs.Acknowledging.{Entry, after_all}
-use Rattle.areas.specs.Acknowledging.Entry.{Acknowledged, Turned, Asking, Settled, Forgotten}
+use Rattle.areas.specs.declared.acknowledgement.Acknowledgement.TheVariants as state
+use Rattle.areas.specs.Acknowledging.{Happening, after_all}
 
 -- what ends an acknowledgement that is owed, and one that was given before the transition
-abbrev pub ends_owed : Entry → Bool
-ends_owed Acknowledged = true
-ends_owed (Turned moment) = true
-ends_owed Asking = false
-ends_owed Settled = false
-ends_owed Forgotten = true
+abbrev pub ends_owed : Happening → Bool
+ends_owed Happening.Acknowledged = true
+ends_owed (Happening.Entered moment) = true
+ends_owed Happening.Asked = false
+ends_owed Happening.Settled = false
+ends_owed Happening.Deleted = true
 
-abbrev pub ends_done : Entry → Bool
-ends_done Acknowledged = false
-ends_done (Turned moment) = true
-ends_done Asking = false
-ends_done Settled = true
-ends_done Forgotten = true
+abbrev pub ends_done : Happening → Bool
+ends_done Happening.Acknowledged = false
+ends_done (Happening.Entered moment) = true
+ends_done Happening.Asked = false
+ends_done Happening.Settled = true
+ends_done Happening.Deleted = true
 
 -- it is owed since a transition before which it wasn't given; nothing since has ended that
-pub record IsOwed (since : ℕ) (entries : List Entry) : Type 0 where
-  pub later : List Entry
-  pub earlier : List Entry
-  pub in_turn : entries ≡ later ++ Turned since ∷ earlier
-  pub was_not_done : after_all earlier ≢ Done
+pub record IsOwed (since : ℕ) (happenings : List Happening) : Type 0 where
+  pub later : List Happening
+  pub earlier : List Happening
+  pub in_turn : happenings ≡ later ++ Happening.Entered since ∷ earlier
+  pub was_not_done : after_all earlier ≢ state.Done
   pub still : list_any ends_owed later ≡ false
 
 -- it was given when it was asked for; nothing since has ended that
-pub record IsDone (entries : List Entry) : Type 0 where
-  pub later : List Entry
-  pub earlier : List Entry
-  pub in_turn : entries ≡ later ++ Acknowledged ∷ earlier
-  pub was_asked : after_all earlier ≡ Asked
+pub record IsDone (happenings : List Happening) : Type 0 where
+  pub later : List Happening
+  pub earlier : List Happening
+  pub in_turn : happenings ≡ later ++ Happening.Acknowledged ∷ earlier
+  pub was_asked : after_all earlier ≡ state.Asked
   pub still : list_any ends_done later ≡ false
 
--- what ends that something is owed: an acknowledgement, or a mode that deletes it; a power-up begins with no entry
-abbrev pub ends_owing : Entry → Bool
-ends_owing Acknowledged = true
-ends_owing (Turned moment) = false
-ends_owing Asking = false
-ends_owing Settled = false
-ends_owing Forgotten = true
+-- what ends that something is owed: an acknowledgement, or a mode that deletes it; a power-up begins with no happening
+abbrev pub ends_owing : Happening → Bool
+ends_owing Happening.Acknowledged = true
+ends_owing (Happening.Entered moment) = false
+ends_owing Happening.Asked = false
+ends_owing Happening.Settled = false
+ends_owing Happening.Deleted = true
 
 -- what is owed stays so, though perhaps since a later transition, until something ends it
 abbrev pub OwedStays : Type 0
-OwedStays = (since : ℕ) (later earlier : List Entry) → after_all earlier ≡ Owed since → list_any ends_owing later ≡ false →
-    (moment : ℕ) × (after_all (later ++ earlier) ≡ Owed moment)
+OwedStays = (since : ℕ) (later earlier : List Happening) → after_all earlier ≡ state.Owed since → list_any ends_owing later ≡ false →
+    (moment : ℕ) × (after_all (later ++ earlier) ≡ state.Owed moment)
 
 abbrev pub OwedSo : Type 0
-OwedSo = (since : ℕ) (entries : List Entry) → (after_all entries ≡ Owed since) ↔ IsOwed since entries
+OwedSo = (since : ℕ) (happenings : List Happening) → (after_all happenings ≡ state.Owed since) ↔ IsOwed since happenings
 
 abbrev pub DoneSo : Type 0
-DoneSo = (entries : List Entry) → (after_all entries ≡ Done) ↔ IsDone entries
+DoneSo = (happenings : List Happening) → (after_all happenings ≡ state.Done) ↔ IsDone happenings

@@ -1,7 +1,6 @@
 //! The states of an acknowledgement: nothing, asked for, given, or owed since a transition (this project's profile).
-ghost use Rattle.std.specs.Prelude.{◌≡◌, List, ◌∷◌, []};
-ghost use Rattle.areas.specs.Acknowledging.{Entry, after_all, waits, brakes};
-ghost use Rattle.areas.specs.Acknowledging.Entry.{Acknowledged, Turned, Asking, Settled, Forgotten};
+ghost use Rattle.std.specs.Prelude.{◌≡◌, []};
+ghost use Rattle.areas.specs.Acknowledging.{Happening, after, after_all, waits, brakes};
 
 use units::Ms;
 
@@ -32,7 +31,7 @@ impl Acknowledgement {
 
     /// The driver acknowledges: what is asked for is done, and what is owed is settled. Else it has no effect.
     pub fn acknowledge(&mut self)
-        ensures { (entries : List Entry) → self.old ≡ after_all entries → self.new ≡ after_all (Acknowledged ∷ entries) }
+        ensures { self.new ≡ after Happening.Acknowledged self.old }
     {
         *self = match *self {
             Acknowledgement::Asked => Acknowledgement::Done,
@@ -44,7 +43,7 @@ impl Acknowledgement {
     /// The transition, at a moment in milliseconds: its mode is entered because of an area, or the announced level 0
     /// comes into force. It is owed from then on, unless it was done before.
     pub fn turn(&mut self, moment: Ms)
-        ensures { (entries : List Entry) → self.old ≡ after_all entries → self.new ≡ after_all (Turned moment ∷ entries) }
+        ensures { self.new ≡ after (Happening.Entered moment) self.old }
     {
         *self = match *self {
             Acknowledgement::Done => Acknowledgement::Nothing,
@@ -54,7 +53,7 @@ impl Acknowledgement {
 
     /// An area or an announcement of the kind asks for it: from Nothing it becomes Asked.
     pub fn ask(&mut self)
-        ensures { (entries : List Entry) → self.old ≡ after_all entries → self.new ≡ after_all (Asking ∷ entries) }
+        ensures { self.new ≡ after Happening.Asked self.old }
     {
         if matches!(self, Acknowledgement::Nothing) {
             *self = Acknowledgement::Asked;
@@ -63,7 +62,7 @@ impl Acknowledgement {
 
     /// No area or announcement of the kind is left: what was asked for or done is over, and what is owed stays owed.
     pub fn settle(&mut self)
-        ensures { (entries : List Entry) → self.old ≡ after_all entries → self.new ≡ after_all (Settled ∷ entries) }
+        ensures { self.new ≡ after Happening.Settled self.old }
     {
         if !matches!(self, Acknowledgement::Owed(_)) {
             *self = Acknowledgement::Nothing;
@@ -72,7 +71,7 @@ impl Acknowledgement {
 
     /// A mode is entered that deletes it (4.10): nothing is asked for.
     pub fn clear(&mut self)
-        ensures { (entries : List Entry) → self.new ≡ after_all (Forgotten ∷ entries) }
+        ensures { self.new ≡ after Happening.Deleted self.old }
     {
         *self = Acknowledgement::Nothing;
     }

@@ -1,26 +1,31 @@
--- What each part sees of the entries of a life, the newest first (this project's profile). Distances are centimetres,
--- moments milliseconds.
+-- What each part sees of the events of a life (this project's profile; acknowledgements: SUBSET-026, 4.10, 5.7, 5.9 and
+-- 5.10). Distances are centimetres, moments milliseconds. Lists of events have the newest first; what one event brings
+-- stands in its order. A reader may take for granted that the last entry is the power-up, and that the newest may be
+-- an event that isn't whole yet: what it hasn't brought so far it doesn't bring.
 use Rattle.std.specs.Prelude.{ℕ, Bool, true, false, not, if◌then◌else◌, Option, Some, None, unwrap_or, List, [], ◌∷◌}
 use Rattle.std.specs.Option.{option_map}
 use Rattle.areas.specs.declared.acknowledgement.Acknowledgement.{Acknowledgement}
-use Rattle.areas.specs.Acknowledging as acknowledging
-use Rattle.areas.specs.Acknowledging.Entry.{Acknowledged, Turned, Asking, Settled, Forgotten}
+use Rattle.areas.specs.declared.acknowledgement.Acknowledgement.TheVariants.{Nothing}
+use Rattle.areas.specs.Acknowledging.{Happening, after_event}
 use Rattle.driver.specs.declared.action.Action.{Action}
 use Rattle.driver.specs.declared.action.Action.TheVariants.{Acknowledge}
-use Rattle.driver.specs.declared.action.Acknowledged.{Acknowledged as Kind}
-use Rattle.driver.specs.declared.action.Acknowledged.TheVariants as kind
+use Rattle.driver.specs.declared.action.Acknowledged.{Acknowledged}
+use Rattle.driver.specs.declared.action.Acknowledged.TheVariants as given
 use Rattle.driver.specs.Entries as driver
 use Rattle.mode_table.specs.declared.level.TrainLevel.{TrainLevel}
 use Rattle.mode_table.specs.declared.mode.Mode.{Mode}
 use Rattle.mode_table.specs.declared.mode.Mode.TheVariants.{StaffResponsible, StandBy}
 use Rattle.mode_table.specs.declared.statuses.Item.TheVariants as item
 use Rattle.mode_table.specs.Modes.{is_mode}
+use Rattle.mode_table.specs.Statuses.{status_on}
 use Rattle.track_picture.specs.Entry as track
-use Rattle.track_picture.specs.History.{place_of, after_column}
+use Rattle.track_picture.specs.History.{place_of, is_deleted}
 use Rattle.mode_control.specs.declared.deed.Deed.{Deed}
 use Rattle.mode_control.specs.declared.calls.Call.{Call}
 use Rattle.mode_control.specs.declared.calls.Calls.{Calls}
 use Rattle.mode_control.specs.declared.calls.Left.{Left}
+use Rattle.mode_control.specs.declared.calls.Kind.{Kind}
+use Rattle.mode_control.specs.declared.calls.Kind.TheVariants as kinds
 use Rattle.mode_control.specs.Entry.{Entry}
 
 -- ---- what the track sent
@@ -73,54 +78,60 @@ abbrev pub deeds : List Entry → List driver.Entry
 deeds [] = []
 deeds (entry ∷ entries) = after_mode entry.track.entered (after_level entry.level (after_deed entry.deed (deeds entries)))
 
--- ---- what bears on the acknowledgement of a kind
+-- ---- the acknowledgement of a kind, by the table of what becomes of it (5.7, 5.9 and 5.10)
 
-abbrev pub is_kind : Kind → Kind → Bool
-is_kind kind.Trip kind.Trip = true
-is_kind kind.OnSight kind.OnSight = true
-is_kind kind.Shunting kind.Shunting = true
-is_kind kind.Level0 kind.Level0 = true
-is_kind one other = false
+abbrev pub is_for : Kind → Acknowledged → Bool
+is_for kinds.OnSight given.OnSight = true
+is_for kinds.Shunting given.Shunting = true
+is_for kinds.Level0 given.Level0 = true
+is_for kind other = false
 
 -- the driver acknowledges this kind
 abbrev pub acknowledges : Kind → Option Action → Bool
-acknowledges one (Some (Acknowledge other)) = is_kind one other
-acknowledges one action = false
+acknowledges kind (Some (Acknowledge other)) = is_for kind other
+acknowledges kind action = false
 
-abbrev pub after_acknowledging : Bool → List acknowledging.Entry → List acknowledging.Entry
-after_acknowledging acknowledged entries = if acknowledged then Acknowledged ∷ entries else entries
+abbrev pub call_for : Kind → Calls → Call
+call_for kinds.OnSight calls = calls.on_sight
+call_for kinds.Shunting calls = calls.shunting
+call_for kinds.Level0 calls = calls.level_0
 
-abbrev pub after_transition : Option ℕ → List acknowledging.Entry → List acknowledging.Entry
-after_transition None entries = entries
-after_transition (Some moment) entries = Turned moment ∷ entries
+abbrev pub is_left : Kind → Left → Bool
+is_left kinds.OnSight left = left.on_sight
+is_left kinds.Shunting left = left.shunting
+is_left kinds.Level0 left = left.level_0
 
-abbrev pub after_asking : Bool → List acknowledging.Entry → List acknowledging.Entry
-after_asking asks entries = if asks then Asking ∷ entries else entries
+abbrev pub only : Bool → Happening → Option Happening
+only so happening = if so then Some happening else None
 
-abbrev pub acknowledgement_deleted : List acknowledging.Entry → List acknowledging.Entry
-acknowledgement_deleted entries = Forgotten ∷ entries
+abbrev pub entered_at : Option ℕ → Option Happening
+entered_at turned = option_map (λ moment. Happening.Entered moment) turned
 
-abbrev pub after_settling : Bool → List acknowledging.Entry → List acknowledging.Entry
-after_settling settled entries = if settled then Settled ∷ entries else entries
+-- a mode was entered that deletes acknowledgements (4.10)
+abbrev pub deletes : Option Mode → Bool
+deletes None = false
+deletes (Some mode) = is_deleted (status_on item.Acknowledgements mode)
 
--- the transition, the asking, the column of the mode that was entered, and at last whether anything of the kind is left
-abbrev pub after_call : Call → Option Mode → Bool → List acknowledging.Entry → List acknowledging.Entry
-after_call call mode left entries =
-    after_settling (not left)
-    (after_column item.Acknowledgements acknowledgement_deleted mode
-    (after_asking call.asks (after_transition call.turned entries)))
+-- what an event brings to a kind, in its order (this project's profile). What is acknowledged in the event of the
+-- transition is so before it; what its area or announcement asks for is asked before a mode deletes it
+abbrev pub happenings : Kind → Entry → List (Option Happening)
+happenings kind event =
+    only (acknowledges kind (action_of event.deed)) Happening.Acknowledged
+    ∷ entered_at (call_for kind event.calls).turned
+    ∷ only (call_for kind event.calls).asks Happening.Asked
+    ∷ only (deletes event.track.entered) Happening.Deleted
+    ∷ only (not (is_left kind event.left)) Happening.Settled
+    ∷ []
 
-abbrev pub calls_of : Kind → (Calls → Call) → (Left → Bool) → List Entry → List acknowledging.Entry
-calls_of one call left [] = []
-calls_of one call left (entry ∷ entries) =
-    after_call (call entry.calls) entry.track.entered (left entry.left)
-    (after_acknowledging (acknowledges one (action_of entry.deed)) (calls_of one call left entries))
+abbrev pub acknowledgement : Kind → List Entry → Acknowledgement
+acknowledgement kind [] = Nothing
+acknowledgement kind (event ∷ earlier) = after_event (happenings kind event) (acknowledgement kind earlier)
 
 abbrev pub on_sight_of : List Entry → Acknowledgement
-on_sight_of entries = acknowledging.after_all (calls_of kind.OnSight (λ calls. calls.on_sight) (λ left. left.on_sight) entries)
+on_sight_of entries = acknowledgement kinds.OnSight entries
 
 abbrev pub shunting_of : List Entry → Acknowledgement
-shunting_of entries = acknowledging.after_all (calls_of kind.Shunting (λ calls. calls.shunting) (λ left. left.shunting) entries)
+shunting_of entries = acknowledgement kinds.Shunting entries
 
 abbrev pub level_0_of : List Entry → Acknowledgement
-level_0_of entries = acknowledging.after_all (calls_of kind.Level0 (λ calls. calls.level_0) (λ left. left.level_0) entries)
+level_0_of entries = acknowledgement kinds.Level0 entries

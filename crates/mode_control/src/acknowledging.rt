@@ -1,59 +1,50 @@
 //! What an event does to an acknowledgement.
-ghost use Rattle.std.specs.Prelude.{◌≡◌, List, Some};
-ghost use Rattle.areas.specs.Acknowledging.{Entry, after_all};
-ghost use Rattle.mode_table.specs.declared.statuses.Item.TheVariants as item;
-ghost use Rattle.mode_table.specs.Statuses.{status_on};
-ghost use Rattle.track_picture.specs.History.{is_deleted, after_column};
-ghost use Rattle.mode_control.specs.History.{is_kind, acknowledges, after_acknowledging, after_transition, after_asking, acknowledgement_deleted, after_settling, after_call};
+ghost use Rattle.std.specs.Prelude.{◌≡◌, Some, ◌∷◌, [], not};
+ghost use Rattle.areas.specs.Acknowledging.{Happening, after_some, after_event};
+ghost use Rattle.mode_control.specs.History.{is_for, acknowledges, only, entered_at, deletes};
 
-use crate::calls::Call;
+use crate::calls::{Call, Kind};
 use areas::Acknowledgement;
 use driver::{Acknowledged, Action};
 use mode_table::{Fate, Item, Mode, status_on};
 use units::Ms;
 
 fn turn(acknowledgement: &mut Acknowledgement, turned: &Option<Ms>)
-    ensures { (entries : List Entry) → acknowledgement.old ≡ after_all entries → acknowledgement.new ≡ after_all (after_transition turned.now entries) }
+    ensures { acknowledgement.new ≡ after_some (entered_at turned.now) acknowledgement.old }
 {
     if let Some(moment) = turned {
         acknowledgement.turn(*moment);
     }
 }
 
-fn is_deleted(mode: Mode) -> bool
-    ensures { result ≡ is_deleted (status_on item.Acknowledgements mode) }
-{
-    matches!(status_on(Item::Acknowledgements, mode), Fate::Deleted)
-}
-
-fn leave_by(acknowledgement: &mut Acknowledgement, mode: Mode)
-    ensures { (entries : List Entry) → acknowledgement.old ≡ after_all entries
-        → acknowledgement.new ≡ after_all (after_column item.Acknowledgements acknowledgement_deleted (Some mode) entries) }
-{
-    if is_deleted(mode) {
-        acknowledgement.clear();
-    }
-}
-
-fn leave(acknowledgement: &mut Acknowledgement, entered: &Option<Mode>)
-    ensures { (entries : List Entry) → acknowledgement.old ≡ after_all entries
-        → acknowledgement.new ≡ after_all (after_column item.Acknowledgements acknowledgement_deleted entered.now entries) }
-{
-    if let Some(mode) = entered {
-        leave_by(acknowledgement, *mode);
-    }
-}
-
 fn ask(acknowledgement: &mut Acknowledgement, asks: bool)
-    ensures { (entries : List Entry) → acknowledgement.old ≡ after_all entries → acknowledgement.new ≡ after_all (after_asking asks entries) }
+    ensures { acknowledgement.new ≡ after_some (only asks Happening.Asked) acknowledgement.old }
 {
     if asks {
         acknowledgement.ask();
     }
 }
 
+// Whether a mode is entered that deletes acknowledgements.
+fn deletes(entered: &Option<Mode>) -> bool
+    ensures { result ≡ deletes entered.now }
+{
+    match entered {
+        None => false,
+        Some(mode) => matches!(status_on(Item::Acknowledgements, *mode), Fate::Deleted),
+    }
+}
+
+fn clear(acknowledgement: &mut Acknowledgement, deleted: bool)
+    ensures { acknowledgement.new ≡ after_some (only deleted Happening.Deleted) acknowledgement.old }
+{
+    if deleted {
+        acknowledgement.clear();
+    }
+}
+
 fn settle(acknowledgement: &mut Acknowledgement, settled: bool)
-    ensures { (entries : List Entry) → acknowledgement.old ≡ after_all entries → acknowledgement.new ≡ after_all (after_settling settled entries) }
+    ensures { acknowledgement.new ≡ after_some (only settled Happening.Settled) acknowledgement.old }
 {
     if settled {
         acknowledgement.settle();
@@ -67,40 +58,42 @@ pub fn answer(
     entered: &Option<Mode>,
     left: bool,
 )
-    ensures { (entries : List Entry) → acknowledgement.old ≡ after_all entries → acknowledgement.new ≡ after_all (after_call call.now entered.now left entries) }
+    ensures { acknowledgement.new ≡ after_event (entered_at call.now.turned
+        ∷ only call.now.asks Happening.Asked
+        ∷ only (deletes entered.now) Happening.Deleted
+        ∷ only (not left) Happening.Settled
+        ∷ []) acknowledgement.old }
 {
     turn(acknowledgement, &call.turned);
     ask(acknowledgement, call.asks);
-    leave(acknowledgement, entered);
+    clear(acknowledgement, deletes(entered));
     settle(acknowledgement, !left);
 }
 
-// Whether these are the same.
-fn is_kind(kind: Acknowledged, other: Acknowledged) -> bool
-    ensures { result ≡ is_kind kind other }
+// Whether what the driver acknowledges is of this kind.
+fn is_for(kind: Kind, given: Acknowledged) -> bool
+    ensures { result ≡ is_for kind given }
 {
-    match (kind, other) {
-        (Acknowledged::Trip, Acknowledged::Trip) => true,
-        (Acknowledged::OnSight, Acknowledged::OnSight) => true,
-        (Acknowledged::Shunting, Acknowledged::Shunting) => true,
-        (Acknowledged::Level0, Acknowledged::Level0) => true,
+    match (kind, given) {
+        (Kind::OnSight, Acknowledged::OnSight) => true,
+        (Kind::Shunting, Acknowledged::Shunting) => true,
+        (Kind::Level0, Acknowledged::Level0) => true,
         _ => false,
     }
 }
 
-fn acknowledges(kind: Acknowledged, action: &Action) -> bool
+fn acknowledges(kind: Kind, action: &Action) -> bool
     ensures { result ≡ acknowledges kind (Some action.now) }
 {
     match action {
-        Action::Acknowledge(other) => is_kind(kind, *other),
+        Action::Acknowledge(given) => is_for(kind, *given),
         _ => false,
     }
 }
 
 /// What an accepted action does to the acknowledgement of a kind.
-pub fn acknowledge(acknowledgement: &mut Acknowledgement, kind: Acknowledged, action: &Action)
-    ensures { (entries : List Entry) → acknowledgement.old ≡ after_all entries
-        → acknowledgement.new ≡ after_all (after_acknowledging (acknowledges kind (Some action.now)) entries) }
+pub fn acknowledge(acknowledgement: &mut Acknowledgement, kind: Kind, action: &Action)
+    ensures { acknowledgement.new ≡ after_some (only (acknowledges kind (Some action.now)) Happening.Acknowledged) acknowledgement.old }
 {
     if acknowledges(kind, action) {
         acknowledgement.acknowledge();

@@ -7,10 +7,11 @@ ghost use Rattle.mode_control.specs.Sentences.{situation, occasion, deed_by, dee
 ghost use Rattle.mode_control.specs.StandsFor.{StandsForLife, parts_of};
 
 use crate::acknowledging::acknowledge;
+use crate::calls::Kind;
 use crate::deed::Deed;
 use crate::parts::Parts;
 use crate::state::SupervisionOver;
-use driver::{Acknowledged, Action, ActionSituation, Occasion};
+use driver::{Action, ActionSituation, Occasion};
 use events::Input;
 use speed_profile::CategorySpeeds;
 use track_store::ProfileStore;
@@ -23,9 +24,9 @@ impl Parts {
             → self.new ≡ parts_of (grown life (begun (so_far tells used) (Some deed.now))) }
     {
         self.driver.act(&deed.action, &deed.occasion);
-        acknowledge(&mut self.on_sight, Acknowledged::OnSight, &deed.action);
-        acknowledge(&mut self.shunting, Acknowledged::Shunting, &deed.action);
-        acknowledge(&mut self.level_0, Acknowledged::Level0, &deed.action);
+        acknowledge(&mut self.on_sight, Kind::OnSight, &deed.action);
+        acknowledge(&mut self.shunting, Kind::Shunting, &deed.action);
+        acknowledge(&mut self.level_0, Kind::Level0, &deed.action);
         self.done = Some(deed.action);
     }
 

@@ -1,6 +1,17 @@
 //! Which acknowledgements an event calls for: of On Sight, Shunting or level 0.
 use units::Ms;
 
+/// The kinds of what the driver has to acknowledge, a trip apart (SUBSET-026, 5.7, 5.9 and 5.10).
+#[derive(Clone, Copy)]
+pub enum Kind {
+    /// On Sight.
+    OnSight,
+    /// Shunting.
+    Shunting,
+    /// Level 0.
+    Level0,
+}
+
 /// What an event calls for from the driver, of one kind of acknowledgement (SUBSET-026, 5.7, 5.9 and 5.10; when: this
 /// project's profile).
 #[derive(Clone, Copy)]

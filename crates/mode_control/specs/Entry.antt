@@ -1,6 +1,6 @@
--- What each event of a life did, its power-up included, sentence by sentence in the order of one event: what the track
--- sent, what the driver did, which level came into force, which mode was entered, and what became of the
--- acknowledgements (this project's profile). Moments are milliseconds.
+-- The record of one event of a life, its power-up included: what the track sent, what the driver did, which level came
+-- into force, which mode was entered, and what became of the acknowledgements (this project's profile). Its fields are
+-- the columns that the sentences of an event write, in their order. Moments are milliseconds.
 use Rattle.std.specs.Prelude.{true, false, Option, None}
 use Rattle.mode_table.specs.declared.level.TrainLevel.{TrainLevel}
 use Rattle.track_picture.specs.Entry as track
@@ -26,13 +26,6 @@ no_calls = record { on_sight = no_call; shunting = no_call; level_0 = no_call }
 abbrev pub all_left : Left
 all_left = record { on_sight = true; shunting = true; level_0 = true }
 
--- ---- an event up to the groups that closed, up to the look at the train, and up to its end
-
+-- an event as it begins: its other columns aren't written yet
 abbrev pub begun : track.Entry → Option Deed → Entry
 begun track deed = record { track = track; deed = deed; level = None; calls = no_calls; left = all_left }
-
-abbrev pub seen : track.Entry → Option Deed → Option TrainLevel → Entry
-seen track deed level = record { track = track; deed = deed; level = level; calls = no_calls; left = all_left }
-
-abbrev pub answered : track.Entry → Option Deed → Option TrainLevel → Calls → Left → Entry
-answered track deed level calls left = record { track = track; deed = deed; level = level; calls = calls; left = left }

@@ -1,5 +1,8 @@
--- What an input does in a life, sentence by sentence in the order of one event (this project's profile). Places are
--- centimetres, moments milliseconds, speeds metres per hour.
+-- What an input does in a life, sentence by sentence in the order of one event (SUBSET-026, 4.6, 4.10, 5.7, 5.9 and
+-- 5.10; the order: this project's profile). Places are centimetres, moments milliseconds, speeds metres per hour; lists
+-- of entries have the newest first. An event is recorded column by column: each sentence sees the life with the event
+-- as it is written so far, and writes columns of its own. A reader may take for granted that a column which isn't
+-- written yet says nothing.
 use Rattle.std.specs.Prelude.{ℕ, Bool, false, not, ◌&&◌, if◌then◌else◌, Option, Some, None, unwrap_or, List, [], ◌∷◌}
 use Rattle.std.specs.Option.{option_map_or}
 use Rattle.units.specs.Stretches.{Span}
@@ -23,7 +26,6 @@ use Rattle.national.specs.declared.values.Values.{Values}
 use Rattle.vars.specs.declared.level.AreaMode.{AreaMode}
 use Rattle.vars.specs.declared.level.AreaMode.TheVariants as area
 use Rattle.track_picture.specs.Entry as track
-use Rattle.track_picture.specs.Entry.{Begun, Used, so_far, looked, turned, marked}
 use Rattle.track_picture.specs.History.{place_of, speed_of, moment_of, areas_of, announced_level}
 use Rattle.track_picture.specs.Sentences.{received, standing, mark_behind, powered_up}
 use Rattle.track_picture.specs.StandsFor.{national_of}
@@ -32,12 +34,12 @@ use Rattle.mode_control.specs.declared.deed.Deed.{Deed}
 use Rattle.mode_control.specs.declared.calls.Call.{Call}
 use Rattle.mode_control.specs.declared.calls.Calls.{Calls}
 use Rattle.mode_control.specs.declared.calls.Left.{Left}
-use Rattle.mode_control.specs.Entry.{Entry, begun, seen, answered}
+use Rattle.mode_control.specs.Entry.{Entry, begun}
 use Rattle.mode_control.specs.History.{tracks, mode_of, done_in, on_sight_of, shunting_of, level_0_of}
 use Rattle.mode_control.specs.Life.{Life, track_of, driver_of, length_of, grown}
 
--- ---- first what the input itself brings of the track, by the mode before the event; and an action of the driver
--- counts where it is accepted in the situation before the event
+-- ---- before any sentence: what the input itself brings of the track, by the mode before the event; and an action of
+-- the driver, where it is accepted in the situation before the event
 
 abbrev pub values_of : Life → Values
 values_of life = (national_of (track_of life)).in_force.values
@@ -73,7 +75,8 @@ deed_of life (Driver action) = deed_by life action
 abbrev pub told : Life → inputs.Input → track.Entry
 told life input = received (mode_of life.entries) (tracks life.entries) input
 
--- ---- then where the train is, and the announced level that comes into force there
+-- ---- the train is seen: it is looked at where the groups that closed have put it, and the level comes into force that
+-- is announced for a place which its maximum safe front has reached
 
 abbrev pub standing_in : Life → Span
 standing_in life = standing (length_of life) (tracks life.entries)
@@ -81,12 +84,20 @@ standing_in life = standing (length_of life) (tracks life.entries)
 abbrev pub level_in : Life → Option TrainLevel
 level_in life = coming (standing_in life).max_front (announced_level (tracks life.entries))
 
-abbrev pub seen_from : Life → Begun → Used → Option Deed → Entry
-seen_from life tells used deed =
-    let here = grown life (begun (so_far tells used) deed) in
-    seen (looked tells used (Some (standing_in here))) deed (level_in here)
+-- a sentence: by the life with the event as it is written so far, the event with further columns
+abbrev pub Sentence : Type 0
+Sentence = Life → Entry → Entry
 
--- ---- then one row of the mode table, by the life as the event has left it so far
+-- the level is read by the announcement as it was, which the look then uses up
+abbrev pub the_train_is_seen : Sentence
+the_train_is_seen now event =
+    record event { track = record event.track { train = Some (standing_in now) }; level = level_in now }
+
+-- where the train was seen in this event
+abbrev pub train_in : Life → Entry → Span
+train_in now event = unwrap_or event.track.train (standing_in now)
+
+-- ---- the mode changes: one row of the mode table is taken (4.6)
 
 abbrev pub changed : Mode → Mode → Option Mode
 changed old new = if is_mode old new then None else Some new
@@ -94,8 +105,8 @@ changed old new = if is_mode old new then None else Some new
 abbrev pub entered_in : Life → Span → Option Mode
 entered_in life train = changed (mode_of life.entries) (next_mode (mode_of life.entries) (conditions life train))
 
--- ---- then the acknowledgements: the transition of a kind; what asks for it, unless its mode holds; and whether
--- anything of the kind is left once the mode that was entered has deleted what it deletes
+-- .. and the driver is called to acknowledge (5.7, 5.9, 5.10): the transition of a kind, and what asks for it, unless
+-- its mode holds
 
 abbrev pub has_entered : Mode → Option Mode → Bool
 has_entered mode None = false
@@ -132,7 +143,16 @@ calls_in life train level entered = record {
   level_0 = call_of_level life train level;
 }
 
--- by what the track has sent once the mode is entered
+-- what is called for is read by the areas as they were before the new mode deletes them (4.10)
+abbrev pub the_mode_changes : Sentence
+the_mode_changes now event =
+    let train = train_in now event in
+    let mode = entered_in now train in
+    record event { track = record event.track { entered = mode }; calls = calls_in now train event.level mode }
+
+-- ---- the calls are settled: of which kinds an area or an announcement is left once the mode that was entered has
+-- deleted what it deletes
+
 abbrev pub left_in : List track.Entry → Span → Left
 left_in told train = record {
   on_sight = any_left area.OnSight train.min_front (areas_of told);
@@ -140,29 +160,31 @@ left_in told train = record {
   level_0 = is_level_0_announced (announced_level told);
 }
 
-abbrev pub answered_from : Life → Begun → Used → Span → Option Deed → Option TrainLevel → Entry
-answered_from life tells used train deed level =
-    let here = grown life (seen (looked tells used (Some train)) deed level) in
-    let entered = entered_in here train in
-    let after = turned tells used (Some train) entered in
-    answered after deed level (calls_in here train level entered) (left_in (after ∷ tracks life.entries) train)
+abbrev pub the_calls_are_settled : Sentence
+the_calls_are_settled now event = record event { left = left_in (tracks now.entries) (train_in now event) }
 
--- ---- at last the track is forgotten far behind the train
+-- ---- the track far behind the train is forgotten
 
-abbrev pub ended_from : Life → Begun → Used → Span → Option Mode → Option Deed → Option TrainLevel → Calls → Left → Entry
-ended_from life tells used train mode deed level calls left =
-    let there = grown life (answered (turned tells used (Some train) mode) deed level calls left) in
-    answered (marked tells used (Some train) mode (mark_behind (standing_in there))) deed level calls left
+abbrev pub the_track_behind_is_forgotten : Sentence
+the_track_behind_is_forgotten now event =
+    record event { track = record event.track { mark = Some (mark_behind (standing_in now)) } }
 
--- ---- the whole event
+-- ---- the whole event: the sentences in their order, each by the life with what those before it have written
+
+abbrev pub sentences : List Sentence
+sentences =
+    the_train_is_seen
+    ∷ the_mode_changes
+    ∷ the_calls_are_settled
+    ∷ the_track_behind_is_forgotten
+    ∷ []
+
+abbrev pub written : List Sentence → Life → Entry → Entry
+written [] life event = event
+written (sentence ∷ later) life event = written later life (sentence (grown life event) event)
 
 abbrev pub entry_of : Life → inputs.Input → Entry
-entry_of life input =
-    let t = told life input in
-    let s = seen_from life t.begun t.used (deed_of life input) in
-    let train = standing_in (grown life (begun t (deed_of life input))) in
-    let a = answered_from life t.begun t.used train s.deed s.level in
-    ended_from life t.begun t.used train a.track.entered s.deed s.level a.calls a.left
+entry_of life input = written sentences life (begun (told life input) (deed_of life input))
 
 -- a power-up: nothing but the place and the forgetting mark
 abbrev pub powered_up_in : Life → Entry

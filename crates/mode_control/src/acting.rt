@@ -1,6 +1,6 @@
 //! What the driver does: an action counts where it is accepted in the situation before the event.
-ghost use Rattle.std.specs.Prelude.{◌≡◌, Some};
-ghost use Rattle.track_picture.specs.Entry.{Begun, Used, so_far};
+ghost use Rattle.std.specs.Prelude.{◌≡◌, None, Some};
+ghost use Rattle.track_picture.specs.Entry.{Entry as TrackEntry};
 ghost use Rattle.mode_control.specs.Entry.{begun};
 ghost use Rattle.mode_control.specs.Life.{Life, grown};
 ghost use Rattle.mode_control.specs.Sentences.{situation, occasion, deed_by, deed_of};
@@ -20,8 +20,8 @@ use units::Permille;
 impl Parts {
     // An action is accepted.
     fn act(&mut self, deed: &Deed)
-        ensures { (life : Life) (tells : Begun) (used : Used) → self.old ≡ parts_of life
-            → self.new ≡ parts_of (grown life (begun (so_far tells used) (Some deed.now))) }
+        ensures { (life : Life) (told : TrackEntry) → self.old ≡ parts_of life
+            → self.new ≡ parts_of (grown life (begun (record told { entered = None }) (Some deed.now))) }
     {
         self.driver.act(&deed.action, &deed.occasion);
         acknowledge(&mut self.on_sight, Kind::OnSight, &deed.action);
@@ -32,8 +32,8 @@ impl Parts {
 
     /// What the driver did in an event.
     pub fn note(&mut self, deed: &Option<Deed>)
-        ensures { (life : Life) (tells : Begun) (used : Used) → self.old ≡ parts_of life
-            → self.new ≡ parts_of (grown life (begun (so_far tells used) deed.now)) }
+        ensures { (life : Life) (told : TrackEntry) → self.old ≡ parts_of life
+            → self.new ≡ parts_of (grown life (begun (record told { entered = None }) deed.now)) }
     {
         match deed {
             None => self.done = None,

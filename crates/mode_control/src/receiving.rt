@@ -1,17 +1,10 @@
 //! What an input does, sentence by sentence in the order of one event.
-ghost use Rattle.std.specs.Prelude.{◌≡◌, ◌≤◌, IsOk, OnOk, OnErr, Option, Some};
-ghost use Rattle.mode_table.specs.declared.level.TrainLevel.{TrainLevel as Level};
-ghost use Rattle.mode_table.specs.declared.mode.Mode.{Mode};
-ghost use Rattle.units.specs.Stretches.{Span};
-ghost use Rattle.track_picture.specs.Entry.{Begun, Used, turned};
+ghost use Rattle.std.specs.Prelude.{◌≡◌, ◌≤◌, IsOk, OnOk, OnErr, None};
 ghost use Rattle.track_picture.specs.StandsFor.{size_in};
 ghost use Rattle.track_picture.specs.Steps.{packets_by, HasRoomFor};
-ghost use Rattle.mode_control.specs.declared.calls.Calls.{Calls};
-ghost use Rattle.mode_control.specs.declared.calls.Left.{Left};
-ghost use Rattle.mode_control.specs.declared.deed.Deed.{Deed};
-ghost use Rattle.mode_control.specs.Entry.{begun, answered};
+ghost use Rattle.mode_control.specs.Entry.{Entry, begun};
 ghost use Rattle.mode_control.specs.Life.{Life, grown};
-ghost use Rattle.mode_control.specs.Sentences.{told, deed_of, ended_from, entry_of};
+ghost use Rattle.mode_control.specs.Sentences.{told, deed_of, the_track_behind_is_forgotten, entry_of};
 ghost use Rattle.mode_control.specs.StandsFor.{StandsForLife};
 
 use crate::state::SupervisionOver;
@@ -41,9 +34,9 @@ impl<G: ProfileStore<Permille> + Drop, S: ProfileStore<CategorySpeeds> + Drop> S
 
     // The track far behind the train is forgotten.
     fn forget(&mut self)
-        ensures stands { (life : Life) (tells : Begun) (used : Used) (train : Span) (mode : Option Mode) (deed : Option Deed) (level : Option Level) (calls : Calls) (left : Left)
-            → StandsForLife G.profile S.profile self.old (grown life (answered (turned tells used (Some train) mode) deed level calls left))
-            → StandsForLife G.profile S.profile self.new (grown life (ended_from life tells used train mode deed level calls left)) }
+        ensures stands { (life : Life) (event : Entry)
+            → StandsForLife G.profile S.profile self.old (grown life (record event { track = record event.track { mark = None } }))
+            → StandsForLife G.profile S.profile self.new (grown life (the_track_behind_is_forgotten (grown life event) event)) }
         ensures size { size_in G.size S.size self.new.track ≤ size_in G.size S.size self.old.track }
     {
         self.track.forget(self.parts.length());

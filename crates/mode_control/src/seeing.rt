@@ -1,15 +1,15 @@
 //! The look at the train, once the groups of an event are used.
-ghost use Rattle.std.specs.Prelude.{◌≡◌, List, Option, Some};
+ghost use Rattle.std.specs.Prelude.{◌≡◌, List, Option, None};
 ghost use Rattle.driver.specs.declared.kept.Kept.{Kept as DriverKept};
 ghost use Rattle.driver.specs.Entries.{Entry as DriverEntry};
 ghost use Rattle.driver.specs.Known.{known};
 ghost use Rattle.units.specs.Stretches.{Span};
-ghost use Rattle.track_picture.specs.Entry.{Begun, Used, so_far, looked};
+ghost use Rattle.track_picture.specs.Entry.{Entry as TrackEntry};
 ghost use Rattle.mode_control.specs.declared.deed.Deed.{Deed};
-ghost use Rattle.mode_control.specs.Entry.{begun, seen};
+ghost use Rattle.mode_control.specs.Entry.{Entry, begun};
 ghost use Rattle.mode_control.specs.History.{after_level};
 ghost use Rattle.mode_control.specs.Life.{Life, grown};
-ghost use Rattle.mode_control.specs.Sentences.{standing_in, seen_from, level_in};
+ghost use Rattle.mode_control.specs.Sentences.{standing_in, level_in, the_train_is_seen};
 ghost use Rattle.mode_control.specs.StandsFor.{StandsForLife, parts_of};
 ghost use Rattle.track_picture.specs.StandsFor.{size_in};
 
@@ -41,9 +41,9 @@ fn come_in(driver: &mut Driver, level: &Option<TrainLevel>)
 impl Parts {
     // An announced level comes into force, if one does.
     fn come_in(&mut self, level: &Option<TrainLevel>)
-        ensures { (life : Life) (tells : Begun) (used : Used) (train : Span) (deed : Option Deed)
-            → self.old ≡ parts_of (grown life (begun (so_far tells used) deed))
-            → self.new ≡ parts_of (grown life (seen (looked tells used (Some train)) deed level.now)) }
+        ensures { (life : Life) (told : TrackEntry) (train : Option Span) (deed : Option Deed)
+            → self.old ≡ parts_of (grown life (begun (record told { entered = None }) deed))
+            → self.new ≡ parts_of (grown life (record (begun (record told { train = train; entered = None }) deed) { level = level.now })) }
     {
         come_in(&mut self.driver, level);
     }
@@ -55,15 +55,15 @@ impl<G: ProfileStore<Permille> + Drop, S: ProfileStore<CategorySpeeds> + Drop> S
 > {
     /// The look at the train: what is announced comes into force where the maximum safe front has reached its place.
     pub(crate) fn see(&mut self) -> Seen
-        ensures train { (life : Life) (tells : Begun) (used : Used) (deed : Option Deed)
-            → StandsForLife G.profile S.profile self.old (grown life (begun (so_far tells used) deed))
-            → result.train ≡ standing_in (grown life (begun (so_far tells used) deed)) }
-        ensures level { (life : Life) (tells : Begun) (used : Used) (deed : Option Deed)
-            → StandsForLife G.profile S.profile self.old (grown life (begun (so_far tells used) deed))
-            → result.level ≡ level_in (grown life (begun (so_far tells used) deed)) }
-        ensures stands { (life : Life) (tells : Begun) (used : Used) (deed : Option Deed)
-            → StandsForLife G.profile S.profile self.old (grown life (begun (so_far tells used) deed))
-            → StandsForLife G.profile S.profile self.new (grown life (seen_from life tells used deed)) }
+        ensures train { (life : Life) (event : Entry) → StandsForLife G.profile S.profile self.old (grown life event)
+            → result.train ≡ standing_in (grown life event) }
+        ensures level { (life : Life) (told : TrackEntry) (deed : Option Deed)
+            → (let event = begun (record told { train = None; entered = None }) deed in
+            StandsForLife G.profile S.profile self.old (grown life event) → result.level ≡ level_in (grown life event)) }
+        ensures stands { (life : Life) (told : TrackEntry) (deed : Option Deed)
+            → (let event = begun (record told { train = None; entered = None }) deed in
+            StandsForLife G.profile S.profile self.old (grown life event)
+            → StandsForLife G.profile S.profile self.new (grown life (the_train_is_seen (grown life event) event))) }
         ensures size { size_in G.size S.size self.new.track ≡ size_in G.size S.size self.old.track }
     {
         let length = self.parts.length();

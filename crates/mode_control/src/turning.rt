@@ -1,18 +1,17 @@
 //! The change of mode, and the acknowledgements.
-ghost use Rattle.std.specs.Prelude.{◌≡◌, ◌≤◌, Option, Some, List, ◌∷◌, if◌then◌else◌};
+ghost use Rattle.std.specs.Prelude.{◌≡◌, ◌≤◌, Option, None, Some, List, [], ◌∷◌, if◌then◌else◌};
 ghost use Rattle.driver.specs.declared.kept.Kept.{Kept as DriverKept};
 ghost use Rattle.driver.specs.Entries.{Entry as DriverEntry};
 ghost use Rattle.driver.specs.Known.{known};
-ghost use Rattle.units.specs.Stretches.{Span};
-ghost use Rattle.track_picture.specs.Entry.{Begun, Used, looked, turned};
+ghost use Rattle.track_picture.specs.Entry.{Entry as TrackEntry};
 ghost use Rattle.track_picture.specs.History.{place_of};
 ghost use Rattle.track_picture.specs.StandsFor.{Life as TrackLife, StandsForLife as StandsForTrack, parts_of as track_parts_of, grown as track_grown, size_in};
 ghost use Rattle.mode_table.specs.declared.level.TrainLevel.{TrainLevel as Level};
 ghost use Rattle.mode_control.specs.declared.deed.Deed.{Deed};
-ghost use Rattle.mode_control.specs.Entry.{seen as seen_as, answered};
+ghost use Rattle.mode_control.specs.Entry.{begun};
 ghost use Rattle.mode_control.specs.History.{tracks, enters_staff, after_mode};
 ghost use Rattle.mode_control.specs.Life.{Life, grown};
-ghost use Rattle.mode_control.specs.Sentences.{changed, entered_in, has_entered, mode_after, moment_where, is_coming_to_level_0, call_of_areas, call_of_level, calls_in, left_in, answered_from};
+ghost use Rattle.mode_control.specs.Sentences.{changed, entered_in, has_entered, mode_after, moment_where, is_coming_to_level_0, call_of_areas, call_of_level, calls_in, left_in, the_mode_changes, the_calls_are_settled, written};
 ghost use Rattle.mode_control.specs.StandsFor.{StandsForLife, parts_of};
 
 use crate::acknowledging::answer;
@@ -91,10 +90,10 @@ fn turn_driver(driver: &mut Driver, entered: &Option<Mode>)
 impl Parts {
     // A mode is entered, if another one is, at this path of the life; what is called for then, and what is left.
     fn turn(&mut self, entered: &Option<Mode>, path: Length, calls: &Calls, left: &Left)
-        ensures { (life : Life) (tells : Begun) (used : Used) (train : Option Span) (deed : Option Deed) (level : Option Level)
-            → self.old ≡ parts_of (grown life (seen_as (looked tells used train) deed level))
-            → path ≡ (place_of (turned tells used train entered.now ∷ tracks life.entries)).sums.path
-            → self.new ≡ parts_of (grown life (answered (turned tells used train entered.now) deed level calls.now left.now)) }
+        ensures { (life : Life) (told : TrackEntry) (deed : Option Deed) (level : Option Level)
+            → self.old ≡ parts_of (grown life (record (begun (record told { entered = None }) deed) { level = level }))
+            → path ≡ (place_of (told ∷ tracks life.entries)).sums.path
+            → self.new ≡ parts_of (grown life (record { track = record told { entered = entered.now }; deed = deed; level = level; calls = calls.now; left = left.now })) }
     {
         turn_driver(&mut self.driver, entered);
         self.mode = mode_after(self.mode, entered);
@@ -123,9 +122,9 @@ fn enter<G: ProfileStore<Permille> + Drop, S: ProfileStore<CategorySpeeds> + Dro
     track: &mut TracksideOver<G, S>,
     entered: &Option<Mode>,
 )
-    ensures stands { (life : TrackLife) (tells : Begun) (used : Used) (train : Option Span)
-        → StandsForTrack G.profile S.profile track.old (track_grown life (looked tells used train))
-        → StandsForTrack G.profile S.profile track.new (track_grown life (turned tells used train entered.now)) }
+    ensures stands { (life : TrackLife) (event : TrackEntry)
+        → StandsForTrack G.profile S.profile track.old (track_grown life (record event { entered = None }))
+        → StandsForTrack G.profile S.profile track.new (track_grown life (record event { entered = entered.now })) }
     ensures size { size_in G.size S.size track.new ≤ size_in G.size S.size track.old }
 {
     if let Some(mode) = entered {
@@ -194,9 +193,10 @@ impl<G: ProfileStore<Permille> + Drop, S: ProfileStore<CategorySpeeds> + Drop> S
 
     /// One row of the mode table, then the acknowledgements, and what the mode deletes that is entered.
     pub(crate) fn turn(&mut self, seen: &Seen)
-        ensures stands { (life : Life) (tells : Begun) (used : Used) (deed : Option Deed)
-            → StandsForLife G.profile S.profile self.old (grown life (seen_as (looked tells used (Some seen.now.train)) deed seen.now.level))
-            → StandsForLife G.profile S.profile self.new (grown life (answered_from life tells used seen.now.train deed seen.now.level)) }
+        ensures stands { (life : Life) (told : TrackEntry) (deed : Option Deed)
+            → (let event = record (begun (record told { train = Some seen.now.train; entered = None }) deed) { level = seen.now.level } in
+            StandsForLife G.profile S.profile self.old (grown life event)
+            → StandsForLife G.profile S.profile self.new (grown life (written (the_mode_changes ∷ the_calls_are_settled ∷ []) life event))) }
         ensures size { size_in G.size S.size self.new.track ≤ size_in G.size S.size self.old.track }
     {
         let entered = self.entered(&seen.train);

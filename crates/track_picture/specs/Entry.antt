@@ -1,6 +1,7 @@
--- What each event of a life brought of the track and of the train on it, its power-up included, sentence by sentence in
--- the order of one event (this project's profile). Distances and places are centimetres, moments milliseconds.
-use Rattle.std.specs.Prelude.{ℕ, ℤ, false, Option, None, Some, List, [], ◌∷◌}
+-- The record of what one event of a life brought of the track and of the train on it, its power-up included (this
+-- project's profile). Its fields are the columns that the sentences of an event write, in their order. Distances and
+-- places are centimetres, moments milliseconds.
+use Rattle.std.specs.Prelude.{ℕ, ℤ, false, Option, None, List, [], ◌∷◌}
 use Rattle.units.specs.Stretches.{Span}
 use Rattle.vars.specs.declared.group.GroupIdentity.{GroupIdentity}
 use Rattle.packets.specs.declared.packet.Packet.{Packet}
@@ -49,20 +50,6 @@ pub record Entry : Type 0 where
   pub entered : Option Mode  -- the mode that was entered, if another one was
   pub mark : Option ℤ  -- the track before this place is forgotten
 
--- ---- an event up to the groups that closed, up to the look at the train, up to the mode, and up to its end
-
-abbrev pub so_far : Begun → Used → Entry
-so_far begun used = record { begun = begun; used = used; train = None; entered = None; mark = None }
-
-abbrev pub looked : Begun → Used → Option Span → Entry
-looked begun used train = record { begun = begun; used = used; train = train; entered = None; mark = None }
-
-abbrev pub turned : Begun → Used → Option Span → Option Mode → Entry
-turned begun used train mode = record { begun = begun; used = used; train = train; entered = mode; mark = None }
-
-abbrev pub marked : Begun → Used → Option Span → Option Mode → ℤ → Entry
-marked begun used train mode mark = record { begun = begun; used = used; train = train; entered = mode; mark = Some mark }
-
 -- ---- what it has brought about
 
 abbrev pub nothing_happened : Happened
@@ -81,3 +68,11 @@ asking_for effect used = record used { happened = asking used.happened effect }
 -- one more group closed
 abbrev pub added : Outcome → Used → Used
 added outcome used = record used { groups = outcome ∷ used.groups }
+
+-- ---- an event of which no column is written yet
+
+abbrev pub nothing : Begun
+nothing = record { clock = None; reading = None; heard = None; missed = [] }
+
+abbrev pub blank : Entry
+blank = record { begun = nothing; used = no_groups; train = None; entered = None; mark = None }

@@ -39,18 +39,15 @@ use Rattle.events.specs.declared.input.Reading.{Reading}
 use Rattle.track_picture.specs.Bytes.{telegram_in}
 use Rattle.track_store.specs.Profiles.{is_known}
 use Rattle.authority.specs.Entries.{accepted as granted}
-use Rattle.track_picture.specs.Entry.{Entry, Begun, Used, Outcome, Fact, so_far, marked, nothing_happened, no_groups, asking_for, added}
+use Rattle.track_picture.specs.Entry.{Entry, Begun, Used, Outcome, Fact, nothing, blank, nothing_happened, no_groups, asking_for, added}
 use Rattle.track_picture.specs.Entry.Outcome.{Broken, Ignored, Rejected, Accepted}
 use Rattle.track_picture.specs.History.{place_of, groups_of, links_of, moment_of, authorities, gradients_of, speeds_of}
 
 -- ---- first what the input itself does: a movement, then the path and the announced groups that the train has passed;
 -- or a telegram; or a moment
 
-abbrev pub nothing : Begun
-nothing = record { clock = None; reading = None; heard = None; missed = [] }
-
 abbrev pub alone : Begun → Entry
-alone begun = so_far begun no_groups
+alone begun = record blank { begun = begun }
 
 abbrev pub with_path : List Entry → Begun → Begun
 with_path entries begun = record begun { heard = Some (Went (place_of (alone begun ∷ entries)).sums.path) }
@@ -193,14 +190,14 @@ outcome mode now message (Reaction a) = Rejected message a
 abbrev pub after_judgement : Mode → List Entry → Begun → Used → Message → Judgement → Used
 after_judgement mode entries begun used message j =
     let asking = asking_for j.effect used in
-    let now = so_far begun (added (outcome_at_first message j.verdict) asking) ∷ entries in
+    let now = record blank { begun = begun; used = added (outcome_at_first message j.verdict) asking } ∷ entries in
     added (outcome mode now message j.verdict) asking
 
 abbrev pub after_group : Mode → List Entry → Begun → Used → Closed → Used
 after_group mode entries begun used (closed.Broken b) =
-    added (Broken b) (asking_for (broken_effect (links_of (so_far begun used ∷ entries)) b.group b.linked) used)
+    added (Broken b) (asking_for (broken_effect (links_of (record blank { begun = begun; used = used } ∷ entries)) b.group b.linked) used)
 after_group mode entries begun used (closed.Whole message) =
-    after_judgement mode entries begun used message (judged (so_far begun used ∷ entries) message)
+    after_judgement mode entries begun used message (judged (record blank { begun = begun; used = used } ∷ entries) message)
 
 abbrev pub with_closed : Mode → List Entry → Begun → Option Closed → Used → Used
 with_closed mode entries begun None used = used
@@ -222,7 +219,7 @@ used_by mode entries input = with_groups mode entries (begun entries input) (hap
 
 -- what an input brings, in a mode
 abbrev pub received : Mode → List Entry → inputs.Input → Entry
-received mode entries input = so_far (begun entries input) (used_by mode entries input)
+received mode entries input = record blank { begun = begun entries input; used = used_by mode entries input }
 
 -- ---- then the timers of the authority see where the train is, and national values and the level that are announced
 -- come into force where the maximum safe front has reached their places
@@ -239,4 +236,4 @@ mark_behind train = train.rear -ℤ pos 100_000
 
 -- a power-up is an exact fix at 0, and the track is forgotten behind the minimum safe rear there too
 abbrev pub powered_up : ℕ → Entry
-powered_up length = marked nothing no_groups None None (mark_behind (standing length []))
+powered_up length = record blank { mark = Some (mark_behind (standing length [])) }

@@ -13,7 +13,7 @@ use Rattle.track_store.specs.Profiles.{Profile}
 use Rattle.track_store.specs.Restrictions as track
 use Rattle.vars.specs.declared.group.GroupIdentity.{GroupIdentity}
 use Rattle.track_picture.specs.declared.happened.Happened.{Happened}
-use Rattle.track_picture.specs.Entry.{Entry, Begun, Used, so_far}
+use Rattle.track_picture.specs.Entry.{Entry, Begun, Used, blank}
 use Rattle.track_picture.specs.History.{place_of, group_of_fix, speed_of, groups_of, links_of, national_entries, restrictions, moment_of, authority_of, areas_of, announced_level, gradients_of, speeds_of, happened_of, is_stopped}
 
 -- the national values that were kept as the life began, and what its events brought, the newest first
@@ -93,4 +93,4 @@ grown life entry = record life { entries = entry ∷ life.entries }
 
 -- .. up to the groups that closed
 abbrev pub grown_so_far : Life → Begun → Used → Life
-grown_so_far life begun used = grown life (so_far begun used)
+grown_so_far life begun used = grown life (record blank { begun = begun; used = used })

@@ -7,7 +7,7 @@ ghost use Rattle.balise_groups.specs.Rooms.{packets_of_closed};
 ghost use Rattle.linking.specs.declared.announcement.Announcement.{Announcement};
 ghost use Rattle.linking.specs.Judging.{broken_effect};
 ghost use Rattle.odometry.specs.declared.fix.Fix.{Fix};
-ghost use Rattle.track_picture.specs.Entry.{Begun, Used, added, asking_for, so_far};
+ghost use Rattle.track_picture.specs.Entry.{Begun, Used, added, asking_for, blank};
 ghost use Rattle.track_picture.specs.Entry.Outcome.{Accepted, Broken as NoMessage};
 ghost use Rattle.track_picture.specs.History.{links_of};
 ghost use Rattle.track_picture.specs.Sentences.{judged, accepted, outcome_at_first, outcome, after_group, with_closed};
@@ -30,9 +30,9 @@ impl Parts {
     // country.
     fn judge(&mut self, message: &Message) -> Verdict
         ensures answer { (life : Life) (begun : Begun) (used : Used) → self.old ≡ parts_of (grown_so_far life begun used)
-            → result ≡ (judged (so_far begun used ∷ life.entries) message.now).verdict }
+            → result ≡ (judged (record blank { begun = begun; used = used } ∷ life.entries) message.now).verdict }
         ensures stands { (life : Life) (begun : Begun) (used : Used) → self.old ≡ parts_of (grown_so_far life begun used)
-            → (let j = judged (so_far begun used ∷ life.entries) message.now in
+            → (let j = judged (record blank { begun = begun; used = used } ∷ life.entries) message.now in
             self.new ≡ parts_of (grown_so_far life begun (added (outcome_at_first message.now j.verdict) (asking_for j.effect used)))) }
     {
         let place = self.place.place_at(&message.sums);
@@ -53,7 +53,7 @@ impl Parts {
     fn give_up(&mut self, group: &Broken)
         ensures { (life : Life) (begun : Begun) (used : Used) → self.old ≡ parts_of (grown_so_far life begun used)
             → self.new ≡ parts_of (grown_so_far life begun (added (NoMessage group.now)
-            (asking_for (broken_effect (links_of (so_far begun used ∷ life.entries)) group.now.group group.now.linked) used))) }
+            (asking_for (broken_effect (links_of (record blank { begun = begun; used = used } ∷ life.entries)) group.now.group group.now.linked) used))) }
     {
         let asked = self.links.broken(group.group, group.linked);
         self.happened = self.happened.asking(asked);
@@ -81,7 +81,7 @@ impl<G: ProfileStore<Permille> + Drop, S: ProfileStore<CategorySpeeds> + Drop> T
     fn accept(&mut self, mode: Mode, message: &Message, announced: &Option<Announcement>)
         requires { length message.now.packets ≤ room_in G.room S.room self.old }
         ensures stands { (life : Life) (begun : Begun) (used : Used)
-            → (let judged_only = so_far begun (added (Accepted message.now announced.now None []) used) in
+            → (let judged_only = record blank { begun = begun; used = added (Accepted message.now announced.now None []) used } in
             StandsForLife G.profile S.profile self.old (grown life judged_only)
             → StandsForLife G.profile S.profile self.new (grown_so_far life begun (added (accepted mode (judged_only ∷ life.entries) message.now announced.now) used))) }
         ensures room { room_in G.room S.room self.old ≤ room_in G.room S.room self.new + length message.now.packets }
@@ -103,7 +103,7 @@ impl<G: ProfileStore<Permille> + Drop, S: ProfileStore<CategorySpeeds> + Drop> T
     fn follow(&mut self, mode: Mode, message: &Message, verdict: Verdict)
         requires { length message.now.packets ≤ room_in G.room S.room self.old }
         ensures stands { (life : Life) (begun : Begun) (used : Used)
-            → (let judged_only = so_far begun (added (outcome_at_first message.now verdict) used) in
+            → (let judged_only = record blank { begun = begun; used = added (outcome_at_first message.now verdict) used } in
             StandsForLife G.profile S.profile self.old (grown life judged_only)
             → StandsForLife G.profile S.profile self.new (grown_so_far life begun (added (outcome mode (judged_only ∷ life.entries) message.now verdict) used))) }
         ensures room { room_in G.room S.room self.old ≤ room_in G.room S.room self.new + length message.now.packets }

@@ -1,6 +1,5 @@
 //! What a mode deletes that is entered.
-ghost use Rattle.std.specs.Prelude.{◌≡◌, ◌≤◌, List, Option, Some};
-ghost use Rattle.units.specs.Stretches.{Span};
+ghost use Rattle.std.specs.Prelude.{◌≡◌, ◌≤◌, List, None, Some};
 ghost use Rattle.areas.specs.Areas.{stored};
 ghost use Rattle.areas.specs.Entries.{Entry as AreaEntry};
 ghost use Rattle.areas.specs.Levels.{Entry as LevelEntry, waiting};
@@ -11,7 +10,7 @@ ghost use Rattle.mode_table.specs.declared.statuses.Item.TheVariants as item;
 ghost use Rattle.mode_table.specs.Statuses.{status_on};
 ghost use Rattle.track_store.specs.Facts.{Told, profile_of};
 ghost use Rattle.track_store.specs.Profiles.{profile_with};
-ghost use Rattle.track_picture.specs.Entry.{Begun, Used, looked, turned};
+ghost use Rattle.track_picture.specs.Entry.{Entry};
 ghost use Rattle.track_picture.specs.History.{is_deleted, after_column, links_deleted, authority_deleted, areas_deleted, level_deleted, none_told};
 ghost use Rattle.track_picture.specs.StandsFor.{Life, StandsForLife, parts_of, grown, size_in};
 
@@ -81,8 +80,8 @@ fn leave_profile<T, P: ProfileStore<T>>(profile: &mut P, mode: Mode)
 impl Parts {
     // A mode is entered.
     fn enter(&mut self, mode: Mode)
-        ensures { (life : Life) (begun : Begun) (used : Used) (train : Option Span) → self.old ≡ parts_of (grown life (looked begun used train))
-            → self.new ≡ parts_of (grown life (turned begun used train (Some mode))) }
+        ensures { (life : Life) (event : Entry) → self.old ≡ parts_of (grown life (record event { entered = None }))
+            → self.new ≡ parts_of (grown life (record event { entered = Some mode })) }
     {
         leave_links(&mut self.links, mode);
         leave_authority(&mut self.authority, mode);
@@ -94,8 +93,8 @@ impl Parts {
 impl<G: ProfileStore<Permille> + Drop, S: ProfileStore<CategorySpeeds> + Drop> TracksideOver<G, S> {
     /// Another mode is entered: what the table of statuses deletes there is deleted.
     pub fn enter(&mut self, mode: Mode)
-        ensures stands { (life : Life) (begun : Begun) (used : Used) (train : Option Span) → StandsForLife G.profile S.profile self.old (grown life (looked begun used train))
-            → StandsForLife G.profile S.profile self.new (grown life (turned begun used train (Some mode))) }
+        ensures stands { (life : Life) (event : Entry) → StandsForLife G.profile S.profile self.old (grown life (record event { entered = None }))
+            → StandsForLife G.profile S.profile self.new (grown life (record event { entered = Some mode })) }
         ensures size { size_in G.size S.size self.new ≤ size_in G.size S.size self.old }
     {
         self.parts.enter(mode);

@@ -1,6 +1,6 @@
 //! The fix of a group that was accepted.
 ghost use Rattle.std.specs.Prelude.{◌≡◌, not, ◌&&◌, ◌∷◌, [], None};
-ghost use Rattle.track_picture.specs.Entry.{Begun, Used, added, so_far};
+ghost use Rattle.track_picture.specs.Entry.{Begun, Used, added, blank};
 ghost use Rattle.track_picture.specs.Entry.Outcome.{Accepted};
 ghost use Rattle.track_picture.specs.History.{place_of};
 ghost use Rattle.track_picture.specs.Sentences.{own_place, place_by, is_free, fix_of};
@@ -34,10 +34,10 @@ impl Parts {
         free: bool,
     ) -> GroupPlace
         ensures answer { (life : Life) (begun : Begun) (used : Used) → self.old ≡ parts_of (grown_so_far life begun (added (Accepted message.now announced.now None []) used))
-            → (let here = place_of (so_far begun (added (Accepted message.now announced.now None []) used) ∷ life.entries) in
+            → (let here = place_of (record blank { begun = begun; used = added (Accepted message.now announced.now None []) used } ∷ life.entries) in
             result ≡ place_by (own_place here message.now) (fix_of here free message.now announced.now)) }
         ensures stands { (life : Life) (begun : Begun) (used : Used) → self.old ≡ parts_of (grown_so_far life begun (added (Accepted message.now announced.now None []) used))
-            → (let here = place_of (so_far begun (added (Accepted message.now announced.now None []) used) ∷ life.entries) in
+            → (let here = place_of (record blank { begun = begun; used = added (Accepted message.now announced.now None []) used } ∷ life.entries) in
             self.new ≡ parts_of (grown_so_far life begun (added (Accepted message.now announced.now (fix_of here free message.now announced.now) []) used))) }
     {
         let own = self.place.place_at(&message.sums).estimate;

@@ -3,9 +3,9 @@ ghost use Rattle.std.specs.Prelude.{◌≡◌, ◌≤◌, ◌+◌, ℕ, length, 
 ghost use Rattle.events.specs.declared.input.Reading.{Reading as Told};
 ghost use Rattle.balise_groups.specs.Rooms.{packets_in, packets_of_closed};
 ghost use Rattle.track_picture.specs.Bytes.{telegram_in};
-ghost use Rattle.track_picture.specs.Entry.{nothing_happened, no_groups};
+ghost use Rattle.track_picture.specs.Entry.{nothing_happened, no_groups, nothing};
 ghost use Rattle.track_picture.specs.History.{groups_of};
-ghost use Rattle.track_picture.specs.Sentences.{nothing, moved, happened_by, heard, begun, closed_by, with_groups, used_by, received};
+ghost use Rattle.track_picture.specs.Sentences.{moved, happened_by, heard, begun, closed_by, with_groups, used_by, received};
 ghost use Rattle.track_picture.specs.StandsFor.{Life, StandsForLife, SameTrack, parts_of, grown, grown_so_far, room_in, size_in};
 ghost use Rattle.events.specs.declared.input.Input.TheVariants as inputs;
 ghost use Rattle.track_picture.specs.Steps.{left_by, after_moving, still_reading, packets_by, HasRoomFor};

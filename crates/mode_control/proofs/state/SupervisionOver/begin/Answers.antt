@@ -1,7 +1,6 @@
 use Rattle.std.proofs.Common.{Option, ap, subst, ◌∙◌}
 use Rattle.mode_table.specs.declared.mode.Mode.{Mode}
-use Rattle.track_picture.specs.Entry.{so_far}
-use Rattle.track_picture.specs.Sentences.{begun as told_by, used_by}
+use Rattle.track_picture.specs.Sentences.{received}
 use Rattle.mode_control.specs.declared.deed.Deed.{Deed}
 use Rattle.mode_control.specs.Entry.{begun}
 use Rattle.mode_control.specs.History.{tracks}
@@ -16,12 +15,11 @@ returns-clause-stands g c life s =
     let mode = c.mode-mode.ensures ∙ ap (λ (k : Known). k.mode) s.parts_are in
     let deed = c.deed-deed.ensures life s in
     let input = c.args.input.now in
-    let tells = told_by (tracks life.entries) input in
     subst (λ (x : Mode × Option Deed). StandsForLife g.G.ProfileStore.profile g.S.ProfileStore.profile
     (record { parts = c.note.new.self; track = c.receive.new.self })
-    (grown life (begun (so_far tells (used_by x.0 (tracks life.entries) input)) x.1)))
+    (grown life (begun (received x.0 (tracks life.entries) input) x.1)))
     (λ i. (mode i, deed i))
     (record {
-      parts_are = c.note.ensures life tells (used_by c.mode-mode.result (tracks life.entries) input) before.parts_are;
+      parts_are = c.note.ensures life (received c.mode-mode.result (tracks life.entries) input) before.parts_are;
       track_is = c.in_ok-receive.ensures.stands (track_of life) before.track_is;
     })

@@ -1,7 +1,5 @@
 use Rattle.std.proofs.Common.{ℕ, ◌∷◌, Some, ap, subst, ◌∙◌}
-use Rattle.track_picture.specs.Entry.{Entry as TrackEntry, turned, marked}
 use Rattle.track_picture.specs.Sentences.{standing, mark_behind}
-use Rattle.mode_control.specs.Entry.{answered}
 use Rattle.mode_control.specs.History.{tracks}
 use Rattle.mode_control.specs.Life.{track_of, length_by, grown}
 use Rattle.mode_control.specs.StandsFor.{Known, Knowledge, StandsForLife}
@@ -9,16 +7,15 @@ use Rattle.mode_control.proofs.Standing.{seen}
 use Rattle.mode_control.proofs.state.SupervisionOver.forget.Goals as goal
 
 pub returns-clause-stands : goal.returns-clause-stands
-returns-clause-stands g c life tells used train mode deed level calls left s =
+returns-clause-stands g c life event s =
     let before = seen c.self.view_is s in
     let length = c.length.ensures ∙ ap (λ (k : Known). length_by k.driver.train_data) before.parts_are in
-    let entry : TrackEntry = turned tells used (Some train) mode in
-    let all = entry ∷ tracks life.entries in
+    let all = event.track ∷ tracks life.entries in
     let known : Knowledge g.row.G.Denot g.row.S.Denot = record { parts = c.self.inside.parts; track = c.forget.new.self } in
     subst (λ (n : ℕ). StandsForLife g.G.ProfileStore.profile g.S.ProfileStore.profile known
-    (grown life (answered (marked tells used (Some train) mode (mark_behind (standing n all))) deed level calls left)))
+    (grown life (record event { track = record event.track { mark = Some (mark_behind (standing n all)) } })))
     length
     (record {
       parts_are = before.parts_are;
-      track_is = c.forget.ensures.stands (track_of life) tells used (Some train) mode before.track_is;
+      track_is = c.forget.ensures.stands (track_of life) event.track before.track_is;
     })

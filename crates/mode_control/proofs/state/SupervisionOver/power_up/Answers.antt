@@ -1,6 +1,6 @@
 use Rattle.std.proofs.Common.{ℕ, None, [], ap, subst, ◌∙◌}
-use Rattle.track_picture.specs.Entry.{turned, no_groups}
-use Rattle.track_picture.specs.Sentences.{nothing, powered_up}
+use Rattle.track_picture.specs.Entry.{blank}
+use Rattle.track_picture.specs.Sentences.{powered_up}
 use Rattle.track_picture.specs.StandsFor.{Life as TrackLife, StandsForLife as StandsForTrack, grown as track_grown}
 use Rattle.mode_control.specs.Entry.{begun}
 use Rattle.mode_control.specs.Life.{Life, length_by, grown}
@@ -14,9 +14,9 @@ returns-clause-stands g c =
     let empty : Life = record { kept = kept; cold = c.args.cold; entries = [] } in
     let track : TrackLife = record { kept = kept.national; entries = [] } in
     let length = c.length.ensures ∙ ap (λ (k : Known). length_by k.driver.train_data) c.new-parts.ensures in
-    let bare : StandsForTrack g.G.ProfileStore.profile g.S.ProfileStore.profile c.new-track.result (track_grown track (turned nothing no_groups None None)) =
+    let bare : StandsForTrack g.G.ProfileStore.profile g.S.ProfileStore.profile c.new-track.result (track_grown track blank) =
     record { parts_are = s.parts_are; restrictions_are = s.restrictions_are; gradients_are = s.gradients_are; speeds_are = s.speeds_are } in
     let known : Knowledge g.row.G.Denot g.row.S.Denot = record { parts = c.new-parts.result; track = c.forget.new.self } in
     subst (λ (n : ℕ). StandsForLife g.G.ProfileStore.profile g.S.ProfileStore.profile known (grown empty (begun (powered_up n) None)))
     length
-    (record { parts_are = c.new-parts.ensures; track_is = c.forget.ensures.stands track nothing no_groups None None bare })
+    (record { parts_are = c.new-parts.ensures; track_is = c.forget.ensures.stands track blank bare })

@@ -1,10 +1,10 @@
-use Rattle.std.proofs.Common.{ℕ, ◌∷◌, Option, Some, ap, subst, ◌∙◌}
+use Rattle.std.proofs.Common.{ℕ, ◌∷◌, List, Option, None, Some, ap, subst, ◌∙◌}
 use Rattle.mode_table.specs.declared.level.TrainLevel.{TrainLevel}
 use Rattle.areas.specs.Levels.{coming}
-use Rattle.track_picture.specs.Entry.{Entry as TrackEntry, so_far, looked}
+use Rattle.track_picture.specs.Entry.{Entry as TrackEntry}
 use Rattle.track_picture.specs.History.{announced_level}
 use Rattle.track_picture.specs.Sentences.{standing}
-use Rattle.mode_control.specs.Entry.{seen as seen_as}
+use Rattle.mode_control.specs.Entry.{begun}
 use Rattle.mode_control.specs.History.{tracks}
 use Rattle.mode_control.specs.Life.{track_of, length_by, grown}
 use Rattle.mode_control.specs.StandsFor.{Known, StandsForLife}
@@ -12,27 +12,25 @@ use Rattle.mode_control.proofs.Standing.{seen}
 use Rattle.mode_control.proofs.state.SupervisionOver.see.Goals as goal
 
 pub returns-clause-level : goal.returns-clause-level
-returns-clause-level g c life tells used deed s =
+returns-clause-level g c life told deed s =
     let before = seen c.self.view_is s in
     let length = c.length-length.ensures ∙ ap (λ (k : Known). length_by k.driver.train_data) before.parts_are in
-    let entry : TrackEntry = so_far tells used in
-    let all = entry ∷ tracks life.entries in
-    c.look-level.ensures.level (track_of life) tells used before.track_is
+    let all : List TrackEntry = record told { train = None; entered = None } ∷ tracks life.entries in
+    c.look-level.ensures.level (track_of life) told before.track_is
     ∙ ap (λ (n : ℕ). coming (standing n all).max_front (announced_level all)) length
 
 pub returns-clause-stands : goal.returns-clause-stands
-returns-clause-stands g c life tells used deed s =
+returns-clause-stands g c life told deed s =
     let before = seen c.self.view_is s in
     let length = c.length-length.ensures ∙ ap (λ (k : Known). length_by k.driver.train_data) before.parts_are in
-    let entry : TrackEntry = so_far tells used in
-    let all = entry ∷ tracks life.entries in
-    let level = c.look-level.ensures.level (track_of life) tells used before.track_is
+    let all : List TrackEntry = record told { train = None; entered = None } ∷ tracks life.entries in
+    let level = c.look-level.ensures.level (track_of life) told before.track_is
     ∙ ap (λ (n : ℕ). coming (standing n all).max_front (announced_level all)) length in
     subst (λ (x : ℕ × Option TrainLevel). StandsForLife g.G.ProfileStore.profile g.S.ProfileStore.profile
     (record { parts = c.come_in.new.self; track = c.look-level.new.self })
-    (grown life (seen_as (looked tells used (Some (standing x.0 all))) deed x.1)))
+    (grown life (record (begun (record told { train = Some (standing x.0 all); entered = None }) deed) { level = x.1 })))
     (λ i. (length i, level i))
     (record {
-      parts_are = c.come_in.ensures life tells used (standing c.length-length.result all) deed before.parts_are;
-      track_is = c.look-level.ensures.stands (track_of life) tells used before.track_is;
+      parts_are = c.come_in.ensures life told (Some (standing c.length-length.result all)) deed before.parts_are;
+      track_is = c.look-level.ensures.stands (track_of life) told before.track_is;
     })

@@ -1,10 +1,10 @@
-use Rattle.std.proofs.Common.{◌∷◌, Option, Some, ap, subst, ◌∙◌}
+use Rattle.std.proofs.Common.{◌∷◌, Option, None, Some, ap, subst, ◌∙◌}
 use Rattle.mode_table.specs.declared.mode.Mode.{Mode}
-use Rattle.track_picture.specs.Entry.{Entry as TrackEntry, looked, turned}
+use Rattle.track_picture.specs.Entry.{Entry as TrackEntry}
 use Rattle.track_picture.specs.StandsFor.{Known as TrackKnown, grown as track_grown}
 use Rattle.mode_control.specs.declared.calls.Calls.{Calls}
 use Rattle.mode_control.specs.declared.calls.Left.{Left}
-use Rattle.mode_control.specs.Entry.{seen as seen_as, answered}
+use Rattle.mode_control.specs.Entry.{Entry, begun}
 use Rattle.mode_control.specs.History.{tracks}
 use Rattle.mode_control.specs.Life.{Life, track_of, grown}
 use Rattle.mode_control.specs.Sentences.{calls_in, left_in}
@@ -13,26 +13,29 @@ use Rattle.mode_control.proofs.Standing.{seen}
 use Rattle.mode_control.proofs.state.SupervisionOver.turn.Goals as goal
 
 pub returns-clause-stands : goal.returns-clause-stands
-returns-clause-stands g c life tells used deed s =
+returns-clause-stands g c life told deed s =
     let before = seen c.self.view_is s in
     let train = c.args.seen.now.train in
     let level = c.args.seen.now.level in
-    let here : Life = grown life (seen_as (looked tells used (Some train)) deed level) in
+    let looked : TrackEntry = record told { train = Some train } in
+    let event : Entry = record (begun (record looked { entered = None }) deed) { level = level } in
+    let here : Life = grown life event in
     let mode = c.entered-entered.result in
-    let after : TrackEntry = turned tells used (Some train) mode in
+    let after : TrackEntry = record looked { entered = mode } in
     let entered = c.entered-entered.ensures here s in
     let calls = c.calls-calls.ensures here s in
-    let track = c.enter.ensures.stands (track_of life) tells used (Some train) before.track_is in
+    let track = c.enter.ensures.stands (track_of life) looked before.track_is in
     let left = c.left_by-left.ensures (track_grown (track_of life) after) track.parts_are in
     let path = c.path-path.ensures ∙ ap (λ x. x.path) (c.sums.ensures ∙ ap (λ p. p.sums) (c.place.ensures ∙ ap (λ (k : TrackKnown). k.place) track.parts_are)) in
     let known : Knowledge g.row.G.Denot g.row.S.Denot = record { parts = c.turn.new.self; track = c.enter.new.track } in
-    let given = subst (λ (x : Calls × Left). StandsForLife g.G.ProfileStore.profile g.S.ProfileStore.profile known (grown life (answered after deed level x.0 x.1)))
+    let given = subst (λ (x : Calls × Left). StandsForLife g.G.ProfileStore.profile g.S.ProfileStore.profile known
+    (grown life (record event { track = after; calls = x.0; left = x.1 })))
     (λ i. (calls i, left i))
-    (record {
-      parts_are = c.turn.ensures life tells used (Some train) deed level before.parts_are path;
-      track_is = track;
-    }) in
+    (record { parts_are = c.turn.ensures life looked deed level before.parts_are path; track_is = track }) in
     subst (λ (m : Option Mode). StandsForLife g.G.ProfileStore.profile g.S.ProfileStore.profile known
-    (grown life (answered (turned tells used (Some train) m) deed level (calls_in here train level m)
-    (left_in (turned tells used (Some train) m ∷ tracks life.entries) train))))
+    (grown life (record event {
+      track = record looked { entered = m };
+      calls = calls_in here train level m;
+      left = left_in (record looked { entered = m } ∷ tracks life.entries) train;
+    })))
     entered given

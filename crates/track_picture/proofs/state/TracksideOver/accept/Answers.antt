@@ -1,6 +1,6 @@
 use Rattle.std.proofs.Common.{List, [], ◌∷◌, Option, None, subst, ap, ◌∙◌}
 use Rattle.odometry.specs.declared.fix.Fix.{Fix}
-use Rattle.track_picture.specs.Entry.{Entry, Fact, so_far, added}
+use Rattle.track_picture.specs.Entry.{Entry, Fact, blank, added}
 use Rattle.track_picture.specs.Entry.Outcome.{Accepted}
 use Rattle.track_picture.specs.History.{place_of}
 use Rattle.track_picture.specs.Sentences.{own_place, fix_of, place_by}
@@ -19,7 +19,7 @@ pub returns-clause-stands : goal.returns-clause-stands
 returns-clause-stands g c life begun used s =
     let m = c.args.message.now in
     let a = c.args.announced.now in
-    let entry : Entry = so_far begun (added (Accepted m a None []) used) in
+    let entry : Entry = record blank { begun = begun; used = added (Accepted m a None []) used } in
     let here = place_of (entry ∷ life.entries) in
     let inside = seen c.self.view_is s in
     let free = c.is_free-free.ensures (grown life entry) s in

@@ -1,6 +1,6 @@
 use Rattle.std.proofs.Common.{◌∷◌, subst}
 use Rattle.linking.specs.declared.judgement.Verdict.{Verdict}
-use Rattle.track_picture.specs.Entry.{so_far, added, asking_for}
+use Rattle.track_picture.specs.Entry.{blank, added, asking_for}
 use Rattle.track_picture.specs.Sentences.{judged, outcome_at_first, outcome}
 use Rattle.track_picture.specs.StandsFor.{StandsForLife, grown, grown_so_far}
 use Rattle.track_picture.proofs.Judging.{judged_only}
@@ -11,10 +11,10 @@ pub returns-clause-stands : goal.returns-clause-stands
 returns-clause-stands g c life begun used s =
     let m = c.args.message.now in
     let inside = seen c.self.view_is s in
-    let j = judged (so_far begun used ∷ life.entries) m in
+    let j = judged (record blank { begun = begun; used = used } ∷ life.entries) m in
     let asking = asking_for j.effect used in
     let verdict = c.judge-verdict.ensures.answer life begun used inside.parts_are in
     let parts = c.judge-verdict.ensures.stands life begun used inside.parts_are in
-    subst (λ (v : Verdict). StandsForLife g.G.ProfileStore.profile g.S.ProfileStore.profile (record { parts = c.judge-verdict.new.self; restrictions = c.self.inside.restrictions; gradients = c.self.inside.gradients; speeds = c.self.inside.speeds }) (grown life (so_far begun (added (outcome_at_first m v) asking)))
-    → StandsForLife g.G.ProfileStore.profile g.S.ProfileStore.profile c.follow.new.self (grown_so_far life begun (added (outcome c.args.mode (so_far begun (added (outcome_at_first m v) asking) ∷ life.entries) m v) asking)))
+    subst (λ (v : Verdict). StandsForLife g.G.ProfileStore.profile g.S.ProfileStore.profile (record { parts = c.judge-verdict.new.self; restrictions = c.self.inside.restrictions; gradients = c.self.inside.gradients; speeds = c.self.inside.speeds }) (grown life (record blank { begun = begun; used = added (outcome_at_first m v) asking }))
+    → StandsForLife g.G.ProfileStore.profile g.S.ProfileStore.profile c.follow.new.self (grown_so_far life begun (added (outcome c.args.mode (record blank { begun = begun; used = added (outcome_at_first m v) asking } ∷ life.entries) m v) asking)))
     verdict (c.follow.ensures.stands life begun asking) (judged_only life begun used j.effect m j.verdict parts inside)

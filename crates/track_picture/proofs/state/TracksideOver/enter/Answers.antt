@@ -1,16 +1,16 @@
-use Rattle.std.proofs.Common.{◌∷◌}
-use Rattle.track_picture.specs.Entry.{Entry, looked}
+use Rattle.std.proofs.Common.{◌∷◌, None}
+use Rattle.track_picture.specs.Entry.{Entry}
 use Rattle.track_picture.specs.History.{mark_of, gradients, speeds}
 use Rattle.track_picture.proofs.Standing.{seen}
 use Rattle.track_picture.proofs.state.TracksideOver.enter.Goals as goal
 
 pub returns-clause-stands : goal.returns-clause-stands
-returns-clause-stands g c life begun used train s =
-    let entry : Entry = looked begun used train in
+returns-clause-stands g c life event s =
+    let entry : Entry = record event { entered = None } in
     let all = entry ∷ life.entries in
     let before = seen c.self.view_is s in
     record {
-      parts_are = c.enter.ensures life begun used train before.parts_are;
+      parts_are = c.enter.ensures life event before.parts_are;
       restrictions_are = before.restrictions_are;
       gradients_are = c.leave_profile.ensures.profile (record { mark = mark_of all; facts = gradients all }) before.gradients_are;
       speeds_are = c.leave_profile-2.ensures.profile (record { mark = mark_of all; facts = speeds all }) before.speeds_are;

@@ -4,9 +4,9 @@ use Rattle.std.proofs.lemmas.Result.{on_ok_weaker}
 use Rattle.telegram.specs.declared.message.Telegram.{Telegram}
 use Rattle.balise_groups.specs.Groups.Entry.{Read}
 use Rattle.balise_groups.specs.Rooms.{packets_in}
-use Rattle.track_picture.specs.Entry.{Begun, nothing_happened}
+use Rattle.track_picture.specs.Entry.{Begun, nothing_happened, nothing}
 use Rattle.track_picture.specs.History.{place_of}
-use Rattle.track_picture.specs.Sentences.{nothing, with_groups}
+use Rattle.track_picture.specs.Sentences.{with_groups}
 use Rattle.track_picture.specs.StandsFor.{Life, StandsForLife, grown_so_far, room_in}
 use Rattle.track_picture.proofs.Carrying.{carried_in, refused_none}
 use Rattle.track_picture.proofs.Standing.{seen}

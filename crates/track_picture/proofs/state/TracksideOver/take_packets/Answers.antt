@@ -5,7 +5,7 @@ use Rattle.balise_groups.specs.declared.message.Message.{Message}
 use Rattle.odometry.specs.declared.fix.Fix.{Fix}
 use Rattle.speed_profile.specs.declared.told.CategorySpeeds.{CategorySpeeds}
 use Rattle.track_store.specs.Profiles.{Profile}
-use Rattle.track_picture.specs.Entry.{Entry, Begun, Used, Fact, so_far, added}
+use Rattle.track_picture.specs.Entry.{Entry, Begun, Used, Fact, blank, added}
 use Rattle.track_picture.specs.Entry.Outcome.{Accepted}
 use Rattle.track_picture.specs.History.{after_facts, links, national_entries, authorities, is_stopped, all_areas, announced_levels, restrictions, mark_of, gradients, speeds}
 use Rattle.track_picture.specs.Steps.{facts}
@@ -47,10 +47,10 @@ module _ {G S : Type 0} (gradients_in : G → Profile ℤ) (speeds_in : S → Pr
 
   -- behind both walks
   stands : (told : List Fact) (begun : Begun) (groups : Used) (message : Message) (announced : Option Announcement) (fix : Option Fix) →
-      IsTold gradients_in speeds_in known (after_facts after_later told (after_facts after_earlier told (before life (so_far begun (added (Accepted message announced fix []) groups))))) →
+      IsTold gradients_in speeds_in known (after_facts after_later told (after_facts after_earlier told (before life (record blank { begun = begun; used = added (Accepted message announced fix []) groups })))) →
       StandsForLife gradients_in speeds_in known (grown_so_far life begun (added (Accepted message announced fix told) groups))
   stands told begun groups message announced fix t =
-      let was = before life (so_far begun (added (Accepted message announced fix []) groups)) in
+      let was = before life (record blank { begun = begun; used = added (Accepted message announced fix []) groups }) in
       let is = all_later told _ ∙ ap (each_later told) (all_earlier told was) in
       let after = subst (IsTold gradients_in speeds_in known) is t in
       record { parts_are = after.parts_are; restrictions_are = after.restrictions_are; gradients_are = after.gradients_are; speeds_are = after.speeds_are }
@@ -58,7 +58,7 @@ module _ {G S : Type 0} (gradients_in : G → Profile ℤ) (speeds_in : S → Pr
 pub returns-then-take_all-clause-stands : goal.returns-then-take_all-clause-stands
 returns-then-take_all-clause-stands g c life begun groups message announced fix s =
     let told = facts c.args.used.now c.args.packets.now in
-    let entry : Entry = so_far begun (added (Accepted message announced fix []) groups) in
+    let entry : Entry = record blank { begun = begun; used = added (Accepted message announced fix []) groups } in
     let first = c.take_all.ensures.told (before life entry) (stood _ _ _ life entry s) in
     stands _ _ _ life told begun groups message announced fix (c.take_all-then-take_all.ensures.told _ first)
 
@@ -66,7 +66,7 @@ returns-then-take_all-clause-stands g c life begun groups message announced fix 
 pub returns-else-take_all-clause-stands : goal.returns-else-take_all-clause-stands
 returns-else-take_all-clause-stands g c life begun groups message announced fix s =
     let told = facts c.args.used.now c.args.packets.now in
-    let entry : Entry = so_far begun (added (Accepted message announced fix []) groups) in
+    let entry : Entry = record blank { begun = begun; used = added (Accepted message announced fix []) groups } in
     let first = c.take_all.ensures.told (before life entry) (stood _ _ _ life entry s) in
     let none : list_any comes_later c.args.packets.now ≡ false = sym c.take_all.ensures.later ∙ c.if-take_all.false in
     stands _ _ _ life told begun groups message announced fix

@@ -51,12 +51,12 @@ pub fn live_into<D: Disk, S: ReleaseSink>(
     ensures stopped { LifeEnds (D.state disk) steps.now result.1 }
 
     // Where power is lost and what is released, for every list of events that the disk represents.
-    ensures life { (d a : List Event) → IsTrue (D.state disk).honest → IsReady d a (D.state disk) →
-        (p : List Event) × (word : Cold) × (given : List Released) × S.Gave sink.old given sink.new
-        × (it : Lives d a p cold word steps.now (D.state disk) (D.state result.0) [] given)
-        × IsDone (PowerUp word ∷ p) steps.now (OnlyOpens d a p word (D.state disk) (D.state result.0)) result.1 it.taken it.before it.after it.given
-        × IsUnflushed (IsOfLife (D.state disk).sectors d a p word) steps.now result.1 it.before (D.state disk) (D.state result.0)
-        × LeavesLast p word steps.now result.1 (D.state result.0) }
+    ensures life { (durable accepted : List Event) → IsTrue (D.state disk).honest → IsReady durable accepted (D.state disk) →
+        (found : List Event) × (power_up_word : Cold) × (released : List Released) × S.Gave sink.old released sink.new
+        × (it : Lives durable accepted found cold power_up_word steps.now (D.state disk) (D.state result.0) [] released)
+        × IsDone (PowerUp power_up_word ∷ found) steps.now (OnlyOpens durable accepted found power_up_word (D.state disk) (D.state result.0)) result.1 it.steps_taken it.durable_at_end it.accepted_at_end it.released
+        × IsUnflushed (IsOfLife (D.state disk).sectors durable accepted found power_up_word) steps.now result.1 it.durable_at_end (D.state disk) (D.state result.0)
+        × LeavesLast found power_up_word steps.now result.1 (D.state result.0) }
 {
     match Onboard::open(alloc, disk, cold) {
         Ok(unit) => {
@@ -96,11 +96,11 @@ pub fn live<D: Disk>(
     ensures stopped { LifeEnds (D.state disk) steps.now result.1 }
 
     // Where power is lost and what is released, for every list of events that the disk represents.
-    ensures life { (d a : List Event) → IsTrue (D.state disk).honest → IsReady d a (D.state disk) →
-        (p : List Event) × (word : Cold) × (it : Lives d a p cold word steps.now (D.state disk) (D.state result.0) out.old.items out.new.items)
-        × IsDone (PowerUp word ∷ p) steps.now (OnlyOpens d a p word (D.state disk) (D.state result.0)) result.1 it.taken it.before it.after it.given
-        × IsUnflushed (IsOfLife (D.state disk).sectors d a p word) steps.now result.1 it.before (D.state disk) (D.state result.0)
-        × LeavesLast p word steps.now result.1 (D.state result.0) }
+    ensures life { (durable accepted : List Event) → IsTrue (D.state disk).honest → IsReady durable accepted (D.state disk) →
+        (found : List Event) × (power_up_word : Cold) × (it : Lives durable accepted found cold power_up_word steps.now (D.state disk) (D.state result.0) out.old.items out.new.items)
+        × IsDone (PowerUp power_up_word ∷ found) steps.now (OnlyOpens durable accepted found power_up_word (D.state disk) (D.state result.0)) result.1 it.steps_taken it.durable_at_end it.accepted_at_end it.released
+        × IsUnflushed (IsOfLife (D.state disk).sectors durable accepted found power_up_word) steps.now result.1 it.durable_at_end (D.state disk) (D.state result.0)
+        × LeavesLast found power_up_word steps.now result.1 (D.state result.0) }
 {
     live_into(alloc, disk, cold, steps, out)
 }

@@ -24,9 +24,9 @@ pub trait ReleaseSink {
         requires room { length pairs.now ≤ room self.old }
         ensures given { Gave self.old pairs.now self.new };
 
-    ghost none: { (s : Self) → Gave s [] s };
+    ghost none: { (sink : Self) → Gave sink [] sink };
 
-    ghost more: { (s t u : Self) (first rest : List Released) → Gave s first t → Gave t rest u → Gave s (first ++ rest) u };
+    ghost more: { (before between after : Self) (first rest : List Released) → Gave before first between → Gave between rest after → Gave before (first ++ rest) after };
 }
 
 /// A list takes them at its end.
@@ -38,9 +38,9 @@ impl ReleaseSink for Vec<Released> {
 
     ghost room = { λ list. vec_capacity list - vec_len list };
 
-    ghost none = { λ s. sym (append-nil s.items) };
+    ghost none = { λ sink. sym (append-nil sink.items) };
 
-    ghost more = { λ s t u first rest one two. two ∙ ap (λ l. l ++ rest) one ∙ append_assoc s.items first rest };
+    ghost more = { λ before between after first rest one two. two ∙ ap (λ l. l ++ rest) one ∙ append_assoc before.items first rest };
 
     fn make_room(&mut self) -> Result<(), NoMemory> {
         if self.reserve(8).is_err() {

@@ -96,7 +96,7 @@ fn take<D: Disk, S: ReleaseSink>(
     ensures stepped { (durable accepted : List Event) → IsTrue (D.state unit.old.disk).honest →
         IsOpen unit.old.journal (account_of durable) (D.state unit.old.disk) → IsAhead durable accepted unit.old.life →
         IsStepped step.now durable accepted (D.state unit.old.disk) (D.state unit.new.disk)
-        × OnOk result ((its : List Released) × S.Gave sink.old its sink.new × Took durable accepted step.now unit.new.journal unit.new.life (D.state unit.new.disk) its) }
+        × OnOk result ((released : List Released) × S.Gave sink.old released sink.new × Took durable accepted step.now unit.new.journal unit.new.life (D.state unit.new.disk) released) }
     ensures last { (earlier durable accepted : List Event) → IsTrue (D.state unit.old.disk).honest →
         IsOpen unit.old.journal (account_of durable) (D.state unit.old.disk) → IsAhead durable accepted unit.old.life →
         IsLastWritten (D.state unit.old.disk).sectors earlier durable (contents_of (D.state unit.old.disk)) →
@@ -132,16 +132,16 @@ pub fn run_into<D: Disk, S: ReleaseSink>(
     ensures full { IfErr result (λ e. IsTrue (is_full e) → S.room sink.new < 8) }
     ensures stopped { StepsEnd (progress_of unit.old.journal unit.old.life) steps.now result }
     ensures named { IfErr result (λ e. step_of e ≢ None) }
-    ensures ran { (s : List Event) → IsTrue (D.state unit.old.disk).honest →
-        IsOpen unit.old.journal (account_of s) (D.state unit.old.disk) → IsAhead s s unit.old.life →
-        (given : List Released) × S.Gave sink.old given sink.new
-        × (it : Ran s steps.now (D.state unit.old.disk) (D.state unit.new.disk) [] given)
-        × IsDone s steps.now ⊥ result it.taken it.before it.after it.given
-        × IsUnflushed (IsOfRun (D.state unit.old.disk).sectors s) steps.now result it.before (D.state unit.old.disk) (D.state unit.new.disk) }
-    ensures last { (earlier s : List Event) → IsTrue (D.state unit.old.disk).honest →
-        IsOpen unit.old.journal (account_of s) (D.state unit.old.disk) → IsAhead s s unit.old.life →
-        IsLastWritten (D.state unit.old.disk).sectors earlier s (contents_of (D.state unit.old.disk)) →
-        OnOk result (IsLastWritten (D.state unit.new.disk).sectors (earlier_by earlier s s steps.now) (durable_by s steps.now) (contents_of (D.state unit.new.disk))) }
+    ensures ran { (initial : List Event) → IsTrue (D.state unit.old.disk).honest →
+        IsOpen unit.old.journal (account_of initial) (D.state unit.old.disk) → IsAhead initial initial unit.old.life →
+        (released : List Released) × S.Gave sink.old released sink.new
+        × (it : Ran initial steps.now (D.state unit.old.disk) (D.state unit.new.disk) [] released)
+        × IsDone initial steps.now ⊥ result it.steps_taken it.durable_at_end it.accepted_at_end it.released
+        × IsUnflushed (IsOfRun (D.state unit.old.disk).sectors initial) steps.now result it.durable_at_end (D.state unit.old.disk) (D.state unit.new.disk) }
+    ensures last { (earlier initial : List Event) → IsTrue (D.state unit.old.disk).honest →
+        IsOpen unit.old.journal (account_of initial) (D.state unit.old.disk) → IsAhead initial initial unit.old.life →
+        IsLastWritten (D.state unit.old.disk).sectors earlier initial (contents_of (D.state unit.old.disk)) →
+        OnOk result (IsLastWritten (D.state unit.new.disk).sectors (earlier_by earlier initial initial steps.now) (durable_by initial steps.now) (contents_of (D.state unit.new.disk))) }
 {
     for k in 0..steps.len() {
         match take(alloc, unit, k, &steps[k], sink) {
@@ -162,15 +162,15 @@ pub fn run<D: Disk>(
     ensures counted { Counted (live_failed result) (D.state unit.old.disk) (D.state unit.new.disk) }
     ensures full { IfErr result (λ e. IsTrue (is_full e) → vec_capacity out.new - vec_len out.new < 8) }
     ensures stopped { StepsEnd (progress_of unit.old.journal unit.old.life) steps.now result }
-    ensures ran { (s : List Event) → IsTrue (D.state unit.old.disk).honest →
-        IsOpen unit.old.journal (account_of s) (D.state unit.old.disk) → IsAhead s s unit.old.life →
-        (it : Ran s steps.now (D.state unit.old.disk) (D.state unit.new.disk) out.old.items out.new.items)
-        × IsDone s steps.now ⊥ result it.taken it.before it.after it.given
-        × IsUnflushed (IsOfRun (D.state unit.old.disk).sectors s) steps.now result it.before (D.state unit.old.disk) (D.state unit.new.disk) }
-    ensures last { (earlier s : List Event) → IsTrue (D.state unit.old.disk).honest →
-        IsOpen unit.old.journal (account_of s) (D.state unit.old.disk) → IsAhead s s unit.old.life →
-        IsLastWritten (D.state unit.old.disk).sectors earlier s (contents_of (D.state unit.old.disk)) →
-        OnOk result (IsLastWritten (D.state unit.new.disk).sectors (earlier_by earlier s s steps.now) (durable_by s steps.now) (contents_of (D.state unit.new.disk))) }
+    ensures ran { (initial : List Event) → IsTrue (D.state unit.old.disk).honest →
+        IsOpen unit.old.journal (account_of initial) (D.state unit.old.disk) → IsAhead initial initial unit.old.life →
+        (it : Ran initial steps.now (D.state unit.old.disk) (D.state unit.new.disk) out.old.items out.new.items)
+        × IsDone initial steps.now ⊥ result it.steps_taken it.durable_at_end it.accepted_at_end it.released
+        × IsUnflushed (IsOfRun (D.state unit.old.disk).sectors initial) steps.now result it.durable_at_end (D.state unit.old.disk) (D.state unit.new.disk) }
+    ensures last { (earlier initial : List Event) → IsTrue (D.state unit.old.disk).honest →
+        IsOpen unit.old.journal (account_of initial) (D.state unit.old.disk) → IsAhead initial initial unit.old.life →
+        IsLastWritten (D.state unit.old.disk).sectors earlier initial (contents_of (D.state unit.old.disk)) →
+        OnOk result (IsLastWritten (D.state unit.new.disk).sectors (earlier_by earlier initial initial steps.now) (durable_by initial steps.now) (contents_of (D.state unit.new.disk))) }
 {
     run_into(alloc, unit, steps, out)
 }

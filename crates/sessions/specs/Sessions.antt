@@ -1,4 +1,8 @@
--- What the program does with a disk, and what it writes (this project's profile).
+-- What the program does with a disk, and what it writes (this project's profile). Lists of events have the newest
+-- first; lists of steps, of releases and of bytes have the oldest first. Sizes of images are in bytes, and in blocks of
+-- six sectors.
+
+-- Taken for granted: where a write failed, nothing is said of what was written. A session is a life on an honest disk.
 use Rattle.std.specs.Prelude.{◌≡◌, ◌⊎◌, ℕ, ◌+◌, ◌*◌, List, [], ◌∷◌, ◌++◌, Bool, true, false, IsTrue, Option, Some, None, Result, IfOk, IfErr, codes, decimal}
 use Rattle.std.specs.Io.KnownBytes.{Appends}
 use Rattle.disk.specs.State.{State, Counted}
@@ -40,23 +44,32 @@ is_device Device = true
 
 -- a line a release, in their order, and behind them the line of the end, if the life stopped
 abbrev pub report_of : {T : Type 0} → List Released → Result T LiveError → List ℕ
-report_of given ended = lines_of given ++ ending_of ended
+report_of released ended = lines_of released ++ ending_of ended
 
--- A life on a disk whose images each represented d or a. Where it stopped, that is at the first step that isn't carried
--- out, for its cause. A flush that found no room put nothing on the disk. Where it didn't stop, the newest block is
--- that of its last flush of something pending. Where all writes succeeded, just the report of what was released came
--- behind the text, the status is that of the end, and there was room for each release.
-pub record Session {E : Type 0} (d a : List Event) (cold : Cold) (steps : List Step) (old new : State) (before after : Option (List ℕ)) (answer : Result Status E) : Type 0 where
-  pub p : List Event
-  pub word : Cold
-  pub given : List Released
+-- A life, as the program writes it, on a disk whose images each represented `durable` or `accepted`. `cold` is the word
+-- on movements without power that was handed in; `before` and `after` are what was written, where that is known.
+pub record Session {E : Type 0} (durable accepted : List Event) (cold : Cold) (steps : List Step) (old new : State) (before after : Option (List ℕ)) (answer : Result Status E) : Type 0 where
+  -- the events on which the life goes on, the newest first
+  pub found : List Event
+  -- the word that the power-up recorded
+  pub power_up_word : Cold
+  -- the outputs that the life released, the oldest first
+  pub released : List Released
+  -- how the life ended: where it stopped, the step and why
   pub ended : Result (Unit {0}) LiveError
-  pub life : Lives d a p cold word steps old new [] given
-  pub done : IsDone (PowerUp word ∷ p) steps (OnlyOpens d a p word old new) ended life.taken life.before life.after life.given
-  pub unflushed : IsUnflushed (IsOfLife old.sectors d a p word) steps ended life.before old new
-  pub last : LeavesLast p word steps ended new
+  -- it is a life by the contract of `onboard::live_into`
+  pub life : Lives durable accepted found cold power_up_word steps old new [] released
+  -- it released exactly what the steps before its end ask for, and nothing where it wasn't opened
+  pub done : IsDone (PowerUp power_up_word ∷ found) steps (OnlyOpens durable accepted found power_up_word old new) ended life.steps_taken life.durable_at_end life.accepted_at_end life.released
+  -- a flush that found no room put nothing on the disk
+  pub unflushed : IsUnflushed (IsOfLife old.sectors durable accepted found power_up_word) steps ended life.durable_at_end old new
+  -- where it didn't stop, the newest block is that of its last flush of something pending
+  pub last : LeavesLast found power_up_word steps ended new
+  -- where it stopped, that is at the first step that isn't carried out, for its cause
   pub stopped : LifeEnds old steps ended
-  pub told : Says (status_of ended) (report_of given ended) before after answer
+  -- where all writes succeeded, just the report of what was released came behind the text, with the status of the end
+  pub told : Says (status_of ended) (report_of released ended) before after answer
+  -- and there was room for each release
   pub roomy : IfOk answer (λ status. IfErr ended (λ e. is_full e ≡ false))
 
 -- ---- from the bytes of a scenario to what is written
@@ -77,7 +90,7 @@ Plays state gives bytes opener Missing before after answer =
 Plays {D} state gives bytes opener (Opened new) before after answer =
     TellsOne bytes (λ cold steps. (old : D) × gives opener (Some old)
     × IfOk answer (λ status. Counted (is_device status) (state old) (state new))
-    × ((d a : List Event) → IsTrue (state old).honest → IsReady d a (state old) → Session d a cold steps (state old) (state new) before after answer))
+    × ((durable accepted : List Event) → IsTrue (state old).honest → IsReady durable accepted (state old) → Session durable accepted cold steps (state old) (state new) before after answer))
 
 -- ---- an image is made
 

@@ -81,7 +81,7 @@ returns-clause-ran g c = λ s honest opened ahead.
     let so = c.loop-k.invariant.going s honest opened ahead in
     let end = finished s c.args.steps.now c.loop-k.k (g.D.Disk.state c.args.unit.now.disk) (g.D.Disk.state c.loop-k.unit.disk) c.loop-k.unit.journal c.loop-k.unit.life so.0 so.2 in
     let all = take_all c.loop-k.k c.args.steps.now (search rules) in
-    (so.0, so.1, end.0, (end.1 ∙ search rules, subst (λ (l : List Step). AreBehind s l end.0.before end.0.after end.0.given) all end.2), tt)
+    (so.0, so.1, end.0, (end.1 ∙ search rules, subst (λ (l : List Step). AreBehind s l end.0.durable_at_end end.0.accepted_at_end end.0.released) all end.2), tt)
 
 pub returns-in-Err-clause-stopped : goal.returns-in-Err-clause-stopped
 returns-in-Err-clause-stopped g c = stopped_here (progress_of c.args.unit.now.journal c.args.unit.now.life) (progress_of c.loop-k.unit.journal c.loop-k.unit.life) c.args.steps.now c.loop-k.k c.loop-k-test.true c.index-steps-k.result _ c.index-steps-k.is

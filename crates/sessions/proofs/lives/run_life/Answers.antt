@@ -2,12 +2,12 @@ use Rattle.sessions.proofs.Telling.{all_printed, told_whole, no_want}
 use Rattle.sessions.proofs.lives.run_life.Goals as goal
 
 pub returns-in-Ok-clause-session : goal.returns-in-Ok-clause-session
-returns-in-Ok-clause-session g c d a honest ready =
-    let it = c.live_into-disk.ensures.life d a honest ready in
+returns-in-Ok-clause-session g c durable accepted honest ready =
+    let it = c.live_into-disk.ensures.life durable accepted honest ready in
     record {
-      p = it.0;
-      word = it.1;
-      given = it.2;
+      found = it.0;
+      power_up_word = it.1;
+      released = it.2;
       ended = c.live_into-disk.result.1;
       life = it.4;
       done = it.5;
@@ -20,12 +20,12 @@ returns-in-Ok-clause-session g c d a honest ready =
     }
 
 pub returns-in-Err-clause-session : goal.returns-in-Err-clause-session
-returns-in-Err-clause-session g c d a honest ready =
-    let it = c.live_into-disk.ensures.life d a honest ready in
+returns-in-Err-clause-session g c durable accepted honest ready =
+    let it = c.live_into-disk.ensures.life durable accepted honest ready in
     record {
-      p = it.0;
-      word = it.1;
-      given = it.2;
+      found = it.0;
+      power_up_word = it.1;
+      released = it.2;
       ended = c.live_into-disk.result.1;
       life = it.4;
       done = it.5;

@@ -1,0 +1,10 @@
+pub mod EndLines
+pub mod ImageLines
+pub mod JournalLines
+pub mod KeptLines
+pub mod NumberLines
+pub mod SlotLines
+pub mod Texts
+pub mod Verdicts
+pub mod Walks
+pub mod Words

@@ -1,0 +1,17 @@
+#!/bin/bash
+# What an investigator asks: images of each state of a slot, cut off, altered and big ones, on the program etcs_lab that the gate leaves behind; and
+# each command of docs/INVESTIGATING.md.
+#
+#     tests/lab.sh [ETCS_LAB ETCS]    on other programs
+lab=${1:-$(dirname "$0")/../crates/etcs_lab/out/etcs_lab}
+etcs=${2:-$(dirname "$0")/../crates/etcs/out/etcs}
+lab=$(realpath "$lab") && etcs=$(realpath "$etcs") || exit 1
+cd "$(dirname "$0")" || exit 1
+export PYTHONDONTWRITEBYTECODE=1
+for program in "$lab" "$etcs"; do
+    [ -x "$program" ] || { echo "there is no program $program: rt ci makes it"; exit 1; }
+done
+status=0
+python3 lab/image_rows.py "$lab" "$etcs" || status=1
+python3 lab/page_rows.py "$etcs" "$lab" || status=1
+exit $status

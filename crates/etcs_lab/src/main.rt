@@ -2,6 +2,7 @@
 #![tactic(auto)]
 
 mod digest;
+mod events;
 mod help;
 mod program;
 mod running;

@@ -1,6 +1,7 @@
 //! The words of the program, and what they ask.
 
 use crate::digest::facts_of;
+use crate::events::{events_told, events_words};
 use crate::help::HELP;
 use clap::{Arg, ArgAction, ArgMatches, Command, Error};
 use file_disk::FileDisk;
@@ -45,7 +46,8 @@ fn command<'a>(alloc: Global) -> Result<Command<'a>, AllocError> {
         .disable_help_flag(true)
         .disable_help_subcommand(true)
         .arg(help)?
-        .subcommand(examine_words(alloc)?)
+        .subcommand(examine_words(alloc)?)?
+        .subcommand(events_words(alloc)?)
 }
 
 fn parsed<'a>(alloc: Global, words: &'a [&'a str]) -> Result<ArgMatches<'a>, Error> {
@@ -59,7 +61,7 @@ fn facts_in<R: Files<File = File>>(rt: &R, path: &str) -> io::Result<FileFacts> 
 }
 
 // Says on standard error what failed.
-fn fail<R: Eprint>(rt: &R, what: &str, path: &str, status: Status) -> Status {
+pub(crate) fn fail<R: Eprint>(rt: &R, what: &str, path: &str, status: Status) -> Status {
     let _ = eprintln!(rt; "etcs_lab: {path}: {what}");
     status
 }
@@ -133,6 +135,9 @@ pub(crate) fn lab_main<R: Files<File = File> + AllocGlobal + Eprint, W: Write>(
                 form_of(inner),
                 out,
             )
+        }
+        Some(("events", inner)) => {
+            events_told(rt, inner.get_str("IMAGE").unwrap_or(""), inner.get_flag("all"), out)
         }
         _ if matches.get_flag("help") => helped(rt, out),
         _ => usage(rt),

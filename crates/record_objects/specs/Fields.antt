@@ -1,0 +1,32 @@
+-- The fields of a header and of a packet as a list: each with the name of its variable (SUBSET-026, 7.5.1) and its
+-- number.
+use Rattle.std.specs.Prelude.{ℕ, ◌==◌, List, [], ◌∷◌, ◌++◌, codes, decimal, if◌then◌else◌}
+use Rattle.bits.specs.Writing.{Shown, named, raw, taken}
+use Rattle.bits.specs.declared.name.VariableName.TheVariants as names
+use Rattle.packets.specs.Packets.{length_of, number_of, packet_taken}
+use Rattle.packets.specs.declared.packet.Packet.{Packet}
+use Rattle.telegram.specs.Telegrams.{header}
+use Rattle.telegram.specs.declared.header.Header.{Header}
+use Rattle.record_objects.specs.Names.{name_text}
+use Rattle.record_objects.specs.declared.fields.NamedNumber.{NamedNumber}
+
+-- Fields with one more behind them. Bits that are skipped are no field, nor is what has no bits.
+abbrev pub with_field : List NamedNumber → Shown → List NamedNumber
+with_field fields (named name width number) = if width == 0 then fields else fields ++ record { name = name; number = number } ∷ []
+with_field fields (raw bits) = fields
+
+-- the fields of a header
+abbrev pub header_fields : Header → List NamedNumber
+header_fields h = taken with_field header h []
+
+-- the fields of a packet, NID_PACKET first
+abbrev pub packet_fields : Packet → List NamedNumber
+packet_fields p = packet_taken with_field (length_of p) p (with_field [] (named names.NidPacket 8 (number_of p)))
+
+-- a field as a member of an object
+unfoldable pub member_of : NamedNumber → List ℕ
+member_of f = codes "\"" ++ name_text f.name ++ codes "\":" ++ decimal f.number
+
+-- a field as a pair of its name and its number
+unfoldable pub pair_of : NamedNumber → List ℕ
+pair_of f = codes "[\"" ++ name_text f.name ++ codes "\"," ++ decimal f.number ++ codes "]"

@@ -1,0 +1,145 @@
+#!/usr/bin/env python3
+"""The lines of `etcs_lab events`, read back as JSON and compared field by field with what the plain readers find in the image.
+
+    tests/events/event_rows.py PROGRAM [RINGS [SEED]]     on a built program
+    tests/events/event_rows.py --images FOLDER            writes the images, to be told by an unproved run (rt try --cases)
+    tests/events/event_rows.py --told FILE                compares what such a run printed
+"""
+import json
+import subprocess
+import sys
+import tempfile
+from pathlib import Path
+
+sys.path.insert(0, str(Path(__file__).resolve().parents[1] / "plain"))
+
+from images import MARKUP, example_images, random_images, worked_images  # noqa: E402
+from told import Refused, told  # noqa: E402
+
+RINGS, SEED = 300, 41
+LEAST_LINES, LEAST_IMAGES = 20_000, 700
+# Each image is told with and without the other blocks; of the damaged forms of an image each so many.
+EACH = 5
+
+
+def all_images(rings, seed):
+    yield from worked_images()
+    yield from random_images(rings, seed)
+    for name, image, damaged in example_images():
+        yield name, image
+        for k, other in enumerate(damaged):
+            if k % EACH == 0:
+                yield f"{name}, damaged {k}", other
+
+
+def wanted(image, all_blocks):
+    """Status and lines; of a refusal its name in place of lines."""
+    try:
+        lines, whole = told(image, all_blocks)
+    except Refused as refused:
+        return 1, str(refused)
+    return (0 if whole else 4), lines
+
+
+def read_line(line):
+    """A line as pairs, so that each name, and the order, counts."""
+    return json.loads(line, object_pairs_hook=lambda pairs: pairs)
+
+
+class Count:
+    def __init__(self):
+        self.images = self.lines = self.differ = self.sources = 0
+        self.seen = set()
+
+    def differs(self, name, got, want):
+        self.differ += 1
+        if self.differ <= 5:
+            print(f"{name}:\n  told   {got}\n  wanted {want}")
+
+    def compare(self, name, status, text, image, all_blocks):
+        want_status, want = wanted(image, all_blocks)
+        self.images += 1
+        if isinstance(want, str):
+            if text or (status is not None and status != want_status):
+                self.differs(name, (status, text[:200]), (want_status, want))
+            return
+        if status is not None and status != want_status:
+            self.differs(name, status, want_status)
+        try:
+            got = [read_line(line) for line in text.splitlines()]
+        except ValueError as fault:
+            self.differs(name, fault, "JSON")
+            return
+        self.lines += len(want)
+        if len(got) != len(want) or not text.endswith("\n"):
+            self.differs(name, f"{len(got)} lines", f"{len(want)} lines")
+        for one, other in zip(got, want):
+            if as_read(one) != as_read(other):
+                self.differs(name, one, other)
+            self.seen |= {(key, value) for key, value in other if key in ("source", "kind", "action", "mode", "word") and value}
+
+    def end(self):
+        kinds = {value for key, value in self.seen if key == "source"}
+        actions = {value for key, value in self.seen if key == "action"}
+        print(f"events: {self.lines} lines of {self.images} listings compared field by field, {self.differ} differ")
+        few = self.lines < LEAST_LINES or self.images < LEAST_IMAGES or len(kinds) < 4 or len(actions) < 11
+        if few:
+            print(f"too little was tried: sources {sorted(kinds)}, {len(actions)} actions")
+        return 1 if few or self.differ else 0
+
+
+def as_read(value):
+    """Pairs as tuples, at any depth: JSON has lists for both."""
+    if isinstance(value, (list, tuple)):
+        return tuple(as_read(item) for item in value)
+    return (type(value).__name__, value)
+
+
+def markup_row(run):
+    """The bytes of the line itself, with quotes and backslashes before them."""
+    from images import blocks, slots_of
+    wrong = 0
+    for text in MARKUP:
+        b = blocks.block(3, 1, 1, 1, [blocks.entry(0, ("driver", b"\1" + text))])
+        _, out = run(slots_of([(1, blocks.data_of(b))], 2), False)
+        escaped = text.decode().replace("\\", "\\\\").replace('"', '\\"')
+        wrong += not out.splitlines()[1].endswith(f',"action":"enter_identity","identity":"{escaped}"}}')
+    print(f"events: {len(MARKUP)} identities with markup and quotes, {wrong} differ")
+    return wrong
+
+
+def main(words):
+    count = Count()
+    if words[0] == "--images":
+        folder = Path(words[1])
+        for k, (name, image) in enumerate(all_images(RINGS, SEED)):
+            (folder / f"{k:05}").write_bytes(image)
+        return 0
+    if words[0] == "--told":
+        parts = Path(words[1]).read_text().split("== ")[1:]
+        texts = {part.partition("\n")[0]: part.partition("\n")[2] for part in parts}
+        for k, (name, image) in enumerate(all_images(RINGS, SEED)):
+            count.compare(name, None, texts.get(f"{k:05}", ""), image, True)
+        return count.end()
+    program, rings, seed = words[0], *(int(word) for word in words[1:3]), *(RINGS, SEED)[len(words) - 1:]
+    with tempfile.TemporaryDirectory() as folder:
+        path = Path(folder) / "image"
+
+        def run(image, all_blocks):
+            path.write_bytes(image)
+            path.chmod(0o444)
+            done = subprocess.run([program, "events", *(["--all"] if all_blocks else []), path], capture_output=True, timeout=60)
+            if path.read_bytes() != image:
+                count.differs("the image", "was written", "stays")
+            path.chmod(0o644)
+            return done.returncode, done.stdout.decode("ascii")
+
+        for name, image in all_images(rings, seed):
+            for all_blocks in (False, True):
+                count.compare(f"{name}, {'all' if all_blocks else 'journal'}", *run(image, all_blocks), image, all_blocks)
+        wrong = markup_row(run)
+    return 1 if count.end() or wrong else 0
+
+
+if __name__ == "__main__":
+    sys.exit(main(sys.argv[1:]))

@@ -8,12 +8,15 @@ Tells an investigator what an image of a journal holds, and what of it is lost.
                                      what contradicts, and what a power-up of this image would do
   etcs_lab events [--all] IMAGE      tells each record of the journal as a JSON object on a line, the oldest first;
                                      with --all also those of other readable blocks, each with its source
+  etcs_lab replay [--json] IMAGE     runs each life through the kernel again, and tells whether the journal is what
+                                     this kernel answers, or the first record that differs
   etcs_lab --help                    prints this
 
   0 all is whole   1 refused: not formatted, damaged first sector; or nothing can be written   2 wrong words
-  3 a file or the device   4 something is lost, damaged or contradicts; all that can be read was told
+  3 a file or the device   4 something is lost, damaged, contradicts or differs; all that can be read was told
 
-examine prints lines, or with --json one JSON object; errors go to standard error. Behind -- a word may begin with -.
+examine and replay print lines, or with --json JSON: examine one object, replay one a line. Errors go to standard
+error. Behind -- a word may begin with -.
 The image is opened for reading alone, and may be a file that can't be written.
 
 Take a digest of the image before anything reads it, and work on a copy. The journal has no checksum and no

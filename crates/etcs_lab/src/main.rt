@@ -1,10 +1,12 @@
-//! The program `etcs_lab`: tells an investigator what an image of a journal holds, and what of it is lost.
+//! The program `etcs_lab`: tells an investigator what an image of a journal holds, what of
+//! it is lost, and whether the kernel answers so.
 #![tactic(auto)]
 
 mod digest;
 mod events;
 mod help;
 mod program;
+mod replayed;
 mod running;
 
 use std::process::ExitCode;

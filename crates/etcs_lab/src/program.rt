@@ -3,9 +3,11 @@
 use crate::digest::facts_of;
 use crate::events::{events_told, events_words};
 use crate::help::HELP;
+use crate::replayed::replayed;
 use clap::{Arg, ArgAction, ArgMatches, Command, Error};
 use file_disk::FileDisk;
 use lab_lines::{ExamineError, FileFacts, Form, Verdict, examine};
+use replay_lines::Style;
 use std::alloc::{AllocError, Global};
 use std::fs::File;
 use std::io;
@@ -27,11 +29,12 @@ pub(crate) enum Status {
     Damaged = 4,
 }
 
-fn examine_words<'a>(alloc: Global) -> Result<Command<'a>, AllocError> {
+// A command over an image, in lines or as JSON.
+fn image_words<'a>(alloc: Global, name: &'a str) -> Result<Command<'a>, AllocError> {
     let json = Arg::new(alloc, "json")
         .long("json")
         .action(ArgAction::SetTrue);
-    Command::new(alloc, "examine")
+    Command::new(alloc, name)
         .disable_help_flag(true)
         .arg(json)?
         .arg(Arg::new(alloc, "IMAGE").required(true))
@@ -46,8 +49,9 @@ fn command<'a>(alloc: Global) -> Result<Command<'a>, AllocError> {
         .disable_help_flag(true)
         .disable_help_subcommand(true)
         .arg(help)?
-        .subcommand(examine_words(alloc)?)?
-        .subcommand(events_words(alloc)?)
+        .subcommand(image_words(alloc, "examine")?)?
+        .subcommand(events_words(alloc)?)?
+        .subcommand(image_words(alloc, "replay")?)
 }
 
 fn parsed<'a>(alloc: Global, words: &'a [&'a str]) -> Result<ArgMatches<'a>, Error> {
@@ -60,7 +64,7 @@ fn facts_in<R: Files<File = File>>(rt: &R, path: &str) -> io::Result<FileFacts> 
     facts_of(&mut file)
 }
 
-// Says on standard error what failed.
+/// Says on standard error what failed.
 pub(crate) fn fail<R: Eprint>(rt: &R, what: &str, path: &str, status: Status) -> Status {
     let _ = eprintln!(rt; "etcs_lab: {path}: {what}");
     status
@@ -105,6 +109,13 @@ fn form_of(matches: &ArgMatches<'_>) -> Form {
     }
 }
 
+fn style_of(matches: &ArgMatches<'_>) -> Style {
+    match form_of(matches) {
+        Form::People => Style::Plain,
+        Form::Json => Style::Json,
+    }
+}
+
 fn helped<R: Eprint, W: Write>(rt: &R, out: &mut W) -> Status {
     match out.write_all(HELP.as_bytes()) {
         Ok(()) => Status::Whole,
@@ -137,7 +148,20 @@ pub(crate) fn lab_main<R: Files<File = File> + AllocGlobal + Eprint, W: Write>(
             )
         }
         Some(("events", inner)) => {
-            events_told(rt, inner.get_str("IMAGE").unwrap_or(""), inner.get_flag("all"), out)
+            events_told(
+                rt,
+                inner.get_str("IMAGE").unwrap_or(""),
+                inner.get_flag("all"),
+                out,
+            )
+        }
+        Some(("replay", inner)) => {
+            replayed(
+                rt,
+                inner.get_str("IMAGE").unwrap_or(""),
+                style_of(inner),
+                out,
+            )
         }
         _ if matches.get_flag("help") => helped(rt, out),
         _ => usage(rt),

@@ -1,0 +1,21 @@
+//! The replay of a journal, life after life, and its lines: for people, or as JSON objects (this project's profile). It
+//! writes nothing to the disk. Moments are milliseconds, places and lengths centimetres, speeds metres per hour; events
+//! are numbered from 0, blocks from 1.
+#![tactic(auto)]
+
+mod answers;
+mod course;
+mod driver_items;
+mod errors;
+mod kept;
+mod lines;
+mod national_items;
+mod place_items;
+mod reports;
+mod steps;
+mod walk;
+mod words;
+
+pub use errors::ReplayError;
+pub use lines::Style;
+pub use walk::{Outcome, replay};

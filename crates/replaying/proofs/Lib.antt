@@ -1,0 +1,5 @@
+pub mod Moments
+pub mod Shown
+pub mod Firsts
+pub mod Units
+pub mod Excluding

@@ -1,0 +1,76 @@
+-- The records of a unit's events are answers.
+use Rattle.std.proofs.Common.{◌≡◌, ◌∙◌, ℕ, zero, suc, List, [], ◌∷◌, ◌++◌, map, refl, sym, ap, subst}
+use Rattle.blocks.specs.Blocks.{event_told, record_told}
+use Rattle.blocks.specs.declared.block.Block.{Block}
+use Rattle.blocks.specs.declared.format.Format.{Format}
+use Rattle.blocks.specs.declared.format.Format.TheVariants.{Three}
+use Rattle.blocks.specs.declared.records.BlockRecord.{BlockRecord}
+use Rattle.blocks.specs.declared.records.Record.{Record}
+use Rattle.events.specs.declared.input.Event.{Event}
+use Rattle.events.specs.declared.input.Event.TheVariants as an_event
+use Rattle.onboard.specs.Events.{record_of, records_of, account_of}
+use Rattle.ring.specs.Account.{Tells}
+use Rattle.replaying.specs.Following.{answer_to, AreAnswers}
+
+-- records, one behind another
+abbrev AreRecords : List Event → List Record → Type 0
+AreRecords s [] = Unit {0}
+AreRecords s (r ∷ rs) = (r ≡ record_of s r.event) × AreRecords (r.event ∷ s) rs
+
+abbrev events_behind : List Record → List Event → List Event
+events_behind [] s = s
+events_behind (r ∷ rs) s = events_behind rs (r.event ∷ s)
+
+-- one more
+one_more : (s : List Event) (rs : List Record) (r : Record) → AreRecords s rs → r ≡ record_of (events_behind rs s) r.event → AreRecords s (rs ++ r ∷ [])
+one_more s [] r are is = (is, tt)
+one_more s (first ∷ rs) r are is = (are.0, one_more (first.event ∷ s) rs r are.1 is)
+
+behind_one_more : (s : List Event) (rs : List Record) (r : Record) → events_behind (rs ++ r ∷ []) s ≡ r.event ∷ events_behind rs s
+behind_one_more s [] r = refl
+behind_one_more s (first ∷ rs) r = behind_one_more (first.event ∷ s) rs r
+
+-- those of a list of events
+all_behind : (events : List Event) → events_behind (records_of events) [] ≡ events
+all_behind [] = refl
+all_behind (event ∷ events) = behind_one_more [] (records_of events) (record_of events event) ∙ ap (λ (l : List Event). event ∷ l) (all_behind events)
+
+all_records : (events : List Event) → AreRecords [] (records_of events)
+all_records [] = tt
+all_records (event ∷ events) =
+    let last : record_of events event ≡ record_of (events_behind (records_of events) []) event = ap (λ (l : List Event). record_of l event) (sym (all_behind events)) in
+    one_more [] (records_of events) (record_of events event) (all_records events) last
+
+-- the later ones, and the earlier ones
+later : (s : List Event) (xs ys : List Record) → AreRecords s (xs ++ ys) → AreRecords (events_behind xs s) ys
+later s [] ys are = are
+later s (x ∷ xs) ys are = later (x.event ∷ s) xs ys are.1
+
+earlier : (s : List Event) (xs ys : List Record) → AreRecords s (xs ++ ys) → AreRecords s xs
+earlier s [] ys are = tt
+earlier s (x ∷ xs) ys are = (are.0, earlier (x.event ∷ s) xs ys are.1)
+
+-- format 3 tells the event as it is
+told_so : (event : Event) → event_told Three event ≡ event
+told_so (an_event.PowerUp word) = refl
+told_so (an_event.Input input) = refl
+
+told_answers : (s : List Event) (rs : List Record) → AreRecords s rs → AreAnswers Three s (map (record_told Three) rs)
+told_answers s [] are = tt
+told_answers s (r ∷ rs) are =
+    let same : event_told Three r.event ≡ r.event = told_so r.event in
+    let rest : AreAnswers Three (event_told Three r.event ∷ s) (map (record_told Three) rs) =
+    subst (λ (e : Event). AreAnswers Three (e ∷ s) (map (record_told Three) rs)) (sym same) (told_answers (r.event ∷ s) rs are.1) in
+    let first : record_told Three r ≡ answer_to Three s (event_told Three r.event) =
+    ap (record_told Three) are.0 ∙ ap (λ (e : Event). answer_to Three s e) (sym same) in
+    (first, rest)
+
+pub units_agree : (events : List Event) (block : Block) → Tells (account_of events) block → block.format ≡ Three → (s : List Event) × AreAnswers block.format s block.records.items
+units_agree events block tells three =
+    let all : AreRecords [] (tells.before ++ (tells.its ++ tells.after)) = subst (AreRecords []) tells.split (all_records events) in
+    let s = events_behind tells.before [] in
+    let its : AreRecords s tells.its = earlier s tells.its tells.after (later [] tells.before (tells.its ++ tells.after) all) in
+    let answers : AreAnswers Three s (map (record_told Three) tells.its) = told_answers s tells.its its in
+    let told : AreAnswers block.format s (map (record_told block.format) tells.its) =
+    subst (λ (f : Format). AreAnswers f s (map (record_told f) tells.its)) (sym three) answers in
+    (s, subst (λ (rs : List BlockRecord). AreAnswers block.format s rs) (sym tells.records) told)

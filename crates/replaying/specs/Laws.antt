@@ -1,0 +1,20 @@
+-- What is true of every list of events, and of what blocks tell of it (this project's profile).
+use Rattle.std.specs.Prelude.{◌≡◌, ℕ, List}
+use Rattle.blocks.specs.declared.block.Block.{Block}
+use Rattle.blocks.specs.declared.format.Format.{Format}
+use Rattle.blocks.specs.declared.format.Format.TheVariants.{Three}
+use Rattle.blocks.specs.declared.records.BlockRecord.{BlockRecord}
+use Rattle.events.specs.declared.input.Event.{Event}
+use Rattle.onboard.specs.Events.{account_of}
+use Rattle.ring.specs.Account.{Tells}
+use Rattle.replaying.specs.Following.{AreAnswers, IsFirst}
+use Rattle.replaying.specs.declared.differences.RecordField.{RecordField}
+
+-- what a block of format 3 tells of the events of a unit are the kernel's answers, behind some of these events
+abbrev pub UnitsAgree : Type 0
+UnitsAgree = (events : List Event) (block : Block) → Tells (account_of events) block → block.format ≡ Three → (s : List Event) × AreAnswers block.format s block.records.items
+
+-- where all are answers, none differs
+abbrev pub VerdictsExclude : Type 0
+VerdictsExclude = (format : Format) (s : List Event) (records : List BlockRecord) (index : ℕ) (field : RecordField) (answer : BlockRecord)
+    → AreAnswers format s records → IsFirst format s records index field answer → ⊥

@@ -1,0 +1,5 @@
+pub mod Comparing
+pub mod Moments
+pub mod ReplayState
+pub mod Following
+pub mod Laws

@@ -1,0 +1,20 @@
+-- What contracts see of a life that is run again (this project's profile). A moment is in milliseconds.
+use Rattle.std.specs.Prelude.{◌≡◌, ℕ, ◌-◌, ◌^◌, min, ℤ, List, length}
+use Rattle.events.specs.declared.input.Event.{Event}
+use Rattle.kernel.specs.StandsFor.{Knowledge}
+use Rattle.onboard.specs.Events.{moment_of, Knows}
+use Rattle.speed_profile.specs.declared.told.CategorySpeeds.{CategorySpeeds}
+use Rattle.track_store.specs.Segments.{Segmented}
+
+-- what the kernel knows, how many events there were, up to the greatest number of 64 bits, and the last moment of the
+-- life
+pub record ReplayState : Type 0 where
+  pub state : Knowledge (Segmented ℤ) (Segmented CategorySpeeds)
+  pub events : ℕ
+  pub moment : ℕ
+
+-- it represents a list of events, the newest first
+pub record StandsBehind (events : List Event) (replay : ReplayState) : Type 0 where
+  pub knows : Knows replay.state events
+  pub counted : replay.events ≡ min (length events) (2 ^ 64 - 1)
+  pub moment_is : replay.moment ≡ moment_of events

@@ -1,0 +1,123 @@
+//! What a block tells of an event, beside what the kernel answers to it.
+ghost use Rattle.std.specs.Prelude.{◌≡◌, ◌↔◌, IsTrue, MatchOption};
+ghost use Rattle.blocks.specs.Blocks.{event_told};
+ghost use Rattle.replaying.specs.Comparing.{shown_of, DiffersIn, SituationDiffers};
+
+use crate::differences::RecordField;
+use blocks::{BlockRecord, Format, Situation};
+use events::{Brake, Event, Indications};
+use mode_table::{Cold, Mode, TrainLevel};
+
+fn same_mode(one: Mode, other: Mode) -> bool
+    ensures { IsTrue result ↔ one ≡ other }
+{
+    one.number() == other.number()
+}
+
+fn same_level(one: Option<TrainLevel>, other: Option<TrainLevel>) -> bool
+    ensures { IsTrue result ↔ one ≡ other }
+{
+    match (one, other) {
+        (None, None) => true,
+        (Some(TrainLevel::Level0), Some(TrainLevel::Level0)) => true,
+        (Some(TrainLevel::Level1), Some(TrainLevel::Level1)) => true,
+        _ => false,
+    }
+}
+
+fn same_brake(one: Brake, other: Brake) -> bool
+    ensures { IsTrue result ↔ one ≡ other }
+{
+    match (one, other) {
+        (Brake::None, Brake::None) => true,
+        (Brake::Service, Brake::Service) => true,
+        (Brake::Emergency, Brake::Emergency) => true,
+        _ => false,
+    }
+}
+
+// What is shown, in the order of its fields.
+fn shown_of(shown: &Indications) -> [bool; 7]
+    ensures { result ≡ shown_of shown.now }
+{
+    [
+        shown.on_sight,
+        shown.shunting,
+        shown.level_0,
+        shown.trip,
+        shown.overridden,
+        shown.not_revalidated,
+        shown.overspeed,
+    ]
+}
+
+fn same_shown(one: &Indications, other: &Indications) -> bool
+    ensures { IsTrue result ↔ one.now ≡ other.now }
+{
+    shown_of(one) == shown_of(other)
+}
+
+fn situation_differs(one: Option<Situation>, other: Option<Situation>) -> Option<RecordField>
+    ensures { MatchOption result (one ≡ other) (λ field. SituationDiffers field one other) }
+{
+    match (one, other) {
+        (None, None) => None,
+        (Some(one), Some(other)) => {
+            if one.estimate.get() != other.estimate.get() {
+                return Some(RecordField::Estimate);
+            }
+            if one.uncertainty != other.uncertainty {
+                return Some(RecordField::Uncertainty);
+            }
+            if one.limit.get() != other.limit.get() {
+                return Some(RecordField::Limit);
+            }
+            None
+        }
+        _ => Some(RecordField::Situation),
+    }
+}
+
+// Whether a format tells the event as it is.
+fn is_told(format: Format, event: &Event) -> bool
+    ensures { IsTrue result ↔ event.now ≡ event_told format event.now }
+{
+    match (format, event) {
+        (Format::One | Format::Two, Event::PowerUp(Cold::Moved | Cold::NotMoved)) => false,
+        _ => true,
+    }
+}
+
+/// The first field in which a record differs from what its format tells of the kernel's answer to the same event; None
+/// exactly where it is that. The caller owes the same event.
+pub(crate) fn differs(
+    format: Format,
+    told: &BlockRecord,
+    answer: &BlockRecord,
+) -> Option<RecordField>
+    requires { answer.now.event ≡ event_told format told.now.event }
+    ensures { MatchOption result (told.now ≡ answer.now) (λ field. DiffersIn field told.now answer.now) }
+{
+    if told.number != answer.number {
+        return Some(RecordField::Number);
+    }
+    if !is_told(format, &told.event) {
+        return Some(RecordField::Word);
+    }
+    if told.moment != answer.moment {
+        return Some(RecordField::Moment);
+    }
+    if !same_mode(told.mode, answer.mode) {
+        return Some(RecordField::Mode);
+    }
+    if !same_level(told.level, answer.level) {
+        return Some(RecordField::Level);
+    }
+    if !same_brake(told.brake, answer.brake) {
+        return Some(RecordField::Brake);
+    }
+    if !same_shown(&told.indications, &answer.indications) {
+        return Some(RecordField::Indications);
+    }
+    situation_differs(told.situation, answer.situation)
+}

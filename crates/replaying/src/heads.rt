@@ -1,0 +1,36 @@
+//! What the head of a block tells, beside what the kernel keeps behind its events.
+ghost use Rattle.std.specs.Prelude.{◌≡◌, List, MatchOption};
+ghost use Rattle.events.specs.declared.input.Event.{Event};
+ghost use Rattle.replaying.specs.Comparing.{KeptDiffersIn};
+ghost use Rattle.replaying.specs.Following.{head_behind};
+ghost use Rattle.replaying.specs.ReplayState.{StandsBehind};
+
+use crate::differences::KeptField;
+use crate::keeping::kept_differs;
+use crate::replay::Replay;
+use crate::telling::kept_in;
+use blocks::Block;
+use events::Kept;
+
+/// A head that isn't what the kernel keeps.
+#[derive(Drop)]
+pub struct HeadFound {
+    /// The first field in which it differs.
+    pub field: KeptField,
+    /// What the kernel keeps, as the block's format tells it.
+    pub kept: Kept,
+}
+
+/// What differs in the head of a block from what the kernel keeps behind the events that were replayed; None exactly
+/// where it tells just that (SUBSET-026, 4.10; this project's profile).
+pub fn compare_head(replay: &Replay, block: &Block) -> Option<HeadFound>
+    ensures { (s : List Event) → StandsBehind s replay.now →
+        MatchOption result (block.now.kept ≡ head_behind block.now.format s)
+        (λ found. (found.kept ≡ head_behind block.now.format s) × KeptDiffersIn found.field block.now.kept found.kept) }
+{
+    let kept = kept_in(block.format, replay.kept());
+    match kept_differs(&block.kept, &kept) {
+        None => None,
+        Some(field) => Some(HeadFound { field, kept }),
+    }
+}

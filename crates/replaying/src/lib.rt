@@ -1,0 +1,20 @@
+//! Replay: the events of a journal are run through the kernel again, and what the blocks tell of each is compared with
+//! what the kernel answers (this project's profile). Moments are milliseconds, places centimetres, speeds metres per
+//! hour; events are numbered from 0, blocks from 1.
+#![tactic(auto)]
+
+mod comparing;
+mod copying;
+mod differences;
+mod following;
+mod heads;
+mod keeping;
+mod laws;
+mod replay;
+mod telling;
+
+pub use differences::{KeptField, RecordField};
+pub use following::{Found, follow_records, replay_life};
+pub use heads::{HeadFound, compare_head};
+pub use laws::{units_agree, verdicts_exclude};
+pub use replay::Replay;

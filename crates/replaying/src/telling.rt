@@ -1,0 +1,83 @@
+//! What a format tells of a record, and of what is kept.
+ghost use Rattle.std.specs.Prelude.{◌≡◌};
+ghost use Rattle.block_fields.specs.Items.{invalid};
+ghost use Rattle.blocks.specs.Blocks.{event_told, situation_told, record_told, kept_told};
+
+use blocks::{BlockRecord, Format, Record, Situation};
+use driver::Datum;
+use events::{Event, Kept};
+use mode_table::Cold;
+
+// Where the train was and how fast it might run.
+fn situation_in(format: Format, record_of: &Record) -> Option<Situation>
+    ensures { result ≡ situation_told format record_of.now }
+{
+    match format {
+        Format::One => None,
+        Format::Two | Format::Three => Some(Situation {
+            estimate: record_of.estimate,
+            uncertainty: record_of.uncertainty,
+            limit: record_of.output.limit,
+        }),
+    }
+}
+
+fn event_in(format: Format, event: Event) -> Event
+    ensures { result ≡ event_told format event }
+{
+    match (format, event) {
+        (Format::One | Format::Two, Event::PowerUp(_)) => Event::PowerUp(Cold::Unknown),
+        (Format::Three, Event::PowerUp(word)) => Event::PowerUp(word),
+        (_, Event::Input(input)) => Event::Input(input),
+    }
+}
+
+/// A record, as a format tells it.
+pub(crate) fn told_in(format: Format, whole: Record) -> BlockRecord
+    ensures { result ≡ record_told format whole }
+{
+    let situation = situation_in(format, &whole);
+    let Record {
+        number,
+        event,
+        moment,
+        output,
+        estimate: _,
+        uncertainty: _,
+    } = whole;
+    BlockRecord {
+        number,
+        event: event_in(format, event),
+        moment,
+        mode: output.mode,
+        level: output.level,
+        brake: output.brake,
+        indications: output.indications,
+        situation,
+    }
+}
+
+// What was valid, told invalid.
+fn told_invalid<T: Copy>(datum: Datum<T>) -> Datum<T>
+    ensures { result ≡ invalid datum }
+{
+    match datum {
+        Datum::Unknown => Datum::Unknown,
+        Datum::Valid(value) | Datum::Invalid(value) => Datum::Invalid(value),
+    }
+}
+
+/// What is kept, as a format tells it.
+pub(crate) fn kept_in(format: Format, kept: Kept) -> Kept
+    ensures { result ≡ kept_told format kept }
+{
+    let mut kept = kept;
+    match format {
+        Format::One | Format::Two => {
+            kept.level = told_invalid(kept.level);
+            kept.position = told_invalid(kept.position);
+        }
+        Format::Three => {}
+    }
+    kept
+}

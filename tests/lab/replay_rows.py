@@ -1,10 +1,10 @@
 #!/usr/bin/env python3
-"""Images of journals, and what `etcs_lab replay` is to print of them: lives of the plain unit on the plain disk, in all three formats, on rings
-that were overwritten, with damaged blocks, and with each field of a head and of a record altered. What is wanted is worked out by the plain
-replay (tests/plain/replay.py).
+"""Images of journals, and what `etcs_lab replay` is to print of them: lives of the plain unit on the plain disk, in all three
+formats, on rings that were overwritten, with damaged blocks, and with each field of a head and of a record altered. What is wanted
+is worked out by the plain replay (tests/plain/replay.py).
 
     tests/lab/replay_rows.py PROGRAM..          runs the program on each image, as people and as programs read it, and compares
-    tests/lab/replay_rows.py --cases FOLDER     lays images, words and what is to be printed into a folder, for rt try --cases
+    tests/lab/replay_rows.py --cases FOLDER WORD..     lays images, words and what is to be printed into a folder, for rt try --cases
     tests/lab/replay_rows.py --table            prints which altered fields are found, as docs/TESTS.md has it
 """
 import json
@@ -259,8 +259,8 @@ def cases():
         yield f"altered: {name}", data
 
 
-def lay(folder):
-    """Cases of `rt try`: each image twice."""
+def lay(folder, words):
+    """Cases of `rt try`: each image twice, behind the program's words."""
     folder.mkdir(parents=True, exist_ok=True)
     lines, some = [], 0
     for number, (name, data) in enumerate(cases()):
@@ -270,7 +270,7 @@ def lay(folder):
             file = folder / f"{number:04}{'j' if is_json else 'p'}"
             status, text = replayed(data, is_json)
             file.write_bytes(data)
-            Path(f"{file}.args").write_text("{}\n" + ("--json\n" if is_json else ""))
+            Path(f"{file}.args").write_text("\n".join([*words, *(["--json"] if is_json else []), "{}"]) + "\n")
             Path(f"{file}.stdout").write_text(text)
             lines.append(f"{file.name} {status} {name}")
             some += 1
@@ -303,7 +303,7 @@ def compare(words):
 
 def main(words):
     if words[:1] == ["--cases"]:
-        return lay(Path(words[1]))
+        return lay(Path(words[1]), words[2:])
     if words == ["--table"]:
         print("\n".join(table()))
         return 0

@@ -10,7 +10,7 @@ use Rattle.events.specs.declared.kept.Kept.{Kept}
 use Rattle.journal.specs.declared.opening.Found.{Found}
 use Rattle.mode_table.specs.declared.level.TrainLevel.{TrainLevel}
 use Rattle.mode_table.specs.declared.level.TrainLevel.TheVariants.{Level0, Level1}
-use Rattle.lab_lines.specs.Texts.{text_in}
+use Rattle.lab_lines.specs.Texts.{text_in, item_text}
 use Rattle.lab_lines.specs.declared.form.Form.{Form}
 use Rattle.lab_lines.specs.declared.form.Form.TheVariants.{People, Json}
 
@@ -32,15 +32,15 @@ running_text Json (Some n) = codes ",\"running_number\":" ++ decimal n
 running_text People None = codes "kept running number none\n"
 running_text Json None = codes ",\"running_number\":null"
 
-unfoldable pub train_size : Form → Train → List ℕ
-train_size People t = codes "kept train length " ++ decimal t.length ++ codes " cm maximum " ++ decimal t.maximum ++ codes " m/h"
-train_size Json t = codes ",\"train\":{\"length_cm\":" ++ decimal t.length ++ codes ",\"maximum_m_per_h\":" ++ decimal t.maximum
+abbrev pub train_size : Form → Train → List ℕ
+train_size form t =
+    item_text form (codes "kept train length ") (codes ",\"train\":{\"length_cm\":") t.length ++ item_text form (codes " cm maximum ") (codes ",\"maximum_m_per_h\":") t.maximum
+    ++ text_in form (codes " m/h") (codes "")
 
-unfoldable pub train_brakes : Form → Train → List ℕ
-train_brakes People t =
-    codes " category " ++ decimal t.category ++ codes " deceleration " ++ decimal t.brakes.deceleration ++ codes " cm/s2 reaction " ++ decimal t.brakes.reaction ++ codes " ms\n"
-train_brakes Json t =
-    codes ",\"category\":" ++ decimal t.category ++ codes ",\"deceleration_cm_per_s2\":" ++ decimal t.brakes.deceleration ++ codes ",\"reaction_ms\":" ++ decimal t.brakes.reaction ++ codes "}"
+abbrev pub train_brakes : Form → Train → List ℕ
+train_brakes form t =
+    item_text form (codes " category ") (codes ",\"category\":") t.category ++ item_text form (codes " deceleration ") (codes ",\"deceleration_cm_per_s2\":") t.brakes.deceleration
+    ++ item_text form (codes " cm/s2 reaction ") (codes ",\"reaction_ms\":") t.brakes.reaction ++ text_in form (codes " ms\n") (codes "}")
 
 abbrev pub train_known : Form → Train → List ℕ
 train_known form t = train_size form t ++ train_brakes form t
@@ -63,9 +63,10 @@ level_text form a_datum.Unknown = text_in form (codes "kept level unknown\n") (c
 level_text form (a_datum.Valid level) = level_known form level ++ end_text form true
 level_text form (a_datum.Invalid level) = level_known form level ++ end_text form false
 
-unfoldable pub group_text : Form → PositionFrom → List ℕ
-group_text People p = codes "kept position country " ++ decimal p.group.country ++ codes " group " ++ decimal p.group.number ++ codes " distance_cm "
-group_text Json p = codes ",\"position\":{\"country\":" ++ decimal p.group.country ++ codes ",\"group\":" ++ decimal p.group.number ++ codes ",\"distance_cm\":"
+abbrev pub group_text : Form → PositionFrom → List ℕ
+group_text form p =
+    item_text form (codes "kept position country ") (codes ",\"position\":{\"country\":") p.group.country ++ item_text form (codes " group ") (codes ",\"group\":") p.group.number
+    ++ text_in form (codes " distance_cm ") (codes ",\"distance_cm\":")
 
 unfoldable pub distance_text : PositionFrom → List ℕ
 distance_text p = signed_decimal p.distance
@@ -82,10 +83,14 @@ abbrev pub trip_text : Form → Bool → List ℕ
 trip_text form true = text_in form (codes "kept trip outstanding\n") (codes ",\"trip_outstanding\":true}")
 trip_text form false = text_in form (codes "kept no trip outstanding\n") (codes ",\"trip_outstanding\":false}")
 
+abbrev pub entered_text : Form → Kept → List ℕ
+entered_text form k = text_in form (codes "") (codes ",\"kept\":{") ++ identity_text form k.identity ++ running_text form k.running_number ++ train_text form k.train_data
+
+abbrev pub known_text : Form → Kept → List ℕ
+known_text form k = level_text form k.level ++ position_text form k.position ++ trip_text form k.trip_outstanding
+
 abbrev pub kept_text : Form → Kept → List ℕ
-kept_text form k =
-    text_in form (codes "") (codes ",\"kept\":{") ++ identity_text form k.identity ++ running_text form k.running_number ++ train_text form k.train_data
-    ++ level_text form k.level ++ position_text form k.position ++ trip_text form k.trip_outstanding
+kept_text form k = entered_text form k ++ known_text form k
 
 abbrev pub found_text : Form → Option Found → List ℕ
 found_text form None = text_in form (codes "") (codes ",\"kept\":null")

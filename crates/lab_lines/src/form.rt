@@ -1,7 +1,7 @@
 //! Forms of output, and what is told of the file.
-ghost use Rattle.std.specs.Prelude.{◌≡◌, OnOk};
+ghost use Rattle.std.specs.Prelude.{◌≡◌, decimal, OnOk};
 ghost use Rattle.std.specs.Io.KnownBytes.{Appends};
-ghost use Rattle.lab_lines.specs.Texts.{separator_text, number_text, text_in};
+ghost use Rattle.lab_lines.specs.Texts.{item_text, separator_text, number_text, text_in};
 
 use std::io;
 use std::io::Write;
@@ -37,6 +37,27 @@ pub(crate) fn write_either<W: Write>(
         Form::People => out.write_all(people.as_bytes()),
         Form::Json => out.write_all(json.as_bytes()),
     }
+}
+
+fn write_decimal<W: Write>(number: u64, out: &mut W) -> io::Result<()>
+    ensures { OnOk result (Appends (W.contents out.old) (W.contents out.new) (decimal number)) }
+{
+    write!(out, "{number}")
+}
+
+/// Writes a number behind one text for people, and behind another as JSON.
+pub(crate) fn write_item<W: Write>(
+    form: Form,
+    people: &str,
+    json: &str,
+    number: u64,
+    out: &mut W,
+) -> io::Result<()>
+    ensures { OnOk result (Appends (W.contents out.old) (W.contents out.new) (item_text form people.now json.now number)) }
+{
+    write_either(form, people, json, out)?;
+    write_decimal(number, out)?;
+    Ok(())
 }
 
 /// Writes the comma before an object of a list that isn't the first one.

@@ -3,7 +3,7 @@ ghost use Rattle.std.specs.Prelude.{◌≡◌, ◌≤◌, OnOk};
 ghost use Rattle.std.specs.Io.KnownBytes.{Appends};
 ghost use Rattle.lab_lines.specs.ImageLines.{behind_of, size_text, whole_text, digest_text, image_text};
 
-use crate::form::{FileFacts, Form, write_either, write_number};
+use crate::form::{FileFacts, Form, write_either, write_item, write_number};
 use examination::Survey;
 use std::io;
 use std::io::Write;
@@ -16,27 +16,22 @@ fn behind_of(bytes: u64, whole: u64) -> u64
     bytes.saturating_sub(512 * (1 + 6 * whole))
 }
 
-#[tactic(auto, unfolding(crate::specs::ImageLines::size_text))]
 fn write_size<W: Write>(form: Form, bytes: u64, sectors: u64, out: &mut W) -> io::Result<()>
     ensures { OnOk result (Appends (W.contents out.old) (W.contents out.new) (size_text form bytes sectors)) }
 {
-    match form {
-        Form::People => write!(out, "image bytes {bytes} sectors {sectors} slots "),
-        Form::Json => write!(
-            out,
-            "{{\"image\":{{\"bytes\":{bytes},\"sectors\":{sectors},\"slots\":"
-        ),
-    }
+    write_item(form, "image bytes ", "{\"image\":{\"bytes\":", bytes, out)?;
+    write_item(form, " sectors ", ",\"sectors\":", sectors, out)?;
+    write_either(form, " slots ", ",\"slots\":", out)?;
+    Ok(())
 }
 
-#[tactic(auto, unfolding(crate::specs::ImageLines::whole_text))]
 fn write_whole<W: Write>(form: Form, whole: u64, behind: u64, out: &mut W) -> io::Result<()>
     ensures { OnOk result (Appends (W.contents out.old) (W.contents out.new) (whole_text form whole behind)) }
 {
-    match form {
-        Form::People => writeln!(out, " whole {whole} bytes behind {behind}"),
-        Form::Json => write!(out, ",\"whole_slots\":{whole},\"bytes_behind\":{behind},"),
-    }
+    write_item(form, " whole ", ",\"whole_slots\":", whole, out)?;
+    write_item(form, " bytes behind ", ",\"bytes_behind\":", behind, out)?;
+    write_either(form, "\n", ",", out)?;
+    Ok(())
 }
 
 fn write_digest<W: Write>(form: Form, digest: &[u8; 64], out: &mut W) -> io::Result<()>

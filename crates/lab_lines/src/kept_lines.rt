@@ -1,7 +1,7 @@
 //! The lines of what a power-up would keep: identity, running number, the outstanding trip.
 ghost use Rattle.std.specs.Prelude.{◌≡◌, flat_map, OnOk};
 ghost use Rattle.std.specs.Io.KnownBytes.{Appends};
-ghost use Rattle.lab_lines.specs.KeptLines.{escaped, identity_bytes, identity_text, running_text, trip_text, kept_text, found_text};
+ghost use Rattle.lab_lines.specs.KeptLines.{escaped, identity_bytes, identity_text, running_text, trip_text, entered_text, known_text, kept_text, found_text};
 
 use crate::form::{Form, write_either};
 use crate::kept_values::{write_level, write_position, write_train};
@@ -92,16 +92,30 @@ fn write_trip<W: Write>(form: Form, outstanding: bool, out: &mut W) -> io::Resul
     }
 }
 
-fn write_kept<W: Write>(form: Form, kept: &Kept, out: &mut W) -> io::Result<()>
-    ensures { OnOk result (Appends (W.contents out.old) (W.contents out.new) (kept_text form kept.now)) }
+fn write_entered<W: Write>(form: Form, kept: &Kept, out: &mut W) -> io::Result<()>
+    ensures { OnOk result (Appends (W.contents out.old) (W.contents out.new) (entered_text form kept.now)) }
 {
     write_either(form, "", ",\"kept\":{", out)?;
     write_identity(form, kept, out)?;
     write_running(form, kept.running_number, out)?;
     write_train(form, kept.train_data, out)?;
+    Ok(())
+}
+
+fn write_known<W: Write>(form: Form, kept: &Kept, out: &mut W) -> io::Result<()>
+    ensures { OnOk result (Appends (W.contents out.old) (W.contents out.new) (known_text form kept.now)) }
+{
     write_level(form, kept.level, out)?;
     write_position(form, kept.position, out)?;
     write_trip(form, kept.trip_outstanding, out)?;
+    Ok(())
+}
+
+fn write_kept<W: Write>(form: Form, kept: &Kept, out: &mut W) -> io::Result<()>
+    ensures { OnOk result (Appends (W.contents out.old) (W.contents out.new) (kept_text form kept.now)) }
+{
+    write_entered(form, kept, out)?;
+    write_known(form, kept, out)?;
     Ok(())
 }
 

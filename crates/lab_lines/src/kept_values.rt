@@ -3,7 +3,7 @@ ghost use Rattle.std.specs.Prelude.{◌≡◌, ◌++◌, OnOk};
 ghost use Rattle.std.specs.Io.KnownBytes.{Appends};
 ghost use Rattle.lab_lines.specs.KeptLines.{train_size, train_brakes, train_known, train_text, level_known, level_text, group_text, distance_text, end_text, position_known, position_text};
 
-use crate::form::{Form, write_either};
+use crate::form::{Form, write_either, write_item};
 use driver::{Datum, TrainData};
 use events::Position;
 use mode_table::TrainLevel;
@@ -11,39 +11,41 @@ use std::io;
 use std::io::Write;
 use vars::Variable;
 
-#[tactic(auto, unfolding(crate::specs::KeptLines::train_size))]
 fn write_train_size<W: Write>(form: Form, train: &TrainData, out: &mut W) -> io::Result<()>
     ensures { OnOk result (Appends (W.contents out.old) (W.contents out.new) (train_size form train.now)) }
 {
     let length = train.length().get();
-    let maximum = train.maximum().get();
-    match form {
-        Form::People => write!(out, "kept train length {length} cm maximum {maximum} m/h"),
-        Form::Json => write!(
-            out,
-            ",\"train\":{{\"length_cm\":{length},\"maximum_m_per_h\":{maximum}"
-        ),
-    }
+    let maximum = u64::from(train.maximum().get());
+    write_item(
+        form,
+        "kept train length ",
+        ",\"train\":{\"length_cm\":",
+        length,
+        out,
+    )?;
+    write_item(form, " cm maximum ", ",\"maximum_m_per_h\":", maximum, out)?;
+    write_either(form, " m/h", "", out)?;
+    Ok(())
 }
 
-#[tactic(auto, unfolding(crate::specs::KeptLines::train_brakes))]
 fn write_train_brakes<W: Write>(form: Form, train: &TrainData, out: &mut W) -> io::Result<()>
     ensures { OnOk result (Appends (W.contents out.old) (W.contents out.new) (train_brakes form train.now)) }
 {
     let category = train.category().number();
     let brakes = train.brakes();
-    let deceleration = brakes.deceleration.get();
-    let reaction = brakes.reaction.get();
-    match form {
-        Form::People => writeln!(
-            out,
-            " category {category} deceleration {deceleration} cm/s2 reaction {reaction} ms"
-        ),
-        Form::Json => write!(
-            out,
-            ",\"category\":{category},\"deceleration_cm_per_s2\":{deceleration},\"reaction_ms\":{reaction}}}"
-        ),
-    }
+    let slowing = u64::from(brakes.deceleration.get());
+    let reaction = u64::from(brakes.reaction.get());
+    write_item(form, " category ", ",\"category\":", category, out)?;
+    write_item(
+        form,
+        " deceleration ",
+        ",\"deceleration_cm_per_s2\":",
+        slowing,
+        out,
+    )?;
+    write_item(form, " cm/s2 reaction ", ",\"reaction_ms\":", reaction, out)?;
+    write_either(form, " ms\n", "}", out)?;
+    Ok(())
 }
 
 fn write_known_train<W: Write>(form: Form, train: &TrainData, out: &mut W) -> io::Result<()>
@@ -110,23 +112,22 @@ pub(crate) fn write_level<W: Write>(
     }
 }
 
-#[tactic(auto, unfolding(crate::specs::KeptLines::group_text))]
 fn write_group<W: Write>(form: Form, place: &Position, out: &mut W) -> io::Result<()>
     ensures { OnOk result (Appends (W.contents out.old) (W.contents out.new) (group_text form place.now)) }
 {
     let group = place.group();
     let country = group.country.number();
     let number = group.number.number();
-    match form {
-        Form::People => write!(
-            out,
-            "kept position country {country} group {number} distance_cm "
-        ),
-        Form::Json => write!(
-            out,
-            ",\"position\":{{\"country\":{country},\"group\":{number},\"distance_cm\":"
-        ),
-    }
+    write_item(
+        form,
+        "kept position country ",
+        ",\"position\":{\"country\":",
+        country,
+        out,
+    )?;
+    write_item(form, " group ", ",\"group\":", number, out)?;
+    write_either(form, " distance_cm ", ",\"distance_cm\":", out)?;
+    Ok(())
 }
 
 #[tactic(auto, unfolding(crate::specs::KeptLines::distance_text))]

@@ -24,11 +24,15 @@ outcome_of r =
     codes ",\"level\":" ++ level_value r.level ++ codes ",\"brake\":\"" ++ brake_text r.brake ++ codes "\",\"indications\":"
     ++ decimal (number_of r.indications)
 
-unfoldable pub situation_of : Option Situation → List ℕ
+abbrev pub place_of : Situation → List ℕ
+place_of s = codes ",\"place_cm\":" ++ signed_decimal s.estimate
+
+unfoldable pub bounds_of : Situation → List ℕ
+bounds_of s = codes ",\"uncertainty_cm\":" ++ decimal s.uncertainty ++ codes ",\"limit_m_per_h\":" ++ decimal s.limit ++ codes "}"
+
+abbrev pub situation_of : Option Situation → List ℕ
 situation_of None = codes "}"
-situation_of (Some s) =
-    codes ",\"place_cm\":" ++ signed_decimal s.estimate ++ codes ",\"uncertainty_cm\":" ++ decimal s.uncertainty ++ codes ",\"limit_m_per_h\":"
-    ++ decimal s.limit ++ codes "}"
+situation_of (Some s) = place_of s ++ bounds_of s
 
 -- the whole object
 abbrev pub answer_of : BlockRecord → List ℕ

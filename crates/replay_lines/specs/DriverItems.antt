@@ -10,9 +10,12 @@ escaped_byte byte = if byte == 0x22 then codes "\\\"" else if byte == 0x5C then 
 abbrev pub escaped : List ℕ → List ℕ
 escaped text = flat_map escaped_byte text
 
-unfoldable pub identity_of : Option (List ℕ) → List ℕ
+abbrev pub identity_front : List ℕ → List ℕ
+identity_front text = codes ",\"identity\":\"" ++ escaped text
+
+abbrev pub identity_of : Option (List ℕ) → List ℕ
 identity_of None = codes ",\"identity\":null"
-identity_of (Some text) = codes ",\"identity\":\"" ++ escaped text ++ codes "\""
+identity_of (Some text) = identity_front text ++ codes "\""
 
 unfoldable pub running_number_of : Option ℕ → List ℕ
 running_number_of None = codes ",\"running_number\":null"

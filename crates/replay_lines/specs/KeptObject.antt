@@ -22,4 +22,4 @@ found_of k = level_of k.level ++ position_of k.position ++ national_of k.nationa
 
 -- the whole object
 abbrev pub kept_of : Kept → List ℕ
-kept_of k = counts_of k ++ entered_of k ++ found_of k ++ codes "}"
+kept_of k = counts_of k ++ entered_of k ++ found_of k

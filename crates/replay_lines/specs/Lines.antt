@@ -63,9 +63,14 @@ record_field Json field = codes ",\"replay\":\"record_differs\",\"field\":\"" ++
 abbrev pub record_front : Style → ℕ → ℕ → RecordField → BlockRecord → List ℕ
 record_front style life block field told = record_place style life block told.number ++ record_field style field ++ journal_text style
 
+abbrev pub told_record : Style → ℕ → ℕ → RecordField → BlockRecord → List ℕ
+told_record style life block field told = record_front style life block field told ++ answer_of told
+
+abbrev pub kernel_answer : Style → BlockRecord → List ℕ
+kernel_answer style answer = kernel_text style ++ answer_of answer ++ end_text style
+
 abbrev pub record_text : Style → ℕ → ℕ → RecordField → BlockRecord → BlockRecord → List ℕ
-record_text style life block field told answer =
-    record_front style life block field told ++ answer_of told ++ kernel_text style ++ answer_of answer ++ end_text style
+record_text style life block field told answer = told_record style life block field told ++ kernel_answer style answer
 
 -- a head differs
 unfoldable pub head_place : Style → ℕ → ℕ → List ℕ
@@ -79,8 +84,14 @@ head_field Json field = codes ",\"replay\":\"head_differs\",\"field\":\"" ++ kep
 abbrev pub head_front : Style → ℕ → ℕ → KeptField → List ℕ
 head_front style life block field = head_place style life block ++ head_field style field ++ journal_text style
 
+abbrev pub told_head : Style → ℕ → ℕ → KeptField → Kept → List ℕ
+told_head style life block field told = head_front style life block field ++ kept_of told
+
+abbrev pub kernel_kept : Style → Kept → List ℕ
+kernel_kept style kept = kernel_text style ++ kept_of kept ++ end_text style
+
 abbrev pub head_text : Style → ℕ → ℕ → KeptField → Kept → Kept → List ℕ
-head_text style life block field told kept = head_front style life block field ++ kept_of told ++ kernel_text style ++ kept_of kept ++ end_text style
+head_text style life block field told kept = told_head style life block field told ++ kernel_kept style kept
 
 -- a block can't be read
 unfoldable pub unreadable_text : Style → ℕ → List ℕ

@@ -24,10 +24,14 @@ override_of v =
     codes ",\"override_allowed_m_per_h\":" ++ decimal v.override_allowed ++ codes ",\"override_speed_m_per_h\":" ++ decimal v.override_speed
     ++ codes ",\"override_distance_cm\":" ++ decimal v.override_distance
 
+abbrev pub override_time_of : Values → List ℕ
+override_time_of v = codes ",\"override_time_ms\":" ++ ending_of v.override_time
+
+abbrev pub staff_distance_of : Values → List ℕ
+staff_distance_of v = codes ",\"staff_responsible_distance_cm\":" ++ ending_of v.staff_responsible_distance
+
 abbrev pub ends_of : Values → List ℕ
-ends_of v =
-    codes ",\"override_time_ms\":" ++ ending_of v.override_time ++ codes ",\"staff_responsible_distance_cm\":"
-    ++ ending_of v.staff_responsible_distance
+ends_of v = override_time_of v ++ staff_distance_of v
 
 abbrev pub values_of : Values → List ℕ
 values_of v = speeds_of v ++ rest_of v ++ override_of v ++ ends_of v
@@ -40,6 +44,12 @@ abbrev pub countries_of : List ℕ → List ℕ
 countries_of [] = []
 countries_of (first ∷ rest) = decimal first ++ flat_map country_of rest
 
+abbrev pub named_values : Values → List ℕ
+named_values v = codes ",\"national_values\":" ++ values_of v
+
+abbrev pub named_countries : List ℕ → List ℕ
+named_countries countries = codes "},\"countries\":[" ++ countries_of countries
+
+-- with the end of the object that they stand in
 abbrev pub national_of : ValuesFor → List ℕ
-national_of national =
-    codes ",\"national_values\":" ++ values_of national.values ++ codes "},\"countries\":[" ++ countries_of national.countries ++ codes "]"
+national_of national = named_values national.values ++ named_countries national.countries ++ codes "]}"

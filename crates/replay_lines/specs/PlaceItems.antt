@@ -19,7 +19,7 @@ level_of (Invalid level) = level_known level ++ codes ",\"status\":\"invalid\"}"
 unfoldable pub group_of : PositionFrom → List ℕ
 group_of p = codes ",\"position\":{\"country\":" ++ decimal p.group.country ++ codes ",\"group\":" ++ decimal p.group.number
 
-unfoldable pub distance_of : PositionFrom → List ℕ
+abbrev pub distance_of : PositionFrom → List ℕ
 distance_of p = codes ",\"distance_cm\":" ++ signed_decimal p.distance
 
 abbrev pub position_of : Datum PositionFrom → List ℕ

@@ -1,4 +1,7 @@
 //! Errors.
+ghost use Rattle.std.specs.Prelude.{◌≡◌, false};
+ghost use Rattle.replay_lines.specs.Replays.{is_device};
+
 use std::io;
 use std::io::ErrorKind;
 use thiserror::Error;
@@ -24,7 +27,9 @@ pub enum ReplayError {
 }
 
 /// An error of the writer.
-pub(crate) fn writing_error(error: &io::Error) -> ReplayError {
+pub(crate) fn writing_error(error: &io::Error) -> ReplayError
+    ensures { is_device result ≡ false }
+{
     match error.kind() {
         ErrorKind::OutOfMemory => ReplayError::NoMemory,
         _ => ReplayError::Write,

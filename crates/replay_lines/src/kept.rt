@@ -43,7 +43,7 @@ fn write_entered<W: Write>(kept: &Kept, out: &mut W) -> io::Result<()>
     Ok(())
 }
 
-// Of the track.
+// Of the track, and the end of the object.
 fn write_found<W: Write>(kept: &Kept, out: &mut W) -> io::Result<()>
     ensures { OnOk result (Appends (W.contents out.old) (W.contents out.new) (found_of kept.now)) }
 {
@@ -60,6 +60,5 @@ pub(crate) fn write_kept<W: Write>(kept: &Kept, out: &mut W) -> io::Result<()>
     write_counts(kept, out)?;
     write_entered(kept, out)?;
     write_found(kept, out)?;
-    out.write_all(b"}")?;
     Ok(())
 }

@@ -10,6 +10,7 @@ mod errors;
 mod kept;
 mod lines;
 mod national_items;
+mod numbers;
 mod place_items;
 mod reports;
 mod steps;

@@ -1,7 +1,8 @@
 //! National values with their countries, as members of a JSON object.
 ghost use Rattle.std.specs.Prelude.{OnOk, flat_map};
 ghost use Rattle.std.specs.Io.KnownBytes.{Appends};
-ghost use Rattle.replay_lines.specs.NationalItems.{ending_of, speeds_of, rest_of, override_of, ends_of, values_of, country_of, countries_of, national_of};
+ghost use Rattle.replay_lines.specs.NationalItems.{ending_of, speeds_of, rest_of, override_of, override_time_of, staff_distance_of, ends_of, values_of};
+ghost use Rattle.replay_lines.specs.NationalItems.{country_of, countries_of, named_values, named_countries, national_of};
 
 use national::{CountryValues, OverrideDuration, StaffResponsibleDistance, Values};
 use std::io;
@@ -81,14 +82,30 @@ fn write_override<W: Write>(values: &Values, out: &mut W) -> io::Result<()>
     )
 }
 
+// How long the override lasts at most.
+fn write_override_time<W: Write>(values: &Values, out: &mut W) -> io::Result<()>
+    ensures { OnOk result (Appends (W.contents out.old) (W.contents out.new) (override_time_of values.now)) }
+{
+    out.write_all(b",\"override_time_ms\":")?;
+    write_time(values.override_time, out)?;
+    Ok(())
+}
+
+// How far the train may run in Staff Responsible.
+fn write_staff_distance<W: Write>(values: &Values, out: &mut W) -> io::Result<()>
+    ensures { OnOk result (Appends (W.contents out.old) (W.contents out.new) (staff_distance_of values.now)) }
+{
+    out.write_all(b",\"staff_responsible_distance_cm\":")?;
+    write_distance(values.staff_responsible_distance, out)?;
+    Ok(())
+}
+
 // What may have no end.
 fn write_ends<W: Write>(values: &Values, out: &mut W) -> io::Result<()>
     ensures { OnOk result (Appends (W.contents out.old) (W.contents out.new) (ends_of values.now)) }
 {
-    out.write_all(b",\"override_time_ms\":")?;
-    write_time(values.override_time, out)?;
-    out.write_all(b",\"staff_responsible_distance_cm\":")?;
-    write_distance(values.staff_responsible_distance, out)?;
+    write_override_time(values, out)?;
+    write_staff_distance(values, out)?;
     Ok(())
 }
 
@@ -131,14 +148,28 @@ fn write_countries<W: Write>(countries: &[Country], out: &mut W) -> io::Result<(
     Ok(())
 }
 
-/// Writes the national values and the countries that they are for.
+fn write_named_values<W: Write>(values: &Values, out: &mut W) -> io::Result<()>
+    ensures { OnOk result (Appends (W.contents out.old) (W.contents out.new) (named_values values.now)) }
+{
+    out.write_all(b",\"national_values\":")?;
+    write_values(values, out)?;
+    Ok(())
+}
+
+fn write_named_countries<W: Write>(countries: &[Country], out: &mut W) -> io::Result<()>
+    ensures { OnOk result (Appends (W.contents out.old) (W.contents out.new) (named_countries countries.now)) }
+{
+    out.write_all(b"},\"countries\":[")?;
+    write_countries(countries, out)?;
+    Ok(())
+}
+
+/// Writes the national values and the countries that they are for, and the end of the object.
 pub(crate) fn write_national<W: Write>(national: &CountryValues, out: &mut W) -> io::Result<()>
     ensures { OnOk result (Appends (W.contents out.old) (W.contents out.new) (national_of national.now)) }
 {
-    out.write_all(b",\"national_values\":")?;
-    write_values(national.values(), out)?;
-    out.write_all(b"},\"countries\":[")?;
-    write_countries(national.countries(), out)?;
-    out.write_all(b"]")?;
+    write_named_values(national.values(), out)?;
+    write_named_countries(national.countries(), out)?;
+    out.write_all(b"]}")?;
     Ok(())
 }

@@ -3,6 +3,7 @@ ghost use Rattle.std.specs.Prelude.{OnOk};
 ghost use Rattle.std.specs.Io.KnownBytes.{Appends};
 ghost use Rattle.replay_lines.specs.PlaceItems.{level_known, level_of, group_of, distance_of, position_of};
 
+use crate::numbers::write_signed;
 use driver::Datum;
 use events::Position;
 use mode_table::TrainLevel;
@@ -52,12 +53,12 @@ fn write_group<W: Write>(position: &Position, out: &mut W) -> io::Result<()>
     )
 }
 
-#[tactic(auto, unfolding(crate::specs::PlaceItems::distance_of))]
 fn write_distance<W: Write>(position: &Position, out: &mut W) -> io::Result<()>
     ensures { OnOk result (Appends (W.contents out.old) (W.contents out.new) (distance_of position.now)) }
 {
-    let distance = position.distance().get();
-    write!(out, ",\"distance_cm\":{distance}")
+    out.write_all(b",\"distance_cm\":")?;
+    write_signed(position.distance().get(), out)?;
+    Ok(())
 }
 
 /// Writes the position, with its status.

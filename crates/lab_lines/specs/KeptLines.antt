@@ -2,6 +2,7 @@
 -- per hour, times milliseconds.
 use Rattle.std.specs.Prelude.{ℕ, ◌++◌, ◌==◌, Bool, true, false, if◌then◌else◌, List, [], ◌∷◌, flat_map, codes, decimal, Option, Some, None}
 use Rattle.std.specs.Fmt.{signed_decimal}
+use Rattle.brakes.specs.declared.brakes.Brakes.{Brakes}
 use Rattle.driver.specs.Limits.{Train}
 use Rattle.driver.specs.declared.datum.Datum.{Datum}
 use Rattle.driver.specs.declared.datum.Datum.TheVariants as a_datum
@@ -37,10 +38,13 @@ train_size form t =
     item_text form (codes "kept train length ") (codes ",\"train\":{\"length_cm\":") t.length ++ item_text form (codes " cm maximum ") (codes ",\"maximum_m_per_h\":") t.maximum
     ++ text_in form (codes " m/h") (codes "")
 
+abbrev pub brakes_text : Form → Brakes → List ℕ
+brakes_text form b =
+    item_text form (codes " deceleration ") (codes ",\"deceleration_cm_per_s2\":") b.deceleration
+    ++ item_text form (codes " cm/s2 reaction ") (codes ",\"reaction_ms\":") b.reaction ++ text_in form (codes " ms\n") (codes "}")
+
 abbrev pub train_brakes : Form → Train → List ℕ
-train_brakes form t =
-    item_text form (codes " category ") (codes ",\"category\":") t.category ++ item_text form (codes " deceleration ") (codes ",\"deceleration_cm_per_s2\":") t.brakes.deceleration
-    ++ item_text form (codes " cm/s2 reaction ") (codes ",\"reaction_ms\":") t.brakes.reaction ++ text_in form (codes " ms\n") (codes "}")
+train_brakes form t = item_text form (codes " category ") (codes ",\"category\":") t.category ++ brakes_text form t.brakes
 
 abbrev pub train_known : Form → Train → List ℕ
 train_known form t = train_size form t ++ train_brakes form t

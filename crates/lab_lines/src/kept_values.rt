@@ -1,9 +1,10 @@
 //! The lines of what a power-up would keep: train data, level and position.
 ghost use Rattle.std.specs.Prelude.{◌≡◌, ◌++◌, OnOk};
 ghost use Rattle.std.specs.Io.KnownBytes.{Appends};
-ghost use Rattle.lab_lines.specs.KeptLines.{train_size, train_brakes, train_known, train_text, level_known, level_text, group_text, distance_text, end_text, position_known, position_text};
+ghost use Rattle.lab_lines.specs.KeptLines.{train_size, brakes_text, train_brakes, train_known, train_text, level_known, level_text, group_text, distance_text, end_text, position_known, position_text};
 
 use crate::form::{Form, write_either, write_item};
+use brakes::Brakes;
 use driver::{Datum, TrainData};
 use events::Position;
 use mode_table::TrainLevel;
@@ -28,14 +29,11 @@ fn write_train_size<W: Write>(form: Form, train: &TrainData, out: &mut W) -> io:
     Ok(())
 }
 
-fn write_train_brakes<W: Write>(form: Form, train: &TrainData, out: &mut W) -> io::Result<()>
-    ensures { OnOk result (Appends (W.contents out.old) (W.contents out.new) (train_brakes form train.now)) }
+fn write_brakes<W: Write>(form: Form, brakes: Brakes, out: &mut W) -> io::Result<()>
+    ensures { OnOk result (Appends (W.contents out.old) (W.contents out.new) (brakes_text form brakes)) }
 {
-    let category = train.category().number();
-    let brakes = train.brakes();
     let slowing = u64::from(brakes.deceleration.get());
     let reaction = u64::from(brakes.reaction.get());
-    write_item(form, " category ", ",\"category\":", category, out)?;
     write_item(
         form,
         " deceleration ",
@@ -45,6 +43,15 @@ fn write_train_brakes<W: Write>(form: Form, train: &TrainData, out: &mut W) -> i
     )?;
     write_item(form, " cm/s2 reaction ", ",\"reaction_ms\":", reaction, out)?;
     write_either(form, " ms\n", "}", out)?;
+    Ok(())
+}
+
+fn write_train_brakes<W: Write>(form: Form, train: &TrainData, out: &mut W) -> io::Result<()>
+    ensures { OnOk result (Appends (W.contents out.old) (W.contents out.new) (train_brakes form train.now)) }
+{
+    let category = train.category().number();
+    write_item(form, " category ", ",\"category\":", category, out)?;
+    write_brakes(form, train.brakes(), out)?;
     Ok(())
 }
 

@@ -3,8 +3,8 @@
 #![tactic(auto)]
 
 mod digest;
-mod events;
 mod help;
+mod listed;
 mod program;
 mod replayed;
 mod running;

@@ -1,8 +1,8 @@
 //! The words of the program, and what they ask.
 
 use crate::digest::facts_of;
-use crate::events::{events_told, events_words};
 use crate::help::HELP;
+use crate::listed::{events_told, events_words};
 use crate::replayed::replayed;
 use clap::{Arg, ArgAction, ArgMatches, Command, Error};
 use file_disk::FileDisk;

@@ -17,7 +17,7 @@ from images import MARKUP, example_images, random_images, worked_images  # noqa:
 from told import Refused, told  # noqa: E402
 
 RINGS, SEED = 300, 41
-LEAST_LINES, LEAST_IMAGES = 20_000, 700
+LEAST_LINES, LEAST_IMAGES = 19_000, 700
 # Each image is told with and without the other blocks; of the damaged forms of an image each so many.
 EACH = 5
 

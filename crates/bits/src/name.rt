@@ -1,4 +1,6 @@
 //! Names for the fields of a layout: the variables of SUBSET-026, 7.5, and their text.
+ghost use Rattle.std.specs.Prelude.{◌≡◌};
+ghost use Rattle.bits.specs.Names.{name_text};
 
 /// The variables of the language (SUBSET-026, 7.5), by which the fields of a layout are named.
 #[derive(Clone, Copy)]
@@ -150,8 +152,10 @@ pub enum VariableName {
 }
 
 impl VariableName {
-    /// The name as the language writes it.
-    pub fn text(self) -> &'static str {
+    /// The name as the language writes it (SUBSET-026, 7.5.1).
+    pub fn text(self) -> &'static str
+        ensures { result.now ≡ name_text self }
+    {
         match self {
             VariableName::QUpdown => "Q_UPDOWN",
             VariableName::MVersion => "M_VERSION",

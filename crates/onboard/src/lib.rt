@@ -21,6 +21,7 @@ pub use laws::{
     commands_emergency_until_revalidated, forgets_across, formatted_is_ready, images_are_endless,
     lives_compose, one_cause, others_have_room, releases_stay, stands_by,
 };
+pub use life::{power_up_record, recorded};
 pub use living::{live, live_into};
 pub use onboard::Onboard;
 pub use released::Released;

@@ -7,7 +7,7 @@ use Rattle.packets.specs.Packets.{length_of, number_of, packet_taken}
 use Rattle.packets.specs.declared.packet.Packet.{Packet}
 use Rattle.telegram.specs.Telegrams.{header}
 use Rattle.telegram.specs.declared.header.Header.{Header}
-use Rattle.record_objects.specs.Names.{name_text}
+use Rattle.bits.specs.Names.{name_text}
 use Rattle.record_objects.specs.declared.fields.NamedNumber.{NamedNumber}
 
 -- Fields with one more behind them. Bits that are skipped are no field, nor is what has no bits.

@@ -4,7 +4,6 @@ ghost use Rattle.std.specs.Io.KnownBytes.{Appends};
 ghost use Rattle.record_objects.specs.Fields.{member_of, pair_of};
 ghost use Rattle.record_objects.specs.Joining.{joined, behind_comma};
 
-use crate::names::name_word;
 use arrayvec::ArrayVec;
 use bits::{Run, VariableName};
 use packets::FieldSink;
@@ -68,7 +67,7 @@ impl FieldSink for FieldList {
 fn write_member<W: Write>(field: &NamedNumber, out: &mut W) -> io::Result<()>
     ensures { OnOk result (Appends (W.contents out.old) (W.contents out.new) (member_of field.now)) }
 {
-    let name = name_word(field.name);
+    let name = field.name.text();
     let number = field.number;
     write!(out, "\"{name}\":{number}")
 }
@@ -106,7 +105,7 @@ pub(crate) fn write_members<W: Write>(fields: &[NamedNumber], out: &mut W) -> io
 fn write_pair<W: Write>(field: &NamedNumber, out: &mut W) -> io::Result<()>
     ensures { OnOk result (Appends (W.contents out.old) (W.contents out.new) (pair_of field.now)) }
 {
-    let name = name_word(field.name);
+    let name = field.name.text();
     let number = field.number;
     write!(out, "[\"{name}\",{number}]")
 }

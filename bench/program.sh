@@ -9,20 +9,36 @@ program=$top/crates/etcs/out/etcs
 room=$(mktemp -d) || exit 1
 trap 'rm -rf "$room"' EXIT
 exec python3 - "$program" "$room" "${1:-100000}" <<'P'
-import json, os, subprocess, sys, time
+import json, os, subprocess, sys, threading, time
 
 program, room, count = sys.argv[1], sys.argv[2], int(sys.argv[3])
 os.chdir(room)
 
 
+def watch(process, seen):
+    """Notes the most memory that a process held, in kB, until it ends. (What a parent is told behind its end counts the parent's own.)"""
+    while True:
+        try:
+            held = [line.split()[1] for line in open(f"/proc/{process}/status") if line.startswith("VmHWM:")]
+        except OSError:
+            return
+        if not held:
+            return
+        seen.append(int(held[0]))
+        time.sleep(0.01)
+
+
 def measured(*words):
-    start = time.monotonic()
+    start, seen = time.monotonic(), []
     with open("out", "wb") as out:
         ran = subprocess.Popen([program, *words], stdout=out)
-        _, status, used = os.wait4(ran.pid, 0)
+        watcher = threading.Thread(target=watch, args=(ran.pid, seen))
+        watcher.start()
+        status = ran.wait()
+    seconds = time.monotonic() - start
+    watcher.join()
     lines = sum(1 for _ in open("out"))
-    print(f"etcs {' '.join(words)}: status {os.waitstatus_to_exitcode(status)}, {lines} lines, {time.monotonic() - start:.1f} s, "
-          f"{used.ru_maxrss // 1024} MB at most")
+    print(f"etcs {' '.join(words)}: status {status}, {lines} lines, {seconds:.1f} s, {max(seen) / 1024:.0f} MB at most")
 
 
 def scenario(name, steps):

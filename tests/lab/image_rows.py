@@ -14,6 +14,7 @@ import random
 import subprocess
 import sys
 import tempfile
+import threading
 import time
 from pathlib import Path
 
@@ -321,13 +322,31 @@ def compare_words(program, room, compared):
     compared.same("the file after all", good.read_bytes() == image, True)
 
 
+def watch_memory(process, seen):
+    """Notes the most memory that a process held, in kB, until it ends. (What a parent is told behind its end counts the parent's own.)"""
+    while True:
+        try:
+            status = Path(f"/proc/{process}/status").read_text()
+        except OSError:
+            return
+        held = [line.split()[1] for line in status.splitlines() if line.startswith("VmHWM:")]
+        if not held:
+            return
+        seen.append(int(held[0]))
+        time.sleep(0.01)
+
+
 def timed(words):
     """Seconds, megabytes at most, the status and what was printed of a program."""
-    before = time.monotonic()
+    before, seen = time.monotonic(), []
     child = subprocess.Popen(words, stdout=subprocess.PIPE, stdin=subprocess.DEVNULL)
+    watcher = threading.Thread(target=watch_memory, args=(child.pid, seen))
+    watcher.start()
     printed = child.stdout.read()
-    _, status, usage = os.wait4(child.pid, 0)
-    return time.monotonic() - before, usage.ru_maxrss / 1024, os.waitstatus_to_exitcode(status), printed.decode()
+    status = child.wait()
+    seconds = time.monotonic() - before
+    watcher.join()
+    return seconds, max(seen) / 1024, status, printed.decode()
 
 
 def big_journal(path, slots, newest):
@@ -365,6 +384,24 @@ def compare_big(program, etcs, room, compared):
         seconds, most, status, printed = timed([etcs, "journal", str(full_one)])
         compared.same("100,000 events listed", (printed.count("\n"), status), (100_000, 0))
         print(f"etcs journal of it: {seconds:.2f} s, {most:.0f} MB")
+    seconds, most, status, printed = timed([program, "events", str(full_one)])
+    lines = printed.splitlines()
+    compared.same("100,000 events as JSON", (len(lines), lines[0], lines[-1], status),
+                  (100_002, '{"image":{"sectors":75001,"slots":12500,"first_block":7501,"newest_block":20000}}', '{"end":"done"}', 0))
+    print(f"etcs_lab events of it: {seconds:.2f} s, {most:.0f} MB")
+    if etcs:
+        compare_long_life(program, etcs, room, compared)
+
+
+def compare_long_life(program, etcs, room, compared):
+    """A life of 100,000 moments of the clock, run again."""
+    scenario, image = room / "moments", room / "life"
+    scenario.write_text(json.dumps({"groups": [], "steps": [{"clock": moment} for moment in range(100_000)]}))
+    subprocess.run([etcs, "format", str(image), "12502"], check=True, stdout=subprocess.DEVNULL)
+    subprocess.run([etcs, "run", str(scenario), str(image)], check=True, stdout=subprocess.DEVNULL)
+    seconds, most, status, printed = timed([program, "replay", str(image)])
+    compared.same("100,000 events run again", (printed, status), ("life 1 events 0..100000 agree\nnothing differs\n", 0))
+    print(f"etcs_lab replay of a life of 100,000 events: {seconds:.2f} s, {most:.0f} MB")
 
 
 def lay_cases(folder):

@@ -1,27 +1,25 @@
--- The line of an image as a whole (this project's profile).
-use Rattle.std.specs.Prelude.{ℕ, ◌+◌, ◌-◌, ◌*◌, ◌++◌, List, codes}
+-- The lines of an image as a whole (this project's profile). As JSON the list of its slots begins behind them.
+use Rattle.std.specs.Prelude.{ℕ, ◌+◌, ◌-◌, ◌*◌, ◌++◌, List, [], ◌∷◌, codes, decimal}
 use Rattle.examination.specs.declared.survey.Survey.{Survey}
-use Rattle.lab_lines.specs.Texts.{text_in, item_text, number_text}
-use Rattle.lab_lines.specs.declared.form.FileFacts.{FileFacts}
-use Rattle.lab_lines.specs.declared.form.Form.{Form}
+use Rattle.pieces.specs.Pieces.{text_in, known_text, joined}
+use Rattle.pieces.specs.declared.piece.Form.{Form}
+use Rattle.lab_lines.specs.declared.file_facts.FileFacts.{FileFacts}
 
 -- how many bytes lie behind the last whole slot
 abbrev pub behind_of : ℕ → ℕ → ℕ
 behind_of bytes whole = bytes - 512 * (1 + 6 * whole)
 
-abbrev pub size_text : Form → ℕ → ℕ → List ℕ
-size_text form bytes sectors =
-    item_text form (codes "image bytes ") (codes "{\"image\":{\"bytes\":") bytes ++ item_text form (codes " sectors ") (codes ",\"sectors\":") sectors
-    ++ text_in form (codes " slots ") (codes ",\"slots\":")
+abbrev pub size_text : Form → ℕ → Survey → List ℕ
+size_text form bytes it = joined (
+    text_in form (codes "image bytes ") (codes "{\"image\":{\"bytes\":") ∷ decimal bytes
+    ∷ text_in form (codes " sectors ") (codes ",\"sectors\":") ∷ decimal it.sectors
+    ∷ text_in form (codes " slots ") (codes ",\"slots\":") ∷ known_text form it.slots
+    ∷ text_in form (codes " whole ") (codes ",\"whole_slots\":") ∷ decimal it.whole
+    ∷ text_in form (codes " bytes behind ") (codes ",\"bytes_behind\":") ∷ decimal (behind_of bytes it.whole)
+    ∷ text_in form (codes "\nsha256 ") (codes ",\"sha256\":\"") ∷ [])
 
-abbrev pub whole_text : Form → ℕ → ℕ → List ℕ
-whole_text form whole behind =
-    item_text form (codes " whole ") (codes ",\"whole_slots\":") whole ++ item_text form (codes " bytes behind ") (codes ",\"bytes_behind\":") behind
-    ++ text_in form (codes "\n") (codes ",")
-
-abbrev pub digest_text : Form → List ℕ → List ℕ
-digest_text form digest = text_in form (codes "sha256 ") (codes "\"sha256\":\"") ++ digest ++ text_in form (codes "\n") (codes "\"}")
+abbrev pub digest_end : Form → List ℕ
+digest_end form = joined (text_in form (codes "\n") (codes "\"},\"slots\":[") ∷ [])
 
 abbrev pub image_text : Form → FileFacts → Survey → List ℕ
-image_text form file it =
-    size_text form file.bytes it.sectors ++ number_text form it.slots ++ whole_text form it.whole (behind_of file.bytes it.whole) ++ digest_text form file.digest
+image_text form file it = size_text form file.bytes it ++ file.digest ++ digest_end form

@@ -1,5 +1,5 @@
--- The words of states, fields, formats and truths (this project's profile; docs/FORMAT.md).
-use Rattle.std.specs.Prelude.{ℕ, Bool, true, false, List, codes}
+-- The words of states and fields, and the numbers of formats (this project's profile; docs/FORMAT.md).
+use Rattle.std.specs.Prelude.{ℕ, List, codes}
 use Rattle.blocks.specs.declared.format.Format.{Format}
 use Rattle.blocks.specs.declared.format.Format.TheVariants.{One, Two, Three}
 use Rattle.examination.specs.declared.fields.FieldName.{FieldName}
@@ -21,10 +21,6 @@ abbrev pub format_number : Format → ℕ
 format_number One = 1
 format_number Two = 2
 format_number Three = 3
-
-abbrev pub truth_text : Bool → List ℕ
-truth_text true = codes "true"
-truth_text false = codes "false"
 
 abbrev pub field_text : FieldName → List ℕ
 field_text a_field.Mark = codes "mark"

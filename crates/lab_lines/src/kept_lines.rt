@@ -1,13 +1,14 @@
-//! The lines of what a power-up would keep: identity, running number, the outstanding trip.
+//! The lines of what a power-up would keep.
 ghost use Rattle.std.specs.Prelude.{◌≡◌, flat_map, OnOk};
 ghost use Rattle.std.specs.Io.KnownBytes.{Appends};
-ghost use Rattle.lab_lines.specs.KeptLines.{escaped, identity_bytes, identity_text, running_text, trip_text, entered_text, known_text, kept_text, found_text};
+ghost use Rattle.lab_lines.specs.KeptLines.{escaped, identity_text, entered_text, known_text, kept_text, found_text};
 
-use crate::form::{Form, write_either};
-use crate::kept_values::{write_level, write_position, write_train};
-use driver::{DriverIdentity, RunningNumber};
+use crate::kept_values::{
+    level_pieces, position_pieces, running_pieces, train_pieces, trip_pieces,
+};
 use events::Kept;
 use journal::Found;
+use pieces::{Form, Piece, write_pieces};
 use std::io;
 use std::io::Write;
 
@@ -32,91 +33,40 @@ fn write_characters<W: Write>(form: Form, bytes: &[u8], out: &mut W) -> io::Resu
     Ok(())
 }
 
-fn write_known_identity<W: Write>(
-    form: Form,
-    identity: &DriverIdentity,
-    out: &mut W,
-) -> io::Result<()>
-    ensures { OnOk result (Appends (W.contents out.old) (W.contents out.new) (identity_bytes form identity.now)) }
-{
-    write_either(form, "kept identity \"", "\"identity\":\"", out)?;
-    write_characters(form, identity.bytes(), out)?;
-    write_either(form, "\"\n", "\"", out)?;
-    Ok(())
-}
-
 fn write_identity<W: Write>(form: Form, kept: &Kept, out: &mut W) -> io::Result<()>
     ensures { OnOk result (Appends (W.contents out.old) (W.contents out.new) (identity_text form kept.now.identity)) }
 {
-    match &kept.identity {
-        Some(identity) => write_known_identity(form, identity, out),
-        None => write_either(form, "kept identity none\n", "\"identity\":null", out),
-    }
-}
-
-#[tactic(auto, unfolding(crate::specs::KeptLines::running_text))]
-fn write_running<W: Write>(form: Form, number: Option<RunningNumber>, out: &mut W) -> io::Result<()>
-    ensures { OnOk result (Appends (W.contents out.old) (W.contents out.new) (running_text form number)) }
-{
-    match (form, number) {
-        (Form::People, Some(number)) => {
-            let number = number.get();
-            writeln!(out, "kept running number {number}")
-        }
-        (Form::Json, Some(number)) => {
-            let number = number.get();
-            write!(out, ",\"running_number\":{number}")
-        }
-        (Form::People, None) => out.write_all(b"kept running number none\n"),
-        (Form::Json, None) => out.write_all(b",\"running_number\":null"),
-    }
-}
-
-fn write_trip<W: Write>(form: Form, outstanding: bool, out: &mut W) -> io::Result<()>
-    ensures { OnOk result (Appends (W.contents out.old) (W.contents out.new) (trip_text form outstanding)) }
-{
-    if outstanding {
-        write_either(
-            form,
-            "kept trip outstanding\n",
-            ",\"trip_outstanding\":true}",
-            out,
-        )
-    } else {
-        write_either(
-            form,
-            "kept no trip outstanding\n",
-            ",\"trip_outstanding\":false}",
-            out,
-        )
-    }
+    let Some(identity) = &kept.identity else {
+        let none = Piece::Text("kept identity none\n", ",\"kept\":{\"identity\":null");
+        return write_pieces(form, &[none], out);
+    };
+    let front = Piece::Text("kept identity \"", ",\"kept\":{\"identity\":\"");
+    write_pieces(form, &[front], out)?;
+    write_characters(form, identity.bytes(), out)?;
+    write_pieces(form, &[Piece::Text("\"\n", "\"")], out)
 }
 
 fn write_entered<W: Write>(form: Form, kept: &Kept, out: &mut W) -> io::Result<()>
     ensures { OnOk result (Appends (W.contents out.old) (W.contents out.new) (entered_text form kept.now)) }
 {
-    write_either(form, "", ",\"kept\":{", out)?;
     write_identity(form, kept, out)?;
-    write_running(form, kept.running_number, out)?;
-    write_train(form, kept.train_data, out)?;
-    Ok(())
+    write_pieces(form, &running_pieces(kept.running_number), out)?;
+    write_pieces(form, &train_pieces(kept.train_data), out)
 }
 
 fn write_known<W: Write>(form: Form, kept: &Kept, out: &mut W) -> io::Result<()>
     ensures { OnOk result (Appends (W.contents out.old) (W.contents out.new) (known_text form kept.now)) }
 {
-    write_level(form, kept.level, out)?;
-    write_position(form, kept.position, out)?;
-    write_trip(form, kept.trip_outstanding, out)?;
-    Ok(())
+    write_pieces(form, &level_pieces(kept.level), out)?;
+    write_pieces(form, &position_pieces(kept.position), out)?;
+    write_pieces(form, &trip_pieces(kept.trip_outstanding), out)
 }
 
 fn write_kept<W: Write>(form: Form, kept: &Kept, out: &mut W) -> io::Result<()>
     ensures { OnOk result (Appends (W.contents out.old) (W.contents out.new) (kept_text form kept.now)) }
 {
     write_entered(form, kept, out)?;
-    write_known(form, kept, out)?;
-    Ok(())
+    write_known(form, kept, out)
 }
 
 /// Writes what a power-up would keep, if there is a block that it finds. The error is that of a write.
@@ -129,6 +79,6 @@ pub(crate) fn write_found<W: Write>(
 {
     match found {
         Some(found) => write_kept(form, &found.kept, out),
-        None => write_either(form, "", ",\"kept\":null", out),
+        None => write_pieces(form, &[Piece::Text("", ",\"kept\":null")], out),
     }
 }

@@ -1,175 +1,137 @@
-//! The lines of what a power-up would keep: train data, level and position.
-ghost use Rattle.std.specs.Prelude.{◌≡◌, ◌++◌, OnOk};
-ghost use Rattle.std.specs.Io.KnownBytes.{Appends};
-ghost use Rattle.lab_lines.specs.KeptLines.{train_size, brakes_text, train_brakes, train_known, train_text, level_known, level_text, group_text, distance_text, end_text, position_known, position_text};
+//! The texts of what a power-up would keep: running number, train data, level, position and the outstanding trip.
+ghost use Rattle.std.specs.Prelude.{◌≡◌, Some};
+ghost use Rattle.pieces.specs.Pieces.{text_of, texts};
+ghost use Rattle.pieces.specs.declared.piece.Form.{Form as a_form};
+ghost use Rattle.lab_lines.specs.KeptLines.{running_text, train_text, level_known, level_text, end_text, position_known, position_text, trip_text};
 
-use crate::form::{Form, write_either, write_item};
-use brakes::Brakes;
-use driver::{Datum, TrainData};
+use driver::{Datum, RunningNumber, TrainData};
 use events::Position;
 use mode_table::TrainLevel;
-use std::io;
-use std::io::Write;
+use pieces::Piece;
 use vars::Variable;
 
-fn write_train_size<W: Write>(form: Form, train: &TrainData, out: &mut W) -> io::Result<()>
-    ensures { OnOk result (Appends (W.contents out.old) (W.contents out.new) (train_size form train.now)) }
+/// The running number that would be kept.
+pub(crate) fn running_pieces(number: Option<RunningNumber>) -> [Piece; 3]
+    ensures { (form : a_form) → texts form result ≡ running_text form number }
 {
-    let length = train.length().get();
-    let maximum = u64::from(train.maximum().get());
-    write_item(
-        form,
-        "kept train length ",
-        ",\"train\":{\"length_cm\":",
-        length,
-        out,
-    )?;
-    write_item(form, " cm maximum ", ",\"maximum_m_per_h\":", maximum, out)?;
-    write_either(form, " m/h", "", out)?;
-    Ok(())
-}
-
-fn write_brakes<W: Write>(form: Form, brakes: Brakes, out: &mut W) -> io::Result<()>
-    ensures { OnOk result (Appends (W.contents out.old) (W.contents out.new) (brakes_text form brakes)) }
-{
-    let slowing = u64::from(brakes.deceleration.get());
-    let reaction = u64::from(brakes.reaction.get());
-    write_item(
-        form,
-        " deceleration ",
-        ",\"deceleration_cm_per_s2\":",
-        slowing,
-        out,
-    )?;
-    write_item(form, " cm/s2 reaction ", ",\"reaction_ms\":", reaction, out)?;
-    write_either(form, " ms\n", "}", out)?;
-    Ok(())
-}
-
-fn write_train_brakes<W: Write>(form: Form, train: &TrainData, out: &mut W) -> io::Result<()>
-    ensures { OnOk result (Appends (W.contents out.old) (W.contents out.new) (train_brakes form train.now)) }
-{
-    let category = train.category().number();
-    write_item(form, " category ", ",\"category\":", category, out)?;
-    write_brakes(form, train.brakes(), out)?;
-    Ok(())
-}
-
-fn write_known_train<W: Write>(form: Form, train: &TrainData, out: &mut W) -> io::Result<()>
-    ensures { OnOk result (Appends (W.contents out.old) (W.contents out.new) (train_known form train.now)) }
-{
-    write_train_size(form, train, out)?;
-    write_train_brakes(form, train, out)?;
-    Ok(())
-}
-
-/// Writes the train data that would be kept. The error is that of a write.
-pub(crate) fn write_train<W: Write>(
-    form: Form,
-    train: Option<TrainData>,
-    out: &mut W,
-) -> io::Result<()>
-    ensures { OnOk result (Appends (W.contents out.old) (W.contents out.new) (train_text form train)) }
-{
-    match train {
-        Some(train) => write_known_train(form, &train, out),
-        None => write_either(form, "kept train none\n", ",\"train\":null", out),
+    match number {
+        Some(number) => [
+            Piece::Text("kept running number ", ",\"running_number\":"),
+            Piece::Number(u64::from(number.get())),
+            Piece::Text("\n", ""),
+        ],
+        None => [
+            Piece::Text("kept running number none\n", ",\"running_number\":null"),
+            Piece::Nothing,
+            Piece::Nothing,
+        ],
     }
 }
 
-#[tactic(auto, unfolding(crate::specs::KeptLines::level_known))]
-fn write_known_level<W: Write>(form: Form, level: TrainLevel, out: &mut W) -> io::Result<()>
-    ensures { OnOk result (Appends (W.contents out.old) (W.contents out.new) (level_known form level)) }
+fn known_train(train: TrainData) -> [Piece; 11]
+    ensures { (form : a_form) → texts form result ≡ train_text form (Some train) }
+{
+    let brakes = train.brakes();
+    [
+        Piece::Text("kept train length ", ",\"train\":{\"length_cm\":"),
+        Piece::Number(train.length().get()),
+        Piece::Text(" cm maximum ", ",\"maximum_m_per_h\":"),
+        Piece::Number(u64::from(train.maximum().get())),
+        Piece::Text(" m/h category ", ",\"category\":"),
+        Piece::Number(train.category().number()),
+        Piece::Text(" deceleration ", ",\"deceleration_cm_per_s2\":"),
+        Piece::Number(u64::from(brakes.deceleration.get())),
+        Piece::Text(" cm/s2 reaction ", ",\"reaction_ms\":"),
+        Piece::Number(u64::from(brakes.reaction.get())),
+        Piece::Text(" ms\n", "}"),
+    ]
+}
+
+/// The train data that would be kept.
+pub(crate) fn train_pieces(train: Option<TrainData>) -> [Piece; 11]
+    ensures { (form : a_form) → texts form result ≡ train_text form train }
+{
+    match train {
+        Some(train) => known_train(train),
+        None => {
+            let mut pieces = [Piece::Nothing; 11];
+            pieces[0] = Piece::Text("kept train none\n", ",\"train\":null");
+            pieces
+        }
+    }
+}
+
+fn known_level(level: TrainLevel) -> Piece
+    ensures { (form : a_form) → text_of form result ≡ level_known form level }
 {
     match level {
-        TrainLevel::Level0 => write_either(form, "kept level 0", ",\"level\":{\"value\":0", out),
-        TrainLevel::Level1 => write_either(form, "kept level 1", ",\"level\":{\"value\":1", out),
+        TrainLevel::Level0 => Piece::Text("kept level 0", ",\"level\":{\"value\":0"),
+        TrainLevel::Level1 => Piece::Text("kept level 1", ",\"level\":{\"value\":1"),
     }
 }
 
 // The status of an item that was entered, and the end of its line.
-fn write_end<W: Write>(form: Form, is_valid: bool, out: &mut W) -> io::Result<()>
-    ensures { OnOk result (Appends (W.contents out.old) (W.contents out.new) (end_text form is_valid)) }
+fn end(is_valid: bool) -> Piece
+    ensures { (form : a_form) → text_of form result ≡ end_text form is_valid }
 {
     if is_valid {
-        write_either(form, " valid\n", ",\"status\":\"valid\"}", out)
+        Piece::Text(" valid\n", ",\"status\":\"valid\"}")
     } else {
-        write_either(form, " invalid\n", ",\"status\":\"invalid\"}", out)
+        Piece::Text(" invalid\n", ",\"status\":\"invalid\"}")
     }
 }
 
-/// Writes the level that would be kept. The error is that of a write.
-pub(crate) fn write_level<W: Write>(
-    form: Form,
-    level: Datum<TrainLevel>,
-    out: &mut W,
-) -> io::Result<()>
-    ensures { OnOk result (Appends (W.contents out.old) (W.contents out.new) (level_text form level)) }
+/// The level that would be kept.
+pub(crate) fn level_pieces(level: Datum<TrainLevel>) -> [Piece; 2]
+    ensures { (form : a_form) → texts form result ≡ level_text form level }
 {
     match level {
-        Datum::Unknown => write_either(form, "kept level unknown\n", ",\"level\":null", out),
-        Datum::Valid(level) => {
-            write_known_level(form, level, out)?;
-            write_end(form, true, out)
-        }
-        Datum::Invalid(level) => {
-            write_known_level(form, level, out)?;
-            write_end(form, false, out)
-        }
+        Datum::Unknown => [
+            Piece::Text("kept level unknown\n", ",\"level\":null"),
+            Piece::Nothing,
+        ],
+        Datum::Valid(level) => [known_level(level), end(true)],
+        Datum::Invalid(level) => [known_level(level), end(false)],
     }
 }
 
-fn write_group<W: Write>(form: Form, place: &Position, out: &mut W) -> io::Result<()>
-    ensures { OnOk result (Appends (W.contents out.old) (W.contents out.new) (group_text form place.now)) }
+fn known_position(place: Position, is_valid: bool) -> [Piece; 7]
+    ensures { (form : a_form) → texts form result ≡ position_known form is_valid place }
 {
     let group = place.group();
-    let country = group.country.number();
-    let number = group.number.number();
-    write_item(
-        form,
-        "kept position country ",
-        ",\"position\":{\"country\":",
-        country,
-        out,
-    )?;
-    write_item(form, " group ", ",\"group\":", number, out)?;
-    write_either(form, " distance_cm ", ",\"distance_cm\":", out)?;
-    Ok(())
+    [
+        Piece::Text("kept position country ", ",\"position\":{\"country\":"),
+        Piece::Number(group.country.number()),
+        Piece::Text(" group ", ",\"group\":"),
+        Piece::Number(group.number.number()),
+        Piece::Text(" distance_cm ", ",\"distance_cm\":"),
+        Piece::Signed(place.distance().get()),
+        end(is_valid),
+    ]
 }
 
-#[tactic(auto, unfolding(crate::specs::KeptLines::distance_text))]
-fn write_distance<W: Write>(place: &Position, out: &mut W) -> io::Result<()>
-    ensures { OnOk result (Appends (W.contents out.old) (W.contents out.new) (distance_text place.now)) }
-{
-    let distance = place.distance().get();
-    write!(out, "{distance}")
-}
-
-fn write_known_position<W: Write>(
-    form: Form,
-    place: &Position,
-    is_valid: bool,
-    out: &mut W,
-) -> io::Result<()>
-    ensures { OnOk result (Appends (W.contents out.old) (W.contents out.new) (position_known form is_valid place.now)) }
-{
-    write_group(form, place, out)?;
-    write_distance(place, out)?;
-    write_end(form, is_valid, out)?;
-    Ok(())
-}
-
-/// Writes the position that would be kept. The error is that of a write.
-pub(crate) fn write_position<W: Write>(
-    form: Form,
-    place: Datum<Position>,
-    out: &mut W,
-) -> io::Result<()>
-    ensures { OnOk result (Appends (W.contents out.old) (W.contents out.new) (position_text form place)) }
+/// The position that would be kept.
+pub(crate) fn position_pieces(place: Datum<Position>) -> [Piece; 7]
+    ensures { (form : a_form) → texts form result ≡ position_text form place }
 {
     match place {
-        Datum::Unknown => write_either(form, "kept position unknown\n", ",\"position\":null", out),
-        Datum::Valid(place) => write_known_position(form, &place, true, out),
-        Datum::Invalid(place) => write_known_position(form, &place, false, out),
+        Datum::Unknown => {
+            let mut pieces = [Piece::Nothing; 7];
+            pieces[0] = Piece::Text("kept position unknown\n", ",\"position\":null");
+            pieces
+        }
+        Datum::Valid(place) => known_position(place, true),
+        Datum::Invalid(place) => known_position(place, false),
+    }
+}
+
+/// Whether a trip would be outstanding.
+pub(crate) fn trip_pieces(outstanding: bool) -> [Piece; 1]
+    ensures { (form : a_form) → texts form result ≡ trip_text form outstanding }
+{
+    if outstanding {
+        [Piece::Text("kept trip outstanding\n", ",\"trip_outstanding\":true}")]
+    } else {
+        [Piece::Text("kept no trip outstanding\n", ",\"trip_outstanding\":false}")]
     }
 }

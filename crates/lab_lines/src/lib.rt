@@ -4,7 +4,7 @@
 
 mod blocks_between;
 mod examining;
-mod form;
+mod file_facts;
 mod image_lines;
 mod journal_lines;
 mod kept_lines;
@@ -17,4 +17,5 @@ mod slots;
 mod words;
 
 pub use examining::{ExamineError, Verdict, examine};
-pub use form::{FileFacts, Form};
+pub use file_facts::FileFacts;
+pub use pieces::Form;

@@ -1,6 +1,6 @@
-//! The words of states, fields, formats and statuses.
+//! The words of states and fields, and the numbers of formats.
 ghost use Rattle.std.specs.Prelude.{◌≡◌};
-ghost use Rattle.lab_lines.specs.Words.{state_text, field_text, format_number, truth_text};
+ghost use Rattle.lab_lines.specs.Words.{state_text, field_text, format_number};
 
 use blocks::Format;
 use examination::{FieldName, SlotState};
@@ -30,13 +30,6 @@ pub(crate) fn format_number(format: Format) -> u8
         Format::Two => 2,
         Format::Three => 3,
     }
-}
-
-/// The word of a truth, as JSON has it.
-pub(crate) fn truth_word(truth: bool) -> &'static str
-    ensures { result.now ≡ truth_text truth }
-{
-    if truth { "true" } else { "false" }
 }
 
 /// The name of a field, as `docs/FORMAT.md` has it.

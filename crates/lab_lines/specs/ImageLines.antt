@@ -9,14 +9,17 @@ use Rattle.lab_lines.specs.declared.file_facts.FileFacts.{FileFacts}
 abbrev pub behind_of : ℕ → ℕ → ℕ
 behind_of bytes whole = bytes - 512 * (1 + 6 * whole)
 
-abbrev pub size_text : Form → ℕ → Survey → List ℕ
-size_text form bytes it = joined (
+abbrev pub sizes_text : Form → ℕ → ℕ → List ℕ → ℕ → ℕ → List ℕ
+sizes_text form bytes sectors slots whole behind = joined (
     text_in form (codes "image bytes ") (codes "{\"image\":{\"bytes\":") ∷ decimal bytes
-    ∷ text_in form (codes " sectors ") (codes ",\"sectors\":") ∷ decimal it.sectors
-    ∷ text_in form (codes " slots ") (codes ",\"slots\":") ∷ known_text form it.slots
-    ∷ text_in form (codes " whole ") (codes ",\"whole_slots\":") ∷ decimal it.whole
-    ∷ text_in form (codes " bytes behind ") (codes ",\"bytes_behind\":") ∷ decimal (behind_of bytes it.whole)
+    ∷ text_in form (codes " sectors ") (codes ",\"sectors\":") ∷ decimal sectors
+    ∷ text_in form (codes " slots ") (codes ",\"slots\":") ∷ slots
+    ∷ text_in form (codes " whole ") (codes ",\"whole_slots\":") ∷ decimal whole
+    ∷ text_in form (codes " bytes behind ") (codes ",\"bytes_behind\":") ∷ decimal behind
     ∷ text_in form (codes "\nsha256 ") (codes ",\"sha256\":\"") ∷ [])
+
+abbrev pub size_text : Form → ℕ → Survey → List ℕ
+size_text form bytes it = sizes_text form bytes it.sectors (known_text form it.slots) it.whole (behind_of bytes it.whole)
 
 abbrev pub digest_end : Form → List ℕ
 digest_end form = joined (text_in form (codes "\n") (codes "\"},\"slots\":[") ∷ [])

@@ -31,15 +31,19 @@ running_text form None = joined (text_in form (codes "kept running number none\n
 running_text form (Some n) =
     joined (text_in form (codes "kept running number ") (codes ",\"running_number\":") ∷ decimal n ∷ text_in form (codes "\n") (codes "") ∷ [])
 
+-- length, greatest speed, category, deceleration and reaction time
+abbrev pub train_facts : Form → ℕ → ℕ → ℕ → ℕ → ℕ → List ℕ
+train_facts form length maximum category slowing reaction = joined (
+    text_in form (codes "kept train length ") (codes ",\"train\":{\"length_cm\":") ∷ decimal length
+    ∷ text_in form (codes " cm maximum ") (codes ",\"maximum_m_per_h\":") ∷ decimal maximum
+    ∷ text_in form (codes " m/h category ") (codes ",\"category\":") ∷ decimal category
+    ∷ text_in form (codes " deceleration ") (codes ",\"deceleration_cm_per_s2\":") ∷ decimal slowing
+    ∷ text_in form (codes " cm/s2 reaction ") (codes ",\"reaction_ms\":") ∷ decimal reaction
+    ∷ text_in form (codes " ms\n") (codes "}") ∷ [])
+
 abbrev pub train_text : Form → Option Train → List ℕ
 train_text form None = joined (text_in form (codes "kept train none\n") (codes ",\"train\":null") ∷ [])
-train_text form (Some t) = joined (
-    text_in form (codes "kept train length ") (codes ",\"train\":{\"length_cm\":") ∷ decimal t.length
-    ∷ text_in form (codes " cm maximum ") (codes ",\"maximum_m_per_h\":") ∷ decimal t.maximum
-    ∷ text_in form (codes " m/h category ") (codes ",\"category\":") ∷ decimal t.category
-    ∷ text_in form (codes " deceleration ") (codes ",\"deceleration_cm_per_s2\":") ∷ decimal t.brakes.deceleration
-    ∷ text_in form (codes " cm/s2 reaction ") (codes ",\"reaction_ms\":") ∷ decimal t.brakes.reaction
-    ∷ text_in form (codes " ms\n") (codes "}") ∷ [])
+train_text form (Some t) = train_facts form t.length t.maximum t.category t.brakes.deceleration t.brakes.reaction
 
 abbrev pub level_known : Form → TrainLevel → List ℕ
 level_known form Level0 = text_in form (codes "kept level 0") (codes ",\"level\":{\"value\":0")

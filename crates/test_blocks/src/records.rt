@@ -1,112 +1,129 @@
-//! A record in words: a line.
-use crate::telling::{level_number, tell_train};
+//! A record in numbers.
+//!
+//!     event moment mode level brake indications     level: 0, 1, or 2 for none; mode, brake and indications by number
+//!     IS ESTIMATE UNCERTAINTY LIMIT                 the situation, 0 where there is none
+//!     KIND A B C D E F                              what happened; kinds and codes of actions as in docs/FORMAT.md:
+//!         1 WORD                                    a power-up
+//!         2 SIZE                                    a telegram; behind the seven come 13 numbers with its bytes
+//!         3 MOVEMENT SPEED                          a reading of the odometer
+//!         4 MOMENT                                  the clock
+//!         5 CODE VALUES                             an action of the driver
+use crate::telling::{of_train, packed, text};
 use blocks::{BlockRecord, Situation};
 use driver::{Acknowledged, Action, Confirmed};
-use events::{Brake, Event, Input};
-use mode_table::{Cold, TrainLevel};
-use std::alloc::Global;
-use std::io;
+use events::{Brake, Event, Input, Reading, TelegramBytes};
+use mode_table::TrainLevel;
+use number_rows::Numbers;
 
-/// Prints a record.
-pub fn tell_record(rt: &impl Print, alloc: Global, told: &BlockRecord) -> io::Result<()> {
-    print!(rt;
-        "  event {} at {} mode {} level {} brake {} ind {}",
-        told.number,
-        told.moment.get(),
-        told.mode.number(),
-        level_word(told.level),
-        brake_word(told.brake),
-        told.indications.number()
-    )?;
-    tell_situation(rt, &told.situation)?;
-    tell_event(rt, alloc, &told.event)
+/// Tells a record.
+pub fn tell_record(told: &mut Numbers, record: &BlockRecord) {
+    told.tell_all(&front(record));
+    told.tell_all(&situation(&record.situation));
+    told.tell_all(&event(&record.event));
+    if let Event::Input(Input::Telegram(bytes)) = &record.event {
+        told.tell_all(&telegram(bytes));
+    }
 }
 
-fn level_word(level: Option<TrainLevel>) -> &'static str {
+fn front(record: &BlockRecord) -> [u64; 6] {
+    [
+        record.number,
+        record.moment.get(),
+        u64::from(record.mode.number()),
+        level_number(record.level),
+        brake_number(record.brake),
+        u64::from(record.indications.number()),
+    ]
+}
+
+fn level_number(level: Option<TrainLevel>) -> u64 {
     match level {
-        None => "-",
-        Some(TrainLevel::Level0) => "0",
-        Some(TrainLevel::Level1) => "1",
+        Some(level) => u64::from(level.number()),
+        None => 2,
     }
 }
 
-fn brake_word(brake: Brake) -> &'static str {
+fn brake_number(brake: Brake) -> u64 {
     match brake {
-        Brake::None => "none",
-        Brake::Service => "service",
-        Brake::Emergency => "emergency",
+        Brake::None => 0,
+        Brake::Service => 1,
+        Brake::Emergency => 2,
     }
 }
 
-fn tell_situation(rt: &impl Print, told: &Option<Situation>) -> io::Result<()> {
-    let Some(told) = told else {
-        return Ok(());
-    };
-    print!(rt;
-        " place {} {} limit {}",
-        told.estimate.get(),
-        told.uncertainty,
-        told.limit.get()
-    )
+fn situation(told: &Option<Situation>) -> [u64; 4] {
+    match told {
+        Some(told) => [
+            1,
+            told.estimate.get().cast_unsigned(),
+            told.uncertainty,
+            u64::from(told.limit.get()),
+        ],
+        None => [0; 4],
+    }
 }
 
-fn tell_event(rt: &impl Print, alloc: Global, event: &Event) -> io::Result<()> {
+fn event(event: &Event) -> [u64; 7] {
     match event {
-        Event::PowerUp(word) => println!(rt; ": power up, {}", cold(*word)),
-        Event::Input(Input::Telegram(bytes)) => {
-            println!(rt; ": telegram {}", hex::encode(alloc, bytes.as_slice())?)
-        }
-        Event::Input(Input::Odometer(reading)) => println!(rt;
-            ": odometer {} {}",
-            reading.movement.get(),
-            reading.speed.get()
-        ),
-        Event::Input(Input::Clock(moment)) => println!(rt; ": clock {}", moment.get()),
-        Event::Input(Input::Driver(action)) => tell_action(rt, alloc, action),
+        Event::PowerUp(word) => [1, u64::from(word.number()), 0, 0, 0, 0, 0],
+        Event::Input(Input::Telegram(bytes)) => [2, size(bytes), 0, 0, 0, 0, 0],
+        Event::Input(Input::Odometer(reading)) => odometer(reading),
+        Event::Input(Input::Clock(moment)) => [4, moment.get(), 0, 0, 0, 0, 0],
+        Event::Input(Input::Driver(action)) => action_numbers(action),
     }
 }
 
-fn cold(word: Cold) -> &'static str {
-    match word {
-        Cold::Unknown => "unknown",
-        Cold::Moved => "moved",
-        Cold::NotMoved => "not moved",
-    }
+fn size(bytes: &TelegramBytes) -> u64 {
+    bytes.as_slice().len() as u64
 }
 
-fn tell_action(rt: &impl Print, alloc: Global, action: &Action) -> io::Result<()> {
+fn odometer(reading: &Reading) -> [u64; 7] {
+    let movement = reading.movement.get().cast_unsigned();
+    [3, movement, u64::from(reading.speed.get()), 0, 0, 0, 0]
+}
+
+fn telegram(bytes: &TelegramBytes) -> [u64; 13] {
+    let mut numbers = [0; 13];
+    for index in 0..13 {
+        numbers[index] = packed(bytes.as_slice(), 8 * index);
+    }
+    numbers
+}
+
+fn action_numbers(action: &Action) -> [u64; 7] {
     match action {
         Action::EnterIdentity(identity) => {
-            println!(rt; ": identity {}", hex::encode(alloc, identity.bytes())?)
+            let [size, first, second] = text(identity.bytes());
+            [5, 1, size, first, second, 0, 0]
         }
-        Action::EnterRunningNumber(number) => println!(rt; ": running number {}", number.get()),
+        Action::EnterRunningNumber(number) => [5, 2, u64::from(number.get()), 0, 0, 0, 0],
         Action::EnterTrainData(train) => {
-            print!(rt; ":")?;
-            tell_train(rt, train)
+            let [_, length, maximum, deceleration, reaction, category] = of_train(train);
+            [5, 3, length, maximum, deceleration, reaction, category]
         }
-        Action::ChooseLevel(level) => println!(rt; ": level {}", level_number(*level)),
-        other => println!(rt; ": {}", word_of(other)),
+        Action::ChooseLevel(level) => [5, 4, u64::from(level.number()), 0, 0, 0, 0],
+        Action::Confirm(item) => [5, 5, confirmed(*item), 0, 0, 0, 0],
+        Action::Acknowledge(reason) => [5, 10, acknowledged(*reason), 0, 0, 0, 0],
+        other => [5, code(other), 0, 0, 0, 0, 0],
     }
 }
 
-fn word_of(action: &Action) -> &'static str {
+fn confirmed(item: Confirmed) -> u64 {
+    u64::from(item.number())
+}
+
+fn acknowledged(reason: Acknowledged) -> u64 {
+    u64::from(reason.number())
+}
+
+// The code of an action that holds nothing.
+fn code(action: &Action) -> u64 {
     match action {
-        Action::EnterIdentity(_) => "identity",
-        Action::EnterRunningNumber(_) => "running number",
-        Action::EnterTrainData(_) => "train data",
-        Action::ChooseLevel(_) => "level",
-        Action::Confirm(Confirmed::Identity) => "confirm identity",
-        Action::Confirm(Confirmed::RunningNumber) => "confirm running number",
-        Action::Confirm(Confirmed::TrainData) => "confirm train data",
-        Action::Confirm(Confirmed::Level) => "confirm level",
-        Action::Start => "start",
-        Action::ChooseShunting => "choose shunting",
-        Action::LeaveShunting => "leave shunting",
-        Action::Override => "override",
-        Action::Acknowledge(Acknowledged::Trip) => "acknowledge trip",
-        Action::Acknowledge(Acknowledged::OnSight) => "acknowledge on sight",
-        Action::Acknowledge(Acknowledged::Shunting) => "acknowledge shunting",
-        Action::Acknowledge(Acknowledged::Level0) => "acknowledge level 0",
-        Action::CloseDesk => "close desk",
+        Action::Start => 6,
+        Action::ChooseShunting => 7,
+        Action::LeaveShunting => 8,
+        Action::Override => 9,
+        Action::CloseDesk => 11,
+        _ => 0,
     }
 }

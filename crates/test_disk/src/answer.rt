@@ -1,32 +1,52 @@
-//! What a row is answered by, and the numbers of a row.
+//! What a row is answered by.
+use number_rows::Numbers;
 
-/// What a row is answered by.
+/// What a row is answered by, in numbers: 0 and the number, or the number of the word alone.
 #[derive(Clone, Copy)]
 pub enum Answer {
-    /// A word.
-    Word(&'static str),
-    /// A number.
+    /// 0 and the number.
     Number(u64),
+    /// 1: the call did it.
+    Done,
+    /// 2: the call failed.
+    Fault,
+    /// 3 and 4.
+    Yes,
+    No,
+    /// 5: a sector holds different bytes.
+    Mixed,
+    /// 6: memory was refused.
+    NoMemory,
+    /// No number: there is no such row.
+    NoRow,
 }
 
 impl Answer {
     /// The word yes or no.
     pub fn yes_or_no(yes: bool) -> Answer {
-        Answer::Word(if yes { "yes" } else { "no" })
+        if yes { Answer::Yes } else { Answer::No }
     }
 
     /// Of a call that fails at `Err`.
     pub fn of<E: Drop>(done: Result<(), E>) -> Answer {
-        Answer::Word(if done.is_ok() { "done" } else { "fault" })
+        if done.is_ok() {
+            Answer::Done
+        } else {
+            Answer::Fault
+        }
     }
-}
 
-/// The number that a word spells; None where it spells none.
-pub fn number(words: &[&str], at: usize) -> Option<u64> {
-    words.get(at)?.parse::<u64>().ok()
-}
-
-/// The byte that a word spells; None where it spells none.
-pub fn byte(words: &[&str], at: usize) -> Option<u8> {
-    words.get(at)?.parse::<u8>().ok()
+    /// Tells it.
+    pub fn tell(self, told: &mut Numbers) {
+        match self {
+            Answer::Number(number) => told.tell_all(&[0, number]),
+            Answer::Done => told.tell(1),
+            Answer::Fault => told.tell(2),
+            Answer::Yes => told.tell(3),
+            Answer::No => told.tell(4),
+            Answer::Mixed => told.tell(5),
+            Answer::NoMemory => told.tell(6),
+            Answer::NoRow => {}
+        }
+    }
 }

@@ -1,75 +1,89 @@
 //! What every disk is asked.
-use crate::answer::{Answer, byte, number};
+use crate::answer::Answer;
 use disk::{Disk, SECTOR_BYTES, put};
+use number_rows::Numbers;
 
-/// The answer of a disk to a row, None where it is none.
-pub fn answer<D: Disk>(disk: &mut D, words: &[&str]) -> Option<Answer> {
-    match *words.first()? {
-        "write" => write_filled(disk, words),
-        "put" => putting(disk, words),
-        "read" => read_one(disk, words),
-        "pair" => read_pair(disk, words),
-        "sync" => Some(Answer::of(disk.sync())),
-        "sectors" => Some(Answer::Number(disk.sectors())),
-        "whole" => whole(disk, words),
-        _ => None,
+/// The answer of a disk to a row.
+pub fn answer<D: Disk>(disk: &mut D, asked: &Numbers) -> Answer {
+    let first = asked.at(2);
+    match asked.at(1) {
+        0 => write(disk, first, &[byte(asked, 3); SECTOR_BYTES]),
+        1 => write(disk, first, &two_sectors(byte(asked, 3), byte(asked, 4))),
+        2 => putting(disk, first, &[byte(asked, 3); SECTOR_BYTES]),
+        3 => read_one(disk, first),
+        4 => read_pair(disk, first, asked.at(3) == 1),
+        5 => Answer::of(disk.sync()),
+        6 => Answer::Number(disk.sectors()),
+        7 => Answer::yes_or_no(disk.are_sectors(first, asked.at(3) as usize)),
+        _ => Answer::NoRow,
     }
 }
 
-// One sector, or two, each of one byte.
-fn write_filled<D: Disk>(disk: &mut D, words: &[&str]) -> Option<Answer> {
-    let (first, byte_of_first) = (number(words, 1)?, byte(words, 2)?);
-    if words.len() != 4 {
-        return write(disk, first, &[byte_of_first; SECTOR_BYTES]);
-    }
-    let mut bytes = [byte_of_first; 2 * SECTOR_BYTES];
-    bytes[SECTOR_BYTES..].fill(byte(words, 3)?);
-    write(disk, first, &bytes)
+/// The last byte of a number of the row.
+pub fn byte(asked: &Numbers, index: usize) -> u8 {
+    asked.at(index).to_be_bytes()[7]
 }
 
-fn read_one<D: Disk>(disk: &mut D, words: &[&str]) -> Option<Answer> {
-    let first = number(words, 1)?;
-    read(disk, first, &mut [0; SECTOR_BYTES], 0)
+fn two_sectors(first: u8, second: u8) -> [u8; 1_024] {
+    let mut bytes = [first; 1_024];
+    bytes[512..].fill(second);
+    bytes
 }
 
-fn read_pair<D: Disk>(disk: &mut D, words: &[&str]) -> Option<Answer> {
-    let (first, asked) = (number(words, 1)?, byte(words, 2)?);
-    read(disk, first, &mut [0; 2 * SECTOR_BYTES], asked)
-}
-
-fn whole<D: Disk>(disk: &D, words: &[&str]) -> Option<Answer> {
-    let bytes = usize::try_from(number(words, 2)?).ok()?;
-    Some(Answer::yes_or_no(disk.are_sectors(number(words, 1)?, bytes)))
-}
-
-fn write<D: Disk>(disk: &mut D, first: u64, bytes: &[u8]) -> Option<Answer> {
+fn write<D: Disk>(disk: &mut D, first: u64, bytes: &[u8]) -> Answer {
     if !disk.are_sectors(first, bytes.len()) {
-        return None;
+        return Answer::NoRow;
     }
-    Some(Answer::of(disk.write(first, bytes)))
+    Answer::of(disk.write(first, bytes))
 }
 
-fn putting<D: Disk>(disk: &mut D, words: &[&str]) -> Option<Answer> {
-    let (first, byte) = (number(words, 1)?, byte(words, 2)?);
-    if !disk.are_sectors(first, SECTOR_BYTES) {
-        return None;
-    }
-    Some(Answer::of(put(disk, first, &[byte; SECTOR_BYTES])))
-}
-
-// Reads into the bytes, and tells what the sector of this number there holds.
-fn read<D: Disk>(disk: &mut D, first: u64, bytes: &mut [u8], asked: u8) -> Option<Answer> {
+fn putting<D: Disk>(disk: &mut D, first: u64, bytes: &[u8]) -> Answer {
     if !disk.are_sectors(first, bytes.len()) {
-        return None;
+        return Answer::NoRow;
     }
-    if disk.read(first, bytes).is_err() {
-        return Some(Answer::Word("fault"));
+    Answer::of(put(disk, first, bytes))
+}
+
+fn read_one<D: Disk>(disk: &mut D, first: u64) -> Answer {
+    let mut bytes = [0; SECTOR_BYTES];
+    match read(disk, first, &mut bytes) {
+        Answer::Done => held(&bytes),
+        other => other,
     }
-    let sector = bytes.chunks(SECTOR_BYTES).nth(usize::from(asked))?;
-    let byte = sector.first()?;
-    if sector.iter().all(|other| other == byte) {
-        Some(Answer::Number(u64::from(*byte)))
+}
+
+fn read_pair<D: Disk>(disk: &mut D, first: u64, second: bool) -> Answer {
+    let mut bytes = [0; 1_024];
+    match read(disk, first, &mut bytes) {
+        Answer::Done => held_in(&bytes, second),
+        other => other,
+    }
+}
+
+fn held_in(bytes: &[u8; 1_024], second: bool) -> Answer {
+    if second {
+        held(&bytes[512..])
     } else {
-        Some(Answer::Word("mixed"))
+        held(&bytes[..512])
+    }
+}
+
+fn read<D: Disk>(disk: &mut D, first: u64, bytes: &mut [u8]) -> Answer {
+    if !disk.are_sectors(first, bytes.len()) {
+        return Answer::NoRow;
+    }
+    Answer::of(disk.read(first, bytes))
+}
+
+// What a sector holds.
+fn held(sector: &[u8]) -> Answer {
+    let byte = match sector.first() {
+        Some(byte) => *byte,
+        None => 0,
+    };
+    if sector == [byte; SECTOR_BYTES].as_slice() {
+        Answer::Number(u64::from(byte))
+    } else {
+        Answer::Mixed
     }
 }

@@ -1,0 +1,26 @@
+#!/bin/bash
+# The rows of the proved programs of tests. Each module of rows/ makes numbers of its rows, asks its program, makes
+# words of what that tells, and compares with the answers that are wanted. Fails where one differs, where a program is
+# missing, and where fewer rows were tried than stand here.
+#
+#     tests/rows.sh            the programs that rt ci leaves in crates/
+#     tests/rows.sh FOLDER     FOLDER/test_disk and so on
+folder=${1:+$(realpath "$1")}
+cd "$(dirname "$0")/rows" || exit 1
+export PYTHONDONTWRITEBYTECODE=1
+status=0
+
+# rows NAME FLOOR
+rows() {
+    local program=../../crates/$1/out/$1 found count
+    [ -z "$folder" ] || program=$folder/$1
+    [ -x "$program" ] || { echo "$1: no program $program"; status=1; return; }
+    found=$(python3 "$1.py" "$(realpath "$program")") || status=1
+    echo "$found"
+    count=$(sed -n '$s/.*: \([0-9]*\) rows, .*/\1/p' <<< "$found")
+    [ "${count:-0}" -ge "$2" ] || { echo "$1: fewer rows than $2"; status=1; }
+}
+
+rows test_disk 353
+rows test_blocks 741
+exit $status

@@ -1,0 +1,124 @@
+#!/usr/bin/env python3
+"""Runs test_blocks.row over the program: tests/rows/test_blocks.py [PROGRAM]
+
+What is asked and told, in numbers, stands in crates/test_blocks/src. The rows and what they want are made by
+tests/plain/blocks.py."""
+import sys
+
+from asking import main, packed, signed
+
+SIZES = {"sector": 512, "slot": 1_024, "each": 3_072, "block": 3_072}
+OPERATIONS = {"sector": 1, "slot": 2, "each": 3, "block": 4}
+AGAIN = ["other bytes again", "the same again"]
+STATUS = {1: "valid", 2: "invalid"}
+BRAKES = ["none", "service", "emergency"]
+LEVELS = ["0", "1", "-"]
+TRIP = ["false", "true"]
+COLD = ["unknown", "moved", "not moved"]
+CODES = {6: "start", 7: "choose shunting", 8: "leave shunting", 9: "override", 11: "close desk"}
+CONFIRMED = {1: "identity", 2: "running number", 3: "train data", 4: "level"}
+ACKNOWLEDGED = {1: "trip", 2: "on sight", 3: "shunting", 4: "level 0"}
+
+
+def bytes_of(size, patches):
+    data = bytearray(size)
+    for patch in patches:
+        offset, part = patch.split(":")
+        part = bytes.fromhex(part)
+        if int(offset) + len(part) > size:
+            raise ValueError("a patch reaches past the bytes")
+        data[int(offset):int(offset) + len(part)] = part
+    return bytes(data)
+
+
+def question(row):
+    word, *others = row.split()
+    count = 2 if word in ("slot", "each") else 0
+    numbers = [int(number) for number in others[:count]] or [0, 0]
+    return [OPERATIONS[word], *numbers, *packed(bytes_of(SIZES[word], others[count:]))]
+
+
+def answer(row, told):
+    word = row.split()[0]
+    if word == "block":
+        return block(told)
+    found, number, *again = told.take(3 if word == "sector" else 2)
+    if found == 0:
+        return ["not valid" if word == "slot" else "refused"]
+    if word == "sector":
+        return [f"{number} slots, {AGAIN[again[0]]}"]
+    return [f"number {number}" if word == "slot" else f"{number} refused"]
+
+
+def block(told):
+    if told.take() == 0:
+        return ["refused"]
+    form, number, events, lives, trip = told.take(5)
+    lines = [f"  format {form} number {number} events {events} lives {lives} trip {TRIP[trip]}"]
+    lines += [*items(told), values(told)]
+    count = told.take()
+    lines += [record(told) for _ in range(count)]
+    again = told.take()
+    return lines + (["  " + AGAIN[again]] if count == 1 else [])
+
+
+def items(told):
+    size = told.take()
+    name = told.data(size, 2)
+    yield f"  identity {name.hex()}" if size else "  no identity"
+    known, number = told.take(2)
+    yield f"  running number {number}" if known else "  no running number"
+    known, *train = told.take(6)
+    yield "  train {} {} {} {} {}".format(*train) if known else "  no train data"
+    status, level = told.take(2)
+    yield f"  level {level} {STATUS[status]}" if status else "  no level"
+    status, country, group, distance = told.take(4)
+    yield f"  position {country} {group} {signed(distance)} {STATUS[status]}" if status else "  no position"
+
+
+def values(told):
+    words = told.take(9)
+    for _ in ("override_time", "staff_responsible_distance"):
+        known, limit = told.take(2)
+        words.append(limit if known else "-")
+    countries = [told.take() for _ in range(told.take())]
+    return " ".join(["  values", *map(str, words), "for", *map(str, countries)])
+
+
+def record(told):
+    number, moment, mode, level, brake, shown = told.take(6)
+    text = f"  event {number} at {moment} mode {mode} level {LEVELS[level]} brake {BRAKES[brake]} ind {shown}"
+    known, estimate, uncertainty, limit = told.take(4)
+    if known:
+        text += f" place {signed(estimate)} {uncertainty} limit {limit}"
+    return text + ": " + event(told)
+
+
+def event(told):
+    kind, *numbers = told.take(7)
+    if kind == 1:
+        return "power up, " + COLD[numbers[0]]
+    if kind == 2:
+        return "telegram " + told.data(numbers[0], 13).hex()
+    if kind == 3:
+        return f"odometer {signed(numbers[0])} {numbers[1]}"
+    return f"clock {numbers[0]}" if kind == 4 else action(*numbers)
+
+
+def action(code, *numbers):
+    if code == 1:
+        size, first, second = numbers[:3]
+        return "identity " + (first.to_bytes(8, "big") + second.to_bytes(8, "big"))[:size].hex()
+    if code == 2:
+        return f"running number {numbers[0]}"
+    if code == 3:
+        return " train {} {} {} {} {}".format(*numbers)
+    if code == 4:
+        return f"level {numbers[0]}"
+    if code == 5:
+        return "confirm " + CONFIRMED[numbers[0]]
+    return "acknowledge " + ACKNOWLEDGED[numbers[0]] if code == 10 else CODES[code]
+
+
+if __name__ == "__main__":
+    sys.exit(main("test_blocks", question, answer))

@@ -15,6 +15,7 @@ abbrev pub text_of : Form → Piece → List ℕ
 text_of form (a_piece.Text people json) = text_in form people.now json.now
 text_of form (a_piece.Number number) = decimal number
 text_of form (a_piece.Signed number) = signed_decimal number
+text_of form a_piece.Nothing = []
 
 -- a number, or a sign that it isn't known
 abbrev pub known_text : Form → Option ℕ → List ℕ

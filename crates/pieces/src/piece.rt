@@ -21,6 +21,8 @@ pub enum Piece {
     Number(u64),
     /// A number in decimal digits, with a minus before it where it is below zero.
     Signed(i64),
+    /// No text, where an array has room for more pieces than a text has.
+    Nothing,
 }
 
 /// A word that is the same in both forms.

@@ -30,6 +30,7 @@ fn write_piece<W: Write>(form: Form, piece: Piece, out: &mut W) -> io::Result<()
         },
         Piece::Number(number) => write_number(number, out),
         Piece::Signed(number) => write_signed(number, out),
+        Piece::Nothing => out.write_all(b""),
     }
 }
 

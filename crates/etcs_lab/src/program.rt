@@ -7,7 +7,7 @@ use crate::replayed::replayed;
 use clap::{Arg, ArgAction, ArgMatches, Command, Error};
 use file_disk::FileDisk;
 use lab_lines::{ExamineError, FileFacts, Form, Verdict, examine};
-use replay_lines::Style;
+use replay_lines::Form as ReplayForm;
 use std::alloc::{AllocError, Global};
 use std::fs::File;
 use std::io;
@@ -109,10 +109,10 @@ fn form_of(matches: &ArgMatches<'_>) -> Form {
     }
 }
 
-fn style_of(matches: &ArgMatches<'_>) -> Style {
+fn replay_form_of(matches: &ArgMatches<'_>) -> ReplayForm {
     match form_of(matches) {
-        Form::People => Style::Plain,
-        Form::Json => Style::Json,
+        Form::People => ReplayForm::People,
+        Form::Json => ReplayForm::Json,
     }
 }
 
@@ -159,7 +159,7 @@ pub(crate) fn lab_main<R: Files<File = File> + AllocGlobal + Eprint, W: Write>(
             replayed(
                 rt,
                 inner.get_str("IMAGE").unwrap_or(""),
-                style_of(inner),
+                replay_form_of(inner),
                 out,
             )
         }

@@ -10,17 +10,20 @@ cd "$(dirname "$0")/rows" || exit 1
 export PYTHONDONTWRITEBYTECODE=1
 status=0
 
-# rows NAME FLOOR
+# rows NAME FLOOR [OTHER]: the rows of a program, which also ask another one
 rows() {
-    local program=../../crates/$1/out/$1 found count
-    [ -z "$folder" ] || program=$folder/$1
-    [ -x "$program" ] || { echo "$1: no program $program"; status=1; return; }
-    found=$(python3 "$1.py" "$(realpath "$program")") || status=1
+    local name programs=() found count
+    for name in "$1" ${3:+"$3"}; do
+        programs+=("${folder:-../../crates/$name/out}/$name")
+        [ -x "${programs[-1]}" ] || { echo "$1: no program ${programs[-1]}"; status=1; return; }
+    done
+    found=$(python3 "$1.py" "${programs[@]}") || status=1
     echo "$found"
     count=$(sed -n '$s/.*: \([0-9]*\) rows, .*/\1/p' <<< "$found")
     [ "${count:-0}" -ge "$2" ] || { echo "$1: fewer rows than $2"; status=1; }
 }
 
+rows test_decode 291 etcs
 rows test_disk 353
 rows test_blocks 741
 exit $status

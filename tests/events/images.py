@@ -34,14 +34,15 @@ def telegrams_in(text):
 
 
 def known_telegrams():
-    """The telegrams of all scenarios that come with the product, and those of the rows of crates/test_decode."""
+    """The telegrams of all scenarios that come with the product, and those that tests/rows/test_decode.row asks for."""
     found = set()
     for path in sorted([*TOP.glob("tests/programs/*.json"), *TOP.glob("examples/*/*.json")]):
         try:
             found |= set(telegrams_in(path.read_text()))
         except (KeyError, TypeError, ValueError):
             continue
-    for word in (TOP / "crates/test_decode/stdin").read_text().split():
+    rows = (TOP / "tests/rows/test_decode.row").read_text().splitlines()
+    for word in " ".join(line.removesuffix(":") for line in rows if not line.startswith("  ")).split():
         try:
             found.add(bytes.fromhex(word))
         except ValueError:

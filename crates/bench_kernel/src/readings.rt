@@ -74,20 +74,53 @@ fn enter_all(alloc: Global, state: &mut State, train: &TrainData) -> Result<(), 
     Ok(())
 }
 
-/// The event of a number, of those that are counted; the telegrams come in turn.
+/// A reading of the odometer at 100 km/h.
+fn reading(movement: i64) -> Option<Event> {
+    match (Movement::new(movement), Mph::new(100_000)) {
+        (Some(movement), Some(speed)) => {
+            Some(Event::Input(Input::Odometer(Reading { movement, speed })))
+        }
+        _ => None,
+    }
+}
+
+/// The clock at a moment.
+fn clock(number: u32) -> Option<Event> {
+    match Ms::new(u64::from(number)) {
+        Some(moment) => Some(Event::Input(Input::Clock(moment))),
+        None => None,
+    }
+}
+
+/// The driver enters a running number.
+fn entry(number: u32) -> Option<Event> {
+    match RunningNumber::new(number) {
+        Some(number) => Some(act(Action::EnterRunningNumber(number))),
+        None => None,
+    }
+}
+
+/// The telegram of a number; they come in turn.
+fn telegram(number: u32, telegrams: &[u8]) -> Option<Event> {
+    match TelegramBytes::new(room_of(number, telegrams)?) {
+        Some(bytes) => Some(Event::Input(Input::Telegram(bytes))),
+        None => None,
+    }
+}
+
+/// The room of the telegram of a number.
+fn room_of<'a>(number: u32, telegrams: &'a [u8]) -> Option<&'a [u8]> {
+    let turn = (number as usize).checked_rem(telegrams.len() / TELEGRAM)?;
+    telegrams.chunks_exact(TELEGRAM).nth(turn)
+}
+
+/// The event of a number, of those that are counted.
 fn event_of(counted: &Counted, number: u32, telegrams: &[u8]) -> Option<Event> {
     match counted.kind {
-        READING => Some(Event::Input(Input::Odometer(Reading {
-            movement: Movement::new(counted.movement)?,
-            speed: Mph::new(100_000)?,
-        }))),
-        CLOCK => Some(Event::Input(Input::Clock(Ms::new(u64::from(number))?))),
-        ACTION => Some(act(Action::EnterRunningNumber(RunningNumber::new(number)?))),
-        _ => {
-            let turn = (number as usize).checked_rem(telegrams.len() / TELEGRAM)?;
-            let bytes = telegrams.chunks_exact(TELEGRAM).nth(turn)?;
-            Some(Event::Input(Input::Telegram(TelegramBytes::new(bytes)?)))
-        }
+        READING => reading(counted.movement),
+        CLOCK => clock(number),
+        ACTION => entry(number),
+        _ => telegram(number, telegrams),
     }
 }
 

@@ -7,7 +7,6 @@ use crate::replayed::replayed;
 use clap::{Arg, ArgAction, ArgMatches, Command, Error};
 use file_disk::FileDisk;
 use lab_lines::{ExamineError, FileFacts, Form, Verdict, examine};
-use replay_lines::Style;
 use std::alloc::{AllocError, Global};
 use std::fs::File;
 use std::io;
@@ -109,13 +108,6 @@ fn form_of(matches: &ArgMatches<'_>) -> Form {
     }
 }
 
-fn style_of(matches: &ArgMatches<'_>) -> Style {
-    match form_of(matches) {
-        Form::People => Style::Plain,
-        Form::Json => Style::Json,
-    }
-}
-
 fn helped<R: Eprint, W: Write>(rt: &R, out: &mut W) -> Status {
     match out.write_all(HELP.as_bytes()) {
         Ok(()) => Status::Whole,
@@ -159,7 +151,7 @@ pub(crate) fn lab_main<R: Files<File = File> + AllocGlobal + Eprint, W: Write>(
             replayed(
                 rt,
                 inner.get_str("IMAGE").unwrap_or(""),
-                style_of(inner),
+                form_of(inner),
                 out,
             )
         }

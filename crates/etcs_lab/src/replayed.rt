@@ -2,7 +2,7 @@
 
 use crate::program::{Status, fail};
 use file_disk::FileDisk;
-use replay_lines::{Outcome, ReplayError, Style, replay};
+use replay_lines::{Form, Outcome, ReplayError, replay};
 use std::fs::File;
 use std::io::Write;
 use std::rt::Files;
@@ -41,7 +41,7 @@ fn stopped<R: Eprint>(rt: &R, path: &str, error: ReplayError) -> Status {
 pub(crate) fn replayed<R: Files<File = File> + AllocGlobal + Eprint, W: Write>(
     rt: &R,
     path: &str,
-    style: Style,
+    form: Form,
     out: &mut W,
 ) -> Status {
     let Ok(mut disk) = FileDisk::open_to_read(rt, path) else {
@@ -52,7 +52,7 @@ pub(crate) fn replayed<R: Files<File = File> + AllocGlobal + Eprint, W: Write>(
             Status::Device,
         );
     };
-    match replay(rt.alloc(), &mut disk, style, out) {
+    match replay(rt.alloc(), &mut disk, form, out) {
         Ok(Outcome::Whole) => Status::Whole,
         Ok(Outcome::Differs) => Status::Damaged,
         Err(error) => stopped(rt, path, error),

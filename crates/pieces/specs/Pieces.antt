@@ -13,6 +13,7 @@ text_in Json people json = json
 
 abbrev pub text_of : Form → Piece → List ℕ
 text_of form (a_piece.Text people json) = text_in form people.now json.now
+text_of form (a_piece.Same text) = text.now
 text_of form (a_piece.Number number) = decimal number
 text_of form (a_piece.Signed number) = signed_decimal number
 text_of form a_piece.Nothing = []

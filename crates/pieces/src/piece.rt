@@ -17,6 +17,8 @@ pub enum Form {
 pub enum Piece {
     /// These characters for people, and those as JSON.
     Text(&'static str, &'static str),
+    /// These characters in both forms.
+    Same(&'static str),
     /// A number in decimal digits.
     Number(u64),
     /// A number in decimal digits, with a minus before it where it is below zero.
@@ -29,7 +31,7 @@ pub enum Piece {
 pub fn both(word: &'static str) -> Piece
     ensures { (form : a_form) → text_of form result ≡ word.now }
 {
-    Piece::Text(word, word)
+    Piece::Same(word)
 }
 
 /// A number; a question mark or `null` where it isn't known.

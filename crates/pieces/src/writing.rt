@@ -28,6 +28,7 @@ fn write_piece<W: Write>(form: Form, piece: Piece, out: &mut W) -> io::Result<()
             Form::People => out.write_all(people.as_bytes()),
             Form::Json => out.write_all(json.as_bytes()),
         },
+        Piece::Same(text) => out.write_all(text.as_bytes()),
         Piece::Number(number) => write_number(number, out),
         Piece::Signed(number) => write_signed(number, out),
         Piece::Nothing => out.write_all(b""),

@@ -1,5 +1,7 @@
 -- The words of a replay's lines (this project's profile).
 use Rattle.std.specs.Prelude.{ℕ, List, codes}
+use Rattle.pieces.specs.Pieces.{text_in}
+use Rattle.pieces.specs.declared.piece.Form.{Form}
 use Rattle.replaying.specs.declared.differences.KeptField.{KeptField}
 use Rattle.replaying.specs.declared.differences.KeptField.TheVariants as kept_field
 use Rattle.replaying.specs.declared.differences.RecordField.{RecordField}
@@ -47,3 +49,6 @@ reason_code a_reason.BeforeOldest = codes "before_oldest_block"
 reason_code a_reason.Gap = codes "gap"
 reason_code a_reason.WithinBlock = codes "within_block"
 reason_code a_reason.BehindDifference = codes "behind_difference"
+
+abbrev pub reason_in : Form → Reason → List ℕ
+reason_in form reason = text_in form (reason_text reason) (reason_code reason)

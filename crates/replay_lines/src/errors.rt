@@ -1,7 +1,4 @@
 //! Errors.
-ghost use Rattle.std.specs.Prelude.{◌≡◌, false};
-ghost use Rattle.replay_lines.specs.Replays.{is_device};
-
 use std::io;
 use std::io::ErrorKind;
 use thiserror::Error;
@@ -26,12 +23,19 @@ pub enum ReplayError {
     NoMemory,
 }
 
+/// Why a replay stopped behind its first sector, but for the device.
+#[derive(Clone, Copy)]
+pub(crate) enum LateError {
+    /// The text could not be written.
+    Write,
+    /// Memory was refused.
+    NoMemory,
+}
+
 /// An error of the writer.
-pub(crate) fn writing_error(error: &io::Error) -> ReplayError
-    ensures { is_device result ≡ false }
-{
+pub(crate) fn writing_error(error: &io::Error) -> LateError {
     match error.kind() {
-        ErrorKind::OutOfMemory => ReplayError::NoMemory,
-        _ => ReplayError::Write,
+        ErrorKind::OutOfMemory => LateError::NoMemory,
+        _ => LateError::Write,
     }
 }

@@ -10,7 +10,6 @@ mod errors;
 mod kept;
 mod lines;
 mod national_items;
-mod numbers;
 mod place_items;
 mod reports;
 mod steps;
@@ -18,5 +17,5 @@ mod walk;
 mod words;
 
 pub use errors::ReplayError;
-pub use lines::Style;
+pub use pieces::Form;
 pub use walk::{Outcome, replay};

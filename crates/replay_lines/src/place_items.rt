@@ -1,83 +1,73 @@
 //! Level and position, as members of a JSON object.
-ghost use Rattle.std.specs.Prelude.{OnOk};
-ghost use Rattle.std.specs.Io.KnownBytes.{Appends};
-ghost use Rattle.replay_lines.specs.PlaceItems.{level_known, level_of, group_of, distance_of, position_of};
+ghost use Rattle.std.specs.Prelude.{◌≡◌, ◌++◌};
+ghost use Rattle.pieces.specs.Pieces.{text_of, texts};
+ghost use Rattle.pieces.specs.declared.piece.Form.TheVariants.{Json};
+ghost use Rattle.replay_lines.specs.PlaceItems.{level_of, placed_of, position_of};
 
-use crate::numbers::write_signed;
 use driver::Datum;
 use events::Position;
 use mode_table::TrainLevel;
-use std::io;
-use std::io::Write;
+use pieces::Piece;
 use vars::Variable;
 
-#[tactic(auto, unfolding(crate::specs::PlaceItems::level_known))]
-fn write_known_level<W: Write>(level: TrainLevel, out: &mut W) -> io::Result<()>
-    ensures { OnOk result (Appends (W.contents out.old) (W.contents out.new) (level_known level)) }
+fn level_piece(level: Datum<TrainLevel>) -> Piece
+    ensures { text_of Json result ≡ level_of level }
 {
     match level {
-        TrainLevel::Level0 => out.write_all(b",\"level\":{\"value\":0"),
-        TrainLevel::Level1 => out.write_all(b",\"level\":{\"value\":1"),
-    }
-}
-
-/// Writes the level, with its status.
-pub(crate) fn write_level<W: Write>(level: Datum<TrainLevel>, out: &mut W) -> io::Result<()>
-    ensures { OnOk result (Appends (W.contents out.old) (W.contents out.new) (level_of level)) }
-{
-    match level {
-        Datum::Unknown => out.write_all(b",\"level\":null"),
-        Datum::Valid(level) => {
-            write_known_level(level, out)?;
-            out.write_all(b",\"status\":\"valid\"}")?;
-            Ok(())
+        Datum::Unknown => Piece::Same(",\"level\":null"),
+        Datum::Valid(TrainLevel::Level0) => {
+            Piece::Same(",\"level\":{\"value\":0,\"status\":\"valid\"}")
         }
-        Datum::Invalid(level) => {
-            write_known_level(level, out)?;
-            out.write_all(b",\"status\":\"invalid\"}")?;
-            Ok(())
+        Datum::Valid(TrainLevel::Level1) => {
+            Piece::Same(",\"level\":{\"value\":1,\"status\":\"valid\"}")
+        }
+        Datum::Invalid(TrainLevel::Level0) => {
+            Piece::Same(",\"level\":{\"value\":0,\"status\":\"invalid\"}")
+        }
+        Datum::Invalid(TrainLevel::Level1) => {
+            Piece::Same(",\"level\":{\"value\":1,\"status\":\"invalid\"}")
         }
     }
 }
 
-#[tactic(auto, unfolding(crate::specs::PlaceItems::group_of))]
-fn write_group<W: Write>(position: &Position, out: &mut W) -> io::Result<()>
-    ensures { OnOk result (Appends (W.contents out.old) (W.contents out.new) (group_of position.now)) }
+// A level, and a position of this status behind it.
+fn placed(level: Piece, position: &Position, status: Piece) -> [Piece; 8]
+    ensures { texts Json result ≡ text_of Json level ++ placed_of position.now (text_of Json status) }
 {
     let group = position.group();
-    let country = group.country.number();
-    let number = group.number.number();
-    write!(
-        out,
-        ",\"position\":{{\"country\":{country},\"group\":{number}"
-    )
+    [
+        level,
+        Piece::Same(",\"position\":{\"country\":"),
+        Piece::Number(group.country.number()),
+        Piece::Same(",\"group\":"),
+        Piece::Number(group.number.number()),
+        Piece::Same(",\"distance_cm\":"),
+        Piece::Signed(position.distance().get()),
+        status,
+    ]
 }
 
-fn write_distance<W: Write>(position: &Position, out: &mut W) -> io::Result<()>
-    ensures { OnOk result (Appends (W.contents out.old) (W.contents out.new) (distance_of position.now)) }
+/// Level and position, with their status.
+pub(crate) fn place_pieces(level: Datum<TrainLevel>, position: Datum<Position>) -> [Piece; 8]
+    ensures { texts Json result ≡ level_of level ++ position_of position }
 {
-    out.write_all(b",\"distance_cm\":")?;
-    write_signed(position.distance().get(), out)?;
-    Ok(())
-}
-
-/// Writes the position, with its status.
-pub(crate) fn write_position<W: Write>(position: Datum<Position>, out: &mut W) -> io::Result<()>
-    ensures { OnOk result (Appends (W.contents out.old) (W.contents out.new) (position_of position)) }
-{
+    let level = level_piece(level);
     match position {
-        Datum::Unknown => out.write_all(b",\"position\":null"),
+        Datum::Unknown => [
+            level,
+            Piece::Same(",\"position\":null"),
+            Piece::Nothing,
+            Piece::Nothing,
+            Piece::Nothing,
+            Piece::Nothing,
+            Piece::Nothing,
+            Piece::Nothing,
+        ],
         Datum::Valid(position) => {
-            write_group(&position, out)?;
-            write_distance(&position, out)?;
-            out.write_all(b",\"status\":\"valid\"}")?;
-            Ok(())
+            placed(level, &position, Piece::Same(",\"status\":\"valid\"}"))
         }
         Datum::Invalid(position) => {
-            write_group(&position, out)?;
-            write_distance(&position, out)?;
-            out.write_all(b",\"status\":\"invalid\"}")?;
-            Ok(())
+            placed(level, &position, Piece::Same(",\"status\":\"invalid\"}"))
         }
     }
 }

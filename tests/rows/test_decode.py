@@ -1,0 +1,277 @@
+#!/usr/bin/env python3
+"""Runs test_decode.row over the program: tests/rows/test_decode.py [PROGRAM [ETCS]]
+
+What is asked and told, in numbers, stands in crates/test_decode/src. The rows `decode` and `short` ask the program
+`etcs`; so does what is said of the agreement of all ways of reading."""
+import os
+import resource
+import subprocess
+import sys
+import tempfile
+from concurrent.futures import ThreadPoolExecutor
+
+from asking import HERE, Told, asked, rows_of
+
+FAULTS = {0: "decoded", 1: "Truncated", 2: "WrongLength", 3: "Spare", 4: "OutOfRange", 5: "WrongVersion",
+          6: "NotUplink", 7: "NotBalise", 8: "NoEnd", 9: "TooLong"}
+COUNTED = [1, 2, 3, 4, 8, 9]
+HEADER_BITS, HEADER_BYTES = 50, 7
+KINDS = {"links": 1, "level": 2, "start": 3, "area": 4, "speeds": 5, "other": 6}
+TRUTH = ["false", "true"]
+
+
+def data_of(text):
+    return bytes.fromhex(text)
+
+
+def of_bytes(operation, data):
+    padded = data + bytes(-len(data) % 8)
+    return [operation, len(data), *(int.from_bytes(padded[at:at + 8], "big") for at in range(0, len(padded), 8))]
+
+
+def bytes_told(told):
+    size = told.take()
+    numbers = told.take((size + 7) // 8) if size else []
+    numbers = [numbers] if isinstance(numbers, int) else numbers
+    return b"".join(number.to_bytes(8, "big") for number in numbers)[:size]
+
+
+def spell(data):
+    return data.hex().upper()
+
+
+class Programs:
+    """The program of rows, asked for many rows at once, and the program `etcs`."""
+
+    def __init__(self, program, etcs):
+        self.program, self.etcs = program, etcs
+
+    def ask(self, questions):
+        return [Told(numbers) for numbers in asked(self.program, questions)]
+
+    def told(self, text):
+        """What `etcs decode` prints, and its status."""
+        ran = subprocess.run([self.etcs, "decode", text], capture_output=True)
+        return ran.stdout.decode().splitlines(), ran.returncode
+
+    def told_all(self, texts):
+        with ThreadPoolExecutor(8) as pool:
+            return list(pool.map(self.told, texts))
+
+
+def decode(programs, words):
+    lines, status = programs.told(words[0])
+    return [*lines, f"status {status}"]
+
+
+def short(programs, words):
+    """Where a file takes so many bytes and no more."""
+    def limited():
+        resource.setrlimit(resource.RLIMIT_FSIZE, (int(words[0]), int(words[0])))
+    with tempfile.TemporaryFile() as out:
+        # (a signal that Python ignores stays ignored)
+        ran = subprocess.run([programs.etcs, "decode", words[1]], stdout=out, stderr=subprocess.DEVNULL,
+                             preexec_fn=limited, restore_signals=False)
+        if os.fstat(out.fileno()).st_size > int(words[0]):
+            return ["more was taken"]
+    return [f"status {ran.returncode}"]
+
+
+def put_over(data, at, width, number):
+    """The bytes with a number of so many bits over those from a bit on."""
+    bits = 8 * len(data)
+    shift = bits - at - width
+    whole = int.from_bytes(data, "big") & ~(((1 << width) - 1) << shift) | number << shift
+    return whole.to_bytes(len(data), "big")
+
+
+def numbers(programs, words):
+    at, width, data = int(words[0]), int(words[1]), data_of(words[2])
+    told = programs.ask([of_bytes(1, put_over(data, at, width, number)) for number in range(1 << width)])
+    faults = [FAULTS[one.take()] for one in told]
+    lines, first = [], 0
+    for number in range(1, len(faults) + 1):
+        if number == len(faults) or faults[number] != faults[first]:
+            lines.append(f"{first} to {number - 1}: {faults[first]}")
+            first = number
+    return lines
+
+
+def written(told):
+    """As what a telegram is written, None where it is none."""
+    if told.take() == 0:
+        told.end()
+        return None
+    data = bytes_told(told)
+    told.end()
+    return data
+
+
+def without_end(data):
+    text = spell(data)
+    while text.endswith("55"):
+        text = text[:-2]
+    return text
+
+
+def again(programs, words):
+    [told] = programs.ask([of_bytes(2, data_of(words[0]))])
+    data = written(told)
+    if data is None:
+        return ["no telegram"]
+    return [without_end(data)] if len(data) == 104 else [f"{len(data)} bytes"]
+
+
+def walk_of(told):
+    """The fault's number, and the packets with their places."""
+    fault = told.take()
+    packets = []
+    if fault == 0:
+        for _ in range(told.take()):
+            number, offset = told.take(2)
+            packets.append((number, offset, bytes_told(told)))
+    told.end()
+    return fault, packets
+
+
+def places(programs, words):
+    [told] = programs.ask([of_bytes(3, data_of(words[0]))])
+    fault, packets = walk_of(told)
+    if fault:
+        return [FAULTS[fault]]
+    return [f"packets: {len(packets)}",
+            *(f"packet {number} from bit {offset} of {spell(data)}" for number, offset, data in packets)]
+
+
+def packet(programs, words):
+    [told] = programs.ask([of_bytes(4, data_of(words[0]))])
+    fault = told.take()
+    if fault:
+        told.end()
+        return [FAULTS[fault]]
+    elements, differences, has_room = told.take(3)
+    data = bytes_told(told)
+    told.end()
+    return [f"{elements} elements, {differences} differences", spell(data) if has_room else "no room"]
+
+
+def long(programs, words):
+    [told] = programs.ask([of_bytes(5, data_of(words[0]))])
+    less, more, found, fits, stays = told.take(5)
+    told.end()
+    return [f"in 160 bytes: {TRUTH[less]}", f"in 161 bytes: {TRUTH[more]}",
+            f"in a telegram: {TRUTH[fits]}, array as it was: {TRUTH[stays]}" if found else "no packet"]
+
+
+def bits(programs, words):
+    pairs = [(int(width), int(number)) for width, number in zip(words[::2], words[1::2])]
+    [told] = programs.ask([[6, len(pairs), *(word for pair in pairs for word in pair)]])
+    lines = []
+    for width, number in pairs:
+        has_room, size, *data = told.take(4)
+        lines.append(f"no number of {width} bits: {number}" if has_room == 2
+                     else f"{number} in {width} bits: {TRUTH[has_room]}, {spell(bytes(data[:size]))}")
+    told.end()
+    return lines
+
+
+def sizes(programs, words):
+    [told] = programs.ask([[7]])
+    packet_is, telegram_is = told.take(2)
+    told.end()
+    return [f"a packet within 480 bytes: {TRUTH[packet_is]}", f"a telegram within 16384 bytes: {TRUTH[telegram_is]}"]
+
+
+def spelling(programs, words):
+    kind, *others = words
+    others = [int(word) for word in others]
+    if kind == "speeds":
+        others = [others[0], len(others) - 1, *others[1:]]
+    [told] = programs.ask([[8, KINDS[kind], *others]])
+    found, is_spelled, alone, beside = told.take(4)
+    told.end()
+    if not found:
+        return []
+    return [f"packet: {TRUTH[is_spelled]}", f"telegram, 0 of 0: {TRUTH[alone]}", f"telegram, 1 of 0: {TRUTH[beside]}"]
+
+
+class Chance:
+    """Numbers that look random, by shifts of 64 bits."""
+
+    def __init__(self):
+        self.state = 0x9E37_79B9_7F4A_7C15
+
+    def below(self, most):
+        self.state ^= self.state << 13 & 2**64 - 1
+        self.state ^= self.state >> 7
+        self.state ^= self.state << 17 & 2**64 - 1
+        return (self.state >> 32) % max(most, 1)
+
+
+def mutated_of(chance, data):
+    """Up to three bits turned behind the header; at times the bytes behind it cut, or made too many."""
+    data = bytearray(data)
+    for _ in range(chance.below(4)):
+        bit = HEADER_BITS + chance.below(8 * len(data) - HEADER_BITS)
+        data[bit // 8] ^= 0x80 >> bit % 8
+    cut = chance.below(16)
+    if cut == 0:
+        del data[chance.below(len(data) - HEADER_BYTES) + HEADER_BYTES:]
+    elif cut == 1:
+        data += bytes(105 - len(data))
+    return bytes(data)
+
+
+def agreeing(programs, all_data, faults):
+    """How many telegrams of these all ways of reading agree on."""
+    texts = programs.told_all([spell(data) for data in all_data])
+    copies = [written(told) for told in programs.ask([of_bytes(2, data) for data in all_data])]
+    walks = [walk_of(told) for told in programs.ask([of_bytes(3, data) for data in all_data])]
+    fronts = [b"" if copy is None else data_of(without_end(copy)) for copy in copies]
+    texts_again = programs.told_all([spell(front) for front in fronts])
+    count = 0
+    for data, fault, (lines, status), copy, (walk_fault, packets), front, (lines_again, _) in zip(
+            all_data, faults, texts, copies, walks, fronts, texts_again):
+        if fault:
+            count += (lines[0].startswith("refused "), status, copy, walk_fault) == (True, 1, None, fault)
+        else:
+            count += (copy is not None and not lines[0].startswith("refused ") and status == 0 and walk_fault == 0
+                      and len([line for line in lines if line.startswith("packet ")]) == len(packets)
+                      and lines_again == lines and data.startswith(front[:-1]))
+    return count
+
+
+def mutated(programs, words):
+    chance, data = Chance(), data_of(words[1])
+    all_data = [mutated_of(chance, data) for _ in range(int(words[0]))]
+    faults = [told.take() for told in programs.ask([of_bytes(1, one) for one in all_data])]
+    return [f"decoded: {faults.count(0)}", *(f"refused {FAULTS[fault]}: {faults.count(fault)}" for fault in COUNTED),
+            f"in agreement: {agreeing(programs, all_data, faults)}"]
+
+
+ASKED = {"decode": decode, "short": short, "numbers": numbers, "again": again, "packet": packet, "places": places,
+         "long": long, "bits": bits, "sizes": sizes, "spelling": spelling, "mutated": mutated}
+
+
+def main(words):
+    top = HERE.parents[1]
+    program = words[0] if words else top / "crates/test_decode/out/test_decode"
+    programs = Programs(program, words[1] if len(words) > 1 else top / "crates/etcs/out/etcs")
+    rows = rows_of((HERE / "test_decode.row").read_text())
+    differ = 0
+    for place, question, wanted in rows:
+        word, *others = ["" if it == "''" else it for it in question.split(" ")]
+        try:
+            found = ["  " + line for line in ASKED[word](programs, others)]
+        except (ValueError, KeyError, IndexError, OverflowError) as fault:
+            found = [f"no answer ({fault})"]
+        if found != wanted:
+            differ += 1
+            print(f"test_decode.row:{place}: {question[:160]}", *(f"  wanted {line}" for line in wanted),
+                  *(f"  found  {line}" for line in found), sep="\n")
+    print(f"test_decode: {len(rows)} rows, {differ} differ")
+    return 0 if differ == 0 else 1
+
+
+if __name__ == "__main__":
+    sys.exit(main(sys.argv[1:]))

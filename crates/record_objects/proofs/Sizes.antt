@@ -1,7 +1,6 @@
 -- No packet of a telegram has more bits than its bytes.
-use Rattle.std.proofs.Common.{◌≡◌, ℕ, ◌+◌, ◌*◌, ◌≤◌, List, [], ◌∷◌, ◌++◌, length, All, ap, arith, length-append}
+use Rattle.std.proofs.Common.{ℕ, ◌≤◌, List, [], ◌∷◌, length, All, ap, arith, length-append}
 use Rattle.std.proofs.lemmas.List.Elements.{All-nil, All-cons}
-use Rattle.bits.specs.Bits.{bits_of}
 use Rattle.bits.proofs.Bytes.{length-bits_of}
 use Rattle.packets.specs.Packets.{length_of}
 use Rattle.packets.specs.declared.packet.Packet.{Packet}

@@ -8,7 +8,10 @@ use Rattle.packets.specs.declared.packet.Packet.{Packet}
 use Rattle.telegram.specs.Telegrams.{header}
 use Rattle.telegram.specs.declared.header.Header.{Header}
 use Rattle.bits.specs.Names.{name_text}
+use Rattle.pieces.specs.Pieces.{joined as in_turn}
 use Rattle.record_objects.specs.declared.fields.NamedNumber.{NamedNumber}
+use Rattle.record_objects.specs.declared.fields.Shape.{Shape}
+use Rattle.record_objects.specs.declared.fields.Shape.TheVariants.{Member, Pair}
 
 -- Fields with one more behind them. Bits that are skipped are no field, nor is what has no bits.
 abbrev pub with_field : List NamedNumber → Shown → List NamedNumber
@@ -24,9 +27,14 @@ abbrev pub packet_fields : Packet → List NamedNumber
 packet_fields p = packet_taken with_field (length_of p) p (with_field [] (named names.NidPacket 8 (number_of p)))
 
 -- a field as a member of an object
-unfoldable pub member_of : NamedNumber → List ℕ
-member_of f = codes "\"" ++ name_text f.name ++ codes "\":" ++ decimal f.number
+abbrev pub member_of : NamedNumber → List ℕ
+member_of f = in_turn (codes "\"" ∷ name_text f.name ∷ codes "\":" ∷ decimal f.number ∷ [])
 
 -- a field as a pair of its name and its number
-unfoldable pub pair_of : NamedNumber → List ℕ
-pair_of f = codes "[\"" ++ name_text f.name ++ codes "\"," ++ decimal f.number ++ codes "]"
+abbrev pub pair_of : NamedNumber → List ℕ
+pair_of f = in_turn (codes "[\"" ∷ name_text f.name ∷ codes "\"," ∷ decimal f.number ∷ codes "]" ∷ [])
+
+-- a field in a list of members, or of pairs
+abbrev pub field_of : Shape → NamedNumber → List ℕ
+field_of Member f = member_of f
+field_of Pair f = pair_of f

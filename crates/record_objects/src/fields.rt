@@ -1,12 +1,15 @@
 //! The fields of a header and of a packet, taken into a list and written with their names.
 ghost use Rattle.std.specs.Prelude.{◌≡◌, [], ◌≤◌, length, flat_map, OnOk};
 ghost use Rattle.std.specs.Io.KnownBytes.{Appends};
-ghost use Rattle.record_objects.specs.Fields.{member_of, pair_of};
+ghost use Rattle.pieces.specs.Pieces.{texts};
+ghost use Rattle.pieces.specs.declared.piece.Form.TheVariants.{Json};
+ghost use Rattle.record_objects.specs.Fields.{field_of};
 ghost use Rattle.record_objects.specs.Joining.{joined, behind_comma};
 
 use arrayvec::ArrayVec;
 use bits::{Run, VariableName};
 use packets::FieldSink;
+use pieces::{Form, Piece, write_pieces};
 use std::convert::Infallible;
 use std::io;
 use std::io::Write;
@@ -63,78 +66,66 @@ impl FieldSink for FieldList {
     }
 }
 
-#[tactic(auto, unfolding(crate::specs::Fields::member_of))]
-fn write_member<W: Write>(field: &NamedNumber, out: &mut W) -> io::Result<()>
-    ensures { OnOk result (Appends (W.contents out.old) (W.contents out.new) (member_of field.now)) }
-{
-    let name = field.name.text();
-    let number = field.number;
-    write!(out, "\"{name}\":{number}")
+/// How fields are written: as members of an object, or as pairs.
+#[derive(Clone, Copy)]
+pub(crate) enum Shape {
+    /// A member, behind its name.
+    Member,
+    /// A pair of its name and its number.
+    Pair,
 }
 
-fn write_next_member<W: Write>(field: &NamedNumber, out: &mut W) -> io::Result<()>
-    ensures { OnOk result (Appends (W.contents out.old) (W.contents out.new) (behind_comma member_of field.now)) }
+fn field_pieces(shape: Shape, field: NamedNumber) -> [Piece; 5]
+    ensures { texts Json result ≡ field_of shape field }
 {
-    out.write_all(b",")?;
-    write_member(field, out)?;
-    Ok(())
+    let name = Piece::Same(field.name.text());
+    let number = Piece::Number(field.number);
+    match shape {
+        Shape::Member => [
+            Piece::Same("\""),
+            name,
+            Piece::Same("\":"),
+            number,
+            Piece::Same(""),
+        ],
+        Shape::Pair => [
+            Piece::Same("[\""),
+            name,
+            Piece::Same("\","),
+            number,
+            Piece::Same("]"),
+        ],
+    }
 }
 
-fn write_members_behind<W: Write>(fields: &[NamedNumber], out: &mut W) -> io::Result<()>
-    ensures { OnOk result (Appends (W.contents out.old) (W.contents out.new) (flat_map (behind_comma member_of) fields.now)) }
+// The same behind a comma.
+fn next_pieces(shape: Shape, field: NamedNumber) -> [Piece; 6]
+    ensures { texts Json result ≡ behind_comma (field_of shape) field }
+{
+    let [first, second, third, fourth, fifth] = field_pieces(shape, field);
+    [Piece::Same(","), first, second, third, fourth, fifth]
+}
+
+fn write_behind<W: Write>(shape: Shape, fields: &[NamedNumber], out: &mut W) -> io::Result<()>
+    ensures { OnOk result (Appends (W.contents out.old) (W.contents out.new) (flat_map (behind_comma (field_of shape)) fields.now)) }
 {
     for field in fields {
-        write_next_member(field, out)?;
+        write_pieces(Form::Json, &next_pieces(shape, *field), out)?;
     }
     Ok(())
 }
 
-/// Writes fields as the members of an object.
-pub(crate) fn write_members<W: Write>(fields: &[NamedNumber], out: &mut W) -> io::Result<()>
-    ensures { OnOk result (Appends (W.contents out.old) (W.contents out.new) (joined member_of fields.now)) }
+/// Writes fields with commas between them.
+pub(crate) fn write_fields<W: Write>(
+    shape: Shape,
+    fields: &[NamedNumber],
+    out: &mut W,
+) -> io::Result<()>
+    ensures { OnOk result (Appends (W.contents out.old) (W.contents out.new) (joined (field_of shape) fields.now)) }
 {
     let Some((first, others)) = fields.split_first() else {
         return Ok(());
     };
-    write_member(first, out)?;
-    write_members_behind(others, out)?;
-    Ok(())
-}
-
-#[tactic(auto, unfolding(crate::specs::Fields::pair_of))]
-fn write_pair<W: Write>(field: &NamedNumber, out: &mut W) -> io::Result<()>
-    ensures { OnOk result (Appends (W.contents out.old) (W.contents out.new) (pair_of field.now)) }
-{
-    let name = field.name.text();
-    let number = field.number;
-    write!(out, "[\"{name}\",{number}]")
-}
-
-fn write_next_pair<W: Write>(field: &NamedNumber, out: &mut W) -> io::Result<()>
-    ensures { OnOk result (Appends (W.contents out.old) (W.contents out.new) (behind_comma pair_of field.now)) }
-{
-    out.write_all(b",")?;
-    write_pair(field, out)?;
-    Ok(())
-}
-
-fn write_pairs_behind<W: Write>(fields: &[NamedNumber], out: &mut W) -> io::Result<()>
-    ensures { OnOk result (Appends (W.contents out.old) (W.contents out.new) (flat_map (behind_comma pair_of) fields.now)) }
-{
-    for field in fields {
-        write_next_pair(field, out)?;
-    }
-    Ok(())
-}
-
-/// Writes fields as a list of pairs.
-pub(crate) fn write_pairs<W: Write>(fields: &[NamedNumber], out: &mut W) -> io::Result<()>
-    ensures { OnOk result (Appends (W.contents out.old) (W.contents out.new) (joined pair_of fields.now)) }
-{
-    let Some((first, others)) = fields.split_first() else {
-        return Ok(());
-    };
-    write_pair(first, out)?;
-    write_pairs_behind(others, out)?;
-    Ok(())
+    write_pieces(Form::Json, &field_pieces(shape, *first), out)?;
+    write_behind(shape, others, out)
 }

@@ -1,17 +1,18 @@
 //! A telegram as an object: its header and its packets.
-ghost use Rattle.std.specs.Prelude.{◌≡◌, ◌≤◌, ◌+◌, All, flat_map, OnOk};
+ghost use Rattle.std.specs.Prelude.{◌≡◌, ◌≤◌, [], ◌∷◌, codes, decimal, All, flat_map, OnOk};
 ghost use Rattle.std.specs.Io.KnownBytes.{Appends};
-ghost use Rattle.packets.specs.Packets.{length_of, number_of};
-ghost use Rattle.telegram.specs.Sequences.{length_of_all};
-ghost use Rattle.telegram.specs.declared.message.Telegram.{Telegram};
+ghost use Rattle.packets.specs.Packets.{length_of};
+ghost use Rattle.pieces.specs.Pieces.{texts, joined as in_turn};
+ghost use Rattle.pieces.specs.declared.piece.Form.TheVariants.{Json};
 ghost use Rattle.record_objects.specs.Fields.{header_fields, packet_fields};
 ghost use Rattle.record_objects.specs.Joining.{joined, behind_comma};
-ghost use Rattle.record_objects.specs.Telegrams.{packet_front, skipped_back, packet_back, packet_of, header_of, list_of, telegram_back, telegram_of};
+ghost use Rattle.record_objects.specs.Telegrams.{packet_front, packet_back, packet_of, telegram_of};
 
-use crate::fields::{FieldList, write_members, write_pairs};
+use crate::fields::{FieldList, Shape, write_fields};
 use arrayvec::ArrayVec;
 use packet_coding::hand_packet;
 use packets::Packet;
+use pieces::{Form, Piece, write_pieces};
 use std::io;
 use std::io::Write;
 use telegram::{Header, Telegram};
@@ -41,39 +42,45 @@ fn fields_of_packet(packet: &Packet<'_>) -> FieldList
     list
 }
 
-#[tactic(auto, unfolding(crate::specs::Telegrams::packet_front))]
-fn write_packet_front<W: Write>(packet: &Packet<'_>, out: &mut W) -> io::Result<()>
-    ensures { OnOk result (Appends (W.contents out.old) (W.contents out.new) (packet_front (number_of packet.now))) }
+fn front_pieces(number: u64) -> [Piece; 3]
+    ensures { texts Json result ≡ packet_front number }
 {
-    let number = packet.number().get();
-    write!(out, "{{\"packet\":{number},\"fields\":[")
+    [
+        Piece::Same("{\"packet\":"),
+        Piece::Number(number),
+        Piece::Same(",\"fields\":["),
+    ]
 }
 
-#[tactic(auto, unfolding(crate::specs::Telegrams::skipped_back))]
-fn write_skipped<W: Write>(bits: u32, out: &mut W) -> io::Result<()>
-    ensures { OnOk result (Appends (W.contents out.old) (W.contents out.new) (skipped_back bits)) }
+fn skipped_pieces(bits: u32) -> [Piece; 3]
+    ensures { texts Json result ≡ in_turn (codes "],\"skipped_bits\":" ∷ decimal bits ∷ codes "}" ∷ []) }
 {
-    write!(out, "],\"skipped_bits\":{bits}}}")
+    [
+        Piece::Same("],\"skipped_bits\":"),
+        Piece::Number(u64::from(bits)),
+        Piece::Same("}"),
+    ]
 }
 
-fn write_packet_back<W: Write>(packet: &Packet<'_>, out: &mut W) -> io::Result<()>
-    ensures { OnOk result (Appends (W.contents out.old) (W.contents out.new) (packet_back packet.now)) }
+fn back_pieces(packet: &Packet<'_>) -> [Piece; 3]
+    ensures { texts Json result ≡ packet_back packet.now }
 {
     match packet {
-        Packet::Other(other) => write_skipped(other.body.len(), out),
-        _ => out.write_all(b"]}"),
+        Packet::Other(other) => skipped_pieces(other.body.len()),
+        _ => [Piece::Same("]}"), Piece::Same(""), Piece::Same("")],
     }
 }
 
+#[tactic(auto, unfolding(crate::specs::Telegrams::packet_of))]
 fn write_packet<W: Write>(packet: &Packet<'_>, out: &mut W) -> io::Result<()>
     requires { length_of packet.now ≤ 832 }
     ensures { OnOk result (Appends (W.contents out.old) (W.contents out.new) (packet_of packet.now)) }
 {
     let list = fields_of_packet(packet);
-    write_packet_front(packet, out)?;
-    write_pairs(list.fields.as_slice(), out)?;
-    write_packet_back(packet, out)?;
-    Ok(())
+    let number = u64::from(packet.number().get());
+    write_pieces(Form::Json, &front_pieces(number), out)?;
+    write_fields(Shape::Pair, list.fields.as_slice(), out)?;
+    write_pieces(Form::Json, &back_pieces(packet), out)
 }
 
 fn write_next_packet<W: Write>(packet: &Packet<'_>, out: &mut W) -> io::Result<()>
@@ -81,8 +88,7 @@ fn write_next_packet<W: Write>(packet: &Packet<'_>, out: &mut W) -> io::Result<(
     ensures { OnOk result (Appends (W.contents out.old) (W.contents out.new) (behind_comma packet_of packet.now)) }
 {
     out.write_all(b",")?;
-    write_packet(packet, out)?;
-    Ok(())
+    write_packet(packet, out)
 }
 
 fn write_packets_behind<W: Write>(packets: &[Packet<'_>], out: &mut W) -> io::Result<()>
@@ -103,33 +109,17 @@ fn write_packets<W: Write>(packets: &[Packet<'_>], out: &mut W) -> io::Result<()
         return Ok(());
     };
     write_packet(first, out)?;
-    write_packets_behind(others, out)?;
-    Ok(())
+    write_packets_behind(others, out)
 }
 
-fn write_header<W: Write>(header: &Header, out: &mut W) -> io::Result<()>
-    ensures { OnOk result (Appends (W.contents out.old) (W.contents out.new) (header_of header.now)) }
+fn end_pieces(bits: u64) -> [Piece; 3]
+    ensures { texts Json result ≡ in_turn (codes "],\"bits\":" ∷ decimal bits ∷ codes "}" ∷ []) }
 {
-    let list = fields_of_header(header);
-    out.write_all(b"{\"header\":{")?;
-    write_members(list.fields.as_slice(), out)?;
-    Ok(())
-}
-
-#[tactic(auto, unfolding(crate::specs::Telegrams::telegram_back))]
-fn write_back<W: Write>(bits: u64, out: &mut W) -> io::Result<()>
-    ensures { OnOk result (Appends (W.contents out.old) (W.contents out.new) (telegram_back bits)) }
-{
-    write!(out, "],\"bits\":{bits}}}")
-}
-
-fn write_list<W: Write>(packets: &[Packet<'_>], out: &mut W) -> io::Result<()>
-    requires { All (λ p. length_of p ≤ 832) packets.now }
-    ensures { OnOk result (Appends (W.contents out.old) (W.contents out.new) (list_of packets.now)) }
-{
-    out.write_all(b"},\"packets\":[")?;
-    write_packets(packets, out)?;
-    Ok(())
+    [
+        Piece::Same("],\"bits\":"),
+        Piece::Number(bits),
+        Piece::Same("}"),
+    ]
 }
 
 /// Writes a telegram. The caller owes that none of its packets has more than 832 bits.
@@ -137,8 +127,10 @@ pub(crate) fn write_telegram<W: Write>(telegram: &Telegram<'_>, out: &mut W) -> 
     requires { All (λ p. length_of p ≤ 832) telegram.now.packets.items }
     ensures { OnOk result (Appends (W.contents out.old) (W.contents out.new) (telegram_of telegram.now)) }
 {
-    write_header(&telegram.header, out)?;
-    write_list(telegram.packets.as_slice(), out)?;
-    write_back(telegram.bits(), out)?;
-    Ok(())
+    let list = fields_of_header(&telegram.header);
+    out.write_all(b"{\"header\":{")?;
+    write_fields(Shape::Member, list.fields.as_slice(), out)?;
+    out.write_all(b"},\"packets\":[")?;
+    write_packets(telegram.packets.as_slice(), out)?;
+    write_pieces(Form::Json, &end_pieces(telegram.bits()), out)
 }

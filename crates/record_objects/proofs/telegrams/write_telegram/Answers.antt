@@ -1,10 +1,12 @@
 use Rattle.std.proofs.KnownBytes.{Appends-trans}
 use Rattle.record_objects.specs.Telegrams.{telegram_of}
+use Rattle.record_objects.proofs.Passing.{then_so}
 use Rattle.record_objects.proofs.telegrams.write_telegram.Goals as goal
 
 pub returns : goal.returns
 unfolding telegram_of
 returns g c =
-    let written = rw (c.as_slice.ensures.value) at c.in_ok-write_list.ensures in
-    let ended = rw (c.bits.ensures.value) at c.in_ok-write_back.ensures in
-    Appends-trans _ _ _ _ _ (Appends-trans _ _ _ _ _ c.in_ok-write_header.ensures written) ended
+    let header = rw (c.as_slice.ensures.value, c.fields_of_header-list.ensures) at c.in_ok-write_fields.ensures in
+    let packets = rw (c.as_slice-2.ensures.value) at c.in_ok-write_packets.ensures in
+    let begun = Appends-trans _ _ _ _ _ (Appends-trans _ _ _ _ _ (Appends-trans _ _ _ _ _ c.in_ok-write_all.ensures.bytes header) c.in_ok-write_all-2.ensures.bytes) packets in
+    then_so c.write_pieces.result (λ ended. Appends-trans _ _ _ _ _ begun (rw (c.end_pieces.ensures, c.bits.ensures.value) at ended)) c.write_pieces.ensures

@@ -23,10 +23,10 @@ abbrev pub fact_of : LevelTransition → ℤ → Fact
 fact_of packet place = record { packet = packet; place = place }
 
 -- what bears on it: a packet 41; where the maximum safe front is after an event; that the announcement was deleted
-pub data Entry : Type 0 where
-  Announced : Fact → Entry
-  Reached : ℤ → Entry
-  Forgotten : Entry
+pub data LevelEntry : Type 0 where
+  Announced : Fact → LevelEntry
+  Reached : ℤ → LevelEntry
+  Forgotten : LevelEntry
 
 -- ---- what a packet announces: the first of its levels that the train can run in
 
@@ -67,7 +67,7 @@ unless_reached max_front None = None
 unless_reached max_front (Some announced) = if is_reached max_front announced then None else Some announced
 
 -- the newest announcement, until its start is reached or it is deleted
-abbrev pub waiting : List Entry → Option Announcement
+abbrev pub waiting : List LevelEntry → Option Announcement
 waiting [] = None
 waiting (Announced fact ∷ entries) = option_or (announced_by fact) (waiting entries)
 waiting (Reached max_front ∷ entries) = unless_reached max_front (waiting entries)

@@ -1,7 +1,7 @@
 //! At most one announced level is kept: taken, reached and deleted.
 ghost use Rattle.std.specs.Prelude.{◌≡◌, List, [], ◌∷◌};
-ghost use Rattle.areas.specs.Levels.{Entry, fact_of, waiting, coming, is_level_0_announced, any_asks_for};
-ghost use Rattle.areas.specs.Levels.Entry.{Announced, Reached, Forgotten};
+ghost use Rattle.areas.specs.Levels.{LevelEntry, fact_of, waiting, coming, is_level_0_announced, any_asks_for};
+ghost use Rattle.areas.specs.Levels.LevelEntry.{Announced, Reached, Forgotten};
 
 use crate::Announcement;
 use mode_table::TrainLevel;
@@ -38,7 +38,7 @@ impl AnnouncedLevel {
     /// Takes packet 41 in place of the older announcement. It counts from the place of its group, in centimetres. Where
     /// the train can run in none of its levels, nothing changes.
     pub fn announce(&mut self, packet: &LevelTransition, place: GroupPlace)
-        ensures { (entries : List Entry) → self.old ≡ waiting entries
+        ensures { (entries : List LevelEntry) → self.old ≡ waiting entries
             → self.new ≡ waiting (Announced (fact_of packet.now place) ∷ entries) }
     {
         if let Some(announced) = Announcement::of(packet, place) {
@@ -49,7 +49,7 @@ impl AnnouncedLevel {
     /// Answers the level that comes into force where the maximum safe front, in centimetres, has reached its start;
     /// then it is no longer announced. The caller asks once an event.
     pub fn reach(&mut self, max_front: Cm) -> Option<TrainLevel>
-        ensures stands { (entries : List Entry) → self.old ≡ waiting entries
+        ensures stands { (entries : List LevelEntry) → self.old ≡ waiting entries
             → self.new ≡ waiting (Reached max_front ∷ entries) }
         ensures level { result ≡ coming max_front self.old }
     {
@@ -63,7 +63,7 @@ impl AnnouncedLevel {
 
     /// Deletes the announcement, as a mode does (4.10).
     pub fn clear(&mut self)
-        ensures { (entries : List Entry) → self.new ≡ waiting (Forgotten ∷ entries) }
+        ensures { (entries : List LevelEntry) → self.new ≡ waiting (Forgotten ∷ entries) }
     {
         self.announced = None;
     }

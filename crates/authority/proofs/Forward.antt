@@ -10,8 +10,8 @@ use Rattle.packets.specs.declared.authority.EndTimer.{EndTimer}
 use Rattle.authority.specs.declared.answers.End.{End}
 use Rattle.authority.specs.declared.timers.TimedSection.{TimedSection}
 use Rattle.authority.specs.Timers.{has_run_out, started_has_run_out}
-use Rattle.authority.specs.Entries.{Entry, Fact, Sight, now_of, accepted, sights, IsInOrder}
-use Rattle.authority.specs.Entries.Entry.{Ticked, Accepted, Passed, Cleared}
+use Rattle.authority.specs.Entries.{AuthorityEntry, Fact, Sight, now_of, accepted, sights, IsInOrder}
+use Rattle.authority.specs.Entries.AuthorityEntry.{Ticked, Accepted, Passed, Cleared}
 use Rattle.authority.specs.Track.{told_end}
 use Rattle.authority.specs.Authority.{reaches, was_stopped, section_has_run_out, started_before, end_timer_has_run_out, end_now, end_of}
 use Rattle.authority.specs.Laws.{KeepsAuthority}
@@ -60,17 +60,17 @@ timer_seen end scale now sight seen (Some timer) h = started_kept timer.time now
 
 -- ---- the end
 
-same_authority : (later entries : List Entry) → KeepsAuthority later → accepted (later ++ entries) ≡ accepted entries
+same_authority : (later entries : List AuthorityEntry) → KeepsAuthority later → accepted (later ++ entries) ≡ accepted entries
 same_authority [] entries k = refl
 same_authority (Ticked moment ∷ later) entries k = same_authority later entries k
 same_authority (Accepted fact ∷ later) entries k = absurd k
 same_authority (Passed train ∷ later) entries k = same_authority later entries k
 same_authority (Cleared ∷ later) entries k = absurd k
 
-abbrev end_at : Fact → List Entry → ℤ
+abbrev end_at : Fact → List AuthorityEntry → ℤ
 end_at fact entries = (end_now fact (now_of entries) (sights entries)).end
 
-no_farther : (fact : Fact) (later entries : List Entry) → KeepsAuthority later → IsInOrder (later ++ entries) → end_at fact (later ++ entries) ≤ℤ end_at fact entries
+no_farther : (fact : Fact) (later entries : List AuthorityEntry) → KeepsAuthority later → IsInOrder (later ++ entries) → end_at fact (later ++ entries) ≤ℤ end_at fact entries
 no_farther fact [] entries k o = omega (arith, ints)
 no_farther fact (Ticked moment ∷ later) entries k o =
     let before = later ++ entries in
@@ -99,7 +99,7 @@ of_sooner (Some fact) p old new before after s h e f =
     let b : after fact ≡ new = cc in
     subst (λ (x : End). new.end ≤ℤ x.end) a (subst (λ (x : End). x.end ≤ℤ (before fact).end) b (h fact))
 
-pub never_forward : (later entries : List Entry) (old new : End) → KeepsAuthority later → IsInOrder (later ++ entries) →
+pub never_forward : (later entries : List AuthorityEntry) (old new : End) → KeepsAuthority later → IsInOrder (later ++ entries) →
     end_of entries ≡ Some old → end_of (later ++ entries) ≡ Some new → new.end ≤ℤ old.end
 never_forward later entries old new k o e f =
     of_sooner (accepted entries) (accepted (later ++ entries)) old new

@@ -4,7 +4,7 @@ use Rattle.std.specs.Prelude.{Option, Some, option_map}
 use Rattle.std.proofs.lemmas.Int.{ints}
 use Rattle.authority.specs.declared.answers.End.{End}
 use Rattle.authority.specs.declared.timers.TimedSection.{TimedSection}
-use Rattle.authority.specs.Entries.{Entry, Fact, Sight, now_of, accepted, sights}
+use Rattle.authority.specs.Entries.{AuthorityEntry, Fact, Sight, now_of, accepted, sights}
 use Rattle.authority.specs.Track.{timed_sections, end_entry, told_end}
 use Rattle.authority.specs.Authority.{section_has_run_out, end_timer_has_run_out, taken_back, end_now, end_of}
 use Rattle.authority.specs.Laws.{MayBeEnd}
@@ -60,7 +60,7 @@ nearest_some o fact now seen end is e =
       λ place m. subst (λ (x : End). x.end ≤ℤ place) same (nearest_now fact now seen place m),
     )
 
-pub nearest : (entries : List Entry) (fact : Fact) (end : End) → accepted entries ≡ Some fact → end_of entries ≡ Some end →
+pub nearest : (entries : List AuthorityEntry) (fact : Fact) (end : End) → accepted entries ≡ Some fact → end_of entries ≡ Some end →
     MayBeEnd fact (now_of entries) (sights entries) end.end
     × ((place : ℤ) → MayBeEnd fact (now_of entries) (sights entries) place → end.end ≤ℤ place)
 nearest entries fact end is e = nearest_some (accepted entries) fact (now_of entries) (sights entries) end is e

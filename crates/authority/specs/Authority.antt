@@ -15,7 +15,7 @@ use Rattle.authority.specs.declared.answers.Release.{Release}
 use Rattle.authority.specs.declared.answers.Release.TheVariants.{Speed, National}
 use Rattle.authority.specs.declared.timers.TimedSection.{TimedSection}
 use Rattle.authority.specs.declared.stored.Point.{Point}
-use Rattle.authority.specs.Entries.{Entry, Fact, Sight, now_of, accepted, sights}
+use Rattle.authority.specs.Entries.{AuthorityEntry, Fact, Sight, now_of, accepted, sights}
 use Rattle.authority.specs.Timers.{has_run_out, started_has_run_out}
 use Rattle.authority.specs.Track.{in_cm, end_entry, told_end, timed_sections}
 
@@ -118,9 +118,9 @@ end_by fact now seen (Some place) = end_with place 0 (bare_end place)
 abbrev pub end_now : Fact → ℕ → List Sight → End
 end_now fact now seen = end_by fact now seen (taken_back fact now seen)
 
-abbrev pub end_of : List Entry → Option End
+abbrev pub end_of : List AuthorityEntry → Option End
 end_of entries = option_map (λ fact. end_now fact (now_of entries) (sights entries)) (accepted entries)
 
 -- the greatest speed of the whole authority
-abbrev pub main_speed_of : List Entry → Option ℕ
+abbrev pub main_speed_of : List AuthorityEntry → Option ℕ
 main_speed_of entries = option_map (λ fact. speed_of fact.packet.speed) (accepted entries)

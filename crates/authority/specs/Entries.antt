@@ -15,14 +15,14 @@ fact_of packet place moment = record { packet = packet; place = place; moment = 
 
 -- what bears on it: the clock, an authority that was accepted, where the train was after a whole event, and that the
 -- authority was deleted
-pub data Entry : Type 0 where
-  Ticked : ℕ → Entry
-  Accepted : Fact → Entry
-  Passed : Span → Entry
-  Cleared : Entry
+pub data AuthorityEntry : Type 0 where
+  Ticked : ℕ → AuthorityEntry
+  Accepted : Fact → AuthorityEntry
+  Passed : Span → AuthorityEntry
+  Cleared : AuthorityEntry
 
 -- the moment now
-abbrev pub now_of : List Entry → ℕ
+abbrev pub now_of : List AuthorityEntry → ℕ
 now_of [] = 0
 now_of (Ticked moment ∷ entries) = moment
 now_of (Accepted fact ∷ entries) = fact.moment
@@ -30,12 +30,12 @@ now_of (Passed train ∷ entries) = now_of entries
 now_of (Cleared ∷ entries) = now_of entries
 
 -- moments never fall
-abbrev pub IsInOrder : List Entry → Type 0
+abbrev pub IsInOrder : List AuthorityEntry → Type 0
 IsInOrder [] = Unit {0}
 IsInOrder (entry ∷ entries) = (now_of entries ≤ now_of (entry ∷ entries)) × IsInOrder entries
 
 -- the authority that was accepted last, unless it was deleted
-abbrev pub accepted : List Entry → Option Fact
+abbrev pub accepted : List AuthorityEntry → Option Fact
 accepted [] = None
 accepted (Ticked moment ∷ entries) = accepted entries
 accepted (Accepted fact ∷ entries) = Some fact
@@ -48,7 +48,7 @@ pub record Sight : Type 0 where
   pub train : Span
 
 -- what was seen from the acceptance on
-abbrev pub sights : List Entry → List Sight
+abbrev pub sights : List AuthorityEntry → List Sight
 sights [] = []
 sights (Ticked moment ∷ entries) = sights entries
 sights (Accepted fact ∷ entries) = []

@@ -7,7 +7,7 @@ use Rattle.packets.specs.declared.authority.Overlap.{Overlap}
 use Rattle.authority.specs.declared.timers.PlaceTimer.{PlaceTimer}
 use Rattle.authority.specs.declared.stored.TimedOverlap.{TimedOverlap}
 use Rattle.authority.specs.declared.stored.Stored.{Stored}
-use Rattle.authority.specs.Entries.{Entry, Fact, Sight, now_of, accepted, sights}
+use Rattle.authority.specs.Entries.{AuthorityEntry, Fact, Sight, now_of, accepted, sights}
 use Rattle.authority.specs.Track.{in_cm, end_entry, told_end, timed_sections}
 use Rattle.authority.specs.Authority.{was_stopped, started_before, speed_of, danger_point_of, overlap_point_of}
 
@@ -39,10 +39,10 @@ stored_of fact seen = record {
 }
 
 -- the moment now, and what is stored of the authority
-pub record Known : Type 0 where
+pub record KnownAuthority : Type 0 where
   pub moment : ℕ
   pub stored : Option Stored
 
-abbrev pub known : List Entry → Known
+abbrev pub known : List AuthorityEntry → KnownAuthority
 known entries =
     record { moment = now_of entries; stored = option_map (λ fact. stored_of fact (sights entries)) (accepted entries) }

@@ -3,8 +3,8 @@
 use Rattle.std.specs.Prelude.{◌≡◌, ◌≢◌, ◌⊎◌, ◌↔◌, ℕ, ◌+◌, ◌*◌, ◌<◌, ◌≤◌, ℤ, ◌<ℤ◌, ◌≤ℤ◌, List, [], ◌∷◌, ◌++◌, Some, IsTrue}
 use Rattle.authority.specs.declared.answers.End.{End}
 use Rattle.authority.specs.declared.timers.TimedSection.{TimedSection}
-use Rattle.authority.specs.Entries.{Entry, Fact, Sight, now_of, accepted, sights, IsInOrder}
-use Rattle.authority.specs.Entries.Entry.{Ticked, Accepted, Passed, Cleared}
+use Rattle.authority.specs.Entries.{AuthorityEntry, Fact, Sight, now_of, accepted, sights, IsInOrder}
+use Rattle.authority.specs.Entries.AuthorityEntry.{Ticked, Accepted, Passed, Cleared}
 use Rattle.authority.specs.Timers.{never}
 use Rattle.authority.specs.Track.{timed_sections, end_entry, told_end}
 use Rattle.authority.specs.Authority.{section_has_run_out, first_reached, end_timer_has_run_out, end_of, main_speed_of}
@@ -54,12 +54,12 @@ MayBeEnd fact now seen place =
 -- it is at the nearest of these places, whatever the order in which the times were over
 abbrev pub EndIsTheNearest : Type 0
 EndIsTheNearest =
-    (entries : List Entry) (fact : Fact) (end : End) → accepted entries ≡ Some fact → end_of entries ≡ Some end →
+    (entries : List AuthorityEntry) (fact : Fact) (end : End) → accepted entries ≡ Some fact → end_of entries ≡ Some end →
     MayBeEnd fact (now_of entries) (sights entries) end.end
     × ((place : ℤ) → MayBeEnd fact (now_of entries) (sights entries) place → end.end ≤ℤ place)
 
 -- among these entries no authority is accepted or deleted
-abbrev pub KeepsAuthority : List Entry → Type 0
+abbrev pub KeepsAuthority : List AuthorityEntry → Type 0
 KeepsAuthority [] = Unit {0}
 KeepsAuthority (Ticked moment ∷ entries) = KeepsAuthority entries
 KeepsAuthority (Accepted fact ∷ entries) = ⊥
@@ -69,12 +69,12 @@ KeepsAuthority (Cleared ∷ entries) = ⊥
 -- while an authority is kept and moments don't fall, its end never moves forward
 abbrev pub EndNeverMovesForward : Type 0
 EndNeverMovesForward =
-    (later entries : List Entry) (old new : End) → KeepsAuthority later → IsInOrder (later ++ entries) →
+    (later entries : List AuthorityEntry) (old new : End) → KeepsAuthority later → IsInOrder (later ++ entries) →
     end_of entries ≡ Some old → end_of (later ++ entries) ≡ Some new → new.end ≤ℤ old.end
 
 -- nothing before an acceptance matters
 abbrev pub AcceptanceForgets : Type 0
 AcceptanceForgets =
-    (later before : List Entry) (fact : Fact) →
+    (later before : List AuthorityEntry) (fact : Fact) →
     (end_of (later ++ Accepted fact ∷ before) ≡ end_of (later ++ Accepted fact ∷ []))
     × (main_speed_of (later ++ Accepted fact ∷ before) ≡ main_speed_of (later ++ Accepted fact ∷ []))

@@ -1,7 +1,7 @@
 //! The movement authority in a life: it is accepted, its timers run, and it tells its end.
 ghost use Rattle.std.specs.Prelude.{◌≡◌, List, [], ◌∷◌, is_some};
-ghost use Rattle.authority.specs.Entries.{Entry, fact_of, accepted};
-ghost use Rattle.authority.specs.Entries.Entry.{Ticked, Accepted, Passed, Cleared};
+ghost use Rattle.authority.specs.Entries.{AuthorityEntry, fact_of, accepted};
+ghost use Rattle.authority.specs.Entries.AuthorityEntry.{Ticked, Accepted, Passed, Cleared};
 ghost use Rattle.authority.specs.Authority.{end_of, main_speed_of};
 ghost use Rattle.authority.specs.Known.{known};
 
@@ -21,9 +21,9 @@ pub struct Authority {
 }
 
 impl Model for Authority {
-    ghost use Rattle.authority.specs.Known.{Known};
+    ghost use Rattle.authority.specs.Known.{KnownAuthority};
 
-    ghost Value = { Known };
+    ghost Value = { KnownAuthority };
 
     ghost view = { λ a. record { moment = a.moment; stored = a.stored } };
 }
@@ -42,7 +42,7 @@ impl Authority {
     /// Takes packet 12 in place of the old authority. Its sections count from the place of its group, in centimetres;
     /// its timers from the moment of acceptance, in milliseconds.
     pub fn accept(&mut self, packet: &MovementAuthority, place: GroupPlace, moment: Ms)
-        ensures { (entries : List Entry) → self.new ≡ known (Accepted (fact_of packet.now place moment) ∷ entries) }
+        ensures { (entries : List AuthorityEntry) → self.new ≡ known (Accepted (fact_of packet.now place moment) ∷ entries) }
     {
         *self = Authority {
             moment,
@@ -52,7 +52,7 @@ impl Authority {
 
     /// Moves the clock to a moment of the life, in milliseconds. The caller owes moments that don't fall.
     pub fn tick(&mut self, moment: Ms)
-        ensures { (entries : List Entry) → self.old ≡ known entries
+        ensures { (entries : List AuthorityEntry) → self.old ≡ known entries
             → self.new ≡ known (Ticked moment ∷ entries) }
     {
         self.moment = moment;
@@ -60,7 +60,7 @@ impl Authority {
 
     /// Takes where the train is after an event, so that timers start and stop. The caller calls it once an event.
     pub fn pass(&mut self, train: &Stretch)
-        ensures { (entries : List Entry) → self.old ≡ known entries
+        ensures { (entries : List AuthorityEntry) → self.old ≡ known entries
             → self.new ≡ known (Passed train.now ∷ entries) }
     {
         if let Some(stored) = &mut self.stored {
@@ -70,7 +70,7 @@ impl Authority {
 
     /// Deletes the authority, as a mode does (4.10). The clock goes on.
     pub fn clear(&mut self)
-        ensures { (entries : List Entry) → self.old ≡ known entries
+        ensures { (entries : List AuthorityEntry) → self.old ≡ known entries
             → self.new ≡ known (Cleared ∷ entries) }
     {
         self.stored = None;
@@ -79,7 +79,7 @@ impl Authority {
     /// The end of authority now, with the speed there, the supervised location and the release speed; None where no
     /// authority is stored.
     pub fn end(&self) -> Option<End>
-        ensures { (entries : List Entry) → self.now ≡ known entries → result ≡ end_of entries }
+        ensures { (entries : List AuthorityEntry) → self.now ≡ known entries → result ≡ end_of entries }
     {
         match &self.stored {
             None => None,
@@ -89,7 +89,7 @@ impl Authority {
 
     /// V_MAIN, the greatest speed of the whole authority, in metres per hour; None where no authority is stored.
     pub fn main_speed(&self) -> Option<Mph>
-        ensures { (entries : List Entry) → self.now ≡ known entries → result ≡ main_speed_of entries }
+        ensures { (entries : List AuthorityEntry) → self.now ≡ known entries → result ≡ main_speed_of entries }
     {
         match &self.stored {
             None => None,
@@ -99,7 +99,7 @@ impl Authority {
 
     /// Whether an authority is stored.
     pub fn is_stored(&self) -> bool
-        ensures { (entries : List Entry) → self.now ≡ known entries → result ≡ is_some (accepted entries) }
+        ensures { (entries : List AuthorityEntry) → self.now ≡ known entries → result ≡ is_some (accepted entries) }
     {
         self.stored.is_some()
     }

@@ -4,8 +4,8 @@ use Rattle.std.specs.Prelude.{nat_le, not}
 use Rattle.std.proofs.lemmas.Bool.Decides.{nat_tests}
 use Rattle.balise_groups.specs.declared.reading.Reading.{Reading}
 use Rattle.balise_groups.specs.Closing.{is_whole}
-use Rattle.balise_groups.specs.Groups.{Entry, counting, newest, is_left, goes_on, groups_of, ended, joined_by}
-use Rattle.balise_groups.specs.Groups.Entry.{Read, Went}
+use Rattle.balise_groups.specs.Groups.{GroupEntry, counting, newest, is_left, goes_on, groups_of, ended, joined_by}
+use Rattle.balise_groups.specs.Groups.GroupEntry.{Read, Went}
 use Rattle.balise_groups.specs.Laws.{path_of, TellPaths}
 
 here : (path : ℕ) (r : Reading) → r.sums.path ≡ path → not (nat_le path (r.sums.path + 1300)) ≡ false
@@ -16,7 +16,7 @@ if_whole : (path : ℕ) (r : Reading) (rs last : List Reading) (b : Bool) → r.
 if_whole path r rs last true e = refl
 if_whole path r rs last false e = here path r e
 
-pub never_left : (es : List Entry) → TellPaths es → is_left (path_of es) (newest (groups_of es).current) ≡ false
+pub never_left : (es : List GroupEntry) → TellPaths es → is_left (path_of es) (newest (groups_of es).current) ≡ false
 never_left [] t = refl
 never_left (Went path ∷ es) t =
     let gs = groups_of es in

@@ -5,8 +5,8 @@ use Rattle.std.proofs.lemmas.Bool.Decides.{nat_tests}
 use Rattle.vars.specs.declared.group.GroupIdentity.{GroupIdentity}
 use Rattle.balise_groups.specs.declared.reading.Reading.{Reading}
 use Rattle.balise_groups.specs.Closing.{is_whole}
-use Rattle.balise_groups.specs.Groups.{Entry, Groups, counting, newest, seen_at, is_close, is_left, goes_on, same_group, groups_of, ended, joined_by, last_after}
-use Rattle.balise_groups.specs.Groups.Entry.{Read, Went}
+use Rattle.balise_groups.specs.Groups.{GroupEntry, Groups, counting, newest, seen_at, is_close, is_left, goes_on, same_group, groups_of, ended, joined_by, last_after}
+use Rattle.balise_groups.specs.Groups.GroupEntry.{Read, Went}
 use Rattle.balise_groups.specs.Laws.{HaveName, HaveOneName}
 
 first_of_two : (a b : Bool) → (a && b) ≡ true → a ≡ true
@@ -39,7 +39,7 @@ if_ended : (b : Bool) (gs : Groups) → HaveOneName gs.current → HaveOneName g
 if_ended true gs c l = (tt, last_one gs.current gs.last c l)
 if_ended false gs c l = (c, l)
 
-pub one_name : (es : List Entry) → HaveOneName (groups_of es).current × HaveOneName (groups_of es).last
+pub one_name : (es : List GroupEntry) → HaveOneName (groups_of es).current × HaveOneName (groups_of es).last
 one_name [] = (tt, tt)
 one_name (Went path ∷ es) =
     let before = one_name es in

@@ -11,7 +11,7 @@ use Rattle.balise_groups.specs.declared.message.Closed.{Closed}
 use Rattle.balise_groups.specs.declared.reading.Reading.{Reading}
 use Rattle.balise_groups.specs.Telling.{infill, before_infill, told_by}
 use Rattle.balise_groups.specs.Closing.{is_at, is_read, is_whole, telegrams_at, telegrams_below, cause_of, closed_as, close_of}
-use Rattle.balise_groups.specs.Groups.{Known, with_reading, close_if_whole, goes_on, is_left, taken_by, ended_by}
+use Rattle.balise_groups.specs.Groups.{KnownGroups, with_reading, close_if_whole, goes_on, is_left, taken_by, ended_by}
 use Rattle.balise_groups.specs.Rooms.{packets_at, packets_in, packets_of_closed}
 
 shorter : (ps : List Packet) → length (before_infill ps) ≤ length ps
@@ -132,7 +132,7 @@ joined_room closed rs r same = omega (arith, ap packets_of_closed same, whole_ro
 abbrev pub IsWithin : ℕ → Taken → Type 0
 IsWithin most taken = packets_of_closed taken.ended + packets_of_closed taken.whole ≤ most
 
-pub taken_room : (reading : Reading) (known : Known) → IsWithin (packets_in known.readings + packets_at reading) (taken_by reading known)
+pub taken_room : (reading : Reading) (known : KnownGroups) → IsWithin (packets_in known.readings + packets_at reading) (taken_by reading known)
 taken_room reading known =
     let more = whole_room (with_reading known.readings reading) in
     let longer = joined known.readings reading in
@@ -147,7 +147,7 @@ taken_room reading known =
     cases (goes_on reading known.last) (goes_on reading known.current)
 
 -- .. and at a movement
-pub ended_room : (path : ℕ) (known : Known) → packets_of_closed (ended_by path known) ≤ packets_in known.readings
+pub ended_room : (path : ℕ) (known : KnownGroups) → packets_of_closed (ended_by path known) ≤ packets_in known.readings
 ended_room path known =
     let k = closed_room known.readings in
     let cases : (b : Bool) → packets_of_closed (cond b (close_of known.readings) None) ≤ packets_in known.readings = elim [ true ↦ k | false ↦ omega arith ] in

@@ -9,9 +9,9 @@ use Rattle.balise_groups.specs.declared.assembler.Taken.{Taken}
 use Rattle.balise_groups.specs.Closing.{is_read, is_whole, close_of}
 
 -- what bears on groups: a reading, or a movement with the path of the life after it
-pub data Entry : Type 0 where
-  Read : Reading → Entry
-  Went : ℕ → Entry
+pub data GroupEntry : Type 0 where
+  Read : Reading → GroupEntry
+  Went : ℕ → GroupEntry
 
 -- ---- one group: the list of its readings, newest first
 
@@ -87,7 +87,7 @@ after_reading reading groups =
 abbrev pub after_movement : ℕ → Groups → Groups
 after_movement path groups = if is_left path (newest groups.current) then ended groups else groups
 
-abbrev pub groups_of : List Entry → Groups
+abbrev pub groups_of : List GroupEntry → Groups
 groups_of [] = record { current = []; last = [] }
 groups_of (Read reading ∷ entries) = after_reading reading (groups_of entries)
 groups_of (Went path ∷ entries) = after_movement path (groups_of entries)
@@ -95,16 +95,16 @@ groups_of (Went path ∷ entries) = after_movement path (groups_of entries)
 -- ---- what has to be kept of them
 
 -- the readings of the group being read that count, its newest telegram, and that of the group that closed last
-pub record Known : Type 0 where
+pub record KnownGroups : Type 0 where
   pub readings : List Reading
   pub current : Option Seen
   pub last : Option Seen
 
-abbrev pub known_of : Groups → Known
+abbrev pub known_of : Groups → KnownGroups
 known_of groups =
     record { readings = counting groups.current; current = newest groups.current; last = newest groups.last }
 
-abbrev pub known : List Entry → Known
+abbrev pub known : List GroupEntry → KnownGroups
 known entries = known_of (groups_of entries)
 
 -- ---- what closes
@@ -113,12 +113,12 @@ abbrev pub close_if_whole : List Reading → Option Closed
 close_if_whole readings = if is_whole readings then close_of readings else None
 
 -- A reading closes the group that it ends, and its own where that is whole now.
-abbrev pub taken_by : Reading → Known → Taken
+abbrev pub taken_by : Reading → KnownGroups → Taken
 taken_by reading known =
     if goes_on reading known.last then record { ended = None; whole = None } else
     (if goes_on reading known.current then record { ended = None; whole = close_if_whole (with_reading known.readings reading) }
     else record { ended = close_of known.readings; whole = close_if_whole (with_reading [] reading) })
 
 -- A movement closes the group that is left.
-abbrev pub ended_by : ℕ → Known → Option Closed
+abbrev pub ended_by : ℕ → KnownGroups → Option Closed
 ended_by path known = if is_left path known.current then close_of known.readings else None

@@ -3,8 +3,8 @@ use Rattle.std.specs.Prelude.{ℕ, ◌≡◌, List, [], ◌∷◌, false, if◌t
 use Rattle.vars.specs.declared.group.GroupIdentity.{GroupIdentity}
 use Rattle.balise_groups.specs.declared.reading.Reading.{Reading}
 use Rattle.balise_groups.specs.Closing.{is_at, is_read, reading_at}
-use Rattle.balise_groups.specs.Groups.{Entry, counting, newest, is_left, groups_of}
-use Rattle.balise_groups.specs.Groups.Entry.{Read, Went}
+use Rattle.balise_groups.specs.Groups.{GroupEntry, counting, newest, is_left, groups_of}
+use Rattle.balise_groups.specs.Groups.GroupEntry.{Read, Went}
 
 -- no place is lost
 abbrev pub KeepsEachPlace : Type 0
@@ -21,13 +21,13 @@ CountsTheFirst = (group : List Reading) (place : ℕ) (other : Reading) →
     reading_at place other (counting group) ≡ oldest place other group
 
 -- the path of the life, by its movements
-abbrev pub path_of : List Entry → ℕ
+abbrev pub path_of : List GroupEntry → ℕ
 path_of [] = 0
 path_of (Read reading ∷ entries) = path_of entries
 path_of (Went path ∷ entries) = path
 
 -- each reading has the path of the life at it
-abbrev pub TellPaths : List Entry → Type 0
+abbrev pub TellPaths : List GroupEntry → Type 0
 TellPaths [] = Unit {0}
 TellPaths (Read reading ∷ entries) = (reading.sums.path ≡ path_of entries) × TellPaths entries
 TellPaths (Went path ∷ entries) = TellPaths entries
@@ -35,7 +35,7 @@ TellPaths (Went path ∷ entries) = TellPaths entries
 -- Where all movements are handed in, the group being read is never left: a telegram goes on with it where it has its
 -- name.
 abbrev pub IsNeverLeft : Type 0
-IsNeverLeft = (entries : List Entry) → TellPaths entries →
+IsNeverLeft = (entries : List GroupEntry) → TellPaths entries →
     is_left (path_of entries) (newest (groups_of entries).current) ≡ false
 
 abbrev pub HaveName : GroupIdentity → List Reading → Type 0
@@ -48,5 +48,5 @@ HaveOneName (reading ∷ readings) = HaveName reading.telegram.header.group read
 
 -- all readings of a group have one name
 abbrev pub AreOfOneName : Type 0
-AreOfOneName = (entries : List Entry) →
+AreOfOneName = (entries : List GroupEntry) →
     HaveOneName (groups_of entries).current × HaveOneName (groups_of entries).last

@@ -1,8 +1,8 @@
 //! Readings come in one by one, and groups go out as they end (this project's profile).
 ghost use Rattle.std.specs.Prelude.{◌≡◌, ◌+◌, ◌≤◌, ℕ, List, [], ◌∷◌, None, is_none, false};
 ghost use Rattle.balise_groups.specs.Closing.{close_of};
-ghost use Rattle.balise_groups.specs.Groups.{Entry, Groups, Known, seen_at, is_close, is_left, goes_on, ended, ended_if_whole, joined_by, close_if_whole, with_reading, known_of, known, taken_by, ended_by};
-ghost use Rattle.balise_groups.specs.Groups.Entry.{Read, Went};
+ghost use Rattle.balise_groups.specs.Groups.{GroupEntry, Groups, KnownGroups, seen_at, is_close, is_left, goes_on, ended, ended_if_whole, joined_by, close_if_whole, with_reading, known_of, known, taken_by, ended_by};
+ghost use Rattle.balise_groups.specs.Groups.GroupEntry.{Read, Went};
 ghost use Rattle.balise_groups.specs.Rooms.{most_packets, packets_at, packets_in, packets_of_closed, packets_of_taken};
 
 use crate::message::Closed;
@@ -46,9 +46,9 @@ pub struct Assembler {
 }
 
 impl Model for Assembler {
-    ghost use Rattle.balise_groups.specs.Groups.{Known};
+    ghost use Rattle.balise_groups.specs.Groups.{KnownGroups};
 
-    ghost Value = { Known };
+    ghost Value = { KnownGroups };
 
     ghost view = { λ a. record { readings = a.readings; current = a.current; last = a.last } };
 }
@@ -108,7 +108,7 @@ impl Assembler {
     pub fn take(&mut self, reading: Reading) -> Taken
         ensures answer { result ≡ taken_by reading self.old }
         ensures few { packets_of_taken result ≤ packets_in self.old.readings + packets_at reading }
-        ensures stands { (entries : List Entry) → self.old ≡ known entries → self.new ≡ known (Read reading ∷ entries) }
+        ensures stands { (entries : List GroupEntry) → self.old ≡ known entries → self.new ≡ known (Read reading ∷ entries) }
     {
         if goes_on(&reading, &self.last) {
             self.last = Some(seen_at(&reading));
@@ -134,7 +134,7 @@ impl Assembler {
     pub fn is_leaving(&self, path: Length) -> bool
         ensures answer { result ≡ is_left path self.now.current }
         ensures none { result ≡ false → ended_by path self.now ≡ None }
-        ensures stands { result ≡ false → (entries : List Entry) → self.now ≡ known entries
+        ensures stands { result ≡ false → (entries : List GroupEntry) → self.now ≡ known entries
             → self.now ≡ known (Went path ∷ entries) }
     {
         is_left(path, &self.current)
@@ -160,7 +160,7 @@ impl Assembler {
     pub fn moved(&mut self, path: Length) -> Option<Closed>
         ensures answer { result ≡ ended_by path self.old }
         ensures few { packets_of_closed result ≤ packets_in self.old.readings }
-        ensures stands { (entries : List Entry) → self.old ≡ known entries → self.new ≡ known (Went path ∷ entries) }
+        ensures stands { (entries : List GroupEntry) → self.old ≡ known entries → self.new ≡ known (Went path ∷ entries) }
     {
         if !self.is_leaving(path) {
             return None;

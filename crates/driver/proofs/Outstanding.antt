@@ -5,8 +5,8 @@ use Rattle.driver.specs.declared.action.Action.{Action}
 use Rattle.driver.specs.declared.action.Action.TheVariants.{Acknowledge}
 use Rattle.driver.specs.declared.action.Acknowledged.TheVariants as acknowledge
 use Rattle.driver.specs.declared.occasion.Occasion.{Occasion}
-use Rattle.driver.specs.Entries.{Entry, after_all, is_deed, did}
-use Rattle.driver.specs.Entries.Entry.{Did, CameIn, Turned}
+use Rattle.driver.specs.Entries.{DriverEntry, after_all, is_deed, did}
+use Rattle.driver.specs.Entries.DriverEntry.{Did, CameIn, Turned}
 use Rattle.driver.specs.Known.{trip_after}
 use Rattle.driver.specs.Laws.{IsOutstanding, OutstandingSo, acknowledges_trip}
 use Rattle.mode_table.specs.declared.mode.Mode.{Mode}
@@ -34,17 +34,17 @@ past_mode mode before h = h
 
 -- ---- all entries
 
-behind : (kept : Bool) (entry : Entry) (entries : List Entry) → is_deed acknowledges_trip entry ≡ false → IsOutstanding kept entries →
+behind : (kept : Bool) (entry : DriverEntry) (entries : List DriverEntry) → is_deed acknowledges_trip entry ≡ false → IsOutstanding kept entries →
     IsOutstanding kept (entry ∷ entries)
 behind kept entry entries h (inl tripped) = inl (record {
   later = entry ∷ tripped.later;
   earlier = tripped.earlier;
-  in_turn = ap (λ (es : List Entry). entry ∷ es) tripped.in_turn;
+  in_turn = ap (λ (es : List DriverEntry). entry ∷ es) tripped.in_turn;
   not_since = rw h tripped.not_since;
 })
 behind kept entry entries h (inr was) = inr (was.0, rw h was.1)
 
-outstanding : (kept : Bool) (entries : List Entry) → after_all trip_after kept entries ≡ true → IsOutstanding kept entries
+outstanding : (kept : Bool) (entries : List DriverEntry) → after_all trip_after kept entries ≡ true → IsOutstanding kept entries
 outstanding kept [] h = inr (h, refl)
 outstanding kept (Did action occasion ∷ entries) h =
     let parts = by_action action occasion (after_all trip_after kept entries) h in
@@ -56,7 +56,7 @@ outstanding kept (Turned mode ∷ entries) h =
       | inr before ↦ behind kept (Turned mode) entries refl (outstanding kept entries before)
     ]
 
-still : (kept : Bool) (later rest : List Entry) → after_all trip_after kept rest ≡ true → did acknowledges_trip later ≡ false →
+still : (kept : Bool) (later rest : List DriverEntry) → after_all trip_after kept rest ≡ true → did acknowledges_trip later ≡ false →
     after_all trip_after kept (later ++ rest) ≡ true
 still kept [] rest h n = h
 still kept (Did action occasion ∷ later) rest h n =
@@ -65,10 +65,10 @@ still kept (Did action occasion ∷ later) rest h n =
 still kept (CameIn level ∷ later) rest h n = still kept later rest h n
 still kept (Turned mode ∷ later) rest h n = past_mode mode (after_all trip_after kept (later ++ rest)) (still kept later rest h n)
 
-was_so : (kept : Bool) (entries : List Entry) → IsOutstanding kept entries → after_all trip_after kept entries ≡ true
+was_so : (kept : Bool) (entries : List DriverEntry) → IsOutstanding kept entries → after_all trip_after kept entries ≡ true
 was_so kept entries (inl tripped) = rw tripped.in_turn (still kept tripped.later (Turned Trip ∷ tripped.earlier) refl tripped.not_since)
 was_so kept entries (inr was) =
-    subst (λ (es : List Entry). after_all trip_after kept es ≡ true) (append-nil entries) (still kept entries [] was.0 was.1)
+    subst (λ (es : List DriverEntry). after_all trip_after kept es ≡ true) (append-nil entries) (still kept entries [] was.0 was.1)
 
 pub outstanding_so : OutstandingSo
 outstanding_so kept entries = (outstanding kept entries, was_so kept entries)

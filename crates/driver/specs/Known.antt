@@ -10,8 +10,8 @@ use Rattle.driver.specs.declared.occasion.Occasion.{Occasion}
 use Rattle.driver.specs.declared.revalidation.Revalidation.{Revalidation}
 use Rattle.driver.specs.Data.{met_by, is_valid}
 use Rattle.driver.specs.Limits.{Train}
-use Rattle.driver.specs.Entries.{Entry, after_all}
-use Rattle.driver.specs.Entries.Entry.{Did, Turned}
+use Rattle.driver.specs.Entries.{DriverEntry, after_all}
+use Rattle.driver.specs.Entries.DriverEntry.{Did, Turned}
 use Rattle.driver.specs.Revalidating.{revalidation_of}
 use Rattle.driver.specs.Telling.{datum_after, identity_told, running_number_told, train_data_told, level_told}
 use Rattle.mode_table.specs.declared.level.TrainLevel.{TrainLevel}
@@ -24,7 +24,7 @@ use Rattle.mode_table.specs.Statuses.{status_on, power_up_status}
 
 -- ---- the trip: entering the mode Trip makes one outstanding, and acknowledging it ends it
 
-abbrev pub trip_after : Entry → Bool → Bool
+abbrev pub trip_after : DriverEntry → Bool → Bool
 trip_after (Did (Acknowledge acknowledge.Trip) occasion) before = false
 trip_after (Turned Trip) before = true
 trip_after entry before = before
@@ -35,14 +35,14 @@ abbrev pub unless_deleted : {A : Type 0} → Fate → Option A → Option A
 unless_deleted fate.Deleted before = None
 unless_deleted fate before = before
 
-abbrev pub override_after : Entry → Option Occasion → Option Occasion
+abbrev pub override_after : DriverEntry → Option Occasion → Option Occasion
 override_after (Did Override occasion) before = Some occasion
 override_after (Turned mode) before = unless_deleted (status_on item.Override mode) before
 override_after entry before = before
 
 -- ---- what is known
 
-pub record Known : Type 0 where
+pub record KnownItems : Type 0 where
   pub identity : Datum (List ℕ)
   pub running_number : Datum ℕ
   pub train_data : Datum Train
@@ -51,7 +51,7 @@ pub record Known : Type 0 where
   pub overridden : Option Occasion
   pub revalidation : Revalidation
 
-abbrev pub known : Kept → List Entry → Known
+abbrev pub known : Kept → List DriverEntry → KnownItems
 known kept entries = record {
   identity = datum_after identity_told kept.identity entries;
   running_number = datum_after running_number_told kept.running_number entries;
@@ -63,7 +63,7 @@ known kept entries = record {
 }
 
 -- what is to be kept over a power-up
-abbrev pub kept_by : Known → Kept
+abbrev pub kept_by : KnownItems → Kept
 kept_by driver = record {
   identity = driver.identity;
   running_number = driver.running_number;

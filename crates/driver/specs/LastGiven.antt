@@ -6,11 +6,11 @@ use Rattle.driver.specs.declared.action.Action.TheVariants.{Override}
 use Rattle.driver.specs.declared.datum.Datum.{Datum}
 use Rattle.driver.specs.declared.occasion.Occasion.{Occasion}
 use Rattle.driver.specs.Data.{is_valid, is_known, value_of}
-use Rattle.driver.specs.Entries.{Entry, after_all}
-use Rattle.driver.specs.Entries.Entry.{Did, Turned}
+use Rattle.driver.specs.Entries.{DriverEntry, after_all}
+use Rattle.driver.specs.Entries.DriverEntry.{Did, Turned}
 use Rattle.driver.specs.Known.{override_after}
-use Rattle.driver.specs.Telling.{Told, datum_after, gives, confirms, ends}
-use Rattle.driver.specs.Telling.Told.{Gives}
+use Rattle.driver.specs.Telling.{ItemTold, datum_after, gives, confirms, ends}
+use Rattle.driver.specs.Telling.ItemTold.{Gives}
 use Rattle.mode_table.specs.declared.statuses.Fate.{Fate}
 use Rattle.mode_table.specs.declared.statuses.Fate.TheVariants as fate
 use Rattle.mode_table.specs.declared.statuses.Item.TheVariants as item
@@ -18,56 +18,56 @@ use Rattle.mode_table.specs.Statuses.{status_on}
 
 -- ---- the value
 
-abbrev pub none_gives : {A : Type 0} → (Entry → Told A) → List Entry → Type 0
+abbrev pub none_gives : {A : Type 0} → (DriverEntry → ItemTold A) → List DriverEntry → Type 0
 none_gives told entries = list_any (λ entry. gives (told entry)) entries ≡ false
 
 -- an entry gave this value, and none later gave one
-pub record WasGiven {A : Type 0} (told : Entry → Told A) (entries : List Entry) (value : A) : Type 0 where
-  pub entry : Entry
-  pub later : List Entry
-  pub earlier : List Entry
+pub record WasGiven {A : Type 0} (told : DriverEntry → ItemTold A) (entries : List DriverEntry) (value : A) : Type 0 where
+  pub entry : DriverEntry
+  pub later : List DriverEntry
+  pub earlier : List DriverEntry
   pub in_turn : entries ≡ later ++ entry ∷ earlier
   pub gives_it : told entry ≡ Gives value
   pub none_later : none_gives told later
 
 -- or it was kept as the life began, and none was given in it
-abbrev pub HasValue : {A : Type 0} → (Entry → Told A) → Datum A → List Entry → A → Type 0
+abbrev pub HasValue : {A : Type 0} → (DriverEntry → ItemTold A) → Datum A → List DriverEntry → A → Type 0
 HasValue told kept entries value = WasGiven told entries value ⊎ (none_gives told entries × (value_of kept ≡ Some value))
 
 -- the value of a datum is the last one that was given
-abbrev pub ValueSo : {A : Type 0} → (Entry → Told A) → Type 0
-ValueSo {A} told = (kept : Datum A) (entries : List Entry) (value : A) →
+abbrev pub ValueSo : {A : Type 0} → (DriverEntry → ItemTold A) → Type 0
+ValueSo {A} told = (kept : Datum A) (entries : List DriverEntry) (value : A) →
     (value_of (datum_after told kept entries) ≡ Some value) ↔ HasValue told kept entries value
 
 -- ---- whether it is valid
 
-abbrev pub none_ends : {A : Type 0} → (Entry → Told A) → List Entry → Type 0
+abbrev pub none_ends : {A : Type 0} → (DriverEntry → ItemTold A) → List DriverEntry → Type 0
 none_ends told entries = list_any (λ entry. ends (told entry)) entries ≡ false
 
 -- an entry gave it, or confirmed it while it had a value, and no mode has made it invalid since
-pub record WasMadeValid {A : Type 0} (told : Entry → Told A) (kept : Datum A) (entries : List Entry) : Type 0 where
-  pub entry : Entry
-  pub later : List Entry
-  pub earlier : List Entry
+pub record WasMadeValid {A : Type 0} (told : DriverEntry → ItemTold A) (kept : Datum A) (entries : List DriverEntry) : Type 0 where
+  pub entry : DriverEntry
+  pub later : List DriverEntry
+  pub earlier : List DriverEntry
   pub in_turn : entries ≡ later ++ entry ∷ earlier
   pub made_so : IsTrue (gives (told entry)) ⊎ (IsTrue (confirms (told entry)) × ((value : A) × HasValue told kept earlier value))
   pub none_since : none_ends told later
 
 -- a datum is valid where it was made so, or was as the life began and no mode has made it invalid
-abbrev pub ValidSo : {A : Type 0} → (Entry → Told A) → Type 0
-ValidSo {A} told = (kept : Datum A) (entries : List Entry) →
+abbrev pub ValidSo : {A : Type 0} → (DriverEntry → ItemTold A) → Type 0
+ValidSo {A} told = (kept : Datum A) (entries : List DriverEntry) →
     IsTrue (is_valid (datum_after told kept entries)) ↔ (WasMadeValid told kept entries ⊎ (none_ends told entries × IsTrue (is_valid kept)))
 
 -- ---- nothing is lost in a life
 
 -- what is known stays known, whatever comes later
-abbrev pub StaysKnown : {A : Type 0} → (Entry → Told A) → Type 0
-StaysKnown {A} told = (kept : Datum A) (later earlier : List Entry) →
+abbrev pub StaysKnown : {A : Type 0} → (DriverEntry → ItemTold A) → Type 0
+StaysKnown {A} told = (kept : Datum A) (later earlier : List DriverEntry) →
     IsTrue (is_known (datum_after told kept earlier)) → IsTrue (is_known (datum_after told kept (later ++ earlier)))
 
 -- what is valid stays so
-abbrev pub StaysValid : {A : Type 0} → (Entry → Told A) → Type 0
-StaysValid {A} told = (kept : Datum A) (later earlier : List Entry) →
+abbrev pub StaysValid : {A : Type 0} → (DriverEntry → ItemTold A) → Type 0
+StaysValid {A} told = (kept : Datum A) (later earlier : List DriverEntry) →
     IsTrue (is_valid (datum_after told kept earlier)) → IsTrue (is_valid (datum_after told kept (later ++ earlier)))
 
 -- ---- the override
@@ -77,18 +77,18 @@ is_deleted fate.Deleted = true
 is_deleted fate = false
 
 -- another override, or a mode that deletes it
-abbrev pub ends_override : Entry → Bool
+abbrev pub ends_override : DriverEntry → Bool
 ends_override (Did Override occasion) = true
 ends_override (Turned mode) = is_deleted (status_on item.Override mode)
 ends_override entry = false
 
 -- an override was accepted on this occasion, and nothing has ended it since
-pub record WasOverridden (entries : List Entry) (occasion : Occasion) : Type 0 where
-  pub later : List Entry
-  pub earlier : List Entry
+pub record WasOverridden (entries : List DriverEntry) (occasion : Occasion) : Type 0 where
+  pub later : List DriverEntry
+  pub earlier : List DriverEntry
   pub in_turn : entries ≡ later ++ Did Override occasion ∷ earlier
   pub none_since : list_any ends_override later ≡ false
 
 abbrev pub OverriddenSo : Type 0
-OverriddenSo = (entries : List Entry) (occasion : Occasion) →
+OverriddenSo = (entries : List DriverEntry) (occasion : Occasion) →
     (after_all override_after None entries ≡ Some occasion) ↔ WasOverridden entries occasion

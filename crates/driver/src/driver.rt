@@ -2,10 +2,10 @@
 ghost use Rattle.std.specs.Prelude.{◌≡◌, List, ◌∷◌, []};
 ghost use Rattle.driver.specs.Overriding.{is_active};
 ghost use Rattle.driver.specs.Revalidating.{is_whole};
-ghost use Rattle.driver.specs.Entries.{Entry};
+ghost use Rattle.driver.specs.Entries.{DriverEntry};
 ghost use Rattle.driver.specs.Known.{known, kept_by};
 ghost use Rattle.driver.specs.declared.kept.Kept.{Kept as KeptData};
-ghost use Rattle.driver.specs.Entries.Entry.{Did, CameIn, Turned};
+ghost use Rattle.driver.specs.Entries.DriverEntry.{Did, CameIn, Turned};
 
 mod accepting;
 
@@ -31,9 +31,9 @@ pub struct Driver {
 }
 
 impl Model for Driver {
-    ghost use Rattle.driver.specs.Known.{Known};
+    ghost use Rattle.driver.specs.Known.{KnownItems};
 
-    ghost Value = { Known };
+    ghost Value = { KnownItems };
 
     ghost view = { λ d. record { identity = d.identity; running_number = d.running_number; train_data = d.train_data; level = d.level; trip_outstanding = d.trip_outstanding; overridden = d.overridden; revalidation = d.revalidation } };
 
@@ -64,7 +64,7 @@ impl Driver {
 
     /// An action that `accepts` took is done, on an occasion. The caller owes that it was accepted.
     pub fn act(&mut self, action: &Action, occasion: &Occasion)
-        ensures { (kept : KeptData) → (entries : List Entry) → self.old ≡ known kept entries
+        ensures { (kept : KeptData) → (entries : List DriverEntry) → self.old ≡ known kept entries
             → self.new ≡ known kept (Did action.now occasion.now ∷ entries) }
     {
         match action {
@@ -113,7 +113,7 @@ impl Driver {
 
     /// An announced level comes into force.
     pub fn come_in(&mut self, level: TrainLevel)
-        ensures { (kept : KeptData) → (entries : List Entry) → self.old ≡ known kept entries
+        ensures { (kept : KeptData) → (entries : List DriverEntry) → self.old ≡ known kept entries
             → self.new ≡ known kept (CameIn level ∷ entries) }
     {
         self.level = Datum::Valid(level);
@@ -122,7 +122,7 @@ impl Driver {
     /// A mode is entered: what the status table (SUBSET-026, 4.10) says of each item becomes so, and entering Trip
     /// makes a trip outstanding.
     pub fn turn(&mut self, mode: Mode)
-        ensures { (kept : KeptData) → (entries : List Entry) → self.old ≡ known kept entries
+        ensures { (kept : KeptData) → (entries : List DriverEntry) → self.old ≡ known kept entries
             → self.new ≡ known kept (Turned mode ∷ entries) }
     {
         self.identity = self.identity.met_by(status_on(Item::Identity, mode));

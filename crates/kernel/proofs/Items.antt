@@ -5,12 +5,12 @@ use Rattle.std.specs.Option.{option_or}
 use Rattle.driver.specs.declared.datum.Datum.{Datum}
 use Rattle.driver.specs.declared.datum.Datum.TheVariants.{Unknown, Valid, Invalid}
 use Rattle.driver.specs.Data.{value_of, confirmed, met_by}
-use Rattle.driver.specs.Entries.{Entry as DriverEntry, after_all}
+use Rattle.driver.specs.Entries.{DriverEntry, after_all}
 use Rattle.driver.specs.Known.{trip_after}
 use Rattle.driver.specs.LastGiven.{HasValue, WasGiven}
 use Rattle.driver.specs.Laws.{HasTripped, IsOutstanding}
-use Rattle.driver.specs.Telling.{Told, after_told, datum_after, deletes, identity_told, running_number_told, train_data_told, level_told}
-use Rattle.driver.specs.Telling.Told.{Gives, Confirms, Leaves, Nothing}
+use Rattle.driver.specs.Telling.{ItemTold, after_told, datum_after, deletes, identity_told, running_number_told, train_data_told, level_told}
+use Rattle.driver.specs.Telling.ItemTold.{Gives, Confirms, Leaves, Nothing}
 use Rattle.driver.proofs.Giving.{value_so}
 use Rattle.driver.proofs.Outstanding.{outstanding_so}
 use Rattle.events.specs.declared.input.Event.{Event}
@@ -24,12 +24,12 @@ use Rattle.mode_table.specs.declared.statuses.Fate.{Fate}
 use Rattle.mode_table.specs.declared.statuses.Fate.TheVariants.{Kept as K, Invalid as I, Deleted as D}
 use Rattle.mode_table.specs.declared.statuses.Item.TheVariants as item
 use Rattle.mode_table.specs.Statuses.{power_up_status}
-use Rattle.odometry.specs.Place.{Known as Place}
+use Rattle.odometry.specs.Place.{KnownPlace as Place}
 use Rattle.track_picture.specs.Entry.{Outcome}
 use Rattle.track_picture.specs.History.{after_fixing, fixed_by, group_of_fix, place_of}
 use Rattle.vars.specs.declared.group.GroupIdentity.{GroupIdentity}
 use Rattle.mode_control.specs.declared.deed.Deed.{Deed}
-use Rattle.mode_control.specs.Entry.{Entry}
+use Rattle.mode_control.specs.Entry.{SupervisionEntry}
 use Rattle.mode_control.specs.History.{deeds, after_deed, after_level, after_mode, tracks}
 use Rattle.mode_control.specs.Life.{Life, entered, left_at_power_up}
 use Rattle.mode_control.specs.Sentences.{entry_of}
@@ -63,7 +63,7 @@ behind_mode : (mode : Option Mode) (first rest : List DriverEntry) → after_mod
 behind_mode None first rest = refl
 behind_mode (Some mode) first rest = refl
 
-one_entry : (entry : Entry) (entries : List Entry) → deeds (entry ∷ entries) ≡ deeds (entry ∷ []) ++ deeds entries
+one_entry : (entry : SupervisionEntry) (entries : List SupervisionEntry) → deeds (entry ∷ entries) ≡ deeds (entry ∷ []) ++ deeds entries
 one_entry entry entries =
     let rest = deeds entries in
     ap (λ (es : List DriverEntry). after_mode entry.track.entered (after_level entry.level es)) (behind_deed entry.deed rest)
@@ -90,7 +90,7 @@ as_confirmed Unknown = refl
 as_confirmed (Valid v) = refl
 as_confirmed (Invalid v) = refl
 
-by_told : {A : Type 0} (told : Told A) (one other : Datum A) → value_of one ≡ value_of other → value_of (after_told told one) ≡ value_of (after_told told other)
+by_told : {A : Type 0} (told : ItemTold A) (one other : Datum A) → value_of one ≡ value_of other → value_of (after_told told one) ≡ value_of (after_told told other)
 by_told (Gives v) one other same = refl
 by_told Confirms one other same = as_confirmed one ∙ same ∙ sym (as_confirmed other)
 by_told (Leaves fate) one other same = by_fate fate one other same
@@ -109,7 +109,7 @@ still_known cold.Moved Unknown = refl
 still_known cold.Moved (Valid v) = refl
 still_known cold.Moved (Invalid v) = refl
 
-module _ {A : Type 0} (told : DriverEntry → Told A) where
+module _ {A : Type 0} (told : DriverEntry → ItemTold A) where
   in_turn : (kept : Datum A) (first rest : List DriverEntry) → datum_after told kept (first ++ rest) ≡ datum_after told (datum_after told kept rest) first
   in_turn kept [] rest = refl
   in_turn kept (e ∷ first) rest = ap (after_told (told e)) (in_turn kept first rest)
@@ -119,7 +119,7 @@ module _ {A : Type 0} (told : DriverEntry → Told A) where
   by_all one other (e ∷ entries) same = by_told (told e) (datum_after told one entries) (datum_after told other entries) (by_all one other entries same)
 
   -- one input more
-  one_more : (kept : Datum A) (entry : Entry) (entries : List Entry) (all : List DriverEntry) → value_of (datum_after told kept (deeds entries)) ≡ value_of (datum_after told Unknown all) →
+  one_more : (kept : Datum A) (entry : SupervisionEntry) (entries : List SupervisionEntry) (all : List DriverEntry) → value_of (datum_after told kept (deeds entries)) ≡ value_of (datum_after told Unknown all) →
       value_of (datum_after told kept (deeds (entry ∷ entries))) ≡ value_of (datum_after told Unknown (deeds (entry ∷ []) ++ all))
   one_more kept entry entries all same =
       let now = deeds (entry ∷ []) in

@@ -17,7 +17,7 @@ use Rattle.mode_table.specs.declared.mode.Mode.{Mode}
 use Rattle.mode_table.specs.declared.mode.Mode.TheVariants.{StandBy, Trip, PostTrip, SystemFailure}
 use Rattle.mode_table.specs.Modes.{is_mode}
 use Rattle.track_picture.specs.History.{speed_of, moment_of}
-use Rattle.mode_control.specs.Entry.{Entry}
+use Rattle.mode_control.specs.Entry.{SupervisionEntry}
 use Rattle.mode_control.specs.History.{tracks, mode_of, on_sight_of, shunting_of, level_0_of}
 use Rattle.mode_control.specs.Life.{Life, driver_of}
 use Rattle.mode_control.specs.Sentences.{values_of}
@@ -25,11 +25,11 @@ use Rattle.mode_control.specs.Sentences.{values_of}
 -- ---- a moment: an event, and the life as it left it
 
 pub record Moment : Type 0 where
-  pub event : Entry
+  pub event : SupervisionEntry
   pub life : Life
 
 -- those of a life, from these events of it back
-abbrev pub moments_back : Life → List Entry → List Moment
+abbrev pub moments_back : Life → List SupervisionEntry → List Moment
 moments_back life [] = []
 moments_back life (event ∷ earlier) =
     record { event = event; life = record life { entries = event ∷ earlier } } ∷ moments_back life earlier
@@ -79,7 +79,7 @@ backward movement = if int_lt movement (pos 0) then unsigned_abs movement else 0
 abbrev pub backward_by : Bool → Option Reading → ℕ
 backward_by overrun reading = if overrun then 0 else option_map_or (λ r. backward r.movement) reading 0
 
-abbrev pub backward_at : Entry → ℕ
+abbrev pub backward_at : SupervisionEntry → ℕ
 backward_at event = backward_by event.track.used.happened.overrun event.track.begun.reading
 
 -- backward movements since the train stood, with no forward ones taken off

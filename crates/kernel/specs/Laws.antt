@@ -4,10 +4,10 @@ use Rattle.std.specs.Prelude.{◌≡◌, ◌↔◌, ◌⊎◌, ℕ, ◌+◌, ◌
 use Rattle.driver.specs.declared.datum.Datum.{Datum}
 use Rattle.driver.specs.declared.datum.Datum.TheVariants.{Unknown, Valid, Invalid}
 use Rattle.driver.specs.Data.{is_valid, value_of}
-use Rattle.driver.specs.Entries.{Entry as DriverEntry}
+use Rattle.driver.specs.Entries.{DriverEntry}
 use Rattle.driver.specs.LastGiven.{WasGiven}
 use Rattle.driver.specs.Laws.{IsRevalidated, HasTripped}
-use Rattle.driver.specs.Telling.{Told, identity_told, running_number_told, train_data_told, level_told}
+use Rattle.driver.specs.Telling.{ItemTold, identity_told, running_number_told, train_data_told, level_told}
 use Rattle.events.specs.declared.input.Event.{Event}
 use Rattle.events.specs.declared.input.Event.TheVariants.{PowerUp, Input}
 use Rattle.events.specs.declared.output.Brake.TheVariants as brake
@@ -41,7 +41,7 @@ all_deeds (PowerUp cold ∷ events) = all_deeds events
 all_deeds (Input input ∷ events) = deeds (entry_of (life_of events) input ∷ []) ++ all_deeds events
 
 -- a value is kept exactly where it is the last one that was given in any life
-abbrev pub IsLastGiven : {A : Type 0} → (DriverEntry → Told A) → (List Event → Option A) → Type 0
+abbrev pub IsLastGiven : {A : Type 0} → (DriverEntry → ItemTold A) → (List Event → Option A) → Type 0
 IsLastGiven {A} told kept = (events : List Event) (value : A) → (kept events ≡ Some value) ↔ WasGiven told (all_deeds events) value
 
 abbrev pub IdentitySo : Type 0

@@ -8,7 +8,7 @@ use Rattle.driver.specs.Data.{met_by}
 use Rattle.events.specs.Kept.{PositionFrom}
 use Rattle.mode_table.specs.declared.statuses.Item.TheVariants as item
 use Rattle.mode_table.specs.Statuses.{power_up_status}
-use Rattle.odometry.specs.Place.{Known, estimate}
+use Rattle.odometry.specs.Place.{KnownPlace, estimate}
 use Rattle.units.specs.Limits.{farthest}
 use Rattle.vars.specs.declared.group.GroupIdentity.{GroupIdentity}
 use Rattle.mode_control.specs.History.{tracks}
@@ -33,10 +33,10 @@ went_on (Valid position) by = gone_on position by
 went_on (Invalid position) by = Invalid position
 
 -- by a fix: its group, and the estimate less the place of the fix
-abbrev pub fixed_at : GroupIdentity → Known → Datum PositionFrom
+abbrev pub fixed_at : GroupIdentity → KnownPlace → Datum PositionFrom
 fixed_at group place = Valid (record { group = group; distance = estimate place -ℤ place.fix.at })
 
-abbrev pub position_by : Option GroupIdentity → Datum PositionFrom → Known → Datum PositionFrom
+abbrev pub position_by : Option GroupIdentity → Datum PositionFrom → KnownPlace → Datum PositionFrom
 position_by None kept place = went_on kept (estimate place)
 position_by (Some group) kept place = fixed_at group place
 

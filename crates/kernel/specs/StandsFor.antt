@@ -11,7 +11,7 @@ use Rattle.speed_profile.specs.declared.told.CategorySpeeds.{CategorySpeeds}
 use Rattle.track_store.specs.Profiles.{Profile}
 use Rattle.speed_supervision.specs.Limit.{limit}
 use Rattle.track_picture.specs.History.{speed_of}
-use Rattle.mode_control.specs.Entry.{Entry}
+use Rattle.mode_control.specs.Entry.{SupervisionEntry}
 use Rattle.mode_control.specs.History.{tracks}
 use Rattle.mode_control.specs.Life.{Life, grown}
 use Rattle.mode_control.specs.StandsFor as mode_control
@@ -41,7 +41,7 @@ reading_of (Telegram bytes) = None
 reading_of (Clock moment) = None
 reading_of (Driver action) = None
 
-abbrev pub sight_at : Life → Entry → Sight
+abbrev pub sight_at : Life → SupervisionEntry → Sight
 sight_at life entry = record {
   stands = stands entry.track.begun.reading;
   backward = backward_at entry;
@@ -53,12 +53,12 @@ sight_at life entry = record {
 -- ---- what is known
 
 -- what is known beside what is supervised
-pub record Known : Type 0 where
+pub record KnownBeside : Type 0 where
   pub window : Window
   pub limit : ℕ
   pub position : Datum PositionFrom
 
-abbrev pub parts_of : Life → Known
+abbrev pub parts_of : Life → KnownBeside
 parts_of life = record {
   window = window_of life;
   limit = limit life;
@@ -66,7 +66,7 @@ parts_of life = record {
 }
 
 pub record Knowledge (G S : Type 0) : Type 0 where
-  pub parts : Known
+  pub parts : KnownBeside
   pub counts : Counts
   pub supervision : mode_control.Knowledge G S
 

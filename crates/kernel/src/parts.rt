@@ -19,9 +19,9 @@ pub struct Parts {
 }
 
 impl Model for Parts {
-    ghost use Rattle.kernel.specs.StandsFor.{Known};
+    ghost use Rattle.kernel.specs.StandsFor.{KnownBeside};
 
-    ghost Value = { Known };
+    ghost Value = { KnownBeside };
 
     ghost view = { λ p. record {
       window = p.window;

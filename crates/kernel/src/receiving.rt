@@ -5,7 +5,7 @@ ghost use Rattle.events.specs.declared.input.Event.TheVariants as event;
 ghost use Rattle.kernel.specs.Lives.{counted};
 ghost use Rattle.kernel.specs.Quiet.{HasRoomFor, HasNoTrack};
 ghost use Rattle.kernel.specs.StandsFor.{StandsForLife, StandsFor, parts_of, sight_at};
-ghost use Rattle.mode_control.specs.Entry.{Entry};
+ghost use Rattle.mode_control.specs.Entry.{SupervisionEntry};
 ghost use Rattle.mode_control.specs.Life.{Life, grown};
 ghost use Rattle.mode_control.specs.Sentences.{entry_of};
 ghost use Rattle.mode_control.specs.StandsFor.{StandsForLife as SupervisionStandsForLife};
@@ -26,7 +26,7 @@ use units::{NoMemory, Permille};
 impl Parts {
     // An event shows this.
     fn note(&mut self, sight: &Sight)
-        ensures { (life : Life) (entry : Entry) → self.old ≡ parts_of life → sight.now ≡ sight_at life entry → self.new ≡ parts_of (grown life entry) }
+        ensures { (life : Life) (entry : SupervisionEntry) → self.old ≡ parts_of life → sight.now ≡ sight_at life entry → self.new ≡ parts_of (grown life entry) }
     {
         self.window = self.window.after(sight);
         self.limit = sight.limit;

@@ -3,7 +3,7 @@ ghost use Rattle.std.specs.Prelude.{◌≡◌, [], not, ◌&&◌, ◌||◌};
 ghost use Rattle.events.specs.declared.kept.Kept.{Kept};
 ghost use Rattle.mode_table.specs.declared.statuses.Cold.{Cold};
 ghost use Rattle.kernel.specs.StandsFor.{sight_at, window_of};
-ghost use Rattle.mode_control.specs.Entry.{Entry};
+ghost use Rattle.mode_control.specs.Entry.{SupervisionEntry};
 ghost use Rattle.mode_control.specs.Life.{Life, grown};
 ghost use Rattle.mode_control.specs.Sentences.{begun_life};
 
@@ -52,7 +52,7 @@ impl Window {
 
     /// What is remembered after an event that shows this.
     pub fn after(&self, sight: &Sight) -> Self
-        ensures { (life : Life) (entry : Entry) → self.now ≡ window_of life → sight.now ≡ sight_at life entry → result ≡ window_of (grown life entry) }
+        ensures { (life : Life) (entry : SupervisionEntry) → self.now ≡ window_of life → sight.now ≡ sight_at life entry → result ≡ window_of (grown life entry) }
     {
         Window {
             far_too_fast: from_until(

@@ -7,8 +7,8 @@ use Rattle.std.proofs.lemmas.List.Elements.{All-filter}
 use Rattle.std.proofs.lemmas.List.Folds.{list_any_none}
 use Rattle.std.proofs.lemmas.List.Kept.{AllPairs-filter}
 use Rattle.linking.specs.declared.announcement.Announcement.{Announcement}
-use Rattle.linking.specs.Linking.{Entry, Known, known, numbered, left, announced, since_announced, has_missed, takes, is_any, IsRising, after_misses}
-use Rattle.linking.specs.Linking.Entry.{Accepted, Reacted, Missed}
+use Rattle.linking.specs.Linking.{LinkEntry, KnownLinks, known, numbered, left, announced, since_announced, has_missed, takes, is_any, IsRising, after_misses}
+use Rattle.linking.specs.Linking.LinkEntry.{Accepted, Reacted, Missed}
 
 filter-true : {X : Type 0} (xs : List X) → filter (λ x. true) xs ≡ xs
 filter-true [] = refl
@@ -44,34 +44,34 @@ pub IsRising-filter : (p : Announcement → Bool) (xs : List Announcement) → I
 IsRising-filter p xs rising = AllPairs-filter (λ a b. a.number < b.number) p xs rising
 
 -- what stands for the entries stands for an acceptance more
-pub one_acceptance : (old new : List Announcement) (flag : Bool) (number : ℕ) (entries : List Entry) →
+pub one_acceptance : (old new : List Announcement) (flag : Bool) (number : ℕ) (entries : List LinkEntry) →
     record { left = old; has_missed = flag } ≡ known entries → new ≡ filter (λ a. not (takes (Accepted number) a.number)) old →
     record { left = new; has_missed = false } ≡ known (Accepted number ∷ entries)
 one_acceptance old new flag number entries is kept =
-    let o : old ≡ left entries = ap (λ (k : Known). k.left) is in
+    let o : old ≡ left entries = ap (λ (k : KnownLinks). k.left) is in
     let n : new ≡ left (Accepted number ∷ entries) =
     kept ∙ ap (filter (λ a. not (takes (Accepted number) a.number))) o
     ∙ sym (neither (λ a. takes (Accepted number) a.number) (λ a. list_any (λ entry. takes entry a.number) (since_announced entries)) (announced entries)) in
     λ i. record { left = n i; has_missed = false }
 
 -- .. for a reaction more
-pub one_reaction : (old new : List Announcement) (flag : Bool) (number : ℕ) (entries : List Entry) →
+pub one_reaction : (old new : List Announcement) (flag : Bool) (number : ℕ) (entries : List LinkEntry) →
     record { left = old; has_missed = flag } ≡ known entries → new ≡ filter (λ a. not (takes (Reacted number) a.number)) old →
     record { left = new; has_missed = flag } ≡ known (Reacted number ∷ entries)
 one_reaction old new flag number entries is kept =
-    let o : old ≡ left entries = ap (λ (k : Known). k.left) is in
-    let m : flag ≡ has_missed entries = ap (λ (k : Known). k.has_missed) is in
+    let o : old ≡ left entries = ap (λ (k : KnownLinks). k.left) is in
+    let m : flag ≡ has_missed entries = ap (λ (k : KnownLinks). k.has_missed) is in
     let n : new ≡ left (Reacted number ∷ entries) =
     kept ∙ ap (filter (λ a. not (takes (Reacted number) a.number))) o
     ∙ sym (neither (λ a. takes (Reacted number) a.number) (λ a. list_any (λ entry. takes entry a.number) (since_announced entries)) (announced entries)) in
     λ i. record { left = n i; has_missed = m i }
 
 -- .. for a new list
-pub one_list : (new announcements : List Announcement) (old : List Announcement) (flag : Bool) (entries : List Entry) →
+pub one_list : (new announcements : List Announcement) (old : List Announcement) (flag : Bool) (entries : List LinkEntry) →
     record { left = old; has_missed = flag } ≡ known entries → new ≡ numbered announcements →
-    record { left = new; has_missed = flag } ≡ known (Entry.Announced announcements ∷ entries)
+    record { left = new; has_missed = flag } ≡ known (LinkEntry.Announced announcements ∷ entries)
 one_list new announcements old flag entries is same =
-    let m : flag ≡ has_missed entries = ap (λ (k : Known). k.has_missed) is in
+    let m : flag ≡ has_missed entries = ap (λ (k : KnownLinks). k.has_missed) is in
     let n : new ≡ filter (λ a. true) (numbered announcements) = same ∙ sym (filter-true (numbered announcements)) in
     λ i. record { left = n i; has_missed = m i }
 
@@ -86,7 +86,7 @@ or-true true = refl
 or-true false = refl
 
 -- after misses those are left that were left before and whose numbers aren't among them
-left_after : (missed : List Announcement) (entries : List Entry) →
+left_after : (missed : List Announcement) (entries : List LinkEntry) →
     left (after_misses missed entries) ≡ filter (λ a. not (list_any (λ b. a.number == b.number) missed)) (left entries)
 left_after [] entries = sym (filter-true (left entries))
 left_after (m ∷ missed) entries =
@@ -95,7 +95,7 @@ left_after (m ∷ missed) entries =
     left_after missed (Missed m.number ∷ entries) ∙ ap (filter (λ a. not (list_any (λ b. a.number == b.number) missed))) one
     ∙ sym (neither_turned (λ a. a.number == m.number) (λ a. list_any (λ b. a.number == b.number) missed) (left entries))
 
-has_missed_after : (missed : List Announcement) (entries : List Entry) →
+has_missed_after : (missed : List Announcement) (entries : List LinkEntry) →
     has_missed (after_misses missed entries) ≡ (has_missed entries || is_any missed)
 has_missed_after [] entries = or-false (has_missed entries)
 has_missed_after (m ∷ missed) entries = has_missed_after missed (Missed m.number ∷ entries) ∙ or-true (has_missed entries)
@@ -144,12 +144,12 @@ passed_by_number p (x ∷ xs) rising =
     cases (p x)
 
 -- .. for the misses of all that pass a test
-pub some_misses : (p : Announcement → Bool) (old new : List Announcement) (flag flag' : Bool) (entries : List Entry) → IsRising old →
+pub some_misses : (p : Announcement → Bool) (old new : List Announcement) (flag flag' : Bool) (entries : List LinkEntry) → IsRising old →
     record { left = old; has_missed = flag } ≡ known entries → new ≡ filter (λ a. not (p a)) old → flag' ≡ (flag || list_any p old) →
     record { left = new; has_missed = flag' } ≡ known (after_misses (filter p old) entries)
 some_misses p old new flag flag' entries rising is kept flag_is =
-    let o : old ≡ left entries = ap (λ (k : Known). k.left) is in
-    let m : flag ≡ has_missed entries = ap (λ (k : Known). k.has_missed) is in
+    let o : old ≡ left entries = ap (λ (k : KnownLinks). k.left) is in
+    let m : flag ≡ has_missed entries = ap (λ (k : KnownLinks). k.has_missed) is in
     let n : new ≡ left (after_misses (filter p old) entries) =
     kept ∙ sym (passed_by_number p old rising) ∙ ap (filter (λ a. not (list_any (λ b. a.number == b.number) (filter p old)))) o
     ∙ sym (left_after (filter p old) entries) in

@@ -14,8 +14,8 @@ use Rattle.linking.specs.declared.judgement.GroupRead.{GroupRead}
 use Rattle.linking.specs.declared.judgement.Judgement.{Judgement}
 use Rattle.linking.specs.declared.judgement.Verdict.{Verdict}
 use Rattle.linking.specs.declared.judgement.Verdict.TheVariants.{Accept, Ignore, Reaction}
-use Rattle.linking.specs.Linking.{Entry, Known, is_any, first_place, no_effect, trip, service, effect_of, misses}
-use Rattle.linking.specs.Linking.Entry.{Accepted, Reacted}
+use Rattle.linking.specs.Linking.{LinkEntry, KnownLinks, is_any, first_place, no_effect, trip, service, effect_of, misses}
+use Rattle.linking.specs.Linking.LinkEntry.{Accepted, Reacted}
 
 -- of several announcements of one group the first in the list is meant
 abbrev pub is_of : GroupIdentity → Announcement → Bool
@@ -70,10 +70,10 @@ abbrev pub is_unlinked : GroupRead → Bool
 is_unlinked group = not group.linked
 
 -- no announcement is left
-abbrev pub linking_is_unused : Known → Bool
+abbrev pub linking_is_unused : KnownLinks → Bool
 linking_is_unused known = not (is_any known.left)
 
-abbrev pub verdict : Known → GroupRead → Verdict
+abbrev pub verdict : KnownLinks → GroupRead → Verdict
 verdict known group = first_that_holds (
     row (is_unlinked group) (Accept None)  -- 3.4.4
     ∷ row (linking_is_unused known) (Accept None)  -- 3.4.4
@@ -87,34 +87,34 @@ abbrev pub is_before : ℕ → Announcement → Bool
 is_before number a = nat_lt a.number number
 
 -- the wrong direction gives a trip alone, whatever the announcement's own reaction is (this project's profile)
-abbrev pub effect : Known → GroupRead → Verdict → Effect
+abbrev pub effect : KnownLinks → GroupRead → Verdict → Effect
 effect known group (Accept None) = no_effect
 effect known group (Accept (Some a)) = misses known.has_missed (filter (is_before a.number) known.left)
 effect known group Ignore = no_effect
 effect known group (Reaction a) = if is_wrong_way group a then trip else effect_of a.reaction
 
-abbrev pub judgement : Known → GroupRead → Judgement
+abbrev pub judgement : KnownLinks → GroupRead → Judgement
 judgement known group = record { verdict = verdict known group; effect = effect known group (verdict known group) }
 
-abbrev pub after_verdict : Verdict → List Entry → List Entry
+abbrev pub after_verdict : Verdict → List LinkEntry → List LinkEntry
 after_verdict (Accept None) entries = entries
 after_verdict (Accept (Some a)) entries = Accepted a.number ∷ entries
 after_verdict Ignore entries = entries
 after_verdict (Reaction a) entries = Reacted a.number ∷ entries
 
-abbrev pub after_judgement : Judgement → List Entry → List Entry
+abbrev pub after_judgement : Judgement → List LinkEntry → List LinkEntry
 after_judgement judgement entries = after_verdict judgement.verdict entries
 
 -- ---- a broken group
 
 -- the announcement that a linked group takes with it
-abbrev pub meant : Known → GroupIdentity → Bool → Option Announcement
+abbrev pub meant : KnownLinks → GroupIdentity → Bool → Option Announcement
 meant known group linked = if linked then first_of group known.left else None
 
 -- one that isn't linked gives service, an announced one its own reaction
-abbrev pub broken_effect : Known → GroupIdentity → Bool → Effect
+abbrev pub broken_effect : KnownLinks → GroupIdentity → Bool → Effect
 broken_effect known group linked =
     if linked then option_map_or (λ a. effect_of a.reaction) (first_of group known.left) no_effect else service
 
-abbrev pub after_broken : Known → GroupIdentity → Bool → List Entry → List Entry
+abbrev pub after_broken : KnownLinks → GroupIdentity → Bool → List LinkEntry → List LinkEntry
 after_broken known group linked entries = option_map_or (λ a. Reacted a.number ∷ entries) (meant known group linked) entries

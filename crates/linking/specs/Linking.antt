@@ -9,16 +9,16 @@ use Rattle.linking.specs.declared.announcement.Announcement.{Announcement}
 use Rattle.linking.specs.declared.effect.Effect.{Effect}
 
 -- what bears on it
-pub data Entry : Type 0 where
-  Announced : List Announcement → Entry  -- a list of links (packet 5), in place of the one before; an empty one deletes linking
-  Accepted : ℕ → Entry  -- the group of the announcement of this number was accepted
-  Reacted : ℕ → Entry  -- that group wasn't used, or was broken
-  Missed : ℕ → Entry  -- the train had passed its place
+pub data LinkEntry : Type 0 where
+  Announced : List Announcement → LinkEntry  -- a list of links (packet 5), in place of the one before; an empty one deletes linking
+  Accepted : ℕ → LinkEntry  -- the group of the announcement of this number was accepted
+  Reacted : ℕ → LinkEntry  -- that group wasn't used, or was broken
+  Missed : ℕ → LinkEntry  -- the train had passed its place
 
 -- ---- which announcements are left
 
 -- an entry takes announcements of the latest list away, by their numbers: an acceptance its own and all before it
-abbrev pub takes : Entry → ℕ → Bool
+abbrev pub takes : LinkEntry → ℕ → Bool
 takes (Announced announcements) number = false
 takes (Accepted last) number = nat_le number last
 takes (Reacted one) number = number == one
@@ -33,14 +33,14 @@ abbrev pub numbered : List Announcement → List Announcement
 numbered announcements = numbered_from 0 announcements
 
 -- the latest list, empty before any
-abbrev pub announced : List Entry → List Announcement
+abbrev pub announced : List LinkEntry → List Announcement
 announced [] = []
 announced (Announced announcements ∷ entries) = numbered announcements
 announced (Accepted number ∷ entries) = announced entries
 announced (Reacted number ∷ entries) = announced entries
 announced (Missed number ∷ entries) = announced entries
 
-abbrev pub since_announced : List Entry → List Entry
+abbrev pub since_announced : List LinkEntry → List LinkEntry
 since_announced [] = []
 since_announced (Announced announcements ∷ entries) = []
 since_announced (Accepted number ∷ entries) = Accepted number ∷ since_announced entries
@@ -48,11 +48,11 @@ since_announced (Reacted number ∷ entries) = Reacted number ∷ since_announce
 since_announced (Missed number ∷ entries) = Missed number ∷ since_announced entries
 
 -- an announcement of the latest list is left where no entry since has taken it away
-abbrev pub left : List Entry → List Announcement
+abbrev pub left : List LinkEntry → List Announcement
 left entries = filter (λ a. not (list_any (λ entry. takes entry a.number) (since_announced entries))) (announced entries)
 
 -- whether a group was missed since the last that was accepted as announced, or else since the start of the life
-abbrev pub has_missed : List Entry → Bool
+abbrev pub has_missed : List LinkEntry → Bool
 has_missed [] = false
 has_missed (Announced announcements ∷ entries) = has_missed entries
 has_missed (Accepted number ∷ entries) = false
@@ -60,11 +60,11 @@ has_missed (Reacted number ∷ entries) = has_missed entries
 has_missed (Missed number ∷ entries) = true
 
 -- what is known of linking
-pub record Known : Type 0 where
+pub record KnownLinks : Type 0 where
   pub left : List Announcement
   pub has_missed : Bool
 
-abbrev pub known : List Entry → Known
+abbrev pub known : List LinkEntry → KnownLinks
 known entries = record { left = left entries; has_missed = has_missed entries }
 
 -- linking is in use while an announcement is left
@@ -126,6 +126,6 @@ misses has_missed announcements =
     both (reactions announcements) (if nat_le 2 (from_bool has_missed + length announcements) then service else no_effect)
 
 -- one entry for each, in the order of the list
-abbrev pub after_misses : List Announcement → List Entry → List Entry
+abbrev pub after_misses : List Announcement → List LinkEntry → List LinkEntry
 after_misses [] entries = entries
 after_misses (a ∷ announcements) entries = after_misses announcements (Missed a.number ∷ entries)

@@ -1,8 +1,8 @@
 //! The list of announced groups, and what it answers to groups read, broken or missed.
 ghost use Rattle.std.specs.Prelude.{◌≡◌, ◌≤◌, List, [], length, filter, not, ◌||◌, ◌∷◌};
 ghost use Rattle.std.specs.List.{list_any};
-ghost use Rattle.linking.specs.Linking.{Entry, known, numbered, takes, is_any, is_passed_by, misses, after_misses};
-ghost use Rattle.linking.specs.Linking.Entry.{Announced, Accepted, Reacted};
+ghost use Rattle.linking.specs.Linking.{LinkEntry, known, numbered, takes, is_any, is_passed_by, misses, after_misses};
+ghost use Rattle.linking.specs.Linking.LinkEntry.{Announced, Accepted, Reacted};
 ghost use Rattle.linking.specs.Judging.{first_of, verdict, effect, judgement, after_verdict, after_judgement, broken_effect, after_broken, is_before};
 
 use crate::{Announcement, Effect, GroupRead, Judgement, Verdict};
@@ -24,9 +24,9 @@ pub struct Links {
 }
 
 impl Model for Links {
-    ghost use Rattle.linking.specs.Linking.{Known, IsRising};
+    ghost use Rattle.linking.specs.Linking.{KnownLinks, IsRising};
 
-    ghost Value = { Known };
+    ghost Value = { KnownLinks };
 
     ghost view = { λ l. record { left = l.left.items; has_missed = l.has_missed } };
 
@@ -47,7 +47,7 @@ impl Links {
     /// Takes a list of links in place of the one before, and numbers it from 0; an empty one deletes linking. Whether
     /// one was missed stays.
     pub fn replace(&mut self, announcements: &ArrayVec<Announcement, MOST_ANNOUNCED>)
-        ensures { (entries : List Entry) → self.old ≡ known entries
+        ensures { (entries : List LinkEntry) → self.old ≡ known entries
             → self.new ≡ known (Announced announcements.now.items ∷ entries) }
     {
         self.left = numbered(announcements.as_slice());
@@ -55,7 +55,7 @@ impl Links {
 
     /// Deletes linking, as an empty list of links does. Whether one was missed stays.
     pub fn clear(&mut self)
-        ensures { (entries : List Entry) → self.old ≡ known entries → self.new ≡ known (Announced [] ∷ entries) }
+        ensures { (entries : List LinkEntry) → self.old ≡ known entries → self.new ≡ known (Announced [] ∷ entries) }
     {
         self.left.clear();
     }
@@ -64,7 +64,7 @@ impl Links {
     /// One that is found too early or in the wrong direction takes out its own.
     pub fn judge(&mut self, group: &GroupRead) -> Judgement
         ensures answer { result ≡ judgement self.old group.now }
-        ensures stands { (entries : List Entry) → self.old ≡ known entries
+        ensures stands { (entries : List LinkEntry) → self.old ≡ known entries
             → self.new ≡ known (after_judgement (judgement self.old group.now) entries) }
     {
         let verdict = self.verdict(group);
@@ -78,7 +78,7 @@ impl Links {
     /// An announced one is taken out of the list.
     pub fn broken(&mut self, group: GroupIdentity, linked: bool) -> Effect
         ensures answer { result ≡ broken_effect self.old group linked }
-        ensures stands { (entries : List Entry) → self.old ≡ known entries
+        ensures stands { (entries : List LinkEntry) → self.old ≡ known entries
             → self.new ≡ known (after_broken self.old group linked entries) }
     {
         if !linked {
@@ -98,7 +98,7 @@ impl Links {
     /// The caller asks once at each odometer reading.
     pub fn missed(&mut self, min_front: Cm) -> Effect
         ensures answer { result ≡ misses self.old.has_missed (filter (is_passed_by min_front) self.old.left) }
-        ensures stands { (entries : List Entry) → self.old ≡ known entries
+        ensures stands { (entries : List LinkEntry) → self.old ≡ known entries
             → self.new ≡ known (after_misses (filter (is_passed_by min_front) self.old.left) entries) }
     {
         if !is_any_behind(self.left.as_slice(), min_front) {
@@ -181,7 +181,7 @@ impl Links {
 
     // Drops the announcements that a verdict takes.
     fn follow(&mut self, verdict: &Verdict)
-        ensures { (entries : List Entry) → self.old ≡ known entries
+        ensures { (entries : List LinkEntry) → self.old ≡ known entries
             → self.new ≡ known (after_verdict verdict.now entries) }
     {
         match verdict {
@@ -200,7 +200,7 @@ impl Links {
 
     // Drops the announcements up to a number, whose group was accepted.
     fn accept(&mut self, number: u8)
-        ensures { (entries : List Entry) → self.old ≡ known entries
+        ensures { (entries : List LinkEntry) → self.old ≡ known entries
             → self.new ≡ known (Accepted number ∷ entries) }
     {
         self.has_missed = false;
@@ -209,7 +209,7 @@ impl Links {
 
     // Drops the announcement of a number, whose group wasn't used or was broken.
     fn remove(&mut self, number: u8)
-        ensures { (entries : List Entry) → self.old ≡ known entries
+        ensures { (entries : List LinkEntry) → self.old ≡ known entries
             → self.new ≡ known (Reacted number ∷ entries) }
     {
         drop_number(&mut self.left, number);

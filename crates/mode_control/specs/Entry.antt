@@ -9,8 +9,8 @@ use Rattle.mode_control.specs.declared.calls.Calls.{Calls}
 use Rattle.mode_control.specs.declared.calls.Left.{Left}
 use Rattle.mode_control.specs.declared.deed.Deed.{Deed}
 
-pub record Entry : Type 0 where
-  pub track : track.Entry  -- what the track told, and which mode was entered
+pub record SupervisionEntry : Type 0 where
+  pub track : track.TrackEntry  -- what the track told, and which mode was entered
   pub deed : Option Deed
   pub level : Option TrainLevel  -- the announced level that came into force
   pub calls : Calls  -- what it calls for from the driver
@@ -27,5 +27,5 @@ abbrev pub all_left : Left
 all_left = record { on_sight = true; shunting = true; level_0 = true }
 
 -- an event as it begins: its other columns aren't written yet
-abbrev pub begun : track.Entry → Option Deed → Entry
+abbrev pub begun : track.TrackEntry → Option Deed → SupervisionEntry
 begun track deed = record { track = track; deed = deed; level = None; calls = no_calls; left = all_left }

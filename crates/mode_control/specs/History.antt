@@ -26,17 +26,17 @@ use Rattle.mode_control.specs.declared.calls.Calls.{Calls}
 use Rattle.mode_control.specs.declared.calls.Left.{Left}
 use Rattle.mode_control.specs.declared.calls.Kind.{Kind}
 use Rattle.mode_control.specs.declared.calls.Kind.TheVariants as kinds
-use Rattle.mode_control.specs.Entry.{Entry}
+use Rattle.mode_control.specs.Entry.{SupervisionEntry}
 
 -- ---- what the track sent
 
-abbrev pub tracks : List Entry → List track.Entry
+abbrev pub tracks : List SupervisionEntry → List track.TrackEntry
 tracks [] = []
 tracks (entry ∷ entries) = entry.track ∷ tracks entries
 
 -- ---- the mode: that of the last event that entered one, Stand By as a life begins
 
-abbrev pub mode_of : List Entry → Mode
+abbrev pub mode_of : List SupervisionEntry → Mode
 mode_of [] = StandBy
 mode_of (entry ∷ entries) = unwrap_or entry.track.entered (mode_of entries)
 
@@ -45,7 +45,7 @@ abbrev pub enters_staff : Option Mode → Bool
 enters_staff None = false
 enters_staff (Some mode) = is_mode StaffResponsible mode
 
-abbrev pub staff_from : List Entry → ℕ
+abbrev pub staff_from : List SupervisionEntry → ℕ
 staff_from [] = 0
 staff_from (entry ∷ entries) =
     if enters_staff entry.track.entered then (place_of (tracks (entry ∷ entries))).sums.path else staff_from entries
@@ -55,26 +55,26 @@ staff_from (entry ∷ entries) =
 abbrev pub action_of : Option Deed → Option Action
 action_of deed = option_map (λ d. d.action) deed
 
-abbrev pub done_in : List Entry → Option Action
+abbrev pub done_in : List SupervisionEntry → Option Action
 done_in [] = None
 done_in (entry ∷ entries) = action_of entry.deed
 
 -- ---- what bears on the driver's data: the accepted actions, the levels that came into force, the modes that were
 -- entered
 
-abbrev pub after_deed : Option Deed → List driver.Entry → List driver.Entry
+abbrev pub after_deed : Option Deed → List driver.DriverEntry → List driver.DriverEntry
 after_deed None entries = entries
-after_deed (Some deed) entries = driver.Entry.Did deed.action deed.occasion ∷ entries
+after_deed (Some deed) entries = driver.DriverEntry.Did deed.action deed.occasion ∷ entries
 
-abbrev pub after_level : Option TrainLevel → List driver.Entry → List driver.Entry
+abbrev pub after_level : Option TrainLevel → List driver.DriverEntry → List driver.DriverEntry
 after_level None entries = entries
-after_level (Some level) entries = driver.Entry.CameIn level ∷ entries
+after_level (Some level) entries = driver.DriverEntry.CameIn level ∷ entries
 
-abbrev pub after_mode : Option Mode → List driver.Entry → List driver.Entry
+abbrev pub after_mode : Option Mode → List driver.DriverEntry → List driver.DriverEntry
 after_mode None entries = entries
-after_mode (Some mode) entries = driver.Entry.Turned mode ∷ entries
+after_mode (Some mode) entries = driver.DriverEntry.Turned mode ∷ entries
 
-abbrev pub deeds : List Entry → List driver.Entry
+abbrev pub deeds : List SupervisionEntry → List driver.DriverEntry
 deeds [] = []
 deeds (entry ∷ entries) = after_mode entry.track.entered (after_level entry.level (after_deed entry.deed (deeds entries)))
 
@@ -114,7 +114,7 @@ deletes (Some mode) = is_deleted (status_on item.Acknowledgements mode)
 
 -- what an event brings to a kind, in its order (this project's profile). What is acknowledged in the event of the
 -- transition is so before it; what its area or announcement asks for is asked before a mode deletes it
-abbrev pub happenings : Kind → Entry → List (Option Happening)
+abbrev pub happenings : Kind → SupervisionEntry → List (Option Happening)
 happenings kind event =
     only (acknowledges kind (action_of event.deed)) Happening.Acknowledged
     ∷ entered_at (call_for kind event.calls).turned
@@ -123,15 +123,15 @@ happenings kind event =
     ∷ only (not (is_left kind event.left)) Happening.Settled
     ∷ []
 
-abbrev pub acknowledgement : Kind → List Entry → Acknowledgement
+abbrev pub acknowledgement : Kind → List SupervisionEntry → Acknowledgement
 acknowledgement kind [] = Nothing
 acknowledgement kind (event ∷ earlier) = after_event (happenings kind event) (acknowledgement kind earlier)
 
-abbrev pub on_sight_of : List Entry → Acknowledgement
+abbrev pub on_sight_of : List SupervisionEntry → Acknowledgement
 on_sight_of entries = acknowledgement kinds.OnSight entries
 
-abbrev pub shunting_of : List Entry → Acknowledgement
+abbrev pub shunting_of : List SupervisionEntry → Acknowledgement
 shunting_of entries = acknowledgement kinds.Shunting entries
 
-abbrev pub level_0_of : List Entry → Acknowledgement
+abbrev pub level_0_of : List SupervisionEntry → Acknowledgement
 level_0_of entries = acknowledgement kinds.Level0 entries

@@ -8,13 +8,13 @@ use Rattle.driver.specs.Limits.{Train}
 use Rattle.events.specs.declared.kept.Kept.{Kept}
 use Rattle.mode_table.specs.declared.statuses.Cold.{Cold}
 use Rattle.track_picture.specs.StandsFor.{Life as TrackLife}
-use Rattle.mode_control.specs.Entry.{Entry}
+use Rattle.mode_control.specs.Entry.{SupervisionEntry}
 use Rattle.mode_control.specs.History.{tracks, deeds}
 
 pub record Life : Type 0 where
   pub kept : Kept  -- what was kept at its power-up
   pub cold : Cold  -- what was known then of movements while the power was off
-  pub entries : List Entry  -- what its events did, the newest first
+  pub entries : List SupervisionEntry  -- what its events did, the newest first
 
 -- what it says of the track
 abbrev pub track_of : Life → TrackLife
@@ -40,7 +40,7 @@ known_before kept = record {
 abbrev pub left_at_power_up : Life → DriverKept
 left_at_power_up life = driver.powered_up (known_before life.kept) life.cold
 
-abbrev pub driver_of : Life → driver.Known
+abbrev pub driver_of : Life → driver.KnownItems
 driver_of life = driver.known (left_at_power_up life) (deeds life.entries)
 
 -- ---- the length of the train: 0 where its data aren't valid
@@ -54,5 +54,5 @@ abbrev pub length_of : Life → ℕ
 length_of life = length_by (driver_of life).train_data
 
 -- a life with one entry more
-abbrev pub grown : Life → Entry → Life
+abbrev pub grown : Life → SupervisionEntry → Life
 grown life entry = record life { entries = entry ∷ life.entries }

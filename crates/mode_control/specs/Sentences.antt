@@ -34,7 +34,7 @@ use Rattle.mode_control.specs.declared.deed.Deed.{Deed}
 use Rattle.mode_control.specs.declared.calls.Call.{Call}
 use Rattle.mode_control.specs.declared.calls.Calls.{Calls}
 use Rattle.mode_control.specs.declared.calls.Left.{Left}
-use Rattle.mode_control.specs.Entry.{Entry, begun}
+use Rattle.mode_control.specs.Entry.{SupervisionEntry, begun}
 use Rattle.mode_control.specs.History.{tracks, mode_of, done_in, on_sight_of, shunting_of, level_0_of}
 use Rattle.mode_control.specs.Life.{Life, track_of, driver_of, length_of, grown}
 
@@ -72,7 +72,7 @@ deed_of life (Odometer reading) = None
 deed_of life (Clock moment) = None
 deed_of life (Driver action) = deed_by life action
 
-abbrev pub told : Life → inputs.Input → track.Entry
+abbrev pub told : Life → inputs.Input → track.TrackEntry
 told life input = received (mode_of life.entries) (tracks life.entries) input
 
 -- ---- the train is seen: it is looked at where the groups that closed have put it, and the level comes into force that
@@ -86,7 +86,7 @@ level_in life = coming (standing_in life).max_front (announced_level (tracks lif
 
 -- a sentence: by the life with the event as it is written so far, the event with further columns
 abbrev pub Sentence : Type 0
-Sentence = Life → Entry → Entry
+Sentence = Life → SupervisionEntry → SupervisionEntry
 
 -- the level is read by the announcement as it was, which the look then uses up
 abbrev pub the_train_is_seen : Sentence
@@ -94,7 +94,7 @@ the_train_is_seen now event =
     record event { track = record event.track { train = Some (standing_in now) }; level = level_in now }
 
 -- where the train was seen in this event
-abbrev pub train_in : Life → Entry → Span
+abbrev pub train_in : Life → SupervisionEntry → Span
 train_in now event = unwrap_or event.track.train (standing_in now)
 
 -- ---- the mode changes: one row of the mode table is taken (4.6)
@@ -153,7 +153,7 @@ the_mode_changes now event =
 -- ---- the calls are settled: of which kinds an area or an announcement is left once the mode that was entered has
 -- deleted what it deletes
 
-abbrev pub left_in : List track.Entry → Span → Left
+abbrev pub left_in : List track.TrackEntry → Span → Left
 left_in told train = record {
   on_sight = any_left area.OnSight train.min_front (areas_of told);
   shunting = any_left area.Shunting train.min_front (areas_of told);
@@ -179,15 +179,15 @@ sentences =
     ∷ the_track_behind_is_forgotten
     ∷ []
 
-abbrev pub written : List Sentence → Life → Entry → Entry
+abbrev pub written : List Sentence → Life → SupervisionEntry → SupervisionEntry
 written [] life event = event
 written (sentence ∷ later) life event = written later life (sentence (grown life event) event)
 
-abbrev pub entry_of : Life → inputs.Input → Entry
+abbrev pub entry_of : Life → inputs.Input → SupervisionEntry
 entry_of life input = written sentences life (begun (told life input) (deed_of life input))
 
 -- a power-up: nothing but the place and the forgetting mark
-abbrev pub powered_up_in : Life → Entry
+abbrev pub powered_up_in : Life → SupervisionEntry
 powered_up_in life = begun (powered_up (length_of life)) None
 
 -- a life begins with what was kept

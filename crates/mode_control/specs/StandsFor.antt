@@ -11,8 +11,8 @@ use Rattle.mode_control.specs.History.{mode_of, staff_from, done_in, on_sight_of
 use Rattle.mode_control.specs.Life.{Life, track_of, driver_of}
 
 -- what each part knows but for what the track sent
-pub record Known : Type 0 where
-  pub driver : driver.Known
+pub record KnownModes : Type 0 where
+  pub driver : driver.KnownItems
   pub mode : Mode
   pub staff_from : ℕ
   pub on_sight : Acknowledgement
@@ -22,11 +22,11 @@ pub record Known : Type 0 where
 
 -- .. and what the track sent
 pub record Knowledge (G S : Type 0) : Type 0 where
-  pub parts : Known
+  pub parts : KnownModes
   pub track : track_picture.Knowledge G S
 
 -- what the parts know of a life
-abbrev pub parts_of : Life → Known
+abbrev pub parts_of : Life → KnownModes
 parts_of life = record {
   driver = driver_of life;
   mode = mode_of life.entries;

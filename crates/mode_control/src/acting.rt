@@ -1,6 +1,6 @@
 //! What the driver does: an action counts where it is accepted in the situation before the event.
 ghost use Rattle.std.specs.Prelude.{◌≡◌, None, Some};
-ghost use Rattle.track_picture.specs.Entry.{Entry as TrackEntry};
+ghost use Rattle.track_picture.specs.Entry.{TrackEntry};
 ghost use Rattle.mode_control.specs.Entry.{begun};
 ghost use Rattle.mode_control.specs.Life.{Life, grown};
 ghost use Rattle.mode_control.specs.Sentences.{situation, occasion, deed_by, deed_of};

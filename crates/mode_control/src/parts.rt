@@ -32,9 +32,9 @@ pub struct Parts {
 }
 
 impl Model for Parts {
-    ghost use Rattle.mode_control.specs.StandsFor.{Known};
+    ghost use Rattle.mode_control.specs.StandsFor.{KnownModes};
 
-    ghost Value = { Known };
+    ghost Value = { KnownModes };
 
     ghost view = { λ p. record {
       driver = p.driver;

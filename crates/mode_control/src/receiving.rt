@@ -2,7 +2,7 @@
 ghost use Rattle.std.specs.Prelude.{◌≡◌, ◌≤◌, IsOk, OnOk, OnErr, None};
 ghost use Rattle.track_picture.specs.StandsFor.{size_in};
 ghost use Rattle.track_picture.specs.Steps.{packets_by, HasRoomFor};
-ghost use Rattle.mode_control.specs.Entry.{Entry, begun};
+ghost use Rattle.mode_control.specs.Entry.{SupervisionEntry, begun};
 ghost use Rattle.mode_control.specs.Life.{Life, grown};
 ghost use Rattle.mode_control.specs.Sentences.{told, deed_of, the_track_behind_is_forgotten, entry_of};
 ghost use Rattle.mode_control.specs.StandsFor.{StandsForLife};
@@ -34,7 +34,7 @@ impl<G: ProfileStore<Permille> + Drop, S: ProfileStore<CategorySpeeds> + Drop> S
 
     // The track far behind the train is forgotten.
     fn forget(&mut self)
-        ensures stands { (life : Life) (event : Entry)
+        ensures stands { (life : Life) (event : SupervisionEntry)
             → StandsForLife G.profile S.profile self.old (grown life (record event { track = record event.track { mark = None } }))
             → StandsForLife G.profile S.profile self.new (grown life (the_track_behind_is_forgotten (grown life event) event)) }
         ensures size { size_in G.size S.size self.new.track ≤ size_in G.size S.size self.old.track }

@@ -1,12 +1,12 @@
 //! The look at the train, once the groups of an event are used.
 ghost use Rattle.std.specs.Prelude.{◌≡◌, List, Option, None};
 ghost use Rattle.driver.specs.declared.kept.Kept.{Kept as DriverKept};
-ghost use Rattle.driver.specs.Entries.{Entry as DriverEntry};
+ghost use Rattle.driver.specs.Entries.{DriverEntry};
 ghost use Rattle.driver.specs.Known.{known};
 ghost use Rattle.units.specs.Stretches.{Span};
-ghost use Rattle.track_picture.specs.Entry.{Entry as TrackEntry};
+ghost use Rattle.track_picture.specs.Entry.{TrackEntry};
 ghost use Rattle.mode_control.specs.declared.deed.Deed.{Deed};
-ghost use Rattle.mode_control.specs.Entry.{Entry, begun};
+ghost use Rattle.mode_control.specs.Entry.{SupervisionEntry, begun};
 ghost use Rattle.mode_control.specs.History.{after_level};
 ghost use Rattle.mode_control.specs.Life.{Life, grown};
 ghost use Rattle.mode_control.specs.Sentences.{standing_in, level_in, the_train_is_seen};
@@ -55,7 +55,7 @@ impl<G: ProfileStore<Permille> + Drop, S: ProfileStore<CategorySpeeds> + Drop> S
 > {
     /// The look at the train: what is announced comes into force where the maximum safe front has reached its place.
     pub(crate) fn see(&mut self) -> Seen
-        ensures train { (life : Life) (event : Entry) → StandsForLife G.profile S.profile self.old (grown life event)
+        ensures train { (life : Life) (event : SupervisionEntry) → StandsForLife G.profile S.profile self.old (grown life event)
             → result.train ≡ standing_in (grown life event) }
         ensures level { (life : Life) (told : TrackEntry) (deed : Option Deed)
             → (let event = begun (record told { train = None; entered = None }) deed in

@@ -1,9 +1,9 @@
 //! The change of mode, and the acknowledgements.
 ghost use Rattle.std.specs.Prelude.{◌≡◌, ◌≤◌, Option, None, Some, List, [], ◌∷◌, if◌then◌else◌};
 ghost use Rattle.driver.specs.declared.kept.Kept.{Kept as DriverKept};
-ghost use Rattle.driver.specs.Entries.{Entry as DriverEntry};
+ghost use Rattle.driver.specs.Entries.{DriverEntry};
 ghost use Rattle.driver.specs.Known.{known};
-ghost use Rattle.track_picture.specs.Entry.{Entry as TrackEntry};
+ghost use Rattle.track_picture.specs.Entry.{TrackEntry};
 ghost use Rattle.track_picture.specs.History.{place_of};
 ghost use Rattle.track_picture.specs.StandsFor.{Life as TrackLife, StandsForLife as StandsForTrack, parts_of as track_parts_of, grown as track_grown, size_in};
 ghost use Rattle.mode_table.specs.declared.level.TrainLevel.{TrainLevel as Level};

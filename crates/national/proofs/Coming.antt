@@ -2,8 +2,8 @@
 use Rattle.std.proofs.Common.{◌≡◌, ℕ, List, [], ◌∷◌, ◌++◌, Bool, true, false, refl}
 use Rattle.std.specs.Prelude.{Option, Some, None, not, ◌||◌, unwrap_or, option_map, is_some, if◌then◌else◌}
 use Rattle.national.specs.Values.{ValuesFor, values_for, defaults, told_by, is_any, is_among}
-use Rattle.national.specs.InForce.{Entry, Fact, in_force, has_come, nothing_kept, coming, defaults_at}
-use Rattle.national.specs.InForce.Entry.{Announced, Entered, Reached}
+use Rattle.national.specs.InForce.{NationalEntry, Fact, in_force, has_come, nothing_kept, coming, defaults_at}
+use Rattle.national.specs.InForce.NationalEntry.{Announced, Entered, Reached}
 
 any_behind : (countries : List ℕ) (country : ℕ) → is_any (countries ++ country ∷ []) ≡ true
 any_behind [] country = refl
@@ -24,7 +24,7 @@ any_after_look : (come : Option Fact) (before : ValuesFor) (any : Bool) → is_a
 any_after_look None before any e = e
 any_after_look (Some fact) before any e = any_behind fact.packet.countries.items fact.country
 
-pub any_in_force : (entries : List Entry) → is_any (in_force nothing_kept entries).countries ≡ has_come entries
+pub any_in_force : (entries : List NationalEntry) → is_any (in_force nothing_kept entries).countries ≡ has_come entries
 any_in_force [] = refl
 any_in_force (Announced fact ∷ entries) = any_in_force entries
 any_in_force (Entered country ∷ entries) = any_after_group country (in_force nothing_kept entries) (has_come entries) (any_in_force entries)

@@ -19,10 +19,10 @@ abbrev pub fact_of : NationalValues → ℕ → ℤ → Fact
 fact_of packet country place = record { packet = packet; country = country; place = place }
 
 -- what bears on it
-pub data Entry : Type 0 where
-  Announced : Fact → Entry  -- a packet 3 was stored
-  Entered : ℕ → Entry  -- a group of this country was accepted, and its packets aren't taken yet
-  Reached : ℤ → Entry  -- an event is over but for its look: where the greatest front is
+pub data NationalEntry : Type 0 where
+  Announced : Fact → NationalEntry  -- a packet 3 was stored
+  Entered : ℕ → NationalEntry  -- a group of this country was accepted, and its packets aren't taken yet
+  Reached : ℤ → NationalEntry  -- an event is over but for its look: where the greatest front is
 
 -- ---- what is announced
 
@@ -40,13 +40,13 @@ is_reached None max_front = true
 is_reached (Some start) max_front = not (int_lt max_front start)
 
 -- the latest packet 3, and the maximum safe fronts of the looks since
-abbrev pub latest : List Entry → Option Fact
+abbrev pub latest : List NationalEntry → Option Fact
 latest [] = None
 latest (Announced fact ∷ entries) = Some fact
 latest (Entered country ∷ entries) = latest entries
 latest (Reached max_front ∷ entries) = latest entries
 
-abbrev pub fronts_since : List Entry → List ℤ
+abbrev pub fronts_since : List NationalEntry → List ℤ
 fronts_since [] = []
 fronts_since (Announced fact ∷ entries) = []
 fronts_since (Entered country ∷ entries) = fronts_since entries
@@ -57,7 +57,7 @@ abbrev pub while_unreached : List ℤ → Option Fact → Option Fact
 while_unreached fronts None = None
 while_unreached fronts (Some fact) = if list_any (is_reached (start_of fact)) fronts then None else Some fact
 
-abbrev pub waiting : List Entry → Option Fact
+abbrev pub waiting : List NationalEntry → Option Fact
 waiting entries = while_unreached (fronts_since entries) (latest entries)
 
 -- ---- what is in force
@@ -67,7 +67,7 @@ abbrev pub where_reached : ℤ → Option Fact → Option Fact
 where_reached max_front None = None
 where_reached max_front (Some fact) = if is_reached (start_of fact) max_front then Some fact else None
 
-abbrev pub coming : ℤ → List Entry → Option Fact
+abbrev pub coming : ℤ → List NationalEntry → Option Fact
 coming max_front entries = where_reached max_front (waiting entries)
 
 -- a group of a foreign country puts the defaults in force, for that country alone
@@ -75,18 +75,18 @@ abbrev pub defaults_at : ℕ → List ℕ → Option ValuesFor
 defaults_at country countries = if is_foreign country countries then Some (values_for defaults (country ∷ [])) else None
 
 -- what an entry puts in force, if it does, behind earlier entries and over what they left in force
-abbrev pub put_by : Entry → List Entry → ValuesFor → Option ValuesFor
+abbrev pub put_by : NationalEntry → List NationalEntry → ValuesFor → Option ValuesFor
 put_by (Announced fact) entries before = None
 put_by (Entered country) entries before = defaults_at country before.countries
 put_by (Reached max_front) entries before = option_map (λ fact. told_by fact.packet fact.country) (coming max_front entries)
 
 -- the newest that was put in force, or else what a power-up kept
-abbrev pub in_force : ValuesFor → List Entry → ValuesFor
+abbrev pub in_force : ValuesFor → List NationalEntry → ValuesFor
 in_force kept [] = kept
 in_force kept (entry ∷ entries) = unwrap_or (put_by entry entries (in_force kept entries)) (in_force kept entries)
 
 -- whether a packet 3 came into force
-abbrev pub has_come : List Entry → Bool
+abbrev pub has_come : List NationalEntry → Bool
 has_come [] = false
 has_come (Announced fact ∷ entries) = has_come entries
 has_come (Entered country ∷ entries) = has_come entries
@@ -101,10 +101,10 @@ nothing_kept = values_for defaults []
 abbrev pub announcement_of : Fact → Announcement
 announcement_of fact = record { values = told_by fact.packet fact.country; start = start_of fact }
 
-pub record Known : Type 0 where
+pub record KnownValues : Type 0 where
   pub in_force : ValuesFor
   pub announced : Option Announcement
 
-abbrev pub known : ValuesFor → List Entry → Known
+abbrev pub known : ValuesFor → List NationalEntry → KnownValues
 known kept entries =
     record { in_force = in_force kept entries; announced = option_map announcement_of (waiting entries) }

@@ -1,8 +1,8 @@
 //! Which national values are in force, as packets announce them and groups of other countries are met.
 ghost use Rattle.std.specs.Prelude.{◌≡◌, ◌≤◌, false, List, [], ◌∷◌, length, IfSome};
 ghost use Rattle.national.specs.Values.{ValuesFor, is_any, is_foreign};
-ghost use Rattle.national.specs.InForce.{Entry, fact_of, is_reached, known, in_force, nothing_kept, has_come};
-ghost use Rattle.national.specs.InForce.Entry.{Announced, Entered, Reached};
+ghost use Rattle.national.specs.InForce.{NationalEntry, fact_of, is_reached, known, in_force, nothing_kept, has_come};
+ghost use Rattle.national.specs.InForce.NationalEntry.{Announced, Entered, Reached};
 
 use crate::announcement::Announcement;
 use crate::{CountryValues, MOST_COUNTRIES, Values};
@@ -20,9 +20,9 @@ pub struct National {
 }
 
 impl Model for National {
-    ghost use Rattle.national.specs.InForce.{Known};
+    ghost use Rattle.national.specs.InForce.{KnownValues};
 
-    ghost Value = { Known };
+    ghost Value = { KnownValues };
 
     ghost view = { λ n. record { in_force = n.in_force; announced = n.announced } };
 }
@@ -48,7 +48,7 @@ impl National {
     /// Takes packet 3 of a group of a country, in place of the one that is announced. Its start counts from the place
     /// of the group, in centimetres.
     pub fn announce(&mut self, packet: &NationalValues, group_country: Country, place: GroupPlace)
-        ensures { (kept : ValuesFor) → (entries : List Entry) → self.old ≡ known kept entries
+        ensures { (kept : ValuesFor) → (entries : List NationalEntry) → self.old ≡ known kept entries
             → self.new ≡ known kept (Announced (fact_of packet.now group_country place) ∷ entries) }
     {
         self.announced = Some(Announcement::of(packet, group_country, place));
@@ -57,7 +57,7 @@ impl National {
     /// Takes note of an accepted group of a country, before its packets are taken. Where the values in force are for
     /// other countries alone, the defaults come into force for this one.
     pub fn enter(&mut self, country: Country)
-        ensures stands { (kept : ValuesFor) → (entries : List Entry) → self.old ≡ known kept entries
+        ensures stands { (kept : ValuesFor) → (entries : List NationalEntry) → self.old ≡ known kept entries
             → self.new ≡ known kept (Entered country ∷ entries) }
         ensures at_home { is_foreign country self.new.in_force.countries ≡ false }
     {
@@ -69,7 +69,7 @@ impl National {
     /// The look, once an event: what is announced comes into force where the maximum safe front, in centimetres, has
     /// reached its start.
     pub fn reach(&mut self, max_front: Cm)
-        ensures stands { (kept : ValuesFor) → (entries : List Entry) → self.old ≡ known kept entries
+        ensures stands { (kept : ValuesFor) → (entries : List NationalEntry) → self.old ≡ known kept entries
             → self.new ≡ known kept (Reached max_front ∷ entries) }
         ensures ahead { IfSome self.new.announced (λ a. is_reached a.start max_front ≡ false) }
     {
@@ -84,7 +84,7 @@ impl National {
 
     /// Forgets what is announced, as a power-up does (4.10).
     pub fn forget_announced(&mut self)
-        ensures { (kept : ValuesFor) → (entries : List Entry) → self.old ≡ known kept entries
+        ensures { (kept : ValuesFor) → (entries : List NationalEntry) → self.old ≡ known kept entries
             → self.new ≡ known (in_force kept entries) [] }
     {
         self.announced = None;
@@ -109,7 +109,7 @@ impl National {
     pub fn countries(&self) -> &[Country]
         ensures value { result.now ≡ self.now.in_force.countries }
         ensures few { length result.now ≤ MOST_COUNTRIES }
-        ensures any { (entries : List Entry) → self.now ≡ known nothing_kept entries
+        ensures any { (entries : List NationalEntry) → self.now ≡ known nothing_kept entries
             → is_any result.now ≡ has_come entries }
     {
         self.in_force.countries()

@@ -11,31 +11,31 @@ use Rattle.odometry.specs.declared.fix.Fix.{Fix}
 
 -- what bears on the place: a movement of the odometer, forward or backward, or a fix, which is the place of a balise
 -- group
-pub data Entry : Type 0 where
-  Moved : ℤ → Entry
-  Fixed : Fix → Entry
+pub data PlaceEntry : Type 0 where
+  Moved : ℤ → PlaceEntry
+  Fixed : Fix → PlaceEntry
 
 -- a life starts with an exact fix at 0
 abbrev pub first_fix : Fix
 first_fix = record { at = pos 0; accuracy = 0; sums = no_sums; missed = false }
 
-abbrev pub last_fix : List Entry → Fix
+abbrev pub last_fix : List PlaceEntry → Fix
 last_fix [] = first_fix
 last_fix (Moved by ∷ entries) = last_fix entries
 last_fix (Fixed fix ∷ entries) = fix
 
 -- the sums of the life
-abbrev pub sums_of : List Entry → Sums
+abbrev pub sums_of : List PlaceEntry → Sums
 sums_of [] = no_sums
 sums_of (Moved by ∷ entries) = moved_on (sums_of entries) by
 sums_of (Fixed fix ∷ entries) = sums_of entries
 
 -- what is known of the place: the last fix, and the sums now
-pub record Known : Type 0 where
+pub record KnownPlace : Type 0 where
   pub fix : Fix
   pub sums : Sums
 
-abbrev pub known : List Entry → Known
+abbrev pub known : List PlaceEntry → KnownPlace
 known entries = record { fix = last_fix entries; sums = sums_of entries }
 
 -- ---- by a fix: where the front was at a moment of the life, and how far that may be wrong
@@ -55,21 +55,21 @@ place_at fix moment = record { estimate = estimate_at fix moment; uncertainty = 
 
 -- ---- now
 
-abbrev pub estimate : Known → ℤ
+abbrev pub estimate : KnownPlace → ℤ
 estimate place = estimate_at place.fix place.sums
 
-abbrev pub uncertainty : Known → ℕ
+abbrev pub uncertainty : KnownPlace → ℕ
 uncertainty place = uncertainty_at place.fix place.sums
 
 -- the minimum and the maximum safe front
-abbrev pub min_front : Known → ℤ
+abbrev pub min_front : KnownPlace → ℤ
 min_front place = estimate place -ℤ pos (uncertainty place)
 
-abbrev pub max_front : Known → ℤ
+abbrev pub max_front : KnownPlace → ℤ
 max_front place = estimate place +ℤ pos (uncertainty place)
 
 -- the minimum safe rear of a train of this length
-abbrev pub min_rear : Known → ℕ → ℤ
+abbrev pub min_rear : KnownPlace → ℕ → ℤ
 min_rear place length = min_front place -ℤ pos length
 
 -- the track that a train of this length may cover
@@ -78,7 +78,7 @@ stretch_about estimate uncertainty length =
     let min_front = estimate -ℤ pos uncertainty in
     record { rear = min_front -ℤ pos length; min_front = min_front; max_front = estimate +ℤ pos uncertainty }
 
-abbrev pub stretch : Known → ℕ → Span
+abbrev pub stretch : KnownPlace → ℕ → Span
 stretch place length = stretch_about (estimate place) (uncertainty place) length
 
 -- ---- what lies too far
@@ -87,21 +87,21 @@ abbrev pub is_near : ℤ → Bool
 is_near place = nat_le (unsigned_abs place) farthest
 
 -- a movement has room where it takes neither the path of the life nor the estimate too far
-abbrev pub has_room : Known → ℤ → Bool
+abbrev pub has_room : KnownPlace → ℤ → Bool
 has_room place by = nat_le (place.sums.path + unsigned_abs by) farthest && is_near (estimate_at place.fix (moved_on place.sums by))
 
 -- a movement without room is not added
-abbrev pub after_movement : List Entry → ℤ → List Entry
+abbrev pub after_movement : List PlaceEntry → ℤ → List PlaceEntry
 after_movement entries by = if has_room (known entries) by then Moved by ∷ entries else entries
 
 -- a fix is made where neither its place nor the estimate that it gives now lies too far
 abbrev pub is_made : Sums → Fix → Bool
 is_made now fix = is_near fix.at && is_near (estimate_at fix now)
 
-abbrev pub after_fix : List Entry → Fix → List Entry
+abbrev pub after_fix : List PlaceEntry → Fix → List PlaceEntry
 after_fix entries fix = if is_made (sums_of entries) fix then Fixed fix ∷ entries else entries
 
 -- what is true of every place that is known
-pub record IsWithinLimits (place : Known) : Type 0 where
+pub record IsWithinLimits (place : KnownPlace) : Type 0 where
   pub fix_within : unsigned_abs place.fix.at ≤ farthest
   pub estimate_within : unsigned_abs (estimate place) ≤ farthest

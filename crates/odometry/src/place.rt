@@ -2,7 +2,7 @@
 ghost use Rattle.std.specs.Prelude.{◌≡◌, ◌↔◌, ◌+◌, ◌*◌, ◌^◌, ◌≤◌, ◌-ℤ◌, List, [], pos, IsTrue, IsOk, IfOk, OnErr};
 ghost use Rattle.std.specs.Int.RustNames.{unsigned_abs};
 ghost use Rattle.units.specs.Limits.{farthest, HasReach};
-ghost use Rattle.odometry.specs.Place.{Entry, known, estimate, uncertainty, min_front, max_front, min_rear, stretch, stretch_about, place_at, is_near, has_room, after_movement, is_made, after_fix};
+ghost use Rattle.odometry.specs.Place.{PlaceEntry, known, estimate, uncertainty, min_front, max_front, min_rear, stretch, stretch_about, place_at, is_near, has_room, after_movement, is_made, after_fix};
 
 use crate::{EarlierPlace, Fix, Overrun, Sums};
 use std::marker::Model;
@@ -21,9 +21,9 @@ pub struct Place {
 }
 
 impl Model for Place {
-    ghost use Rattle.odometry.specs.Place.{Known, IsWithinLimits};
+    ghost use Rattle.odometry.specs.Place.{KnownPlace, IsWithinLimits};
 
-    ghost Value = { Known };
+    ghost Value = { KnownPlace };
 
     ghost view = { λ p. record { fix = p.fix; sums = p.sums } };
 
@@ -56,7 +56,7 @@ impl Place {
     /// order.
     pub fn moved(&mut self, movement: Movement) -> Result<(), Overrun>
         ensures room { IsOk result ↔ IsTrue (has_room self.old movement) }
-        ensures stands { (entries : List Entry) → self.old ≡ known entries
+        ensures stands { (entries : List PlaceEntry) → self.old ≡ known entries
             → self.new ≡ known (after_movement entries movement) }
         ensures overrun { OnErr result (self.new ≡ self.old) }
     {
@@ -76,7 +76,7 @@ impl Place {
     pub fn fix(&mut self, fix: Fix) -> Result<GroupPlace, Overrun>
         ensures made { IsOk result ↔ IsTrue (is_made self.old.sums fix) }
         ensures place { IfOk result (λ place. place ≡ fix.at) }
-        ensures stands { (entries : List Entry) → self.old ≡ known entries
+        ensures stands { (entries : List PlaceEntry) → self.old ≡ known entries
             → self.new ≡ known (after_fix entries fix) }
         ensures overrun { OnErr result (self.new ≡ self.old) }
     {

@@ -13,5 +13,5 @@ mod track;
 pub use ahead::Ahead;
 pub use limit::{Bounds, limit_on};
 pub use targets::Targets;
-pub use told::{CategorySpeeds, Told, gradients, static_speeds};
+pub use told::{CategorySpeeds, ProfileTold, gradients, static_speeds};
 pub use track::Track;

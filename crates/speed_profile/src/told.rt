@@ -34,7 +34,7 @@ impl Same for CategorySpeeds {
 
 /// A profile as one packet gives it (SUBSET-026, 7.4.2, packets 21 and 27).
 #[derive(Drop)]
-pub struct Told<T> {
+pub struct ProfileTold<T> {
     /// Its first place, in centimetres.
     pub start: Cm,
     /// The values, the nearest first.
@@ -43,7 +43,7 @@ pub struct Told<T> {
 
 /// The gradients of a packet 21 (SUBSET-026, 7.4.2), in per mille, uphill positive; a steepness of 255 is an end
 /// mark. Its first distance counts from a place.
-pub fn gradients(packet: &Gradients, place: GroupPlace) -> Told<Permille>
+pub fn gradients(packet: &Gradients, place: GroupPlace) -> ProfileTold<Permille>
     ensures start { result.start ≡ (gradient_fact place packet.now).start }
     ensures steps { result.steps.items ≡ (gradient_fact place packet.now).steps }
 {
@@ -58,12 +58,12 @@ pub fn gradients(packet: &Gradients, place: GroupPlace) -> Told<Permille>
         });
     }
     let start = first_place(origin, steps.as_slice());
-    Told { start, steps }
+    ProfileTold { start, steps }
 }
 
 /// The static speeds of a packet 27 (SUBSET-026, 7.4.2); a V_STATIC of 127 is an end mark. Its first distance
 /// counts from a place.
-pub fn static_speeds(packet: &StaticSpeeds, place: GroupPlace) -> Told<CategorySpeeds>
+pub fn static_speeds(packet: &StaticSpeeds, place: GroupPlace) -> ProfileTold<CategorySpeeds>
     ensures start { result.start ≡ (speed_fact place packet.now).start }
     ensures steps { result.steps.items ≡ (speed_fact place packet.now).steps }
 {
@@ -80,7 +80,7 @@ pub fn static_speeds(packet: &StaticSpeeds, place: GroupPlace) -> Told<CategoryS
         left = others_part(step, left);
     }
     let start = first_place(origin, steps.as_slice());
-    Told { start, steps }
+    ProfileTold { start, steps }
 }
 
 // The place of the first step; without one, another place.

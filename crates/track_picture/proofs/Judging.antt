@@ -8,9 +8,9 @@ use Rattle.speed_profile.specs.declared.told.CategorySpeeds.{CategorySpeeds}
 use Rattle.track_store.specs.Profiles.{Profile}
 use Rattle.track_picture.specs.Entry.{Begun, Used, blank, added, asking_for}
 use Rattle.track_picture.specs.Sentences.{outcome_at_first}
-use Rattle.track_picture.specs.StandsFor.{Known, Knowledge, Life, StandsForLife, parts_of, grown, grown_so_far}
+use Rattle.track_picture.specs.StandsFor.{KnownTrack, Knowledge, Life, StandsForLife, parts_of, grown, grown_so_far}
 
-module _ {G S : Type 0} {gradients_in : G → Profile ℤ} {speeds_in : S → Profile CategorySpeeds} {known : Knowledge G S} {parts : Known} where
+module _ {G S : Type 0} {gradients_in : G → Profile ℤ} {speeds_in : S → Profile CategorySpeeds} {known : Knowledge G S} {parts : KnownTrack} where
   pub judged_only : (life : Life) (begun : Begun) (used : Used) (effect : Effect) (message : Message) (verdict : Verdict) →
       parts ≡ parts_of (grown_so_far life begun (added (outcome_at_first message verdict) (asking_for effect used))) →
       StandsForLife gradients_in speeds_in known (grown_so_far life begun used) →

@@ -10,7 +10,7 @@ use Rattle.track_picture.specs.Entry.{Fact}
 use Rattle.track_picture.specs.History.{after_facts}
 use Rattle.track_picture.specs.Sentences.{is_used}
 use Rattle.track_picture.specs.Steps.{fact_of, facts}
-use Rattle.track_picture.specs.Told.{Told, comes_later, after_later}
+use Rattle.track_picture.specs.Told.{TrackTold, comes_later, after_later}
 
 module _ {A : Type 0} (tell : Fact → A → A) (used : Use) (packet : Packet) (rest : List Packet) (told : A) where
   by_use : (b : Bool) →
@@ -38,17 +38,17 @@ nothing_told : {A B : Type 0} (tell : A → B) (o : Option A) (told : B) → is_
 nothing_told tell None told h = refl
 nothing_told tell (Some a) told h = cc
 
-stays : (fact : Fact) (told : Told) → comes_later fact.packet ≡ false → after_later fact told ≡ told
+stays : (fact : Fact) (told : TrackTold) → comes_later fact.packet ≡ false → after_later fact told ≡ told
 stays fact told h =
     let revocation = nothing_told _ (as_revocation fact.packet) told.restrictions (or_left _ _ h) in
     let areas = nothing_told _ (as_mode_profile fact.packet) told.areas (or_right _ _ h) in
     (λ i. record told { restrictions = revocation i; areas = areas i })
 
-stays_so : (fact : Fact) (told : Told) → comes_later fact.packet ≡ false → (b : Bool) → cond b (after_later fact told) told ≡ told
+stays_so : (fact : Fact) (told : TrackTold) → comes_later fact.packet ≡ false → (b : Bool) → cond b (after_later fact told) told ≡ told
 stays_so fact told h true = stays fact told h
 stays_so fact told h false = refl
 
-pub none_later : (used : Use) (packets : List Packet) (told : Told) → list_any comes_later packets ≡ false →
+pub none_later : (used : Use) (packets : List Packet) (told : TrackTold) → list_any comes_later packets ≡ false →
     after_facts after_later (facts used packets) told ≡ told
 none_later used [] told h = refl
 none_later used (packet ∷ packets) told h =

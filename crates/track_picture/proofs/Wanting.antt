@@ -13,11 +13,11 @@ use Rattle.track_picture.specs.Steps.{fix_wanted}
 abbrev pub wanted_at : Message → Wanted → Fix
 wanted_at message wanted = fix_at message wanted.place wanted.accuracy
 
-abbrev pub made_at : odometry.Known → Message → Option Wanted → Option Fix
+abbrev pub made_at : odometry.KnownPlace → Message → Option Wanted → Option Fix
 made_at place message None = None
 made_at place message (Some wanted) = made place.sums (wanted_at message wanted)
 
-pub fix_as_wanted : (place : odometry.Known) (free : Bool) (message : Message) (announced : Option Announcement) →
+pub fix_as_wanted : (place : odometry.KnownPlace) (free : Bool) (message : Message) (announced : Option Announcement) →
     fix_of place free message announced ≡ made_at place message (fix_wanted free (own_place place message) announced)
 fix_as_wanted place free message (Some a) = refl
 fix_as_wanted place true message None = refl
@@ -34,7 +34,7 @@ counted_from own now message wanted b is =
     ap (λ (c : Bool). place_by own (cond c (Some (wanted_at message wanted)) None)) is ∙ counted_by own (wanted_at message wanted) b
 
 -- what the place is told by a fix, by whether it was made
-pub after_made : (b : Bool) (fix : Fix) (entries : List odometry.Entry) →
-    cond b (odometry.Entry.Fixed fix ∷ entries) entries ≡ after_fix (cond b (Some fix) None) entries
+pub after_made : (b : Bool) (fix : Fix) (entries : List odometry.PlaceEntry) →
+    cond b (odometry.PlaceEntry.Fixed fix ∷ entries) entries ≡ after_fix (cond b (Some fix) None) entries
 after_made true fix entries = refl
 after_made false fix entries = refl

@@ -35,7 +35,7 @@ pub data Outcome : Type 0 where
 pub record Begun : Type 0 where
   pub clock : Option ℕ  -- the moment that the clock told
   pub reading : Option Reading  -- what the odometer told
-  pub heard : Option groups.Entry  -- a telegram that was read, or the path that the life has come to
+  pub heard : Option groups.GroupEntry  -- a telegram that was read, or the path that the life has come to
   pub missed : List Announcement  -- the announced groups that the train has passed
 
 -- what the groups did that closed, the newest first, and what the event has brought about for the train
@@ -43,7 +43,7 @@ pub record Used : Type 0 where
   pub groups : List Outcome
   pub happened : Happened
 
-pub record Entry : Type 0 where
+pub record TrackEntry : Type 0 where
   pub begun : Begun
   pub used : Used
   pub train : Option Span  -- where the train stands once the groups are used
@@ -74,5 +74,5 @@ added outcome used = record used { groups = outcome ∷ used.groups }
 abbrev pub nothing : Begun
 nothing = record { clock = None; reading = None; heard = None; missed = [] }
 
-abbrev pub blank : Entry
+abbrev pub blank : TrackEntry
 blank = record { begun = nothing; used = no_groups; train = None; entered = None; mark = None }

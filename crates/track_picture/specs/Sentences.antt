@@ -19,7 +19,7 @@ use Rattle.balise_groups.specs.declared.message.Closed.TheVariants as closed
 use Rattle.balise_groups.specs.declared.message.Message.{Message}
 use Rattle.balise_groups.specs.declared.assembler.Taken.{Taken}
 use Rattle.balise_groups.specs.Groups as groups
-use Rattle.balise_groups.specs.Groups.Entry.{Read, Went}
+use Rattle.balise_groups.specs.Groups.GroupEntry.{Read, Went}
 use Rattle.linking.specs.declared.announcement.Announcement.{Announcement}
 use Rattle.linking.specs.declared.judgement.GroupRead.{GroupRead}
 use Rattle.linking.specs.declared.judgement.Judgement.{Judgement}
@@ -39,46 +39,46 @@ use Rattle.events.specs.declared.input.Reading.{Reading}
 use Rattle.track_picture.specs.Bytes.{telegram_in}
 use Rattle.track_store.specs.Profiles.{is_known}
 use Rattle.authority.specs.Entries.{accepted as granted}
-use Rattle.track_picture.specs.Entry.{Entry, Begun, Used, Outcome, Fact, nothing, blank, nothing_happened, no_groups, asking_for, added}
+use Rattle.track_picture.specs.Entry.{TrackEntry, Begun, Used, Outcome, Fact, nothing, blank, nothing_happened, no_groups, asking_for, added}
 use Rattle.track_picture.specs.Entry.Outcome.{Broken, Ignored, Rejected, Accepted}
 use Rattle.track_picture.specs.History.{place_of, groups_of, links_of, moment_of, authorities, gradients_of, speeds_of}
 
 -- ---- first what the input itself does: a movement, then the path and the announced groups that the train has passed;
 -- or a telegram; or a moment
 
-abbrev pub alone : Begun → Entry
+abbrev pub alone : Begun → TrackEntry
 alone begun = record blank { begun = begun }
 
-abbrev pub with_path : List Entry → Begun → Begun
+abbrev pub with_path : List TrackEntry → Begun → Begun
 with_path entries begun = record begun { heard = Some (Went (place_of (alone begun ∷ entries)).sums.path) }
 
 -- the announced groups left that the train has passed
-abbrev pub passed : List Entry → Begun → List Announcement
+abbrev pub passed : List TrackEntry → Begun → List Announcement
 passed entries begun = filter (is_passed_by (odometry.min_front (place_of (alone begun ∷ entries)))) (links_of entries).left
 
-abbrev pub moved : List Entry → Reading → Begun
+abbrev pub moved : List TrackEntry → Reading → Begun
 moved entries reading =
     let went = with_path entries (record nothing { reading = Some reading }) in record went { missed = passed entries went }
 
-abbrev pub heard : List Entry → List ℕ → Begun
+abbrev pub heard : List TrackEntry → List ℕ → Begun
 heard entries bytes =
     record nothing { heard = option_map (λ t. Read (record { telegram = t; sums = (place_of entries).sums })) (telegram_in bytes) }
 
-abbrev pub begun : List Entry → inputs.Input → Begun
+abbrev pub begun : List TrackEntry → inputs.Input → Begun
 begun entries (Telegram bytes) = heard entries bytes
 begun entries (Odometer reading) = moved entries reading
 begun entries (Clock moment) = record nothing { clock = Some moment }
 begun entries (Driver action) = nothing
 
 -- what a movement brings about: it is an overrun where it has no room, and the missed groups ask for something
-abbrev pub happened_by : List Entry → Reading → Happened
+abbrev pub happened_by : List TrackEntry → Reading → Happened
 happened_by entries reading =
     record {
       overrun = not (odometry.has_room (place_of entries) reading.movement);
       asked = misses (links_of entries).has_missed (moved entries reading).missed;
     }
 
-abbrev pub happened_first : List Entry → inputs.Input → Happened
+abbrev pub happened_first : List TrackEntry → inputs.Input → Happened
 happened_first entries (Telegram bytes) = nothing_happened
 happened_first entries (Odometer reading) = happened_by entries reading
 happened_first entries (Clock moment) = nothing_happened
@@ -87,24 +87,24 @@ happened_first entries (Driver action) = nothing_happened
 -- ---- then the groups that closed: the one that was ended, and behind it the one that is whole. Each is judged by
 -- linking, by the place of the train at its reading
 
-abbrev pub group_read : odometry.Known → Message → GroupRead
+abbrev pub group_read : odometry.KnownPlace → Message → GroupRead
 group_read place message =
     record { group = message.group; linked = message.linked; direction = message.direction; place = odometry.place_at place.fix message.sums }
 
-abbrev pub judged : List Entry → Message → Judgement
+abbrev pub judged : List TrackEntry → Message → Judgement
 judged entries message = judgement (links_of entries) (group_read (place_of entries) message)
 
 -- ---- an accepted group makes its fix: an announced one where it was announced, another one at its own place, but only
 -- while the track is free of all that lies at known places: no group is announced, no authority is stored, and no
 -- centimetre has a gradient or a static speed
 
-abbrev pub own_place : odometry.Known → Message → ℤ
+abbrev pub own_place : odometry.KnownPlace → Message → ℤ
 own_place place message = odometry.estimate_at place.fix message.sums
 
 abbrev pub fix_at : Message → ℤ → ℕ → Fix
 fix_at message at accuracy = record { at = at; accuracy = accuracy; sums = message.sums; missed = message.missed }
 
-abbrev pub is_free : List Entry → Bool
+abbrev pub is_free : List TrackEntry → Bool
 is_free entries =
     not (is_any (links_of entries).left) && not (is_some (granted (authorities entries)))
     && not (is_known (gradients_of entries).value) && not (is_known (speeds_of entries).value)
@@ -113,7 +113,7 @@ is_free entries =
 abbrev pub made : Sums → Fix → Option Fix
 made now fix = if odometry.is_made now fix then Some fix else None
 
-abbrev pub fix_of : odometry.Known → Bool → Message → Option Announcement → Option Fix
+abbrev pub fix_of : odometry.KnownPlace → Bool → Message → Option Announcement → Option Fix
 fix_of place free message (Some a) = made place.sums (fix_at message a.place (100 * a.accuracy))
 fix_of place free message None = if free then made place.sums (fix_at message (own_place place message) 0) else None
 
@@ -161,16 +161,16 @@ place_by own (Some fix) = fix.at
 -- are used, whose distances count from that fix. All by the life with the event as it is written so far, the acceptance
 -- included
 
-abbrev pub fix_made : List Entry → Message → Option Announcement → Option Fix
+abbrev pub fix_made : List TrackEntry → Message → Option Announcement → Option Fix
 fix_made now message announced = fix_of (place_of now) (is_free now) message announced
 
-abbrev pub facts_used : Mode → List Entry → Message → Option Announcement → Option Fix → List Fact
+abbrev pub facts_used : Mode → List TrackEntry → Message → Option Announcement → Option Fix → List Fact
 facts_used mode now message announced fix =
     let place = place_by (own_place (place_of now) message) fix in
     map (λ packet. record { group = message.group; place = place; moment = moment_of now; packet = packet })
     (filter (is_used mode (direction_of message announced)) message.packets)
 
-abbrev pub accepted : Mode → List Entry → Message → Option Announcement → Outcome
+abbrev pub accepted : Mode → List TrackEntry → Message → Option Announcement → Outcome
 accepted mode now message announced =
     let fix = fix_made now message announced in Accepted message announced fix (facts_used mode now message announced fix)
 
@@ -182,50 +182,50 @@ outcome_at_first message (Accept announced) = Accepted message announced None []
 outcome_at_first message Ignore = Ignored message
 outcome_at_first message (Reaction a) = Rejected message a
 
-abbrev pub outcome : Mode → List Entry → Message → Verdict → Outcome
+abbrev pub outcome : Mode → List TrackEntry → Message → Verdict → Outcome
 outcome mode now message (Accept announced) = accepted mode now message announced
 outcome mode now message Ignore = Ignored message
 outcome mode now message (Reaction a) = Rejected message a
 
-abbrev pub after_judgement : Mode → List Entry → Begun → Used → Message → Judgement → Used
+abbrev pub after_judgement : Mode → List TrackEntry → Begun → Used → Message → Judgement → Used
 after_judgement mode entries begun used message j =
     let asking = asking_for j.effect used in
     let now = record blank { begun = begun; used = added (outcome_at_first message j.verdict) asking } ∷ entries in
     added (outcome mode now message j.verdict) asking
 
-abbrev pub after_group : Mode → List Entry → Begun → Used → Closed → Used
+abbrev pub after_group : Mode → List TrackEntry → Begun → Used → Closed → Used
 after_group mode entries begun used (closed.Broken b) =
     added (Broken b) (asking_for (broken_effect (links_of (record blank { begun = begun; used = used } ∷ entries)) b.group b.linked) used)
 after_group mode entries begun used (closed.Whole message) =
     after_judgement mode entries begun used message (judged (record blank { begun = begun; used = used } ∷ entries) message)
 
-abbrev pub with_closed : Mode → List Entry → Begun → Option Closed → Used → Used
+abbrev pub with_closed : Mode → List TrackEntry → Begun → Option Closed → Used → Used
 with_closed mode entries begun None used = used
 with_closed mode entries begun (Some group) used = after_group mode entries begun used group
 
 -- what was heard closes at most two groups
-abbrev pub closed_by : groups.Known → Option groups.Entry → Taken
+abbrev pub closed_by : groups.KnownGroups → Option groups.GroupEntry → Taken
 closed_by known None = record { ended = None; whole = None }
 closed_by known (Some (Read reading)) = groups.taken_by reading known
 closed_by known (Some (Went path)) = record { ended = groups.ended_by path known; whole = None }
 
-abbrev pub with_groups : Mode → List Entry → Begun → Happened → Used
+abbrev pub with_groups : Mode → List TrackEntry → Begun → Happened → Used
 with_groups mode entries begun happened =
     let closed = closed_by (groups_of entries) begun.heard in
     with_closed mode entries begun closed.whole (with_closed mode entries begun closed.ended (record { groups = []; happened = happened }))
 
-abbrev pub used_by : Mode → List Entry → inputs.Input → Used
+abbrev pub used_by : Mode → List TrackEntry → inputs.Input → Used
 used_by mode entries input = with_groups mode entries (begun entries input) (happened_first entries input)
 
 -- what an input brings, in a mode
-abbrev pub received : Mode → List Entry → inputs.Input → Entry
+abbrev pub received : Mode → List TrackEntry → inputs.Input → TrackEntry
 received mode entries input = record blank { begun = begun entries input; used = used_by mode entries input }
 
 -- ---- then the timers of the authority see where the train is, and national values and the level that are announced
 -- come into force where the maximum safe front has reached their places
 
 -- where a train of some length is; 0 where the length isn't known
-abbrev pub standing : ℕ → List Entry → Span
+abbrev pub standing : ℕ → List TrackEntry → Span
 standing length entries = odometry.stretch (place_of entries) length
 
 -- ---- at last, once the mode is known, the track is forgotten that lies more than a kilometre behind the minimum safe
@@ -235,5 +235,5 @@ abbrev pub mark_behind : Span → ℤ
 mark_behind train = train.rear -ℤ pos 100_000
 
 -- a power-up is an exact fix at 0, and the track is forgotten behind the minimum safe rear there too
-abbrev pub powered_up : ℕ → Entry
+abbrev pub powered_up : ℕ → TrackEntry
 powered_up length = record blank { mark = Some (mark_behind (standing length [])) }

@@ -2,7 +2,7 @@
 use Rattle.std.specs.Prelude.{◌≡◌, ℕ, ◌+◌, min, ℤ, Bool, Option, List, ◌∷◌}
 use Rattle.areas.specs.declared.announcement.Announcement.{Announcement as AnnouncedLevel}
 use Rattle.areas.specs.declared.area.Area.{Area}
-use Rattle.authority.specs.Known.{Known as Authority}
+use Rattle.authority.specs.Known.{KnownAuthority as Authority}
 use Rattle.balise_groups.specs.Groups as groups
 use Rattle.linking.specs.Linking as linking
 use Rattle.national.specs.InForce as national
@@ -13,25 +13,25 @@ use Rattle.track_store.specs.Profiles.{Profile}
 use Rattle.track_store.specs.Restrictions as track
 use Rattle.vars.specs.declared.group.GroupIdentity.{GroupIdentity}
 use Rattle.track_picture.specs.declared.happened.Happened.{Happened}
-use Rattle.track_picture.specs.Entry.{Entry, Begun, Used, blank}
+use Rattle.track_picture.specs.Entry.{TrackEntry, Begun, Used, blank}
 use Rattle.track_picture.specs.History.{place_of, group_of_fix, speed_of, groups_of, links_of, national_entries, restrictions, moment_of, authority_of, areas_of, announced_level, gradients_of, speeds_of, happened_of, is_stopped}
 
 -- the national values that were kept as the life began, and what its events brought, the newest first
 pub record Life : Type 0 where
   pub kept : ValuesFor
-  pub entries : List Entry
+  pub entries : List TrackEntry
 
-abbrev pub national_of : Life → national.Known
+abbrev pub national_of : Life → national.KnownValues
 national_of life = national.known life.kept (national_entries life.entries)
 
 -- what each part knows but for the restrictions and the profiles of the track
-pub record Known : Type 0 where
-  pub place : odometry.Known
+pub record KnownTrack : Type 0 where
+  pub place : odometry.KnownPlace
   pub group : Option GroupIdentity
   pub speed : ℕ
-  pub groups : groups.Known
-  pub links : linking.Known
-  pub national : national.Known
+  pub groups : groups.KnownGroups
+  pub links : linking.KnownLinks
+  pub national : national.KnownValues
   pub moment : ℕ
   pub authority : Authority
   pub areas : List Area
@@ -41,13 +41,13 @@ pub record Known : Type 0 where
 
 -- .. and what grows with what the track tells, as its stores keep it: restrictions and profiles
 pub record Knowledge (G S : Type 0) : Type 0 where
-  pub parts : Known
+  pub parts : KnownTrack
   pub restrictions : track.Held
   pub gradients : G
   pub speeds : S
 
 -- what the parts know of a life
-abbrev pub parts_of : Life → Known
+abbrev pub parts_of : Life → KnownTrack
 parts_of life =
     record {
       place = place_of life.entries;
@@ -88,7 +88,7 @@ pub record SameTrack {G S : Type 0} (old new : Knowledge G S) : Type 0 where
   pub speeds_same : new.speeds ≡ old.speeds
 
 -- a life with one entry more
-abbrev pub grown : Life → Entry → Life
+abbrev pub grown : Life → TrackEntry → Life
 grown life entry = record life { entries = entry ∷ life.entries }
 
 -- .. up to the groups that closed

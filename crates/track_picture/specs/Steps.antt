@@ -11,21 +11,21 @@ use Rattle.events.specs.declared.input.Input.TheVariants.{Telegram, Odometer, Cl
 use Rattle.events.specs.declared.input.Reading.{Reading}
 use Rattle.track_picture.specs.declared.using.Use.{Use}
 use Rattle.track_picture.specs.Bytes.{telegram_in}
-use Rattle.track_picture.specs.Entry.{Entry, Fact, Used}
+use Rattle.track_picture.specs.Entry.{TrackEntry, Fact, Used}
 use Rattle.track_picture.specs.History.{groups_of}
 use Rattle.track_picture.specs.Sentences.{is_used, moved, happened_by, closed_by}
-use Rattle.track_picture.specs.StandsFor.{Life, Known, Knowledge, parts_of, grown_so_far, room_in}
+use Rattle.track_picture.specs.StandsFor.{Life, KnownTrack, Knowledge, parts_of, grown_so_far, room_in}
 
 -- the group that a movement leaves
-abbrev pub left_by : List Entry → Reading → Option Closed
+abbrev pub left_by : List TrackEntry → Reading → Option Closed
 left_by entries reading = (closed_by (groups_of entries) (moved entries reading).heard).ended
 
 -- what a movement brings about, before the groups are used that it closes
-abbrev pub after_moving : List Entry → Reading → Used
+abbrev pub after_moving : List TrackEntry → Reading → Used
 after_moving entries reading = record { groups = []; happened = happened_by entries reading }
 
 -- what the parts know after a movement, but that the group being read hasn't taken it yet
-abbrev pub still_reading : Life → Reading → Known
+abbrev pub still_reading : Life → Reading → KnownTrack
 still_reading life reading =
     record (parts_of (grown_so_far life (moved life.entries reading) (after_moving life.entries reading))) { groups = groups_of life.entries }
 
@@ -43,7 +43,7 @@ fix_wanted free own None = if free then Some (record { place = own; accuracy = 0
 
 -- how many packets may be used by an input: those of the group being read, which may close by it, and of a telegram its
 -- own
-abbrev pub packets_by : Known → Input → ℕ
+abbrev pub packets_by : KnownTrack → Input → ℕ
 packets_by known (Telegram bytes) = option_map_or (λ t. packets_in known.groups.readings + length t.packets.items) (telegram_in bytes) 0
 packets_by known (Odometer reading) = if is_none known.groups.current then 0 else packets_in known.groups.readings
 packets_by known (Clock moment) = 0

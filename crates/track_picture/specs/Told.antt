@@ -18,24 +18,24 @@ use Rattle.track_store.specs.Profiles.{Profile}
 use Rattle.track_store.specs.Restrictions as track
 use Rattle.track_picture.specs.Entry.{Fact}
 use Rattle.track_picture.specs.History.{after_values, after_links, after_authority, after_stop, after_grant, after_areas, after_level, after_gradients, after_speeds, after_restriction, after_revocation}
-use Rattle.track_picture.specs.StandsFor.{Known, Knowledge}
+use Rattle.track_picture.specs.StandsFor.{KnownTrack, Knowledge}
 
 -- what the parts took that packets concern, and what the others know
-pub record Told : Type 0 where
-  pub others : Known
+pub record TrackTold : Type 0 where
+  pub others : KnownTrack
   pub kept : ValuesFor
-  pub values : List national.Entry
-  pub links : List linking.Entry
-  pub grants : List authority.Entry
+  pub values : List national.NationalEntry
+  pub links : List linking.LinkEntry
+  pub grants : List authority.AuthorityEntry
   pub stopped : Bool
-  pub areas : List areas.Entry
-  pub levels : List levels.Entry
-  pub restrictions : List track.Entry
+  pub areas : List areas.AreaEntry
+  pub levels : List levels.LevelEntry
+  pub restrictions : List track.RestrictionEntry
   pub mark : ℤ  -- the forgetting mark
   pub gradients : List (profiles.Fact ℤ)
   pub speeds : List (profiles.Fact CategorySpeeds)
 
-abbrev pub known_of : Told → Known
+abbrev pub known_of : TrackTold → KnownTrack
 known_of told =
     record told.others {
       links = linking.known told.links;
@@ -47,7 +47,7 @@ known_of told =
     }
 
 -- the state is what was taken
-pub record IsTold {G S : Type 0} (gradients_in : G → Profile ℤ) (speeds_in : S → Profile CategorySpeeds) (known : Knowledge G S) (told : Told) : Type 0 where
+pub record IsTold {G S : Type 0} (gradients_in : G → Profile ℤ) (speeds_in : S → Profile CategorySpeeds) (known : Knowledge G S) (told : TrackTold) : Type 0 where
   pub parts_are : known.parts ≡ known_of told
   pub restrictions_are : known.restrictions.track ≡ track.in_force told.restrictions
   pub mark_is : track.mark_of told.restrictions ≡ told.mark
@@ -55,7 +55,7 @@ pub record IsTold {G S : Type 0} (gradients_in : G → Profile ℤ) (speeds_in :
   pub speeds_are : speeds_in known.speeds ≡ profiles.profile_of (record { mark = told.mark; facts = told.speeds })
 
 -- what a packet brings in the first walk
-abbrev pub after_earlier : Fact → Told → Told
+abbrev pub after_earlier : Fact → TrackTold → TrackTold
 after_earlier fact told =
     record told {
       values = after_values fact told.values;
@@ -74,6 +74,6 @@ abbrev pub comes_later : Packet → Bool
 comes_later packet = is_some (as_revocation packet) || is_some (as_mode_profile packet)
 
 -- what a packet brings in the second walk
-abbrev pub after_later : Fact → Told → Told
+abbrev pub after_later : Fact → TrackTold → TrackTold
 after_later fact told =
     record told { restrictions = after_revocation fact told.restrictions; areas = after_areas fact told.areas }

@@ -1,16 +1,16 @@
 //! What a mode deletes that is entered.
 ghost use Rattle.std.specs.Prelude.{◌≡◌, ◌≤◌, List, None, Some};
 ghost use Rattle.areas.specs.Areas.{stored};
-ghost use Rattle.areas.specs.Entries.{Entry as AreaEntry};
-ghost use Rattle.areas.specs.Levels.{Entry as LevelEntry, waiting};
-ghost use Rattle.authority.specs.Entries.{Entry as AuthorityEntry};
+ghost use Rattle.areas.specs.Entries.{AreaEntry};
+ghost use Rattle.areas.specs.Levels.{LevelEntry, waiting};
+ghost use Rattle.authority.specs.Entries.{AuthorityEntry};
 ghost use Rattle.authority.specs.Known.{known as known_authority};
-ghost use Rattle.linking.specs.Linking.{Entry as LinkEntry, known as known_links};
+ghost use Rattle.linking.specs.Linking.{LinkEntry, known as known_links};
 ghost use Rattle.mode_table.specs.declared.statuses.Item.TheVariants as item;
 ghost use Rattle.mode_table.specs.Statuses.{status_on};
-ghost use Rattle.track_store.specs.Facts.{Told, profile_of};
+ghost use Rattle.track_store.specs.Facts.{MarkedFacts, profile_of};
 ghost use Rattle.track_store.specs.Profiles.{profile_with};
-ghost use Rattle.track_picture.specs.Entry.{Entry};
+ghost use Rattle.track_picture.specs.Entry.{TrackEntry};
 ghost use Rattle.track_picture.specs.History.{is_deleted, after_column, links_deleted, authority_deleted, areas_deleted, level_deleted, none_told};
 ghost use Rattle.track_picture.specs.StandsFor.{Life, StandsForLife, parts_of, grown, size_in};
 
@@ -68,7 +68,7 @@ fn leave_level(level: &mut AnnouncedLevel, mode: Mode)
 }
 
 fn leave_profile<T, P: ProfileStore<T>>(profile: &mut P, mode: Mode)
-    ensures profile { (told : Told T) → P.profile profile.old ≡ profile_of told
+    ensures profile { (told : MarkedFacts T) → P.profile profile.old ≡ profile_of told
         → P.profile profile.new ≡ profile_of (record told { facts = after_column item.Profiles none_told (Some mode) told.facts }) }
     ensures size { P.size profile.new ≤ P.size profile.old }
 {
@@ -80,7 +80,7 @@ fn leave_profile<T, P: ProfileStore<T>>(profile: &mut P, mode: Mode)
 impl Parts {
     // A mode is entered.
     fn enter(&mut self, mode: Mode)
-        ensures { (life : Life) (event : Entry) → self.old ≡ parts_of (grown life (record event { entered = None }))
+        ensures { (life : Life) (event : TrackEntry) → self.old ≡ parts_of (grown life (record event { entered = None }))
             → self.new ≡ parts_of (grown life (record event { entered = Some mode })) }
     {
         leave_links(&mut self.links, mode);
@@ -93,7 +93,7 @@ impl Parts {
 impl<G: ProfileStore<Permille> + Drop, S: ProfileStore<CategorySpeeds> + Drop> TracksideOver<G, S> {
     /// Another mode is entered: what the table of statuses deletes there is deleted.
     pub fn enter(&mut self, mode: Mode)
-        ensures stands { (life : Life) (event : Entry) → StandsForLife G.profile S.profile self.old (grown life (record event { entered = None }))
+        ensures stands { (life : Life) (event : TrackEntry) → StandsForLife G.profile S.profile self.old (grown life (record event { entered = None }))
             → StandsForLife G.profile S.profile self.new (grown life (record event { entered = Some mode })) }
         ensures size { size_in G.size S.size self.new ≤ size_in G.size S.size self.old }
     {

@@ -2,7 +2,7 @@
 ghost use Rattle.std.specs.Prelude.{◌≡◌, ◌≤◌, None, Some, ◌∷◌};
 ghost use Rattle.units.specs.Limits.{HasReach};
 ghost use Rattle.areas.specs.Levels.{coming};
-ghost use Rattle.track_picture.specs.Entry.{Entry};
+ghost use Rattle.track_picture.specs.Entry.{TrackEntry};
 ghost use Rattle.track_picture.specs.History.{announced_level};
 ghost use Rattle.track_picture.specs.Sentences.{standing, mark_behind};
 ghost use Rattle.track_picture.specs.StandsFor.{Life, StandsForLife, parts_of, grown, size_in};
@@ -29,9 +29,9 @@ impl Parts {
     // The authority's timers see where the train is, and national values and the level come into force where the
     // maximum safe front has reached their places.
     fn look(&mut self, train: &Stretch) -> Option<TrainLevel>
-        ensures level { (life : Life) (event : Entry) → self.old ≡ parts_of (grown life (record event { train = None; entered = None }))
+        ensures level { (life : Life) (event : TrackEntry) → self.old ≡ parts_of (grown life (record event { train = None; entered = None }))
             → result ≡ coming train.now.max_front (announced_level (record event { train = None; entered = None } ∷ life.entries)) }
-        ensures stands { (life : Life) (event : Entry) → self.old ≡ parts_of (grown life (record event { train = None; entered = None }))
+        ensures stands { (life : Life) (event : TrackEntry) → self.old ≡ parts_of (grown life (record event { train = None; entered = None }))
             → self.new ≡ parts_of (grown life (record event { train = Some train.now; entered = None })) }
     {
         self.authority.pass(train);
@@ -45,10 +45,10 @@ impl<G: ProfileStore<Permille> + Drop, S: ProfileStore<CategorySpeeds> + Drop> T
     /// is, and national values and the level that are announced come into force where the maximum safe front has
     /// reached their places. Answers the level that does.
     pub fn look(&mut self, length: Length) -> Option<TrainLevel>
-        ensures level { (life : Life) (event : Entry)
+        ensures level { (life : Life) (event : TrackEntry)
             → (let now = grown life (record event { train = None; entered = None }) in
             StandsForLife G.profile S.profile self.old now → result ≡ coming (standing length now.entries).max_front (announced_level now.entries)) }
-        ensures stands { (life : Life) (event : Entry)
+        ensures stands { (life : Life) (event : TrackEntry)
             → (let now = grown life (record event { train = None; entered = None }) in
             StandsForLife G.profile S.profile self.old now
             → StandsForLife G.profile S.profile self.new (grown life (record event { train = Some (standing length now.entries); entered = None }))) }
@@ -60,7 +60,7 @@ impl<G: ProfileStore<Permille> + Drop, S: ProfileStore<CategorySpeeds> + Drop> T
 
     // The track before a place is forgotten.
     fn forget_before(&mut self, mark: Cm)
-        ensures stands { (life : Life) (event : Entry) → StandsForLife G.profile S.profile self.old (grown life (record event { mark = None }))
+        ensures stands { (life : Life) (event : TrackEntry) → StandsForLife G.profile S.profile self.old (grown life (record event { mark = None }))
             → StandsForLife G.profile S.profile self.new (grown life (record event { mark = Some mark })) }
         ensures size { size_in G.size S.size self.new ≤ size_in G.size S.size self.old }
     {
@@ -72,7 +72,7 @@ impl<G: ProfileStore<Permille> + Drop, S: ProfileStore<CategorySpeeds> + Drop> T
     /// The end of an event, for a train of some length (0 where it isn't known): the track is forgotten that lies more
     /// than a kilometre behind its minimum safe rear.
     pub fn forget(&mut self, length: Length)
-        ensures stands { (life : Life) (event : Entry)
+        ensures stands { (life : Life) (event : TrackEntry)
             → (let now = grown life (record event { mark = None }) in
             StandsForLife G.profile S.profile self.old now
             → StandsForLife G.profile S.profile self.new (grown life (record event { mark = Some (mark_behind (standing length now.entries)) }))) }

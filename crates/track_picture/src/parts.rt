@@ -43,9 +43,9 @@ pub struct Parts {
 }
 
 impl Model for Parts {
-    ghost use Rattle.track_picture.specs.StandsFor.{Known};
+    ghost use Rattle.track_picture.specs.StandsFor.{KnownTrack};
 
-    ghost Value = { Known };
+    ghost Value = { KnownTrack };
 
     ghost view = { λ p. record {
       place = p.place;

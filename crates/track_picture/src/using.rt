@@ -8,7 +8,7 @@ ghost use Rattle.track_picture.specs.History.{after_facts};
 ghost use Rattle.track_picture.specs.Sentences.{is_valid, valid_in, is_used};
 ghost use Rattle.track_picture.specs.StandsFor.{room_in};
 ghost use Rattle.track_picture.specs.Steps.{fact_of, facts};
-ghost use Rattle.track_picture.specs.Told.{Told as AllTold, IsTold as IsAllTold, known_of, comes_later, after_earlier, after_later};
+ghost use Rattle.track_picture.specs.Told.{TrackTold, IsTold as IsAllTold, known_of, comes_later, after_earlier, after_later};
 
 mod gradients;
 mod grants;
@@ -154,7 +154,7 @@ pub fn take_all<T, W: Walk<T>>(state: &mut T, packets: &GroupPackets, used: &Use
 impl Parts {
     // Takes what a packet has for one of these parts in the first walk.
     fn tell(&mut self, packet: &Packet<'_>, used: &Use)
-        ensures { (told : AllTold) → self.old ≡ known_of told → self.new ≡ known_of (after_earlier (fact_of used.now packet.now) told) }
+        ensures { (told : TrackTold) → self.old ≡ known_of told → self.new ≡ known_of (after_earlier (fact_of used.now packet.now) told) }
     {
         values::take(&mut self.national, packet, used);
         links::take(&mut self.links, packet, used);
@@ -166,7 +166,7 @@ impl Parts {
 
     // .. and in the second.
     fn tell_later(&mut self, packet: &Packet<'_>, used: &Use)
-        ensures { (told : AllTold) → self.old ≡ known_of told → self.new ≡ known_of (after_later (fact_of used.now packet.now) told) }
+        ensures { (told : TrackTold) → self.old ≡ known_of told → self.new ≡ known_of (after_later (fact_of used.now packet.now) told) }
     {
         mode_areas::take(&mut self.areas, packet, used);
     }
@@ -180,7 +180,7 @@ impl<G: ProfileStore<Permille> + Drop, S: ProfileStore<CategorySpeeds> + Drop> W
 > for Earlier {
     ghost use Rattle.std.proofs.Common.{arith};
 
-    ghost Told = { AllTold };
+    ghost Told = { TrackTold };
 
     ghost IsTold = { λ state told. IsAllTold G.profile S.profile state told };
 
@@ -206,7 +206,7 @@ pub struct Later;
 impl<G: ProfileStore<Permille> + Drop, S: ProfileStore<CategorySpeeds> + Drop> Walk<
     TracksideOver<G, S>,
 > for Later {
-    ghost Told = { AllTold };
+    ghost Told = { TrackTold };
 
     ghost IsTold = { λ state told. IsAllTold G.profile S.profile state told };
 

@@ -8,8 +8,8 @@ use Rattle.std.proofs.lemmas.List.Folds.{list_any-append}
 use Rattle.std.proofs.lemmas.List.Elements.{filter-append}
 use Rattle.restriction.specs.declared.restriction.Restriction.{Restriction}
 use Rattle.restriction.specs.Covering.{reaches_past}
-use Rattle.track_store.specs.Restrictions.{Entry, InForce, in_force, standing, standing_but_for, ends, mark_of}
-use Rattle.track_store.specs.Restrictions.Entry.{Restricted, Revoked, Forgotten}
+use Rattle.track_store.specs.Restrictions.{RestrictionEntry, InForce, in_force, standing, standing_but_for, ends, mark_of}
+use Rattle.track_store.specs.Restrictions.RestrictionEntry.{Restricted, Revoked, Forgotten}
 
 one_ended : (p : Restriction → Bool) (a b : Bool) (r : Restriction) (xs ys : List Restriction) → p r ≡ not b → ys ≡ filter p xs →
     ys ++ cond (a || (b || false)) [] (r ∷ []) ≡ filter p (xs ++ cond a [] (r ∷ []))
@@ -18,7 +18,7 @@ one_ended p false true r xs ys e f = rw (filter-append, f) (ap (λ c. filter p x
 one_ended p false false r xs ys e f = rw (filter-append, f) (ap (λ c. filter p xs ++ cond c (r ∷ []) []) (sym e))
 
 -- one more later entry leaves those that it does not end
-one_later : (entry : Entry) (later entries : List Entry) →
+one_later : (entry : RestrictionEntry) (later entries : List RestrictionEntry) →
     standing_but_for (later ++ entry ∷ []) entries ≡ filter (λ r. not (ends entry r)) (standing_but_for later entries)
 one_later entry later [] = refl
 one_later entry later (Revoked number ∷ entries) = one_later entry (Revoked number ∷ later) entries
@@ -54,7 +54,7 @@ filter-within p q (x ∷ xs) h =
     cases (p x) (q x) refl refl
 
 -- of the restrictions that reach past a mark: a restriction more, a number less, a mark more
-after_restricted : (r : Restriction) (mark : ℤ) (entries : List Entry) →
+after_restricted : (r : Restriction) (mark : ℤ) (entries : List RestrictionEntry) →
     filter (reaches_past mark) (standing (Restricted r ∷ entries))
     ≡ filter (λ q. not (ends (Restricted r) q)) (filter (reaches_past mark) (standing entries)) ++ (if reaches_past mark r then r ∷ [] else [])
 after_restricted r mark entries =
@@ -63,18 +63,18 @@ after_restricted r mark entries =
     ap (filter (reaches_past mark)) one ∙ filter-append (reaches_past mark) _ (r ∷ [])
     ∙ ap (λ rs. rs ++ (if reaches_past mark r then r ∷ [] else [])) (filter-swap (reaches_past mark) (λ q. not (ends (Restricted r) q)) (standing entries))
 
-after_revoked : (number : ℕ) (mark : ℤ) (entries : List Entry) →
+after_revoked : (number : ℕ) (mark : ℤ) (entries : List RestrictionEntry) →
     filter (reaches_past mark) (standing (Revoked number ∷ entries))
     ≡ filter (λ q. not (ends (Revoked number) q)) (filter (reaches_past mark) (standing entries))
 after_revoked number mark entries =
     ap (filter (reaches_past mark)) (one_later (Revoked number) [] entries)
     ∙ filter-swap (reaches_past mark) (λ q. not (ends (Revoked number) q)) (standing entries)
 
-standing_forgotten : (mark : ℤ) (entries : List Entry) → standing (Forgotten mark ∷ entries) ≡ standing entries
+standing_forgotten : (mark : ℤ) (entries : List RestrictionEntry) → standing (Forgotten mark ∷ entries) ≡ standing entries
 standing_forgotten mark entries = one_later (Forgotten mark) [] entries ∙ filter-true (standing entries)
 
 -- what stands for the entries stands for a restriction more
-pub one_restriction : (mark : ℤ) (old new : List Restriction) (r : Restriction) (entries : List Entry) (ahead : Bool) →
+pub one_restriction : (mark : ℤ) (old new : List Restriction) (r : Restriction) (entries : List RestrictionEntry) (ahead : Bool) →
     record { mark = mark; restrictions = old } ≡ in_force entries → reaches_past mark r ≡ ahead →
     new ≡ filter (λ q. not (ends (Revoked r.number) q)) old ++ (if ahead then r ∷ [] else []) →
     record { mark = mark; restrictions = new } ≡ in_force (Restricted r ∷ entries)
@@ -87,7 +87,7 @@ one_restriction mark old new r entries ahead is reaches added =
     λ i. record { mark = m i; restrictions = n i }
 
 -- .. for a revocation more
-pub one_revocation : (mark : ℤ) (old new : List Restriction) (number : ℕ) (entries : List Entry) →
+pub one_revocation : (mark : ℤ) (old new : List Restriction) (number : ℕ) (entries : List RestrictionEntry) →
     record { mark = mark; restrictions = old } ≡ in_force entries → new ≡ filter (λ q. not (ends (Revoked number) q)) old →
     record { mark = mark; restrictions = new } ≡ in_force (Revoked number ∷ entries)
 one_revocation mark old new number entries is kept =
@@ -98,7 +98,7 @@ one_revocation mark old new number entries is kept =
     λ i. record { mark = m i; restrictions = n i }
 
 -- .. for a higher mark more
-pub one_mark : (old_mark mark : ℤ) (old new : List Restriction) (entries : List Entry) →
+pub one_mark : (old_mark mark : ℤ) (old new : List Restriction) (entries : List RestrictionEntry) →
     record { mark = old_mark; restrictions = old } ≡ in_force entries → old_mark <ℤ mark → new ≡ filter (reaches_past mark) old →
     record { mark = mark; restrictions = new } ≡ in_force (Forgotten mark ∷ entries)
 one_mark old_mark mark old new entries is higher kept =
@@ -113,7 +113,7 @@ one_mark old_mark mark old new entries is higher kept =
     λ i. record { mark = m i; restrictions = (n ∙ ap (λ (z : ℤ). filter (reaches_past z) (standing (Forgotten mark ∷ entries))) m) i }
 
 -- a mark that isn't higher changes nothing
-pub same_mark : (mark : ℤ) (track : InForce) (entries : List Entry) → track ≡ in_force entries → mark ≤ℤ track.mark →
+pub same_mark : (mark : ℤ) (track : InForce) (entries : List RestrictionEntry) → track ≡ in_force entries → mark ≤ℤ track.mark →
     track ≡ in_force (Forgotten mark ∷ entries)
 same_mark mark track entries is lower =
     let below : mark ≤ℤ mark_of entries = subst (λ (z : ℤ). mark ≤ℤ z) (ap (λ (t : InForce). t.mark) is) lower in

@@ -5,7 +5,7 @@ use Rattle.std.proofs.lemmas.Int.{ints}
 use Rattle.std.specs.Prelude.{int_lt, Option, None}
 use Rattle.std.specs.Int.{int_max}
 use Rattle.track_store.specs.Profiles.{Profile}
-use Rattle.track_store.specs.Facts.{Told, Fact, latest, given_by, from_mark, replaced, profile_of}
+use Rattle.track_store.specs.Facts.{MarkedFacts, Fact, latest, given_by, from_mark, replaced, profile_of}
 
 same_profile : {A : Type 0} (p q : Profile A) → p.value ≡ q.value → p ≡ q
 same_profile p q value = λ i. record { value = value i }
@@ -23,7 +23,7 @@ marked_twice false before after value is = rw is refl
 below_greater : (place a b : ℤ) → int_lt place (int_max a b) ≡ cond (int_lt place a) true (int_lt place b)
 below_greater place a b = grind (arith, ints)
 
-module _ {A : Type 0} (old new : Profile A) (told : Told A) (is : old ≡ profile_of told) where
+module _ {A : Type 0} (old new : Profile A) (told : MarkedFacts A) (is : old ≡ profile_of told) where
   -- one fact more, without what lies below the mark
   pub one_more : (fact : Fact A) →
       ((place : ℤ) → new.value place ≡ from_mark told.mark (replaced old.value fact.start fact.steps) place) →

@@ -31,7 +31,7 @@ latest [] place = None
 latest (fact ∷ facts) place = if int_lt place fact.start then latest facts place else given_by fact.steps place
 
 -- the facts, and the forgetting mark
-pub record Told (A : Type 0) : Type 0 where
+pub record MarkedFacts (A : Type 0) : Type 0 where
   pub mark : ℤ
   pub facts : List (Fact A)
 
@@ -40,10 +40,10 @@ abbrev pub from_mark : {A : Type 0} → ℤ → (ℤ → Option A) → ℤ → O
 from_mark mark value place = if int_lt place mark then None else value place
 
 -- the value that counts at a place
-abbrev pub value_in : {A : Type 0} → Told A → ℤ → Option A
+abbrev pub value_in : {A : Type 0} → MarkedFacts A → ℤ → Option A
 value_in told = from_mark told.mark (latest told.facts)
 
-abbrev pub profile_of : {A : Type 0} → Told A → Profile A
+abbrev pub profile_of : {A : Type 0} → MarkedFacts A → Profile A
 profile_of told = record { value = value_in told }
 
 -- a profile that steps replace from a first place on

@@ -11,19 +11,19 @@ use Rattle.restriction.specs.Covering.{is_ended_by, reaches_past, limits_at}
 
 -- what bears on restrictions: a restriction (packet 65), a revocation of those of a number (packet 66), a forgetting
 -- mark
-pub data Entry : Type 0 where
-  Restricted : Restriction → Entry
-  Revoked : ℕ → Entry
-  Forgotten : ℤ → Entry
+pub data RestrictionEntry : Type 0 where
+  Restricted : Restriction → RestrictionEntry
+  Revoked : ℕ → RestrictionEntry
+  Forgotten : ℤ → RestrictionEntry
 
 -- an entry ends the restrictions that came before it under its number; number 255 is never replaced nor revoked
-abbrev pub ends : Entry → Restriction → Bool
+abbrev pub ends : RestrictionEntry → Restriction → Bool
 ends (Restricted by) restriction = is_ended_by by.number restriction
 ends (Revoked number) restriction = is_ended_by number restriction
 ends (Forgotten mark) restriction = false
 
 -- of these entries the restrictions that no later entry ends, the oldest first
-abbrev pub standing_but_for : List Entry → List Entry → List Restriction
+abbrev pub standing_but_for : List RestrictionEntry → List RestrictionEntry → List Restriction
 standing_but_for later [] = []
 standing_but_for later (Restricted restriction ∷ entries) =
     standing_but_for (Restricted restriction ∷ later) entries
@@ -31,11 +31,11 @@ standing_but_for later (Restricted restriction ∷ entries) =
 standing_but_for later (Revoked number ∷ entries) = standing_but_for (Revoked number ∷ later) entries
 standing_but_for later (Forgotten mark ∷ entries) = standing_but_for (Forgotten mark ∷ later) entries
 
-abbrev pub standing : List Entry → List Restriction
+abbrev pub standing : List RestrictionEntry → List Restriction
 standing entries = standing_but_for [] entries
 
 -- the greatest forgetting mark; without one, the least place that there is
-abbrev pub mark_of : List Entry → ℤ
+abbrev pub mark_of : List RestrictionEntry → ℤ
 mark_of [] = neg_ℤ (pos outermost)
 mark_of (Restricted restriction ∷ entries) = mark_of entries
 mark_of (Revoked number ∷ entries) = mark_of entries
@@ -55,7 +55,7 @@ pub record Held : Type 0 where
 abbrev pub size_of : Held → ℕ
 size_of held = length held.track.restrictions + held.room
 
-abbrev pub in_force : List Entry → InForce
+abbrev pub in_force : List RestrictionEntry → InForce
 in_force entries = record { mark = mark_of entries; restrictions = filter (reaches_past (mark_of entries)) (standing entries) }
 
 -- the speeds of the restrictions that limit a train at a centimetre

@@ -2,8 +2,8 @@
 ghost use Rattle.std.specs.Prelude.{◌≡◌, ◌≤◌, ◌+◌, List, [], ◌∷◌, filter, not, min, max, if◌then◌else◌, IsOk, OnOk, OnErr, IfOk, vec_len, vec_capacity};
 ghost use Rattle.restriction.specs.Covering.{is_ended_by, reaches_past};
 ghost use Rattle.restriction.specs.Meeting.{meets};
-ghost use Rattle.track_store.specs.Restrictions.{Entry, in_force, least_speed, size_of};
-ghost use Rattle.track_store.specs.Restrictions.Entry.{Restricted, Revoked, Forgotten};
+ghost use Rattle.track_store.specs.Restrictions.{RestrictionEntry, in_force, least_speed, size_of};
+ghost use Rattle.track_store.specs.Restrictions.RestrictionEntry.{Restricted, Revoked, Forgotten};
 
 mod walk;
 
@@ -78,7 +78,7 @@ impl Restrictions {
     /// nothing changes. The list holds the allocator that it takes memory of. This is for a caller who makes no room
     /// first.
     pub fn add(&mut self, _alloc: Global, restriction: Restriction) -> Result<(), NoMemory>
-        ensures ok { OnOk result ((entries : List Entry) → self.old.track ≡ in_force entries
+        ensures ok { OnOk result ((entries : List RestrictionEntry) → self.old.track ≡ in_force entries
             → self.new.track ≡ in_force (Restricted restriction ∷ entries)) }
         ensures err { OnErr result (self.new ≡ self.old) }
     {
@@ -90,7 +90,7 @@ impl Restrictions {
     /// What `add` does, in the room that was made: it takes no memory. The caller owes room for one.
     pub fn add_reserved(&mut self, restriction: Restriction)
         requires { 1 ≤ self.old.room }
-        ensures track { (entries : List Entry) → self.old.track ≡ in_force entries
+        ensures track { (entries : List RestrictionEntry) → self.old.track ≡ in_force entries
             → self.new.track ≡ in_force (Restricted restriction ∷ entries) }
         ensures room { self.new.room + 1 ≡ self.old.room }
     {
@@ -103,7 +103,7 @@ impl Restrictions {
 
     /// Revokes the restriction of a number (but for 255).
     pub fn revoke(&mut self, number: RestrictionNumber)
-        ensures track { (entries : List Entry) → self.old.track ≡ in_force entries
+        ensures track { (entries : List RestrictionEntry) → self.old.track ≡ in_force entries
             → self.new.track ≡ in_force (Revoked number ∷ entries) }
         ensures room { self.new.room ≡ self.old.room }
     {
@@ -112,7 +112,7 @@ impl Restrictions {
 
     /// Forgets all track before a place, in centimetres. What was forgotten before stays so.
     pub fn drop_behind(&mut self, mark: Cm)
-        ensures track { (entries : List Entry) → self.old.track ≡ in_force entries
+        ensures track { (entries : List RestrictionEntry) → self.old.track ≡ in_force entries
             → self.new.track ≡ in_force (Forgotten mark ∷ entries) }
         ensures room { self.new.room ≡ self.old.room }
         ensures size { size_of self.new ≤ size_of self.old }

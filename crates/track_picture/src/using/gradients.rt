@@ -1,6 +1,6 @@
 //! Gradients (packet 21).
 ghost use Rattle.std.specs.Prelude.{◌≡◌, ℤ, ◌≤◌, ◌+◌};
-ghost use Rattle.track_store.specs.Facts.{Told, profile_of};
+ghost use Rattle.track_store.specs.Facts.{MarkedFacts, profile_of};
 ghost use Rattle.track_store.specs.Profiles.{profile_with};
 ghost use Rattle.track_picture.specs.History.{after_gradients};
 ghost use Rattle.track_picture.specs.Steps.{fact_of};
@@ -15,7 +15,7 @@ use units::{Cm, Permille};
 /// replacement.
 pub fn take<G: ProfileStore<Permille>>(store: &mut G, mark: Cm, packet: &Packet<'_>, used: &Use)
     requires { 1 ≤ G.room store.old }
-    ensures profile { (told : Told ℤ) → told.mark ≡ mark → profile_with G.value store.old ≡ profile_of told
+    ensures profile { (told : MarkedFacts ℤ) → told.mark ≡ mark → profile_with G.value store.old ≡ profile_of told
         → profile_with G.value store.new ≡ profile_of (record told { facts = after_gradients (fact_of used.now packet.now) told.facts }) }
     ensures room { G.room store.old ≤ G.room store.new + 1 }
 {

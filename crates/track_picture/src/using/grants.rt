@@ -1,6 +1,6 @@
 //! Movement authorities (packet 12).
 ghost use Rattle.std.specs.Prelude.{◌≡◌, List};
-ghost use Rattle.authority.specs.Entries.{Entry};
+ghost use Rattle.authority.specs.Entries.{AuthorityEntry};
 ghost use Rattle.authority.specs.Known.{known};
 ghost use Rattle.track_picture.specs.Entry.{Fact};
 ghost use Rattle.track_picture.specs.History.{after_authority, after_stop};
@@ -13,7 +13,7 @@ use vars::Variable;
 
 /// Takes a packet, where it is an authority.
 pub fn take(authority: &mut Authority, packet: &Packet<'_>, used: &Use)
-    ensures { (entries : List Entry) → authority.old ≡ known entries
+    ensures { (entries : List AuthorityEntry) → authority.old ≡ known entries
         → authority.new ≡ known (after_authority (fact_of used.now packet.now) entries) }
 {
     if let Packet::MovementAuthority(packet) = packet {

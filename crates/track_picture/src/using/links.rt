@@ -2,7 +2,7 @@
 ghost use Rattle.std.specs.Prelude.{◌≡◌, ◌+◌, ◌≤◌, List};
 ghost use Rattle.std.specs.Int.RustNames.{unsigned_abs};
 ghost use Rattle.units.specs.Limits.{reach, HasReach};
-ghost use Rattle.linking.specs.Linking.{Entry, known};
+ghost use Rattle.linking.specs.Linking.{LinkEntry, known};
 ghost use Rattle.track_picture.specs.Announcing.{announced, announcements_of};
 ghost use Rattle.track_picture.specs.History.{after_links};
 ghost use Rattle.track_picture.specs.Steps.{fact_of};
@@ -66,7 +66,7 @@ fn announcements(
 
 /// Takes a packet, where it is a list of links.
 pub fn take(links: &mut Links, packet: &Packet<'_>, used: &Use)
-    ensures { (entries : List Entry) → links.old ≡ known entries
+    ensures { (entries : List LinkEntry) → links.old ≡ known entries
         → links.new ≡ known (after_links (fact_of used.now packet.now) entries) }
 {
     if let Packet::Linking(packet) = packet {

@@ -1,6 +1,6 @@
 //! Temporary speed restrictions (packet 65).
 ghost use Rattle.std.specs.Prelude.{◌≡◌, ◌≤◌, ◌+◌, List};
-ghost use Rattle.track_store.specs.Restrictions.{Entry, in_force};
+ghost use Rattle.track_store.specs.Restrictions.{RestrictionEntry, in_force};
 ghost use Rattle.track_picture.specs.History.{restriction_of, after_restriction};
 ghost use Rattle.track_picture.specs.Steps.{fact_of};
 
@@ -25,7 +25,7 @@ fn restriction_of(packet: &SpeedRestriction, at: GroupPlace) -> Restriction
 /// Takes a packet, where it is a restriction, in the room for one.
 pub fn take(restrictions: &mut Restrictions, packet: &Packet<'_>, used: &Use)
     requires { 1 ≤ restrictions.old.room }
-    ensures track { (entries : List Entry) → restrictions.old.track ≡ in_force entries
+    ensures track { (entries : List RestrictionEntry) → restrictions.old.track ≡ in_force entries
         → restrictions.new.track ≡ in_force (after_restriction (fact_of used.now packet.now) entries) }
     ensures room { restrictions.old.room ≤ restrictions.new.room + 1 }
 {

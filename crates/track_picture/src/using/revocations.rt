@@ -1,6 +1,6 @@
 //! Revocations of temporary speed restrictions (packet 66).
 ghost use Rattle.std.specs.Prelude.{◌≡◌, List};
-ghost use Rattle.track_store.specs.Restrictions.{Entry, in_force};
+ghost use Rattle.track_store.specs.Restrictions.{RestrictionEntry, in_force};
 ghost use Rattle.track_picture.specs.History.{after_revocation};
 ghost use Rattle.track_picture.specs.Steps.{fact_of};
 
@@ -10,7 +10,7 @@ use track_store::Restrictions;
 
 /// Takes a packet, where it is a revocation.
 pub fn take(restrictions: &mut Restrictions, packet: &Packet<'_>, used: &Use)
-    ensures track { (entries : List Entry) → restrictions.old.track ≡ in_force entries
+    ensures track { (entries : List RestrictionEntry) → restrictions.old.track ≡ in_force entries
         → restrictions.new.track ≡ in_force (after_revocation (fact_of used.now packet.now) entries) }
     ensures room { restrictions.new.room ≡ restrictions.old.room }
 {

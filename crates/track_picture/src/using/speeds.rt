@@ -1,7 +1,7 @@
 //! Static speeds (packet 27).
 ghost use Rattle.std.specs.Prelude.{◌≡◌, ◌≤◌, ◌+◌};
 ghost use Rattle.speed_profile.specs.declared.told.CategorySpeeds.{CategorySpeeds};
-ghost use Rattle.track_store.specs.Facts.{Told, profile_of};
+ghost use Rattle.track_store.specs.Facts.{MarkedFacts, profile_of};
 ghost use Rattle.track_store.specs.Profiles.{profile_with};
 ghost use Rattle.track_picture.specs.History.{after_speeds};
 ghost use Rattle.track_picture.specs.Steps.{fact_of};
@@ -21,7 +21,7 @@ pub fn take<S: ProfileStore<CategorySpeeds>>(
     used: &Use,
 )
     requires { 1 ≤ S.room store.old }
-    ensures profile { (told : Told CategorySpeeds) → told.mark ≡ mark → profile_with S.value store.old ≡ profile_of told
+    ensures profile { (told : MarkedFacts CategorySpeeds) → told.mark ≡ mark → profile_with S.value store.old ≡ profile_of told
         → profile_with S.value store.new ≡ profile_of (record told { facts = after_speeds (fact_of used.now packet.now) told.facts }) }
     ensures room { S.room store.old ≤ S.room store.new + 1 }
 {

@@ -1,6 +1,6 @@
 //! National values (packet 3).
 ghost use Rattle.std.specs.Prelude.{◌≡◌, List};
-ghost use Rattle.national.specs.InForce.{Entry, known};
+ghost use Rattle.national.specs.InForce.{NationalEntry, known};
 ghost use Rattle.national.specs.Values.{ValuesFor};
 ghost use Rattle.track_picture.specs.History.{after_values};
 ghost use Rattle.track_picture.specs.Steps.{fact_of};
@@ -11,7 +11,7 @@ use packets::Packet;
 
 /// Takes a packet, where it has national values.
 pub fn take(national: &mut National, packet: &Packet<'_>, used: &Use)
-    ensures { (kept : ValuesFor) (entries : List Entry) → national.old ≡ known kept entries
+    ensures { (kept : ValuesFor) (entries : List NationalEntry) → national.old ≡ known kept entries
         → national.new ≡ known kept (after_values (fact_of used.now packet.now) entries) }
 {
     if let Packet::NationalValues(packet) = packet {

@@ -1,7 +1,7 @@
 use Rattle.std.proofs.Common.{◌≡◌, ap, sym, refl, ◌∙◌}
 use Rattle.events.specs.declared.input.Input.{Input}
 use Rattle.events.specs.declared.input.Input.TheVariants.{Telegram, Odometer, Clock, Driver}
-use Rattle.track_picture.specs.StandsFor.{Known}
+use Rattle.track_picture.specs.StandsFor.{KnownTrack}
 use Rattle.kernel.specs.Brake.{stands, backward_by}
 use Rattle.kernel.specs.StandsFor.{reading_of}
 use Rattle.mode_control.specs.Life.{Life, grown}
@@ -19,8 +19,8 @@ returns g c life s =
     let input = c.args.input.now in
     let track = s.track_is.parts_are in
     let reading = c.reading_of-reading.ensures ∙ sym (reading_is life input) in
-    let happened = c.happened-happened.ensures ∙ ap (λ t. t.parts.happened) c.track.ensures ∙ ap (λ (k : Known). k.happened) track in
-    let speed = c.speed.ensures ∙ ap (λ t. t.parts.speed) c.track-2.ensures ∙ ap (λ (k : Known). k.speed) track in
+    let happened = c.happened-happened.ensures ∙ ap (λ t. t.parts.happened) c.track.ensures ∙ ap (λ (k : KnownTrack). k.happened) track in
+    let speed = c.speed.ensures ∙ ap (λ t. t.parts.speed) c.track-2.ensures ∙ ap (λ (k : KnownTrack). k.speed) track in
     let limit = c.limit.ensures (grown life (entry_of life input)) s in
     let stood = c.stands.ensures ∙ ap stands reading in
     let rolled = c.backward_by.ensures ∙ (λ i. backward_by (happened i).overrun (reading i)) in

@@ -1,6 +1,6 @@
 use Rattle.std.proofs.Common.{ap, ◌∙◌}
 use Rattle.authority.specs.Entries.{Sight, now_of, sights, accepted}
-use Rattle.authority.specs.Known.{Known}
+use Rattle.authority.specs.Known.{KnownAuthority}
 use Rattle.authority.proofs.Passing.{passed_is, none_passed}
 use Rattle.authority.proofs.authority.Authority.pass.Goals as goal
 use Rattle.authority.proofs.authority.Authority.pass.Goals.{in-Some, in_default}
@@ -8,8 +8,8 @@ use Rattle.authority.proofs.authority.Authority.pass.Goals.{in-Some, in_default}
 pub returns : goal.returns
 returns c entries is =
     let whole = c.self.view_is ∙ is in
-    let moment = ap (λ (k : Known). k.moment) whole in
-    let stored = ap (λ (k : Known). k.stored) whole in
+    let moment = ap (λ (k : KnownAuthority). k.moment) whole in
+    let stored = ap (λ (k : KnownAuthority). k.stored) whole in
     let sight : Sight = record { moment = now_of entries; train = c.args.train.now } in
     elim c.match-self.branch [
       | in-Some w ↦

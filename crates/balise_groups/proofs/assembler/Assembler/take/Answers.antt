@@ -1,5 +1,5 @@
 use Rattle.std.proofs.Common.{◌≡◌, true, false, sym, ap, ◌∙◌, arith}
-use Rattle.balise_groups.specs.Groups.{Known, groups_of, newest, goes_on, ended}
+use Rattle.balise_groups.specs.Groups.{KnownGroups, groups_of, newest, goes_on, ended}
 use Rattle.balise_groups.specs.Rooms.{packets_in, packets_of_closed}
 use Rattle.balise_groups.proofs.Rooms.{closing_room, joined_room}
 use Rattle.balise_groups.proofs.Standing.{not_ignored}
@@ -11,15 +11,15 @@ returns-clause-stands c entries is =
     let groups = groups_of entries in
     let inside = c.self.view_is ∙ is in
     let other : goes_on c.args.reading (newest groups.last) ≡ false =
-    ap (λ (k : Known). goes_on c.args.reading k.last) (sym inside) ∙ sym c.goes_on.ensures ∙ c.if-goes_on.false in
+    ap (λ (k : KnownGroups). goes_on c.args.reading k.last) (sym inside) ∙ sym c.goes_on.ensures ∙ c.if-goes_on.false in
     elim c.if-goes_on-2.branch [
       | then-goes_on-2 w ↦
           let current : goes_on c.args.reading (newest groups.current) ≡ true =
-          ap (λ (k : Known). goes_on c.args.reading k.current) (sym inside) ∙ sym c.goes_on-2.ensures ∙ w.if-goes_on-2.true in
+          ap (λ (k : KnownGroups). goes_on c.args.reading k.current) (sym inside) ∙ sym c.goes_on-2.ensures ∙ w.if-goes_on-2.true in
           not_ignored c.args.reading groups _ true other current (c.join.ensures.stands groups (w.self-is ∙ is))
       | else-goes_on-2 w ↦
           let current : goes_on c.args.reading (newest groups.current) ≡ false =
-          ap (λ (k : Known). goes_on c.args.reading k.current) (sym inside) ∙ sym c.goes_on-2.ensures ∙ w.if-goes_on-2.false in
+          ap (λ (k : KnownGroups). goes_on c.args.reading k.current) (sym inside) ∙ sym c.goes_on-2.ensures ∙ w.if-goes_on-2.false in
           not_ignored c.args.reading groups _ false other current (c.join.ensures.stands (ended groups) (w.self-is ∙ w.end-ended.ensures.stands groups is))
     ]
 
@@ -27,8 +27,8 @@ pub returns-clause-few : goal.returns-clause-few
 returns-clause-few c =
     let whole = joined_room _ c.if-goes_on-2.self.readings c.args.reading c.join.ensures.answer in
     elim c.if-goes_on-2.branch [
-      | then-goes_on-2 w ↦ omega (arith, whole, ap packets_of_closed w.ended-is, ap (λ (k : Known). packets_in k.readings) w.self-is)
+      | then-goes_on-2 w ↦ omega (arith, whole, ap packets_of_closed w.ended-is, ap (λ (k : KnownGroups). packets_in k.readings) w.self-is)
       | else-goes_on-2 w ↦
           let ended = closing_room _ _ w.end-ended.ensures.answer in
-          omega (arith, whole, ended, ap packets_of_closed w.ended-is, ap (λ (k : Known). packets_in k.readings) w.self-is, ap packets_in w.end-ended.ensures.none)
+          omega (arith, whole, ended, ap packets_of_closed w.ended-is, ap (λ (k : KnownGroups). packets_in k.readings) w.self-is, ap packets_in w.end-ended.ensures.none)
     ]

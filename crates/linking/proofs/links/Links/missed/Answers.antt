@@ -2,7 +2,7 @@ use Rattle.std.proofs.Common.{◌≡◌, [], List, ◌||◌, ap, sym, ◌∙◌}
 use Rattle.std.specs.Prelude.{filter}
 use Rattle.std.specs.List.{list_any}
 use Rattle.linking.specs.declared.announcement.Announcement.{Announcement}
-use Rattle.linking.specs.Linking.{Known, known, misses, after_misses, is_passed_by}
+use Rattle.linking.specs.Linking.{KnownLinks, known, misses, after_misses, is_passed_by}
 use Rattle.linking.proofs.Leaving.{IsRising-filter, some_misses}
 use Rattle.linking.proofs.Missing.{none_of, none_missed}
 use Rattle.linking.proofs.links.Links.missed.Goals as goal
@@ -20,7 +20,7 @@ returns-clause-stands c entries is =
 none : (c : goal.Then-not-is_any_behind) → filter (is_passed_by c.args.min_front) c.args.self.now.left ≡ []
 none c =
     none_of (is_passed_by c.args.min_front) c.args.self.now.left
-    (sym (ap (λ (k : Known). list_any (is_passed_by c.args.min_front) k.left) c.self.view_is)
+    (sym (ap (λ (k : KnownLinks). list_any (is_passed_by c.args.min_front) k.left) c.self.view_is)
     ∙ sym (ap (list_any (is_passed_by c.args.min_front)) c.as_slice.ensures.value)
     ∙ sym c.is_any_behind.ensures
     ∙ c.if-not-is_any_behind.true)

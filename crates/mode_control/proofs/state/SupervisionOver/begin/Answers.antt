@@ -5,14 +5,14 @@ use Rattle.mode_control.specs.declared.deed.Deed.{Deed}
 use Rattle.mode_control.specs.Entry.{begun}
 use Rattle.mode_control.specs.History.{tracks}
 use Rattle.mode_control.specs.Life.{track_of, grown}
-use Rattle.mode_control.specs.StandsFor.{Known, StandsForLife}
+use Rattle.mode_control.specs.StandsFor.{KnownModes, StandsForLife}
 use Rattle.mode_control.proofs.Standing.{seen}
 use Rattle.mode_control.proofs.state.SupervisionOver.begin.Goals as goal
 
 pub returns-clause-stands : goal.returns-clause-stands
 returns-clause-stands g c life s =
     let before = seen c.self.view_is s in
-    let mode = c.mode-mode.ensures ∙ ap (λ (k : Known). k.mode) s.parts_are in
+    let mode = c.mode-mode.ensures ∙ ap (λ (k : KnownModes). k.mode) s.parts_are in
     let deed = c.deed-deed.ensures life s in
     let input = c.args.input.now in
     subst (λ (x : Mode × Option Deed). StandsForLife g.G.ProfileStore.profile g.S.ProfileStore.profile

@@ -4,7 +4,7 @@ use Rattle.track_picture.specs.Sentences.{powered_up}
 use Rattle.track_picture.specs.StandsFor.{Life as TrackLife, StandsForLife as StandsForTrack, grown as track_grown}
 use Rattle.mode_control.specs.Entry.{begun}
 use Rattle.mode_control.specs.Life.{Life, length_by, grown}
-use Rattle.mode_control.specs.StandsFor.{Known, Knowledge, StandsForLife}
+use Rattle.mode_control.specs.StandsFor.{KnownModes, Knowledge, StandsForLife}
 use Rattle.mode_control.proofs.state.SupervisionOver.power_up.Goals as goal
 
 pub returns-clause-stands : goal.returns-clause-stands
@@ -13,7 +13,7 @@ returns-clause-stands g c =
     let kept = c.args.kept in
     let empty : Life = record { kept = kept; cold = c.args.cold; entries = [] } in
     let track : TrackLife = record { kept = kept.national; entries = [] } in
-    let length = c.length.ensures ∙ ap (λ (k : Known). length_by k.driver.train_data) c.new-parts.ensures in
+    let length = c.length.ensures ∙ ap (λ (k : KnownModes). length_by k.driver.train_data) c.new-parts.ensures in
     let bare : StandsForTrack g.G.ProfileStore.profile g.S.ProfileStore.profile c.new-track.result (track_grown track blank) =
     record { parts_are = s.parts_are; restrictions_are = s.restrictions_are; gradients_are = s.gradients_are; speeds_are = s.speeds_are } in
     let known : Knowledge g.row.G.Denot g.row.S.Denot = record { parts = c.new-parts.result; track = c.forget.new.self } in

@@ -1,24 +1,24 @@
 use Rattle.std.proofs.Common.{Option, Some, [], ◌∷◌, sym, subst}
 use Rattle.mode_table.specs.declared.level.TrainLevel.{TrainLevel}
 use Rattle.units.specs.Stretches.{Span}
-use Rattle.mode_control.specs.Entry.{Entry, begun}
+use Rattle.mode_control.specs.Entry.{SupervisionEntry, begun}
 use Rattle.mode_control.specs.Life.{Life, grown}
 use Rattle.mode_control.specs.Sentences.{told, deed_of, the_train_is_seen, the_mode_changes, the_calls_are_settled, written}
 use Rattle.mode_control.specs.StandsFor.{StandsForLife}
 use Rattle.mode_control.proofs.state.SupervisionOver.receive.Goals as goal
 
 -- an event that has seen the train there, and that level
-abbrev seen_at : Entry → Span × Option TrainLevel → Entry
+abbrev seen_at : SupervisionEntry → Span × Option TrainLevel → SupervisionEntry
 seen_at event x = record event { track = record event.track { train = Some x.0 }; level = x.1 }
 
-abbrev turned_at : Life → Entry → Span × Option TrainLevel → Entry
+abbrev turned_at : Life → SupervisionEntry → Span × Option TrainLevel → SupervisionEntry
 turned_at life event x = written (the_mode_changes ∷ the_calls_are_settled ∷ []) life (seen_at event x)
 
 pub returns-clause-stands : goal.returns-clause-stands
 returns-clause-stands g c life s =
     let t = told life c.args.input.now in
     let deed = deed_of life c.args.input.now in
-    let event : Entry = begun t deed in
+    let event : SupervisionEntry = begun t deed in
     let began = c.in_ok-begin.ensures.stands life s in
     let train = c.see-seen.ensures.train life event began in
     let level = c.see-seen.ensures.level life t deed began in

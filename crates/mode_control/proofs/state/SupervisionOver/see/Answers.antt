@@ -1,20 +1,20 @@
 use Rattle.std.proofs.Common.{ℕ, ◌∷◌, List, Option, None, Some, ap, subst, ◌∙◌}
 use Rattle.mode_table.specs.declared.level.TrainLevel.{TrainLevel}
 use Rattle.areas.specs.Levels.{coming}
-use Rattle.track_picture.specs.Entry.{Entry as TrackEntry}
+use Rattle.track_picture.specs.Entry.{TrackEntry}
 use Rattle.track_picture.specs.History.{announced_level}
 use Rattle.track_picture.specs.Sentences.{standing}
 use Rattle.mode_control.specs.Entry.{begun}
 use Rattle.mode_control.specs.History.{tracks}
 use Rattle.mode_control.specs.Life.{track_of, length_by, grown}
-use Rattle.mode_control.specs.StandsFor.{Known, StandsForLife}
+use Rattle.mode_control.specs.StandsFor.{KnownModes, StandsForLife}
 use Rattle.mode_control.proofs.Standing.{seen}
 use Rattle.mode_control.proofs.state.SupervisionOver.see.Goals as goal
 
 pub returns-clause-level : goal.returns-clause-level
 returns-clause-level g c life told deed s =
     let before = seen c.self.view_is s in
-    let length = c.length-length.ensures ∙ ap (λ (k : Known). length_by k.driver.train_data) before.parts_are in
+    let length = c.length-length.ensures ∙ ap (λ (k : KnownModes). length_by k.driver.train_data) before.parts_are in
     let all : List TrackEntry = record told { train = None; entered = None } ∷ tracks life.entries in
     c.look-level.ensures.level (track_of life) told before.track_is
     ∙ ap (λ (n : ℕ). coming (standing n all).max_front (announced_level all)) length
@@ -22,7 +22,7 @@ returns-clause-level g c life told deed s =
 pub returns-clause-stands : goal.returns-clause-stands
 returns-clause-stands g c life told deed s =
     let before = seen c.self.view_is s in
-    let length = c.length-length.ensures ∙ ap (λ (k : Known). length_by k.driver.train_data) before.parts_are in
+    let length = c.length-length.ensures ∙ ap (λ (k : KnownModes). length_by k.driver.train_data) before.parts_are in
     let all : List TrackEntry = record told { train = None; entered = None } ∷ tracks life.entries in
     let level = c.look-level.ensures.level (track_of life) told before.track_is
     ∙ ap (λ (n : ℕ). coming (standing n all).max_front (announced_level all)) length in

@@ -1,10 +1,10 @@
 use Rattle.std.proofs.Common.{◌∷◌, Option, None, Some, ap, subst, ◌∙◌}
 use Rattle.mode_table.specs.declared.mode.Mode.{Mode}
-use Rattle.track_picture.specs.Entry.{Entry as TrackEntry}
-use Rattle.track_picture.specs.StandsFor.{Known as TrackKnown, grown as track_grown}
+use Rattle.track_picture.specs.Entry.{TrackEntry}
+use Rattle.track_picture.specs.StandsFor.{KnownTrack, grown as track_grown}
 use Rattle.mode_control.specs.declared.calls.Calls.{Calls}
 use Rattle.mode_control.specs.declared.calls.Left.{Left}
-use Rattle.mode_control.specs.Entry.{Entry, begun}
+use Rattle.mode_control.specs.Entry.{SupervisionEntry, begun}
 use Rattle.mode_control.specs.History.{tracks}
 use Rattle.mode_control.specs.Life.{Life, track_of, grown}
 use Rattle.mode_control.specs.Sentences.{calls_in, left_in}
@@ -18,7 +18,7 @@ returns-clause-stands g c life told deed s =
     let train = c.args.seen.now.train in
     let level = c.args.seen.now.level in
     let looked : TrackEntry = record told { train = Some train } in
-    let event : Entry = record (begun (record looked { entered = None }) deed) { level = level } in
+    let event : SupervisionEntry = record (begun (record looked { entered = None }) deed) { level = level } in
     let here : Life = grown life event in
     let mode = c.entered-entered.result in
     let after : TrackEntry = record looked { entered = mode } in
@@ -26,7 +26,7 @@ returns-clause-stands g c life told deed s =
     let calls = c.calls-calls.ensures here s in
     let track = c.enter.ensures.stands (track_of life) looked before.track_is in
     let left = c.left_by-left.ensures (track_grown (track_of life) after) track.parts_are in
-    let path = c.path-path.ensures ∙ ap (λ x. x.path) (c.sums.ensures ∙ ap (λ p. p.sums) (c.place.ensures ∙ ap (λ (k : TrackKnown). k.place) track.parts_are)) in
+    let path = c.path-path.ensures ∙ ap (λ x. x.path) (c.sums.ensures ∙ ap (λ p. p.sums) (c.place.ensures ∙ ap (λ (k : KnownTrack). k.place) track.parts_are)) in
     let known : Knowledge g.row.G.Denot g.row.S.Denot = record { parts = c.turn.new.self; track = c.enter.new.track } in
     let given = subst (λ (x : Calls × Left). StandsForLife g.G.ProfileStore.profile g.S.ProfileStore.profile known
     (grown life (record event { track = after; calls = x.0; left = x.1 })))

@@ -1,11 +1,11 @@
 use Rattle.std.proofs.Common.{List, [], ◌∷◌, Option, None, subst, ap, ◌∙◌}
 use Rattle.odometry.specs.declared.fix.Fix.{Fix}
-use Rattle.track_picture.specs.Entry.{Entry, Fact, blank, added}
+use Rattle.track_picture.specs.Entry.{TrackEntry, Fact, blank, added}
 use Rattle.track_picture.specs.Entry.Outcome.{Accepted}
 use Rattle.track_picture.specs.History.{place_of}
 use Rattle.track_picture.specs.Sentences.{own_place, fix_of, place_by}
 use Rattle.track_picture.specs.Steps.{facts}
-use Rattle.track_picture.specs.StandsFor.{Known, StandsForLife, grown, grown_so_far}
+use Rattle.track_picture.specs.StandsFor.{KnownTrack, StandsForLife, grown, grown_so_far}
 use Rattle.track_picture.proofs.Idling.{same_seen}
 use Rattle.track_picture.proofs.Standing.{seen}
 use Rattle.track_picture.proofs.state.TracksideOver.accept.Goals as goal
@@ -19,14 +19,14 @@ pub returns-clause-stands : goal.returns-clause-stands
 returns-clause-stands g c life begun used s =
     let m = c.args.message.now in
     let a = c.args.announced.now in
-    let entry : Entry = record blank { begun = begun; used = added (Accepted m a None []) used } in
+    let entry : TrackEntry = record blank { begun = begun; used = added (Accepted m a None []) used } in
     let here = place_of (entry ∷ life.entries) in
     let inside = seen c.self.view_is s in
     let free = c.is_free-free.ensures (grown life entry) s in
     let fix = ap (λ b. fix_of here b m a) free in
     let place = c.fix-place.ensures.answer life begun used inside.parts_are ∙ ap (λ b. place_by (own_place here m) (fix_of here b m a)) free in
     let fixed = c.fix-place.ensures.stands life begun used inside.parts_are in
-    let moment = ap (λ (k : Known). k.moment) (ap (λ w. w.parts) c.self-inside.view_is ∙ fixed) in
+    let moment = ap (λ (k : KnownTrack). k.moment) (ap (λ w. w.parts) c.self-inside.view_is ∙ fixed) in
     let direction = c.direction_by.ensures in
     subst (λ (o : Option Fix × List Fact). StandsForLife g.G.ProfileStore.profile g.S.ProfileStore.profile c.take_packets.new.self (grown_so_far life begun (added (Accepted m a o.0 o.1) used)))
     (λ i. (fix i, facts (record { mode = c.args.mode; group = m.group; place = place i; moment = moment i; direction = direction i }) m.packets))

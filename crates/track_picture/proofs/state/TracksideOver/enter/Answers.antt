@@ -1,12 +1,12 @@
 use Rattle.std.proofs.Common.{◌∷◌, None}
-use Rattle.track_picture.specs.Entry.{Entry}
+use Rattle.track_picture.specs.Entry.{TrackEntry}
 use Rattle.track_picture.specs.History.{mark_of, gradients, speeds}
 use Rattle.track_picture.proofs.Standing.{seen}
 use Rattle.track_picture.proofs.state.TracksideOver.enter.Goals as goal
 
 pub returns-clause-stands : goal.returns-clause-stands
 returns-clause-stands g c life event s =
-    let entry : Entry = record event { entered = None } in
+    let entry : TrackEntry = record event { entered = None } in
     let all = entry ∷ life.entries in
     let before = seen c.self.view_is s in
     record {

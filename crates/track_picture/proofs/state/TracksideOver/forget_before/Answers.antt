@@ -1,14 +1,14 @@
 use Rattle.std.proofs.Common.{◌∷◌, None, sym, ◌∙◌}
 use Rattle.track_store.specs.Profiles.{profile_with}
 use Rattle.track_store.proofs.Telling.{marked_at}
-use Rattle.track_picture.specs.Entry.{Entry}
+use Rattle.track_picture.specs.Entry.{TrackEntry}
 use Rattle.track_picture.specs.History.{mark_of, restrictions, gradients, speeds}
 use Rattle.track_picture.proofs.Standing.{seen}
 use Rattle.track_picture.proofs.state.TracksideOver.forget_before.Goals as goal
 
 pub returns-clause-stands : goal.returns-clause-stands
 returns-clause-stands g c life event s =
-    let entry : Entry = record event { mark = None } in
+    let entry : TrackEntry = record event { mark = None } in
     let all = entry ∷ life.entries in
     let before = seen c.self.view_is s in
     let gradients_before = sym (g.met.G.ProfileStore.profile_is c.self.inside.gradients) ∙ before.gradients_are in

@@ -2,7 +2,7 @@ use Rattle.std.proofs.Common.{◌≡◌, ◌+◌, ◌≤◌, Option, length, ref
 use Rattle.std.specs.Option.{option_map, option_map_or}
 use Rattle.std.proofs.lemmas.Result.{on_ok_weaker}
 use Rattle.telegram.specs.declared.message.Telegram.{Telegram}
-use Rattle.balise_groups.specs.Groups.Entry.{Read}
+use Rattle.balise_groups.specs.Groups.GroupEntry.{Read}
 use Rattle.balise_groups.specs.Rooms.{packets_in}
 use Rattle.track_picture.specs.Entry.{Begun, nothing_happened, nothing}
 use Rattle.track_picture.specs.History.{place_of}

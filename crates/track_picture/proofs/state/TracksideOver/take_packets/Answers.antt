@@ -5,19 +5,19 @@ use Rattle.balise_groups.specs.declared.message.Message.{Message}
 use Rattle.odometry.specs.declared.fix.Fix.{Fix}
 use Rattle.speed_profile.specs.declared.told.CategorySpeeds.{CategorySpeeds}
 use Rattle.track_store.specs.Profiles.{Profile}
-use Rattle.track_picture.specs.Entry.{Entry, Begun, Used, Fact, blank, added}
+use Rattle.track_picture.specs.Entry.{TrackEntry, Begun, Used, Fact, blank, added}
 use Rattle.track_picture.specs.Entry.Outcome.{Accepted}
 use Rattle.track_picture.specs.History.{after_facts, links, national_entries, authorities, is_stopped, all_areas, announced_levels, restrictions, mark_of, gradients, speeds}
 use Rattle.track_picture.specs.Steps.{facts}
 use Rattle.track_picture.specs.StandsFor.{Life, Knowledge, StandsForLife, parts_of, grown, grown_so_far, room_in}
-use Rattle.track_picture.specs.Told.{Told, IsTold, comes_later, after_earlier, after_later}
+use Rattle.track_picture.specs.Told.{TrackTold, IsTold, comes_later, after_earlier, after_later}
 use Rattle.track_picture.proofs.Marking.{one_mark}
 use Rattle.track_picture.proofs.Telling.{each_later, all_earlier, all_later}
 use Rattle.track_picture.proofs.Walking.{none_later}
 use Rattle.track_picture.proofs.state.TracksideOver.take_packets.Goals as goal
 
 -- what was told before the packets
-abbrev before : Life → Entry → Told
+abbrev before : Life → TrackEntry → TrackTold
 before life entry =
     let all = entry ∷ life.entries in
     record {
@@ -36,7 +36,7 @@ before life entry =
     }
 
 module _ {G S : Type 0} (gradients_in : G → Profile ℤ) (speeds_in : S → Profile CategorySpeeds) (known : Knowledge G S) (life : Life) where
-  stood : (entry : Entry) → StandsForLife gradients_in speeds_in known (grown life entry) → IsTold gradients_in speeds_in known (before life entry)
+  stood : (entry : TrackEntry) → StandsForLife gradients_in speeds_in known (grown life entry) → IsTold gradients_in speeds_in known (before life entry)
   stood entry s = record {
     parts_are = s.parts_are;
     restrictions_are = s.restrictions_are;
@@ -58,7 +58,7 @@ module _ {G S : Type 0} (gradients_in : G → Profile ℤ) (speeds_in : S → Pr
 pub returns-then-take_all-clause-stands : goal.returns-then-take_all-clause-stands
 returns-then-take_all-clause-stands g c life begun groups message announced fix s =
     let told = facts c.args.used.now c.args.packets.now in
-    let entry : Entry = record blank { begun = begun; used = added (Accepted message announced fix []) groups } in
+    let entry : TrackEntry = record blank { begun = begun; used = added (Accepted message announced fix []) groups } in
     let first = c.take_all.ensures.told (before life entry) (stood _ _ _ life entry s) in
     stands _ _ _ life told begun groups message announced fix (c.take_all-then-take_all.ensures.told _ first)
 
@@ -66,7 +66,7 @@ returns-then-take_all-clause-stands g c life begun groups message announced fix 
 pub returns-else-take_all-clause-stands : goal.returns-else-take_all-clause-stands
 returns-else-take_all-clause-stands g c life begun groups message announced fix s =
     let told = facts c.args.used.now c.args.packets.now in
-    let entry : Entry = record blank { begun = begun; used = added (Accepted message announced fix []) groups } in
+    let entry : TrackEntry = record blank { begun = begun; used = added (Accepted message announced fix []) groups } in
     let first = c.take_all.ensures.told (before life entry) (stood _ _ _ life entry s) in
     let none : list_any comes_later c.args.packets.now ≡ false = sym c.take_all.ensures.later ∙ c.if-take_all.false in
     stands _ _ _ life told begun groups message announced fix

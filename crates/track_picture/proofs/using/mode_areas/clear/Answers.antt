@@ -1,7 +1,7 @@
 use Rattle.std.proofs.Common.{◌∷◌, ap, sym, ◌∙◌}
 use Rattle.packets.specs.declared.packet.Packet.{Packet}
 use Rattle.areas.specs.Areas.{stored}
-use Rattle.areas.specs.Entries.Entry.{Cleared}
+use Rattle.areas.specs.Entries.AreaEntry.{Cleared}
 use Rattle.packets.specs.Packets.{as_movement_authority}
 use Rattle.std.specs.Option.{option_map_or}
 use Rattle.track_picture.proofs.using.mode_areas.clear.Goals as goal

@@ -4,7 +4,7 @@ use Rattle.packets.specs.declared.packet.Packet.{Packet}
 use Rattle.packets.specs.Packets.{as_mode_profile}
 use Rattle.areas.specs.Areas.{stored}
 use Rattle.areas.specs.Entries.{fact_of}
-use Rattle.areas.specs.Entries.Entry.{Told}
+use Rattle.areas.specs.Entries.AreaEntry.{Told}
 use Rattle.track_picture.proofs.using.mode_areas.take.Goals as goal
 
 pub returns-in-ModeProfile : goal.returns-in-ModeProfile

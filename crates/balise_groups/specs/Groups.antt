@@ -1,5 +1,7 @@
 -- The groups of a life, read off its readings of balises and its movements (SUBSET-026, 3.4; the 1,300 cm, and that a
--- telegram of the group that closed last is ignored, are this project's profile). Paths are centimetres.
+-- telegram of the group that closed last is ignored, are this project's profile). Paths are centimetres. Lists of
+-- entries and of a group's readings have the newest first; the readings that count stand in the order in which they
+-- came. A reader may take for granted that each telegram was accepted by the decoder.
 use Rattle.std.specs.Prelude.{ℕ, ◌+◌, List, [], ◌∷◌, ◌++◌, Bool, false, ◌&&◌, not, ◌==◌, nat_le, if◌then◌else◌, Option, Some, None}
 use Rattle.vars.specs.declared.group.GroupIdentity.{GroupIdentity}
 use Rattle.balise_groups.specs.declared.reading.Reading.{Reading}

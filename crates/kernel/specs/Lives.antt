@@ -1,5 +1,6 @@
--- A list of events, the newest first, is cut into lives at each power-up. What a life says is read off what was kept of
--- the lives before it and off its own entries, and off nothing else (this project's profile).
+-- A list of events, the newest first, is cut into lives at each power-up. What a life says is read off what was kept
+-- of the lives before it and off its own entries, and off nothing else (this project's profile). Counts are numbers of
+-- events. A reader may take for granted that equipment which never had power keeps nothing.
 use Rattle.std.specs.Prelude.{ℕ, ◌+◌, ◌-◌, ◌^◌, min, List, [], ◌∷◌}
 use Rattle.driver.specs.Data.{value_of, met_by}
 use Rattle.events.specs.declared.input.Event as events

@@ -1,4 +1,6 @@
--- What is answered after each event (this project's profile). Places are centimetres, speeds metres per hour.
+-- What is answered after each event (this project's profile). Places are centimetres, speeds metres per hour; lists of
+-- events and of entries have the newest first. A reader may take for granted that only the last life counts, and in it
+-- what was kept of those before (`life_of`, in Lives).
 use Rattle.std.specs.Prelude.{ℕ, ℤ, nat_lt, Option, Some, None, List}
 use Rattle.areas.specs.Acknowledging.{waits}
 use Rattle.driver.specs.declared.datum.Datum.{Datum}

@@ -1,6 +1,7 @@
 -- What lies ahead of a train and asks for a speed, and the greatest speed from which the train can still brake for all
 -- of it (this project's profile). Each centimetre ahead is looked at, up to the last one that there is. Places are
--- centimetres, speeds metres per hour.
+-- centimetres, speeds metres per hour; lists of targets have the nearest first. A reader may take for granted that the
+-- order of targets doesn't matter, and that the speeds are those of this train's category.
 use Rattle.std.specs.Prelude.{ℕ, ◌^◌, ℤ, pos, ◌+ℤ◌, int_lt, Bool, not, ◌&&◌, if◌then◌else◌, Option, None, Some, List, ◌++◌, filter, map}
 use Rattle.units.specs.Stretches.{over}
 use Rattle.track_store.specs.Profiles.{listed}

@@ -1,5 +1,6 @@
 -- The speed that a train may run, by the mode (SUBSET-026, 3.12, 3.13 and 4.4; what counts in which mode: this
--- project's profile). Places are centimetres, speeds metres per hour.
+-- project's profile). Places are centimetres, speeds metres per hour; lists of entries have the newest first. A reader
+-- may take for granted that the life holds the event whose limit is asked for, its mode included.
 use Rattle.std.specs.Prelude.{ℕ, min, max, if◌then◌else◌, Option, Some, None}
 use Rattle.areas.specs.declared.area.NationalSpeeds.{NationalSpeeds}
 use Rattle.authority.specs.Authority.{end_of, main_speed_of}

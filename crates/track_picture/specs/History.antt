@@ -1,5 +1,7 @@
--- What each part sees of the entries of a life, the newest first (this project's profile). What a mode deletes that is
--- entered follows the table of statuses. Distances and places are centimetres, moments milliseconds.
+-- What each part sees of the entries of a life (this project's profile). What a mode deletes that is entered follows
+-- the table of statuses. Distances and places are centimetres, moments milliseconds. Lists of entries and of the
+-- groups that closed have the newest first; the packets of a message stand in its order. A reader may take for granted
+-- that an entry holds all that its event brought.
 use Rattle.std.specs.Prelude.{ℕ, ◌*◌, ◌^◌, ◌==◌, ◌||◌, ℤ, pos, neg_ℤ, ◌+ℤ◌, Bool, true, false, if◌then◌else◌, Option, Some, None, unwrap_or, List, [], ◌∷◌}
 use Rattle.std.specs.Int.{int_max}
 use Rattle.std.specs.Option.{option_map, option_map_or, option_or}

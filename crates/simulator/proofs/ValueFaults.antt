@@ -1,5 +1,5 @@
 -- The fault of a value is never NotJson.
-use Rattle.std.proofs.Common.{ℕ, ◌==◌, ◌&&◌, ◌+◌, ◌-◌, ◌^◌, nat_le, ℤ, pos, int_le, length, codes, slice_get, List, [], ◌∷◌, Bool, true, false, if◌then◌else◌, Option, Some, None, option_and_then, Result, Ok, Err}
+use Rattle.std.proofs.Common.{ℕ, ◌==◌, ◌&&◌, ◌+◌, nat_le, ℤ, pos, int_le, length, codes, slice_get, List, [], ◌∷◌, Bool, true, false, if◌then◌else◌, Option, Some, None, option_and_then, Result, Ok, Err}
 use Rattle.std.specs.Ordering.{int_eq}
 use Rattle.serde_json.specs.Data.{Data}
 use Rattle.serde_json.specs.Find.{get, as_str, as_bool}
@@ -178,7 +178,7 @@ of_telegram : (v : Data) → Fits (telegram v)
 of_telegram v = bind _ _ (of_shaped (as_str v)) (λ text. bind _ _ (of_bytes text) (λ bytes. of_ok _))
 
 of_clock : (v : Data) → Fits (clock v)
-of_clock v = bind _ _ (of_shaped (whole v)) (λ z. bind _ _ (of_within 0 (2 ^ 40 - 1) z) (λ ms. of_ok _))
+of_clock v = bind _ _ (of_shaped (whole v)) (λ z. bind _ _ (of_within 0 _ z) (λ ms. of_ok _))
 
 of_driver : (v : Data) → Fits (driver v)
 of_driver v = bind _ _ (of_shaped (list_in v)) (λ items. bind _ _ (of_action items) (λ a. of_ok _))

@@ -1,6 +1,7 @@
 //! Whole lives.
 ghost use Rattle.std.specs.Prelude.{◌≡◌, ◌≢◌, false, ◌-◌, ◌<◌, [], ◌∷◌, List, Err, IsTrue, IfErr, vec_len, vec_capacity};
 ghost use Rattle.disk.specs.State.{now, contents_of, Counted, IsImage, AtEachMoment};
+ghost use Rattle.events.specs.Limits.{most_pending};
 ghost use Rattle.events.specs.declared.input.Event.{Event};
 ghost use Rattle.events.specs.declared.input.Event.TheVariants.{PowerUp};
 ghost use Rattle.mode_table.specs.declared.statuses.Cold.{Cold};
@@ -34,7 +35,7 @@ pub fn live_into<D: Disk, S: ReleaseSink>(
     ensures counted { Counted (live_failed result.1) (D.state disk) (D.state result.0) }
 
     // NoMemory comes only where the sink has no room for what a flush may release.
-    ensures full { IfErr result.1 (λ e. IsTrue (is_full e) → S.room sink.new < 8) }
+    ensures full { IfErr result.1 (λ e. IsTrue (is_full e) → S.room sink.new < most_pending) }
 
     // Whatever the disk does, an opening that is refused releases nothing, and takes no memory.
     ensures unopened { (e : OpenError) → result.1 ≡ Err (LiveError.Open e) → (sink.new ≡ sink.old) × (wants_memory e ≡ false) }
@@ -79,7 +80,7 @@ pub fn live<D: Disk>(
     ensures counted { Counted (live_failed result.1) (D.state disk) (D.state result.0) }
 
     // NoMemory comes only where the list has no room for what a flush may release.
-    ensures full { IfErr result.1 (λ e. IsTrue (is_full e) → vec_capacity out.new - vec_len out.new < 8) }
+    ensures full { IfErr result.1 (λ e. IsTrue (is_full e) → vec_capacity out.new - vec_len out.new < most_pending) }
 
     // Whatever the disk does, an opening that is refused releases nothing, and takes no memory.
     ensures unopened { (e : OpenError) → result.1 ≡ Err (LiveError.Open e) → (out.new ≡ out.old) × (wants_memory e ≡ false) }

@@ -1,6 +1,7 @@
 //! The steps of a life.
 ghost use Rattle.std.specs.Prelude.{◌≡◌, ◌≢◌, false, ◌-◌, ◌<◌, [], ◌∷◌, List, IsTrue, IfErr, OnOk, OnErr, None, Some, vec_len, vec_capacity};
 ghost use Rattle.disk.specs.State.{contents_of, Counted};
+ghost use Rattle.events.specs.Limits.{most_pending};
 ghost use Rattle.events.specs.declared.input.Event.{Event};
 ghost use Rattle.events.specs.declared.input.Event.TheVariants.{Input as an_input};
 ghost use Rattle.journal.specs.Journals.{IsOpen};
@@ -38,7 +39,7 @@ fn flush_into<D: Disk, S: ReleaseSink>(
         OnOk result (IsLastWritten (D.state unit.new.disk).sectors (earlier_one earlier durable accepted a_step.Flush) accepted (contents_of (D.state unit.new.disk))) }
     ensures released { OnOk result (S.Gave sink.old unit.old.life.pairs sink.new) }
     ensures nothing { OnErr result (S.Gave sink.old [] sink.new) }
-    ensures full { IfErr result (λ e. IsTrue (is_full e) → (S.room sink.new < 8) × (unit.new ≡ unit.old)) }
+    ensures full { IfErr result (λ e. IsTrue (is_full e) → (S.room sink.new < most_pending) × (unit.new ≡ unit.old)) }
     ensures named { IfErr result (λ e. step_of e ≡ Some k) }
     ensures stood { OnOk result (Stands (progress_of unit.old.journal unit.old.life) a_step.Flush
         × (progress_of unit.new.journal unit.new.life ≡ go_on (progress_of unit.old.journal unit.old.life) a_step.Flush)) }
@@ -102,7 +103,7 @@ fn take<D: Disk, S: ReleaseSink>(
         IsLastWritten (D.state unit.old.disk).sectors earlier durable (contents_of (D.state unit.old.disk)) →
         OnOk result (IsLastWritten (D.state unit.new.disk).sectors (earlier_one earlier durable accepted step.now) (flush_one durable accepted step.now) (contents_of (D.state unit.new.disk))) }
     ensures nothing { OnErr result (S.Gave sink.old [] sink.new) }
-    ensures full { IfErr result (λ e. IsTrue (is_full e) → (S.room sink.new < 8) × (unit.new ≡ unit.old)) }
+    ensures full { IfErr result (λ e. IsTrue (is_full e) → (S.room sink.new < most_pending) × (unit.new ≡ unit.old)) }
     ensures named { IfErr result (λ e. step_of e ≡ Some k) }
     ensures stood { OnOk result (Stands (progress_of unit.old.journal unit.old.life) step.now
         × (progress_of unit.new.journal unit.new.life ≡ go_on (progress_of unit.old.journal unit.old.life) step.now)) }
@@ -129,7 +130,7 @@ pub fn run_into<D: Disk, S: ReleaseSink>(
     sink: &mut S,
 ) -> Result<(), LiveError>
     ensures counted { Counted (live_failed result) (D.state unit.old.disk) (D.state unit.new.disk) }
-    ensures full { IfErr result (λ e. IsTrue (is_full e) → S.room sink.new < 8) }
+    ensures full { IfErr result (λ e. IsTrue (is_full e) → S.room sink.new < most_pending) }
     ensures stopped { StepsEnd (progress_of unit.old.journal unit.old.life) steps.now result }
     ensures named { IfErr result (λ e. step_of e ≢ None) }
     ensures ran { (initial : List Event) → IsTrue (D.state unit.old.disk).honest →
@@ -160,7 +161,7 @@ pub fn run<D: Disk>(
     out: &mut Vec<Released>,
 ) -> Result<(), LiveError>
     ensures counted { Counted (live_failed result) (D.state unit.old.disk) (D.state unit.new.disk) }
-    ensures full { IfErr result (λ e. IsTrue (is_full e) → vec_capacity out.new - vec_len out.new < 8) }
+    ensures full { IfErr result (λ e. IsTrue (is_full e) → vec_capacity out.new - vec_len out.new < most_pending) }
     ensures stopped { StepsEnd (progress_of unit.old.journal unit.old.life) steps.now result }
     ensures ran { (initial : List Event) → IsTrue (D.state unit.old.disk).honest →
         IsOpen unit.old.journal (account_of initial) (D.state unit.old.disk) → IsAhead initial initial unit.old.life →

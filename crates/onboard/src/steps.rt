@@ -14,7 +14,6 @@ ghost use Rattle.onboard.specs.declared.released.Released.{Released};
 ghost use Rattle.events.specs.declared.step.Step.TheVariants as a_step;
 
 use crate::errors::LiveError;
-use crate::inputs::copy_of;
 use crate::onboard::Onboard;
 use crate::released::Released;
 use crate::sink::ReleaseSink;
@@ -80,7 +79,7 @@ fn accept_one<D: Disk>(
         × (progress_of unit.new.journal unit.new.life ≡ go_on (progress_of unit.old.journal unit.old.life) (a_step.Accept input.now))) }
     ensures stopped { IfErr result (StopsAt (progress_of unit.old.journal unit.old.life) k (a_step.Accept input.now)) }
 {
-    match unit.accept(alloc, copy_of(input)) {
+    match unit.accept(alloc, input.copy()) {
         Ok(()) => Ok(()),
         Err(error) => Err(LiveError::Accept(k, error)),
     }

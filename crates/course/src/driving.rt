@@ -137,7 +137,8 @@ impl Course {
 
     // Forward over balises that lie ahead.
     fn drive_over_all(&mut self, balises: &[Balise], speed: Mph) -> Result<(), NoMemory>
-        requires ahead { All (λ b. (self.old.front <ℤ pos b.at) × (pos b.at ≤ℤ (self.old.front +ℤ pos 1_000_000))) balises.now }
+        requires ahead { All (λ b. (self.old.front <ℤ pos b.at) × (pos b.at ≤ℤ (self.old.front +ℤ pos 1_000_000)))
+            balises.now }
         requires low { neg_ℤ (pos (2 ^ 99)) ≤ℤ self.old.front }
         requires high { self.old.front ≤ℤ pos (2 ^ 99) }
         ensures ok { OnOk result (run_of self.new ≡ driven_over_all speed balises.now (run_of self.old)) }
@@ -154,7 +155,8 @@ impl Course {
     fn drive(&mut self, track: &Track, distance: Distance, speed: Mph) -> Result<(), NoMemory>
         requires low { neg_ℤ (pos (2 ^ 99)) ≤ℤ self.old.front }
         requires high { self.old.front ≤ℤ pos (2 ^ 99) }
-        ensures ok { OnOk result (run_of self.new ≡ driven (passed track.now.balises.items) distance speed (run_of self.old)) }
+        ensures ok { OnOk result (run_of self.new
+            ≡ driven (passed track.now.balises.items) distance speed (run_of self.old)) }
     {
         let cm = distance.get();
         let place = self.front + i128::from(cm);

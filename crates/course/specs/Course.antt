@@ -1,6 +1,7 @@
 -- The course of a simulated life: its steps, by what was asked so far (this project's profile). Places and distances
 -- are centimetres, speeds metres per hour.
 use Rattle.std.specs.Prelude.{ℕ, zero, suc, ◌+◌, ◌/◌, ◌%◌, ◌==◌, ℤ, pos, ◌+ℤ◌, ◌-ℤ◌, int_lt, if◌then◌else◌, List, [], ◌∷◌, ◌++◌}
+use Rattle.events.specs.Limits.{most_pending}
 use Rattle.events.specs.declared.input.Input.{Input}
 use Rattle.events.specs.declared.input.Input.TheVariants.{Telegram, Odometer}
 use Rattle.events.specs.declared.step.Step.{Step}
@@ -28,9 +29,9 @@ start = record { front = pos 0; pending = 0; steps = [] }
 abbrev pub flushed : Run → Run
 flushed r = record { front = r.front; pending = 0; steps = r.steps ++ Flush ∷ [] }
 
--- room for one more event: at most 8 are pending
+-- room for one more event
 abbrev pub roomy : Run → Run
-roomy r = if r.pending == 8 then flushed r else r
+roomy r = if r.pending == most_pending then flushed r else r
 
 abbrev pub added : Input → Run → Run
 added i r = record { front = r.front; pending = r.pending + 1; steps = r.steps ++ Accept i ∷ [] }

@@ -19,9 +19,6 @@ impl Balise {
     pub(crate) fn input(&self) -> Input
         ensures { result ≡ Telegram self.now.bytes }
     {
-        match TelegramBytes::new(self.bytes.as_slice()) {
-            Some(copy) => Input::Telegram(copy),
-            None => unreachable!(),
-        }
+        Input::Telegram(self.bytes.copy())
     }
 }

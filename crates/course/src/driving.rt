@@ -1,6 +1,7 @@
 //! How a course grows, step by step.
 ghost use Rattle.std.specs.Prelude.{◌≡◌, ◌+◌, ◌≤◌, ◌^◌, ℤ, pos, neg_ℤ, ◌≤ℤ◌, ◌<ℤ◌, ◌+ℤ◌, ◌-ℤ◌, OnOk, IfOk, All};
 ghost use Rattle.units.specs.Limits.{IsMovement};
+ghost use Rattle.events.specs.Limits.{most_pending};
 ghost use Rattle.course.specs.Numbers.{natural};
 ghost use Rattle.course.specs.Passing.{passed};
 
@@ -8,12 +9,9 @@ use crate::asked::Asked;
 use crate::balise::Balise;
 use crate::distance::Distance;
 use crate::track::Track;
-use events::{Input, Reading, Step};
+use events::{Input, MOST_PENDING, Reading, Step};
 use std::alloc::Global;
 use units::{Movement, Mph, NoMemory};
-
-/// How many events may be pending.
-const MOST_PENDING: u32 = 8;
 
 /// How far a reading moves at most, in centimetres.
 const LONGEST_READING: u64 = 10_000;
@@ -45,11 +43,11 @@ fn way(from: i128, to: i128) -> u64
 pub struct Course {
     /// Where the front is, in centimetres ahead of where it started.
     pub front: i128,
-    /// How many events are pending, at most 8.
-    pub pending: u32,
+    /// How many events are pending.
+    pub pending: usize,
     /// The steps so far.
     pub steps: Vec<Step>,
-    ghost few: { pending ≤ 8 },
+    ghost few: { pending ≤ most_pending },
 }
 
 impl Course {
@@ -139,7 +137,8 @@ impl Course {
 
     // Forward over balises that lie ahead.
     fn drive_over_all(&mut self, balises: &[Balise], speed: Mph) -> Result<(), NoMemory>
-        requires ahead { All (λ b. (self.old.front <ℤ pos b.at) × (pos b.at ≤ℤ (self.old.front +ℤ pos 1_000_000))) balises.now }
+        requires ahead { All (λ b. (self.old.front <ℤ pos b.at) × (pos b.at ≤ℤ (self.old.front +ℤ pos 1_000_000)))
+            balises.now }
         requires low { neg_ℤ (pos (2 ^ 99)) ≤ℤ self.old.front }
         requires high { self.old.front ≤ℤ pos (2 ^ 99) }
         ensures ok { OnOk result (run_of self.new ≡ driven_over_all speed balises.now (run_of self.old)) }
@@ -156,7 +155,8 @@ impl Course {
     fn drive(&mut self, track: &Track, distance: Distance, speed: Mph) -> Result<(), NoMemory>
         requires low { neg_ℤ (pos (2 ^ 99)) ≤ℤ self.old.front }
         requires high { self.old.front ≤ℤ pos (2 ^ 99) }
-        ensures ok { OnOk result (run_of self.new ≡ driven (passed track.now.balises.items) distance speed (run_of self.old)) }
+        ensures ok { OnOk result (run_of self.new
+            ≡ driven (passed track.now.balises.items) distance speed (run_of self.old)) }
     {
         let cm = distance.get();
         let place = self.front + i128::from(cm);

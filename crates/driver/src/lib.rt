@@ -3,6 +3,7 @@
 #![tactic(auto)]
 
 mod action;
+mod action_kind;
 mod action_situation;
 mod datum;
 mod driver;
@@ -15,6 +16,7 @@ mod running_number;
 mod train_data;
 
 pub use action::{Acknowledged, Action, Confirmed};
+pub use action_kind::ActionKind;
 pub use action_situation::ActionSituation;
 pub use datum::Datum;
 pub use driver::Driver;

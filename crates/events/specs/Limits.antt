@@ -15,3 +15,7 @@ IsEstimate z = unsigned_abs z ≤ farthest
 -- how far one place of a life lies from another
 abbrev pub IsOffset : ℤ → Type 0
 IsOffset z = unsigned_abs z ≤ 2 * farthest
+
+-- how many events are pending at most
+abbrev pub most_pending : ℕ
+most_pending = 8

@@ -3,6 +3,7 @@ ghost use Rattle.std.specs.Prelude.{◌≡◌, ◌↔◌, IsSome, IfSome};
 ghost use Rattle.events.specs.Limits.{IsEstimate};
 
 use std::marker::Model;
+use units::FARTHEST;
 
 /// The estimated place of the train's front, in centimetres from where its life began: from -2^40 to 2^40 (this
 /// project's profile).
@@ -23,9 +24,6 @@ impl Model for Estimate {
 
     ghost inverse = { λ z. record { cm = z } };
 }
-
-/// The farthest place, in centimetres.
-const FARTHEST: u64 = 1 << 40;
 
 impl Estimate {
     /// So many centimetres; None exactly outside the limits.

@@ -1,4 +1,6 @@
 //! Inputs from balises, odometer, clock and driver, and events: inputs and power-ups (this project's profile).
+ghost use Rattle.std.specs.Prelude.{◌≡◌};
+
 use crate::TelegramBytes;
 use driver::Action;
 use mode_table::Cold;
@@ -24,6 +26,20 @@ pub enum Input {
     Clock(Ms),
     /// What the driver did.
     Driver(Action),
+}
+
+impl Input {
+    /// An equal value. Takes no memory.
+    pub fn copy(&self) -> Input
+        ensures { result ≡ self.now }
+    {
+        match self {
+            Input::Telegram(bytes) => Input::Telegram(bytes.copy()),
+            Input::Odometer(reading) => Input::Odometer(*reading),
+            Input::Clock(moment) => Input::Clock(*moment),
+            Input::Driver(action) => Input::Driver(*action),
+        }
+    }
 }
 
 /// One atomic event.

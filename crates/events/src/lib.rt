@@ -14,6 +14,6 @@ pub use estimate::Estimate;
 pub use input::{Event, Input, Reading};
 pub use kept::Kept;
 pub use output::{Brake, Indications, Output};
-pub use position::Position;
-pub use step::Step;
+pub use position::{FARTHEST_OFFSET, Position};
+pub use step::{MOST_PENDING, Step};
 pub use telegram_bytes::TelegramBytes;

@@ -3,7 +3,7 @@ ghost use Rattle.std.specs.Prelude.{◌≡◌, ◌↔◌, IsSome, IfSome};
 ghost use Rattle.events.specs.Limits.{IsOffset};
 
 use std::marker::Model;
-use units::Cm;
+use units::{Cm, FARTHEST};
 use vars::GroupIdentity;
 
 /// Where the train is, by a balise group: how far behind it the estimated front lies, from -2^41 to 2^41 cm (this
@@ -27,8 +27,8 @@ impl Model for Position {
     ghost inverse = { λ p. record { group = p.group; distance = p.distance } };
 }
 
-/// The farthest distance, in centimetres.
-const FARTHEST: i64 = 1 << 41;
+/// The farthest distance behind a group, in centimetres.
+pub const FARTHEST_OFFSET: u64 = 2 * FARTHEST;
 
 impl Position {
     /// So many centimetres behind a group; None exactly outside the limits.
@@ -36,7 +36,7 @@ impl Position {
         ensures found { IsSome result ↔ IsOffset distance }
         ensures value { IfSome result (λ p. p ≡ record { group = group; distance = distance }) }
     {
-        if -FARTHEST <= distance.get() && distance.get() <= FARTHEST {
+        if distance.get().unsigned_abs() <= FARTHEST_OFFSET {
             Some(Position { group, distance })
         } else {
             None

@@ -37,6 +37,15 @@ impl TelegramBytes {
         })
     }
 
+    /// An equal value. Takes no memory.
+    pub fn copy(&self) -> TelegramBytes
+        ensures { result ≡ self.now }
+    {
+        TelegramBytes {
+            bytes: ArrayVec::try_from(self.bytes.as_slice()).unwrap(),
+        }
+    }
+
     /// The bytes.
     pub fn as_slice(&self) -> &[u8]
         ensures value { result.now ≡ self.now }

@@ -3,20 +3,17 @@ ghost use Rattle.std.specs.Prelude.{◌≡◌};
 ghost use Rattle.kernel.specs.Position.{gone_on, went_on, fixed_at, position_by};
 
 use driver::Datum;
-use events::Position;
+use events::{FARTHEST_OFFSET, Position};
 use odometry::Place;
 use units::Cm;
 use vars::GroupIdentity;
-
-/// The farthest distance from the group, in centimetres.
-const FARTHEST: u64 = 1 << 41;
 
 // A valid position goes on.
 fn gone_on(position: &Position, by: Cm) -> Datum<Position>
     ensures { result ≡ gone_on position.now by }
 {
     let distance = position.distance().get() + by.get();
-    if distance.unsigned_abs() > FARTHEST {
+    if distance.unsigned_abs() > FARTHEST_OFFSET {
         return Datum::Invalid(*position);
     }
     let distance = Cm::new(distance).unwrap();

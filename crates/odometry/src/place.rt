@@ -6,10 +6,7 @@ ghost use Rattle.odometry.specs.Place.{PlaceEntry, known, estimate, uncertainty,
 
 use crate::{EarlierPlace, Fix, Overrun, Sums};
 use std::marker::Model;
-use units::{Cm, GroupPlace, Length, Movement, Stretch};
-
-/// The farthest place of a life, in centimetres.
-const FARTHEST: u64 = 1 << 40;
+use units::{Cm, FARTHEST, GroupPlace, Length, Movement, Stretch};
 
 /// Where the train's front is, by the odometer and the balise groups of this life (SUBSET-026, 3.6.4; the formula: this
 /// project's profile). Places count from where the life began, forward positive.

@@ -5,7 +5,7 @@ ghost use Rattle.units.specs.Limits.{farthest};
 ghost use Rattle.odometry.specs.Sums.{moved_on, movement_between, path_between};
 
 use std::marker::Model;
-use units::{Cm, Length, Movement};
+use units::{Cm, FARTHEST, Length, Movement};
 
 /// The sums of a life at one moment, in centimetres: of its movements, and of their absolute values, which is its path
 /// (this project's profile).
@@ -26,9 +26,6 @@ impl Model for Sums {
 
     ghost inverse = { λ s. record { moved = s.moved; path = s.path } };
 }
-
-/// The longest path of a life, in centimetres.
-const LONGEST: u64 = 1 << 40;
 
 impl Sums {
     /// The sums at the start of a life: both 0.
@@ -56,7 +53,7 @@ impl Sums {
     {
         let by = movement.get();
         let path = self.path + by.unsigned_abs();
-        if path > LONGEST {
+        if path > FARTHEST {
             return None;
         }
         Some(Sums {

@@ -5,7 +5,6 @@
 mod accepting;
 mod errors;
 mod flushing;
-mod inputs;
 mod laws;
 mod life;
 mod living;

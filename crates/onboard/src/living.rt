@@ -1,6 +1,7 @@
 //! Whole lives.
 ghost use Rattle.std.specs.Prelude.{◌≡◌, ◌≢◌, false, ◌-◌, ◌<◌, [], ◌∷◌, List, Err, IsTrue, IfErr, vec_len, vec_capacity};
 ghost use Rattle.disk.specs.State.{now, contents_of, Counted, IsImage, AtEachMoment};
+ghost use Rattle.events.specs.Limits.{most_pending};
 ghost use Rattle.events.specs.declared.input.Event.{Event};
 ghost use Rattle.events.specs.declared.input.Event.TheVariants.{PowerUp};
 ghost use Rattle.mode_table.specs.declared.statuses.Cold.{Cold};
@@ -34,13 +35,15 @@ pub fn live_into<D: Disk, S: ReleaseSink>(
     ensures counted { Counted (live_failed result.1) (D.state disk) (D.state result.0) }
 
     // NoMemory comes only where the sink has no room for what a flush may release.
-    ensures full { IfErr result.1 (λ e. IsTrue (is_full e) → S.room sink.new < 8) }
+    ensures full { IfErr result.1 (λ e. IsTrue (is_full e) → S.room sink.new < most_pending) }
 
     // Whatever the disk does, an opening that is refused releases nothing, and takes no memory.
-    ensures unopened { (e : OpenError) → result.1 ≡ Err (LiveError.Open e) → (sink.new ≡ sink.old) × (wants_memory e ≡ false) }
+    ensures unopened { (e : OpenError) → result.1 ≡ Err (LiveError.Open e) →
+        (sink.new ≡ sink.old) × (wants_memory e ≡ false) }
 
     // Where no call failed, it leaves the images that the first sync settled.
-    ensures nothing_added { IsTrue (D.state disk).honest → (e : OpenError) → result.1 ≡ Err (LiveError.Open e) → is_device e ≡ false →
+    ensures nothing_added { IsTrue (D.state disk).honest → (e : OpenError) → result.1 ≡ Err (LiveError.Open e) →
+        is_device e ≡ false →
         AtEachMoment (D.state disk) (D.state result.0) (IsImage (now (D.state disk))) }
 
     // Where it was opened, no refusal had a cause but the device.
@@ -51,11 +54,15 @@ pub fn live_into<D: Disk, S: ReleaseSink>(
     ensures stopped { LifeEnds (D.state disk) steps.now result.1 }
 
     // Where power is lost and what is released, for every list of events that the disk represents.
-    ensures life { (durable accepted : List Event) → IsTrue (D.state disk).honest → IsReady durable accepted (D.state disk) →
+    ensures life { (durable accepted : List Event) → IsTrue (D.state disk).honest →
+        IsReady durable accepted (D.state disk) →
         (found : List Event) × (power_up_word : Cold) × (released : List Released) × S.Gave sink.old released sink.new
         × (it : Lives durable accepted found cold power_up_word steps.now (D.state disk) (D.state result.0) [] released)
-        × IsDone (PowerUp power_up_word ∷ found) steps.now (OnlyOpens durable accepted found power_up_word (D.state disk) (D.state result.0)) result.1 it.steps_taken it.durable_at_end it.accepted_at_end it.released
-        × IsUnflushed (IsOfLife (D.state disk).sectors durable accepted found power_up_word) steps.now result.1 it.durable_at_end (D.state disk) (D.state result.0)
+        × IsDone (PowerUp power_up_word ∷ found) steps.now
+            (OnlyOpens durable accepted found power_up_word (D.state disk) (D.state result.0)) result.1 it.steps_taken
+            it.durable_at_end it.accepted_at_end it.released
+        × IsUnflushed (IsOfLife (D.state disk).sectors durable accepted found power_up_word) steps.now result.1
+            it.durable_at_end (D.state disk) (D.state result.0)
         × LeavesLast found power_up_word steps.now result.1 (D.state result.0) }
 {
     match Onboard::open(alloc, disk, cold) {
@@ -79,13 +86,15 @@ pub fn live<D: Disk>(
     ensures counted { Counted (live_failed result.1) (D.state disk) (D.state result.0) }
 
     // NoMemory comes only where the list has no room for what a flush may release.
-    ensures full { IfErr result.1 (λ e. IsTrue (is_full e) → vec_capacity out.new - vec_len out.new < 8) }
+    ensures full { IfErr result.1 (λ e. IsTrue (is_full e) → vec_capacity out.new - vec_len out.new < most_pending) }
 
     // Whatever the disk does, an opening that is refused releases nothing, and takes no memory.
-    ensures unopened { (e : OpenError) → result.1 ≡ Err (LiveError.Open e) → (out.new ≡ out.old) × (wants_memory e ≡ false) }
+    ensures unopened { (e : OpenError) → result.1 ≡ Err (LiveError.Open e) →
+        (out.new ≡ out.old) × (wants_memory e ≡ false) }
 
     // Where no call failed, it leaves the images that the first sync settled.
-    ensures nothing_added { IsTrue (D.state disk).honest → (e : OpenError) → result.1 ≡ Err (LiveError.Open e) → is_device e ≡ false →
+    ensures nothing_added { IsTrue (D.state disk).honest → (e : OpenError) → result.1 ≡ Err (LiveError.Open e) →
+        is_device e ≡ false →
         AtEachMoment (D.state disk) (D.state result.0) (IsImage (now (D.state disk))) }
 
     // Where it was opened, no refusal had a cause but the device.
@@ -96,10 +105,16 @@ pub fn live<D: Disk>(
     ensures stopped { LifeEnds (D.state disk) steps.now result.1 }
 
     // Where power is lost and what is released, for every list of events that the disk represents.
-    ensures life { (durable accepted : List Event) → IsTrue (D.state disk).honest → IsReady durable accepted (D.state disk) →
-        (found : List Event) × (power_up_word : Cold) × (it : Lives durable accepted found cold power_up_word steps.now (D.state disk) (D.state result.0) out.old.items out.new.items)
-        × IsDone (PowerUp power_up_word ∷ found) steps.now (OnlyOpens durable accepted found power_up_word (D.state disk) (D.state result.0)) result.1 it.steps_taken it.durable_at_end it.accepted_at_end it.released
-        × IsUnflushed (IsOfLife (D.state disk).sectors durable accepted found power_up_word) steps.now result.1 it.durable_at_end (D.state disk) (D.state result.0)
+    ensures life { (durable accepted : List Event) → IsTrue (D.state disk).honest →
+        IsReady durable accepted (D.state disk) →
+        (found : List Event) × (power_up_word : Cold)
+        × (it : Lives durable accepted found cold power_up_word steps.now (D.state disk) (D.state result.0)
+            out.old.items out.new.items)
+        × IsDone (PowerUp power_up_word ∷ found) steps.now
+            (OnlyOpens durable accepted found power_up_word (D.state disk) (D.state result.0)) result.1 it.steps_taken
+            it.durable_at_end it.accepted_at_end it.released
+        × IsUnflushed (IsOfLife (D.state disk).sectors durable accepted found power_up_word) steps.now result.1
+            it.durable_at_end (D.state disk) (D.state result.0)
         × LeavesLast found power_up_word steps.now result.1 (D.state result.0) }
 {
     live_into(alloc, disk, cold, steps, out)

@@ -1,8 +1,10 @@
 //! Where releases go.
 ghost use Rattle.std.specs.Prelude.{◌≡◌, ℕ, ◌-◌, ◌<◌, ◌≤◌, [], ◌++◌, List, length, vec_len, vec_capacity, OnOk, OnErr};
+ghost use Rattle.events.specs.Limits.{most_pending};
 ghost use Rattle.onboard.specs.declared.released.Released.{Released};
 
 use crate::released::Released;
+use events::MOST_PENDING;
 use units::NoMemory;
 
 /// What takes releases as they come, as a list or a printer does (this project's profile).
@@ -16,8 +18,8 @@ pub trait ReleaseSink {
     /// Makes room for the eight releases of a flush, before it begins. NoMemory exactly where there is less room then.
     fn make_room(&mut self) -> Result<(), NoMemory>
         ensures given { Gave self.old [] self.new }
-        ensures room { OnOk result (8 ≤ room self.new) }
-        ensures full { OnErr result (room self.new < 8) };
+        ensures room { OnOk result (most_pending ≤ room self.new) }
+        ensures full { OnErr result (room self.new < most_pending) };
 
     /// Takes these, in their order. The caller owes that there is room for them.
     fn give(&mut self, pairs: &[Released])
@@ -43,7 +45,7 @@ impl ReleaseSink for Vec<Released> {
     ghost more = { λ before between after first rest one two. two ∙ ap (λ l. l ++ rest) one ∙ append_assoc before.items first rest };
 
     fn make_room(&mut self) -> Result<(), NoMemory> {
-        if self.reserve(8).is_err() {
+        if self.reserve(MOST_PENDING).is_err() {
             return Err(NoMemory);
         }
         Ok(())

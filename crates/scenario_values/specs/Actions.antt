@@ -1,16 +1,17 @@
 -- The driver's actions in a scenario: a list of a code and its values (this project's profile).
 -- A length is centimetres, a speed metres per hour, a deceleration cm/s^2, a reaction time milliseconds.
-use Rattle.std.specs.Prelude.{ℕ, ◌==◌, ◌&&◌, nat_le, ℤ, pos, List, length, Bool, if◌then◌else◌, Result, Ok, Err}
+use Rattle.std.specs.Prelude.{ℕ, ◌==◌, ◌&&◌, nat_le, ℤ, List, length, Bool, if◌then◌else◌, Result, Ok, Err}
 use Rattle.std.specs.List.{list_all}
-use Rattle.std.specs.Ordering.{int_eq}
 use Rattle.serde_json.specs.Data.{Data}
 use Rattle.mode_table.specs.declared.level.TrainLevel.{TrainLevel}
 use Rattle.mode_table.specs.Numbers.{level_by}
 use Rattle.brakes.specs.declared.brakes.Brakes.{Brakes}
 use Rattle.driver.specs.declared.action.Action.{Action}
 use Rattle.driver.specs.declared.action.Action.TheVariants.{EnterIdentity, EnterRunningNumber, EnterTrainData, ChooseLevel, Confirm, Start, ChooseShunting, LeaveShunting, Override, Acknowledge, CloseDesk}
+use Rattle.driver.specs.declared.action_kind.ActionKind.{ActionKind}
+use Rattle.driver.specs.declared.action_kind.ActionKind.TheVariants as a_kind
 use Rattle.driver.specs.declared.action.Confirmed.{Confirmed}
-use Rattle.driver.specs.Numbers.{item_by, reason_by}
+use Rattle.driver.specs.Numbers.{action_by, item_by, reason_by}
 use Rattle.driver.specs.declared.action.Acknowledged.{Acknowledged}
 use Rattle.scenario_values.specs.Values.{◌>>=◌, given, whole_item, text_item, within, numbered}
 use Rattle.scenario_values.specs.declared.fault.ScenarioFault.{ScenarioFault}
@@ -103,22 +104,30 @@ bare action ds = do
 
 -- ---- all of them, by their codes
 
-unfoldable pub by_code : ℤ → List Data → Result Action ScenarioFault
-by_code code ds =
-    if int_eq code (pos 1) then entered_identity ds
-    else if int_eq code (pos 2) then entered_number ds
-    else if int_eq code (pos 3) then entered_train ds
-    else if int_eq code (pos 4) then chosen_level ds
-    else if int_eq code (pos 5) then confirmed_item ds
-    else if int_eq code (pos 6) then bare Start ds
-    else if int_eq code (pos 7) then bare ChooseShunting ds
-    else if int_eq code (pos 8) then bare LeaveShunting ds
-    else if int_eq code (pos 9) then bare Override ds
-    else if int_eq code (pos 10) then acknowledged_kind ds
-    else if int_eq code (pos 11) then bare CloseDesk ds
-    else Err Shape
+-- what there is, or Shape in place of any fault
+abbrev pub or_shape : {A : Type 0} → Result A ScenarioFault → Result A ScenarioFault
+or_shape (Ok x) = Ok x
+or_shape (Err fault) = Err Shape
+
+-- the kind that a code tells
+abbrev pub kind_told : ℤ → Result ActionKind ScenarioFault
+kind_told code = or_shape (numbered action_by code)
+
+abbrev pub by_kind : ActionKind → List Data → Result Action ScenarioFault
+by_kind a_kind.EnterIdentity ds = entered_identity ds
+by_kind a_kind.EnterRunningNumber ds = entered_number ds
+by_kind a_kind.EnterTrainData ds = entered_train ds
+by_kind a_kind.ChooseLevel ds = chosen_level ds
+by_kind a_kind.Confirm ds = confirmed_item ds
+by_kind a_kind.Start ds = bare Start ds
+by_kind a_kind.ChooseShunting ds = bare ChooseShunting ds
+by_kind a_kind.LeaveShunting ds = bare LeaveShunting ds
+by_kind a_kind.Override ds = bare Override ds
+by_kind a_kind.Acknowledge ds = acknowledged_kind ds
+by_kind a_kind.CloseDesk ds = bare CloseDesk ds
 
 abbrev pub action : List Data → Result Action ScenarioFault
 action ds = do
   code ← whole_item ds 0
-  by_code code ds
+  kind ← kind_told code
+  by_kind kind ds

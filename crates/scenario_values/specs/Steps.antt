@@ -1,8 +1,9 @@
 -- What a step of a scenario asks for (this project's profile). Distances are centimetres, speeds metres per hour,
 -- moments milliseconds.
-use Rattle.std.specs.Prelude.{◌==◌, ◌^◌, ◌-◌, ◌&&◌, pos, int_le, length, codes, if◌then◌else◌, Option, Some, None, Result, Ok, Err}
+use Rattle.std.specs.Prelude.{◌==◌, ◌-◌, ◌&&◌, pos, int_le, length, codes, if◌then◌else◌, Option, Some, None, Result, Ok, Err}
 use Rattle.serde_json.specs.Data.{Data}
 use Rattle.serde_json.specs.Find.{get, as_str, as_bool}
+use Rattle.units.specs.Limits.{longest_life}
 use Rattle.events.specs.declared.input.Input.TheVariants.{Telegram, Clock, Driver}
 use Rattle.scenario_values.specs.Values.{◌>>=◌, shaped, given, has_members, list_in, whole, whole_item, within, bytes_in}
 use Rattle.course.specs.Limits.{farthest_back, farthest}
@@ -32,7 +33,7 @@ telegram v = do
 abbrev pub clock : Data → Result Asked ScenarioFault
 clock v = do
   z ← shaped (whole v)
-  ms ← within 0 (2 ^ 40 - 1) z
+  ms ← within 0 (longest_life - 1) z
   Ok (Happens (Clock ms))
 
 abbrev pub driver : Data → Result Asked ScenarioFault

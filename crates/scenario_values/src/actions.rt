@@ -2,12 +2,14 @@
 ghost use Rattle.std.specs.Prelude.{◌≡◌, ◌≤◌, map, IfOk};
 ghost use Rattle.serde_json.specs.View.{view};
 ghost use Rattle.scenario_values.specs.Values.{within};
-ghost use Rattle.scenario_values.specs.Actions.{level, confirmed, acknowledged, lone_value, identity, entered_identity, entered_number, brakes, train, entered_train, chosen_level, confirmed_item, acknowledged_kind, bare, by_code, action};
+ghost use Rattle.scenario_values.specs.Actions.{level, confirmed, acknowledged, lone_value, identity, entered_identity, entered_number, brakes, train, entered_train, chosen_level, confirmed_item, acknowledged_kind, bare, kind_told, by_kind, action};
 
 use crate::ScenarioFault;
 use crate::values::{byte_of, text_item, whole_item, within};
 use brakes::{Brakes, Deceleration, Reaction};
-use driver::{Acknowledged, Action, Confirmed, DriverIdentity, RunningNumber, TrainData};
+use driver::{
+    Acknowledged, Action, ActionKind, Confirmed, DriverIdentity, RunningNumber, TrainData,
+};
 use mode_table::TrainLevel;
 use serde_json::Value;
 use units::{Length, Mph};
@@ -175,23 +177,31 @@ fn bare(action: Action, items: &[Value]) -> Result<Action, ScenarioFault>
     }
 }
 
-#[tactic(auto, unfolding(crate::specs::Actions::by_code))]
-fn by_code(code: i64, items: &[Value]) -> Result<Action, ScenarioFault>
-    ensures { result ≡ by_code code (map view items.now) }
+// The kind that a code tells; Shape where it tells none.
+fn kind_of(code: i64) -> Result<ActionKind, ScenarioFault>
+    ensures { result ≡ kind_told code }
 {
-    match code {
-        1 => entered_identity(items),
-        2 => entered_number(items),
-        3 => entered_train(items),
-        4 => chosen_level(items),
-        5 => confirmed_item(items),
-        6 => bare(Action::Start, items),
-        7 => bare(Action::ChooseShunting, items),
-        8 => bare(Action::LeaveShunting, items),
-        9 => bare(Action::Override, items),
-        10 => acknowledged_kind(items),
-        11 => bare(Action::CloseDesk, items),
-        _ => Err(ScenarioFault::Shape),
+    match byte_of(code) {
+        Ok(number) => ActionKind::of_number(number).ok_or(ScenarioFault::Shape),
+        Err(_) => Err(ScenarioFault::Shape),
+    }
+}
+
+fn by_kind(kind: ActionKind, items: &[Value]) -> Result<Action, ScenarioFault>
+    ensures { result ≡ by_kind kind (map view items.now) }
+{
+    match kind {
+        ActionKind::EnterIdentity => entered_identity(items),
+        ActionKind::EnterRunningNumber => entered_number(items),
+        ActionKind::EnterTrainData => entered_train(items),
+        ActionKind::ChooseLevel => chosen_level(items),
+        ActionKind::Confirm => confirmed_item(items),
+        ActionKind::Start => bare(Action::Start, items),
+        ActionKind::ChooseShunting => bare(Action::ChooseShunting, items),
+        ActionKind::LeaveShunting => bare(Action::LeaveShunting, items),
+        ActionKind::Override => bare(Action::Override, items),
+        ActionKind::Acknowledge => acknowledged_kind(items),
+        ActionKind::CloseDesk => bare(Action::CloseDesk, items),
     }
 }
 
@@ -200,5 +210,6 @@ pub(crate) fn action_of(items: &[Value]) -> Result<Action, ScenarioFault>
     ensures { result ≡ action (map view items.now) }
 {
     let code = whole_item(items, 0)?;
-    by_code(code, items)
+    let kind = kind_of(code)?;
+    by_kind(kind, items)
 }

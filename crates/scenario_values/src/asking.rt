@@ -11,7 +11,7 @@ use course::{Asked, Distance};
 use events::Input;
 use serde_json::Value;
 use std::alloc::Global;
-use units::{Mph, Ms};
+use units::{LONGEST_LIFE, Mph, Ms};
 
 fn drive_of(value: &Value) -> Result<Asked, ScenarioFault>
     ensures { result ≡ drive (view value.now) }
@@ -40,7 +40,7 @@ fn clock_of(value: &Value) -> Result<Asked, ScenarioFault>
     ensures { result ≡ clock (view value.now) }
 {
     let number = value.as_i64().ok_or(ScenarioFault::Shape)?;
-    let ms = within(0, (1 << 40) - 1, number)?;
+    let ms = within(0, LONGEST_LIFE - 1, number)?;
     let moment = Ms::new(ms).ok_or(ScenarioFault::OutOfRange)?;
     Ok(Asked::Happens(Input::Clock(moment)))
 }

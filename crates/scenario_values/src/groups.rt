@@ -44,7 +44,8 @@ fn lay_one(
     balises: &mut Vec<Balise>,
 ) -> Result<(), ScenarioFault>
     ensures ok { OnOk result (laid_one at (view item.now) balises.old.items ≡ Ok balises.new.items) }
-    ensures err { IfErr result (λ fault. (fault ≡ ScenarioFault.NoMemory) ⊎ (laid_one at (view item.now) balises.old.items ≡ Err fault)) }
+    ensures err { IfErr result (λ fault. (fault ≡ ScenarioFault.NoMemory)
+        ⊎ (laid_one at (view item.now) balises.old.items ≡ Err fault)) }
 {
     let text = item.as_str().ok_or(ScenarioFault::Shape)?;
     let bytes = bytes_of(alloc, text)?;
@@ -64,7 +65,8 @@ fn lay(
     requires near { first ≤ 100_000_000 }
     requires close { apart ≤ 1_200 }
     ensures ok { OnOk result (laid first apart (map view items.now) balises.old.items ≡ Ok balises.new.items) }
-    ensures err { IfErr result (λ fault. (fault ≡ ScenarioFault.NoMemory) ⊎ (laid first apart (map view items.now) balises.old.items ≡ Err fault)) }
+    ensures err { IfErr result (λ fault. (fault ≡ ScenarioFault.NoMemory)
+        ⊎ (laid first apart (map view items.now) balises.old.items ≡ Err fault)) }
 {
     let mut at = first;
     for item in items {
@@ -77,7 +79,8 @@ fn lay(
 // Lays the balises of a group.
 fn lay_group(alloc: Global, value: &Value, balises: &mut Vec<Balise>) -> Result<(), ScenarioFault>
     ensures ok { OnOk result (group (view value.now) balises.old.items ≡ Ok balises.new.items) }
-    ensures err { IfErr result (λ fault. (fault ≡ ScenarioFault.NoMemory) ⊎ (group (view value.now) balises.old.items ≡ Err fault)) }
+    ensures err { IfErr result (λ fault. (fault ≡ ScenarioFault.NoMemory)
+        ⊎ (group (view value.now) balises.old.items ≡ Err fault)) }
 {
     if !has_members(value, 3) {
         return Err(ScenarioFault::Shape);
@@ -100,7 +103,8 @@ pub(crate) fn lay_all(
     balises: &mut Vec<Balise>,
 ) -> Result<(), ScenarioFault>
     ensures ok { OnOk result (groups (map view items.now) balises.old.items ≡ Ok balises.new.items) }
-    ensures err { IfErr result (λ fault. (fault ≡ ScenarioFault.NoMemory) ⊎ (groups (map view items.now) balises.old.items ≡ Err fault)) }
+    ensures err { IfErr result (λ fault. (fault ≡ ScenarioFault.NoMemory)
+        ⊎ (groups (map view items.now) balises.old.items ≡ Err fault)) }
 {
     for item in items {
         lay_group(alloc, item, balises)?;

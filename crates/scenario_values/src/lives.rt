@@ -52,8 +52,10 @@ fn items_at<'a>(value: &'a Value, key: &str) -> Result<&'a [Value], ScenarioFaul
 
 // The track on which all groups are laid.
 fn track_of(alloc: Global, items: &[Value]) -> Result<Track, ScenarioFault>
-    ensures ok { IfOk result (λ track. (laid : _) × (groups (map view items.now) [] ≡ Ok laid) × (passed track.balises.items ≡ passed laid)) }
-    ensures err { IfErr result (λ fault. (fault ≡ ScenarioFault.NoMemory) ⊎ (groups (map view items.now) [] ≡ Err fault)) }
+    ensures ok { IfOk result (λ track. (laid : _) × (groups (map view items.now) [] ≡ Ok laid)
+        × (passed track.balises.items ≡ passed laid)) }
+    ensures err { IfErr result (λ fault. (fault ≡ ScenarioFault.NoMemory)
+        ⊎ (groups (map view items.now) [] ≡ Err fault)) }
 {
     let mut balises = Vec::new(alloc);
     lay_all(alloc, items, &mut balises)?;
@@ -68,8 +70,10 @@ fn live(
     course: &mut Course,
 ) -> Result<(), ScenarioFault>
     requires here { course.old.front ≡ pos 0 }
-    ensures ok { OnOk result (lived (passed track.now.balises.items) (map view items.now) (run_of course.old) ≡ Ok (run_of course.new)) }
-    ensures err { IfErr result (λ fault. (fault ≡ ScenarioFault.NoMemory) ⊎ (lived (passed track.now.balises.items) (map view items.now) (run_of course.old) ≡ Err fault)) }
+    ensures ok { OnOk result (lived (passed track.now.balises.items) (map view items.now) (run_of course.old)
+        ≡ Ok (run_of course.new)) }
+    ensures err { IfErr result (λ fault. (fault ≡ ScenarioFault.NoMemory)
+        ⊎ (lived (passed track.now.balises.items) (map view items.now) (run_of course.old) ≡ Err fault)) }
 {
     for item in items {
         let asked = asked_of(alloc, item)?;
@@ -79,8 +83,10 @@ fn live(
 }
 
 fn steps_of(alloc: Global, track: &Track, items: &[Value]) -> Result<Vec<Step>, ScenarioFault>
-    ensures ok { IfOk result (λ steps. steps_in (passed track.now.balises.items) (map view items.now) ≡ Ok steps.items) }
-    ensures err { IfErr result (λ fault. (fault ≡ ScenarioFault.NoMemory) ⊎ (steps_in (passed track.now.balises.items) (map view items.now) ≡ Err fault)) }
+    ensures ok { IfOk result (λ steps. steps_in (passed track.now.balises.items) (map view items.now)
+        ≡ Ok steps.items) }
+    ensures err { IfErr result (λ fault. (fault ≡ ScenarioFault.NoMemory)
+        ⊎ (steps_in (passed track.now.balises.items) (map view items.now) ≡ Err fault)) }
 {
     let mut course = Course::new(alloc);
     live(alloc, track, items, &mut course)?;

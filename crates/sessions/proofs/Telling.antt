@@ -3,6 +3,7 @@ use Rattle.std.proofs.Common.{◌≡◌, inr, ℕ, ◌<◌, List, Bool, true, fa
 use Rattle.std.specs.Prelude.{if◌then◌else◌}
 use Rattle.std.specs.Io.KnownBytes.{Appends}
 use Rattle.std.proofs.KnownBytes.{Appends-trans}
+use Rattle.events.specs.Limits.{most_pending}
 use Rattle.exit_status.specs.declared.status.Status.{Status}
 use Rattle.onboard.specs.Answers.{is_full}
 use Rattle.onboard.specs.declared.errors.LiveError.{LiveError}
@@ -25,16 +26,16 @@ pub told_whole : {E : Type 0} (answer : Result Status E) (ended : Result (Unit {
 told_whole (Ok status) ended before here after given lines status_is line = (status_is, Appends-trans before here after _ _ lines line)
 told_whole (Err error) ended before here after given lines status_is line = tt
 
-full_or_not : (full : Bool) → (IsTrue full → 8 < 8) → full ≡ false
+full_or_not : (full : Bool) → (IsTrue full → most_pending < most_pending) → full ≡ false
 full_or_not true want = absurd (omega (arith, want refl))
 full_or_not false want = refl
 
 -- where all writes succeeded, there was room for each release
 pub no_want : {E : Type 0} (answer : Result Status E) (ended : Result (Unit {0}) LiveError) (told : Result (Unit {0}) E) (x : Unit {0}) → told ≡ Ok x
-    → IfErr ended (λ e. IsTrue (is_full e) → (if is_ok told then 8 else 0) < 8) → IfOk answer (λ status. IfErr ended (λ e. is_full e ≡ false))
+    → IfErr ended (λ e. IsTrue (is_full e) → (if is_ok told then most_pending else 0) < most_pending) → IfOk answer (λ status. IfErr ended (λ e. is_full e ≡ false))
 no_want (Ok status) (Ok y) told x is want = tt
 no_want {E} (Ok status) (Err e) told x is want =
-    let W : Result (Unit {0}) E → Type 0 = λ r. IsTrue (is_full e) → (if is_ok r then 8 else 0) < 8 in
+    let W : Result (Unit {0}) E → Type 0 = λ r. IsTrue (is_full e) → (if is_ok r then most_pending else 0) < most_pending in
     full_or_not (is_full e) (subst W is want)
 no_want (Err error) ended told x is want = tt
 

@@ -5,6 +5,7 @@
 -- Taken for granted: where a write failed, nothing is said of what was written. A session is a life on an honest disk.
 use Rattle.std.specs.Prelude.{◌≡◌, ◌⊎◌, ℕ, ◌+◌, ◌*◌, List, [], ◌∷◌, ◌++◌, Bool, true, false, IsTrue, Option, Some, None, Result, IfOk, IfErr, codes, decimal}
 use Rattle.std.specs.Io.KnownBytes.{Appends}
+use Rattle.blocks.specs.FirstSector.{sectors_of}
 use Rattle.disk.specs.State.{State, Counted}
 use Rattle.events.specs.declared.input.Event.{Event}
 use Rattle.events.specs.declared.input.Event.TheVariants.{PowerUp}
@@ -96,7 +97,7 @@ Plays {D} state gives bytes opener (Opened new) before after answer =
 
 -- the line of an image that was made, of so many blocks
 abbrev pub formatted_line : ℕ → List ℕ
-formatted_line blocks = codes "formatted " ++ decimal blocks ++ codes " blocks " ++ decimal (512 * (1 + 6 * blocks)) ++ codes " bytes\n"
+formatted_line blocks = codes "formatted " ++ decimal blocks ++ codes " blocks " ++ decimal (512 * sectors_of blocks) ++ codes " bytes\n"
 
 -- Nothing speaks against it before the first write: the image was made, and its line written, or the device failed, and
 -- the line of that.

@@ -37,12 +37,13 @@ pub(crate) struct Printer<W> {
 
 impl<W: Write> ReleaseSink for Printer<W> {
     ghost use Rattle.std.specs.Prelude.{is_ok, if◌then◌else◌};
+    ghost use Rattle.events.specs.Limits.{most_pending};
     ghost use Rattle.sessions.specs.Lines.{Printed};
     ghost use Rattle.sessions.specs.Printing.{printed_none, printed_more};
 
     ghost Gave = { λ old pairs new. Printed (is_ok old.told) (W.contents old.out) pairs (is_ok new.told) (W.contents new.out) };
 
-    ghost room = { λ s. if is_ok s.told then 8 else 0 };
+    ghost room = { λ s. if is_ok s.told then most_pending else 0 };
 
     ghost none = { λ s. printed_none (is_ok s.told) (W.contents s.out) };
 

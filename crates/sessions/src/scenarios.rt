@@ -26,7 +26,8 @@ pub fn play<D: Disk, O: FnOnce() -> Option<D>, W: Write>(
     out: W,
 ) -> (Image<D, O>, W, io::Result<Status>)
     requires { O.pre opener }
-    ensures told { Plays D.state O.post scenario.now.bytes.items opener result.0 (W.contents out) (W.contents result.1) result.2 }
+    ensures told { Plays D.state O.post scenario.now.bytes.items opener result.0 (W.contents out) (W.contents result.1)
+        result.2 }
 {
     let mut out = out;
     let (cold, steps) = match events_of(alloc, scenario) {

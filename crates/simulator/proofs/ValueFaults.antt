@@ -1,6 +1,5 @@
 -- The fault of a value is never NotJson.
-use Rattle.std.proofs.Common.{ℕ, ◌==◌, ◌&&◌, ◌+◌, ◌-◌, ◌^◌, nat_le, ℤ, pos, int_le, length, codes, slice_get, List, [], ◌∷◌, Bool, true, false, if◌then◌else◌, Option, Some, None, option_and_then, Result, Ok, Err}
-use Rattle.std.specs.Ordering.{int_eq}
+use Rattle.std.proofs.Common.{ℕ, ◌==◌, ◌&&◌, ◌+◌, nat_le, ℤ, pos, int_le, length, codes, slice_get, List, [], ◌∷◌, Bool, true, false, if◌then◌else◌, Option, Some, None, option_and_then, Result, Ok, Err}
 use Rattle.serde_json.specs.Data.{Data}
 use Rattle.serde_json.specs.Find.{get, as_str, as_bool}
 use Rattle.hex.specs.Hex.{decode_of}
@@ -13,10 +12,12 @@ use Rattle.course.specs.declared.balise.Balise.{Balise}
 use Rattle.driver.specs.declared.action.Action.{Action}
 use Rattle.driver.specs.declared.action.Action.TheVariants.{Start, ChooseShunting, LeaveShunting, Override, CloseDesk}
 use Rattle.mode_table.specs.Numbers.{level_by, word_by}
-use Rattle.driver.specs.Numbers.{item_by, reason_by}
+use Rattle.driver.specs.declared.action_kind.ActionKind.{ActionKind}
+use Rattle.driver.specs.declared.action_kind.ActionKind.TheVariants as a_kind
+use Rattle.driver.specs.Numbers.{action_by, item_by, reason_by}
 use Rattle.scenario_values.specs.Values.{◌>>=◌, shaped, given, has_members, list_in, whole, within, known, numbered, hex_bytes, bytes_in, whole_item, text_item}
 use Rattle.scenario_values.specs.Groups.{whole_at, list_at, are_texts, laid_one, laid, group, groups}
-use Rattle.scenario_values.specs.Actions.{is_identity, level, confirmed, acknowledged, identity, entered_identity, lone_value, entered_number, brakes, train, entered_train, chosen_level, confirmed_item, acknowledged_kind, bare, by_code, action}
+use Rattle.scenario_values.specs.Actions.{is_identity, level, confirmed, acknowledged, identity, entered_identity, lone_value, entered_number, brakes, train, entered_train, chosen_level, confirmed_item, acknowledged_kind, bare, or_shape, by_kind, action}
 use Rattle.scenario_values.specs.Steps.{drive, telegram, clock, driver, flush, or_else, by_key, asked}
 use Rattle.scenario_values.specs.Lives.{lived, steps_in, has_keys, cold_word, cold_of, items_at, life_in}
 use Rattle.scenario_values.specs.declared.fault.ScenarioFault.{ScenarioFault}
@@ -154,18 +155,25 @@ of_acknowledged_kind ds = bind _ _ (of_lone_value ds) (λ z. bind _ _ (of_acknow
 of_bare : (a : Action) (ds : List Data) → Fits (bare a ds)
 of_bare a ds = bind _ _ (of_given (length ds == 1) Shape tt) (λ u. of_ok a)
 
-of_code : (code : ℤ) (ds : List Data) → Fits (by_code code ds)
-unfolding by_code
-of_code code ds =
-    either (int_eq code (pos 1)) _ _ (of_entered_identity ds) (either (int_eq code (pos 2)) _ _ (of_entered_number ds)
-    (either (int_eq code (pos 3)) _ _ (of_entered_train ds) (either (int_eq code (pos 4)) _ _ (of_chosen_level ds)
-    (either (int_eq code (pos 5)) _ _ (of_confirmed_item ds) (either (int_eq code (pos 6)) _ _ (of_bare Start ds)
-    (either (int_eq code (pos 7)) _ _ (of_bare ChooseShunting ds) (either (int_eq code (pos 8)) _ _ (of_bare LeaveShunting ds)
-    (either (int_eq code (pos 9)) _ _ (of_bare Override ds) (either (int_eq code (pos 10)) _ _ (of_acknowledged_kind ds)
-    (either (int_eq code (pos 11)) _ _ (of_bare CloseDesk ds) (of_err Shape tt)))))))))))
+of_or_shape : {A : Type 0} (r : Result A ScenarioFault) → Fits (or_shape r)
+of_or_shape (Ok x) = of_ok x
+of_or_shape (Err fault) = of_err Shape tt
+
+of_kind : (kind : ActionKind) (ds : List Data) → Fits (by_kind kind ds)
+of_kind a_kind.EnterIdentity ds = of_entered_identity ds
+of_kind a_kind.EnterRunningNumber ds = of_entered_number ds
+of_kind a_kind.EnterTrainData ds = of_entered_train ds
+of_kind a_kind.ChooseLevel ds = of_chosen_level ds
+of_kind a_kind.Confirm ds = of_confirmed_item ds
+of_kind a_kind.Start ds = of_bare Start ds
+of_kind a_kind.ChooseShunting ds = of_bare ChooseShunting ds
+of_kind a_kind.LeaveShunting ds = of_bare LeaveShunting ds
+of_kind a_kind.Override ds = of_bare Override ds
+of_kind a_kind.Acknowledge ds = of_acknowledged_kind ds
+of_kind a_kind.CloseDesk ds = of_bare CloseDesk ds
 
 of_action : (ds : List Data) → Fits (action ds)
-of_action ds = bind _ _ (of_whole ds 0) (λ code. of_code code ds)
+of_action ds = bind _ _ (of_whole ds 0) (λ code. bind _ _ (of_or_shape (numbered action_by code)) (λ kind. of_kind kind ds))
 
 -- ---- steps
 
@@ -178,7 +186,7 @@ of_telegram : (v : Data) → Fits (telegram v)
 of_telegram v = bind _ _ (of_shaped (as_str v)) (λ text. bind _ _ (of_bytes text) (λ bytes. of_ok _))
 
 of_clock : (v : Data) → Fits (clock v)
-of_clock v = bind _ _ (of_shaped (whole v)) (λ z. bind _ _ (of_within 0 (2 ^ 40 - 1) z) (λ ms. of_ok _))
+of_clock v = bind _ _ (of_shaped (whole v)) (λ z. bind _ _ (of_within 0 _ z) (λ ms. of_ok _))
 
 of_driver : (v : Data) → Fits (driver v)
 of_driver v = bind _ _ (of_shaped (list_in v)) (λ items. bind _ _ (of_action items) (λ a. of_ok _))

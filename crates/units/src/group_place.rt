@@ -2,7 +2,7 @@
 ghost use Rattle.std.specs.Prelude.{◌≡◌, ◌↔◌, pos, ◌+ℤ◌, IsSome, IfSome};
 ghost use Rattle.units.specs.Limits.{IsGroupPlace};
 
-use crate::{Cm, Reach};
+use crate::{Cm, FARTHEST, Reach};
 use std::marker::Model;
 
 /// Where a balise group lies, from which the distances of its packets count, in centimetres: from -3 * 2^40 to 3 * 2^40
@@ -26,7 +26,7 @@ impl Model for GroupPlace {
 }
 
 /// The farthest place of a group, in centimetres.
-const FARTHEST: u64 = 3 << 40;
+const FARTHEST_GROUP: u64 = 3 * FARTHEST;
 
 impl GroupPlace {
     /// So many centimetres; None exactly outside the limits.
@@ -34,7 +34,7 @@ impl GroupPlace {
         ensures found { IsSome result ↔ IsGroupPlace cm }
         ensures value { IfSome result (λ p. p ≡ cm) }
     {
-        if cm.unsigned_abs() <= FARTHEST {
+        if cm.unsigned_abs() <= FARTHEST_GROUP {
             Some(GroupPlace { cm })
         } else {
             None

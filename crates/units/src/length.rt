@@ -23,8 +23,8 @@ impl Model for Length {
     ghost inverse = { λ n. record { cm = n } };
 }
 
-/// The longest path of a life, in centimetres.
-const LONGEST: u64 = 1 << 40;
+/// The farthest place and the longest path of a life, and the longest length, in centimetres (this project's profile).
+pub const FARTHEST: u64 = 1 << 40;
 
 impl Length {
     /// The length of nothing.
@@ -35,7 +35,7 @@ impl Length {
         ensures found { IsSome result ↔ IsLength cm }
         ensures value { IfSome result (λ l. l ≡ cm) }
     {
-        if cm <= LONGEST {
+        if cm <= FARTHEST {
             Some(Length { cm })
         } else {
             None

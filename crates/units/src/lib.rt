@@ -15,10 +15,10 @@ mod stretch;
 
 pub use cm::Cm;
 pub use group_place::GroupPlace;
-pub use length::Length;
+pub use length::{FARTHEST, Length};
 pub use movement::Movement;
 pub use mph::Mph;
-pub use ms::Ms;
+pub use ms::{LONGEST_LIFE, Ms};
 pub use no_memory::NoMemory;
 pub use permille::Permille;
 pub use reach::Reach;

@@ -23,8 +23,8 @@ impl Model for Ms {
     ghost inverse = { λ n. record { ms = n } };
 }
 
-/// The milliseconds of the longest life, some 34 years.
-const LONGEST_LIFE: u64 = 1 << 40;
+/// The milliseconds of the longest life, some 34 years (this project's profile).
+pub const LONGEST_LIFE: u64 = 1 << 40;
 
 impl Ms {
     /// So many milliseconds; None exactly outside the limits.

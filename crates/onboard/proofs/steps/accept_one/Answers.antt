@@ -24,7 +24,7 @@ returns-in-Ok-clause-stepped g c = λ durable accepted honest opened ahead.
     let J : Journal → Type 0 = λ j. IsOpen j (account_of durable) old in
     let A : Input → Type 0 = λ input. IsAhead durable (an_event.Input input ∷ accepted) c.accept.new.self.life in (
       subst S (sym same) (quiet_step (Accept c.args.input.now) c.args.unit.now.journal durable accepted ahead.more old opened ahead.accepted_is),
-      (subst O (sym same) (subst J (sym c.accept.ensures.device.1) opened), subst A c.copy_of.ensures (c.in-Ok.ensures.accepted durable accepted ahead)),
+      (subst O (sym same) (subst J (sym c.accept.ensures.device.1) opened), subst A c.copy.ensures (c.in-Ok.ensures.accepted durable accepted ahead)),
     )
 
 pub returns-in-Err-clause-stepped : goal.returns-in-Err-clause-stepped
@@ -38,11 +38,11 @@ pub returns-in-Ok-clause-stood : goal.returns-in-Ok-clause-stood
 returns-in-Ok-clause-stood g c =
     let so : Progress = progress_of c.args.unit.now.journal c.args.unit.now.life in
     let S : Input → Type 0 = λ x. Stands so (Accept x) × (progress_of c.accept.new.self.journal c.accept.new.self.life ≡ go_on so (Accept x)) in
-    subst S c.copy_of.ensures (no_cause (refusal_of so.failed so.pending so.moment c.copy_of.result) c.accept.result _ (λ e. e ≡ NoMemory) c.in-Ok.is c.accept.ensures.exact, c.in-Ok.ensures.gone_on)
+    subst S c.copy.ensures (no_cause (refusal_of so.failed so.pending so.moment c.copy.result) c.accept.result _ (λ e. e ≡ NoMemory) c.in-Ok.is c.accept.ensures.exact, c.in-Ok.ensures.gone_on)
 
 pub returns-in-Err-clause-stopped : goal.returns-in-Err-clause-stopped
 returns-in-Err-clause-stopped g c =
-    accept_stops (progress_of c.args.unit.now.journal c.args.unit.now.life) c.args.unit.now.life.state c.args.k c.args.input.now c.copy_of.result c.accept.result c.in-Err.error c.in-Err.is c.copy_of.ensures c.accept.ensures.exact c.accept.ensures.quiet
+    accept_stops (progress_of c.args.unit.now.journal c.args.unit.now.life) c.args.unit.now.life.state c.args.k c.args.input.now c.copy.result c.accept.result c.in-Err.error c.in-Err.is c.copy.ensures c.accept.ensures.exact c.accept.ensures.quiet
 
 pub returns-in-Ok-clause-last : goal.returns-in-Ok-clause-last
 returns-in-Ok-clause-last g c = λ earlier durable accepted honest opened ahead last.

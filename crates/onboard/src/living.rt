@@ -59,10 +59,10 @@ pub fn live_into<D: Disk, S: ReleaseSink>(
         (found : List Event) × (power_up_word : Cold) × (released : List Released) × S.Gave sink.old released sink.new
         × (it : Lives durable accepted found cold power_up_word steps.now (D.state disk) (D.state result.0) [] released)
         × IsDone (PowerUp power_up_word ∷ found) steps.now
-            (OnlyOpens durable accepted found power_up_word (D.state disk) (D.state result.0)) result.1 it.steps_taken
-            it.durable_at_end it.accepted_at_end it.released
+        (OnlyOpens durable accepted found power_up_word (D.state disk) (D.state result.0)) result.1 it.steps_taken
+        it.durable_at_end it.accepted_at_end it.released
         × IsUnflushed (IsOfLife (D.state disk).sectors durable accepted found power_up_word) steps.now result.1
-            it.durable_at_end (D.state disk) (D.state result.0)
+        it.durable_at_end (D.state disk) (D.state result.0)
         × LeavesLast found power_up_word steps.now result.1 (D.state result.0) }
 {
     match Onboard::open(alloc, disk, cold) {
@@ -109,12 +109,12 @@ pub fn live<D: Disk>(
         IsReady durable accepted (D.state disk) →
         (found : List Event) × (power_up_word : Cold)
         × (it : Lives durable accepted found cold power_up_word steps.now (D.state disk) (D.state result.0)
-            out.old.items out.new.items)
+        out.old.items out.new.items)
         × IsDone (PowerUp power_up_word ∷ found) steps.now
-            (OnlyOpens durable accepted found power_up_word (D.state disk) (D.state result.0)) result.1 it.steps_taken
-            it.durable_at_end it.accepted_at_end it.released
+        (OnlyOpens durable accepted found power_up_word (D.state disk) (D.state result.0)) result.1 it.steps_taken
+        it.durable_at_end it.accepted_at_end it.released
         × IsUnflushed (IsOfLife (D.state disk).sectors durable accepted found power_up_word) steps.now result.1
-            it.durable_at_end (D.state disk) (D.state result.0)
+        it.durable_at_end (D.state disk) (D.state result.0)
         × LeavesLast found power_up_word steps.now result.1 (D.state result.0) }
 {
     live_into(alloc, disk, cold, steps, out)

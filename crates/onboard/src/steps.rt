@@ -32,19 +32,19 @@ fn flush_into<D: Disk, S: ReleaseSink>(
         IsOpen unit.old.journal (account_of durable) (D.state unit.old.disk) → IsAhead durable accepted unit.old.life →
         IsStepped a_step.Flush durable accepted (D.state unit.old.disk) (D.state unit.new.disk)
         × OnOk result (IsOpen unit.new.journal (account_of accepted) (D.state unit.new.disk)
-            × IsAhead accepted accepted unit.new.life) }
+        × IsAhead accepted accepted unit.new.life) }
     ensures last { (earlier durable accepted : List Event) → IsTrue (D.state unit.old.disk).honest →
         IsOpen unit.old.journal (account_of durable) (D.state unit.old.disk) → IsAhead durable accepted unit.old.life →
         IsLastWritten (D.state unit.old.disk).sectors earlier durable (contents_of (D.state unit.old.disk)) →
         OnOk result (IsLastWritten (D.state unit.new.disk).sectors (earlier_one earlier durable accepted a_step.Flush)
-            accepted (contents_of (D.state unit.new.disk))) }
+        accepted (contents_of (D.state unit.new.disk))) }
     ensures released { OnOk result (S.Gave sink.old unit.old.life.pairs sink.new) }
     ensures nothing { OnErr result (S.Gave sink.old [] sink.new) }
     ensures full { IfErr result (λ e. IsTrue (is_full e) → (S.room sink.new < most_pending) × (unit.new ≡ unit.old)) }
     ensures named { IfErr result (λ e. step_of e ≡ Some k) }
     ensures stood { OnOk result (Stands (progress_of unit.old.journal unit.old.life) a_step.Flush
         × (progress_of unit.new.journal unit.new.life
-            ≡ go_on (progress_of unit.old.journal unit.old.life) a_step.Flush)) }
+        ≡ go_on (progress_of unit.old.journal unit.old.life) a_step.Flush)) }
     ensures stopped { IfErr result (StopsAt (progress_of unit.old.journal unit.old.life) k a_step.Flush) }
 {
     if sink.make_room().is_err() {
@@ -76,13 +76,13 @@ fn accept_one<D: Disk>(
         IsOpen unit.old.journal (account_of durable) (D.state unit.old.disk) → IsAhead durable accepted unit.old.life →
         IsLastWritten (D.state unit.old.disk).sectors earlier durable (contents_of (D.state unit.old.disk)) →
         OnOk result (IsLastWritten (D.state unit.new.disk).sectors
-            (earlier_one earlier durable accepted (a_step.Accept input.now)) durable
-            (contents_of (D.state unit.new.disk))) }
+        (earlier_one earlier durable accepted (a_step.Accept input.now)) durable
+        (contents_of (D.state unit.new.disk))) }
     ensures roomy { IfErr result (λ e. is_full e ≡ false) }
     ensures named { IfErr result (λ e. step_of e ≡ Some k) }
     ensures stood { OnOk result (Stands (progress_of unit.old.journal unit.old.life) (a_step.Accept input.now)
         × (progress_of unit.new.journal unit.new.life
-            ≡ go_on (progress_of unit.old.journal unit.old.life) (a_step.Accept input.now))) }
+        ≡ go_on (progress_of unit.old.journal unit.old.life) (a_step.Accept input.now))) }
     ensures stopped { IfErr result (StopsAt (progress_of unit.old.journal unit.old.life) k (a_step.Accept input.now)) }
 {
     match unit.accept(alloc, input.copy()) {
@@ -103,12 +103,12 @@ fn take<D: Disk, S: ReleaseSink>(
         IsOpen unit.old.journal (account_of durable) (D.state unit.old.disk) → IsAhead durable accepted unit.old.life →
         IsStepped step.now durable accepted (D.state unit.old.disk) (D.state unit.new.disk)
         × OnOk result ((released : List Released) × S.Gave sink.old released sink.new
-            × Took durable accepted step.now unit.new.journal unit.new.life (D.state unit.new.disk) released) }
+        × Took durable accepted step.now unit.new.journal unit.new.life (D.state unit.new.disk) released) }
     ensures last { (earlier durable accepted : List Event) → IsTrue (D.state unit.old.disk).honest →
         IsOpen unit.old.journal (account_of durable) (D.state unit.old.disk) → IsAhead durable accepted unit.old.life →
         IsLastWritten (D.state unit.old.disk).sectors earlier durable (contents_of (D.state unit.old.disk)) →
         OnOk result (IsLastWritten (D.state unit.new.disk).sectors (earlier_one earlier durable accepted step.now)
-            (flush_one durable accepted step.now) (contents_of (D.state unit.new.disk))) }
+        (flush_one durable accepted step.now) (contents_of (D.state unit.new.disk))) }
     ensures nothing { OnErr result (S.Gave sink.old [] sink.new) }
     ensures full { IfErr result (λ e. IsTrue (is_full e) → (S.room sink.new < most_pending) × (unit.new ≡ unit.old)) }
     ensures named { IfErr result (λ e. step_of e ≡ Some k) }
@@ -146,12 +146,12 @@ pub fn run_into<D: Disk, S: ReleaseSink>(
         × (it : Ran initial steps.now (D.state unit.old.disk) (D.state unit.new.disk) [] released)
         × IsDone initial steps.now ⊥ result it.steps_taken it.durable_at_end it.accepted_at_end it.released
         × IsUnflushed (IsOfRun (D.state unit.old.disk).sectors initial) steps.now result it.durable_at_end
-            (D.state unit.old.disk) (D.state unit.new.disk) }
+        (D.state unit.old.disk) (D.state unit.new.disk) }
     ensures last { (earlier initial : List Event) → IsTrue (D.state unit.old.disk).honest →
         IsOpen unit.old.journal (account_of initial) (D.state unit.old.disk) → IsAhead initial initial unit.old.life →
         IsLastWritten (D.state unit.old.disk).sectors earlier initial (contents_of (D.state unit.old.disk)) →
         OnOk result (IsLastWritten (D.state unit.new.disk).sectors (earlier_by earlier initial initial steps.now)
-            (durable_by initial steps.now) (contents_of (D.state unit.new.disk))) }
+        (durable_by initial steps.now) (contents_of (D.state unit.new.disk))) }
 {
     for k in 0..steps.len() {
         match take(alloc, unit, k, &steps[k], sink) {
@@ -177,12 +177,12 @@ pub fn run<D: Disk>(
         (it : Ran initial steps.now (D.state unit.old.disk) (D.state unit.new.disk) out.old.items out.new.items)
         × IsDone initial steps.now ⊥ result it.steps_taken it.durable_at_end it.accepted_at_end it.released
         × IsUnflushed (IsOfRun (D.state unit.old.disk).sectors initial) steps.now result it.durable_at_end
-            (D.state unit.old.disk) (D.state unit.new.disk) }
+        (D.state unit.old.disk) (D.state unit.new.disk) }
     ensures last { (earlier initial : List Event) → IsTrue (D.state unit.old.disk).honest →
         IsOpen unit.old.journal (account_of initial) (D.state unit.old.disk) → IsAhead initial initial unit.old.life →
         IsLastWritten (D.state unit.old.disk).sectors earlier initial (contents_of (D.state unit.old.disk)) →
         OnOk result (IsLastWritten (D.state unit.new.disk).sectors (earlier_by earlier initial initial steps.now)
-            (durable_by initial steps.now) (contents_of (D.state unit.new.disk))) }
+        (durable_by initial steps.now) (contents_of (D.state unit.new.disk))) }
 {
     run_into(alloc, unit, steps, out)
 }

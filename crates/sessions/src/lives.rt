@@ -31,7 +31,7 @@ pub fn run_life<D: Disk, W: Write>(
     ensures session { (durable accepted : List Event) → IsTrue (D.state disk).honest →
         IsReady durable accepted (D.state disk) →
         Session durable accepted cold steps.now (D.state disk) (D.state result.0) (W.contents out) (W.contents result.1)
-            result.2 }
+        result.2 }
 {
     let mut printer = Printer { out, told: Ok(()) };
     let (disk, ended) = live_into(alloc, disk, cold, steps, &mut printer);

@@ -1,8 +1,8 @@
 #!/bin/sh
 # Prints the instructions of a commit of eight records over a disk in memory: by crates/journal, called by crates/test_journal, and by plain
 # Rust that makes the same calls (bench/plain_journal.rs); then how much of that the disk's reads take. What callgrind counts within the
-# commits for 24 of them less what it counts for 12, by 12: all on slots that are used again. Then the answer of Journal::open on so many
-# slots without blocks, with its calls, and its seconds beside those of making the disk alone. Then the blocks that are put into a new
+# commits for 24 of them less what it counts for 12, by 12: all on slots that are used again. Then the calls of Journal::open on so many
+# slots without blocks, and its seconds beside those of making the disk alone. Then the blocks that are put into a new
 # image a second, with the syncs of each: by `etcs run`, a moment of the clock and a flush each, and by plain Rust. The program must be
 # there (./etcs --prove). Builds all else first; what the builds have to say goes to standard error.
 #
@@ -12,9 +12,9 @@ top=$(cd "$(dirname "$0")/.." && pwd)
 out=$top/bench/out
 slots=${*:-1024 4096 16384}
 mkdir -p "$out"
-(cd "$top/crates/test_journal" && rt run <stdin) >"$out/rows"
-cmp "$out/rows" "$top/crates/test_journal/stdout" >&2
 program=$top/crates/test_journal/out/test_journal
+(cd "$top/crates/test_journal" && rt run) </dev/null >&2
+python3 "$top/tests/rows/test_journal.py" "$program" >&2
 rustc -O -C target-cpu=x86-64-v2 -g "$top/bench/plain_journal.rs" -o "$out/plain_journal" >&2
 cd "$out"
 
@@ -26,9 +26,9 @@ collected() {
         --toggle-collect="$within" "$@" 2>&1 >/dev/null | sed -n 's/^==[0-9]*== Collected : //p'
 }
 
-# proved FUNCTION COMMITS
+# proved FUNCTION COMMITS: a disk of 25 sectors, a format of 4 slots, an opening, and so many commits of 8 records
 proved() {
-    printf 'disk 25\nformat 4\nopen\ncommits %d 8\n' "$2" >rows
+    printf '0 0 25\n1 0 4\n1 1\n1 3 %d 8\n' "$2" >rows
     collected "$1" "$program" <rows
 }
 
@@ -48,12 +48,14 @@ milliseconds() {
     echo $((($(date +%s%N) - start) / 1000000))
 }
 
+# The first sector is written by hand: its mark, version 2, and the number of slots.
 for count in $slots; do
-    printf 'disk %d\npatch 0 0:455443534a52553100000002%08x\n' $((1 + 6 * count)) "$count" >rows
+    printf '0 0 %d\n0 7 0 0 16 %d %d\n' $((1 + 6 * count)) $((0x455443534a525531)) $((0x200000000 + count)) >rows
     made=$(milliseconds "$program" <rows)
-    echo open >>rows
+    echo 1 1 >>rows
     all=$(milliseconds "$program" <rows)
-    printf '%d slots: %s, %d ms, of which %d make the disk\n' "$count" "$(tail -n 1 answers)" "$all" "$made"
+    calls=$(tail -n 1 answers | awk '$1 == 0 && NF == 14 { print $12 }')
+    printf '%d slots: opened by %d calls, %d ms, of which %d make the disk\n' "$count" "$calls" "$all" "$made"
 done
 
 blocks=2000

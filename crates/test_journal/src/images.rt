@@ -1,10 +1,10 @@
-//! Images made by hand.
-ghost use Rattle.std.specs.Prelude.{◌<◌, IfSome};
+//! Images made by hand, and the slots of one.
+ghost use Rattle.std.specs.Prelude.{◌+◌, ◌<◌, ◌≤◌, IfSome};
 
 use crate::batches::{batch, kept_of};
 use blocks::{Format, valid_number, write_block_in};
 use disk::{Disk, Memory, SECTOR_BYTES};
-use std::alloc::Global;
+use number_rows::Numbers;
 
 // How many slots a disk has room for.
 fn slots_of(disk: &Memory) -> Option<u32>
@@ -15,7 +15,28 @@ fn slots_of(disk: &Memory) -> Option<u32>
 }
 
 /// Writes a block, gate and all, into its slot. None where there is no such block.
-pub fn make(disk: &mut Memory, format: Format, number: u64, events: u64, count: u8) -> Option<()> {
+pub fn make(disk: &mut Memory, asked: &Numbers) -> Option<()> {
+    let format = format_of(asked.at(2))?;
+    let count = u8::try_from(asked.at(5)).ok()?;
+    make_block(disk, format, asked.at(3), asked.at(4), count)
+}
+
+fn format_of(number: u64) -> Option<Format> {
+    match number {
+        1 => Some(Format::One),
+        2 => Some(Format::Two),
+        3 => Some(Format::Three),
+        _ => None,
+    }
+}
+
+fn make_block(
+    disk: &mut Memory,
+    format: Format,
+    number: u64,
+    events: u64,
+    count: u8,
+) -> Option<()> {
     let slots = slots_of(disk)?;
     if number < 1 || number > 1 << 40 || events < number || events > 16 * number {
         return None;
@@ -34,38 +55,49 @@ pub fn make(disk: &mut Memory, format: Format, number: u64, events: u64, count: 
     disk::put(disk, first, &bytes).ok()
 }
 
-/// Writes bytes, OFFSET:HEX, into a sector. None where they reach past it.
-pub fn patch(alloc: Global, disk: &mut Memory, sector: u64, text: &str) -> Option<()> {
-    let (offset, digits) = text.split_once(':')?;
-    let part = hex::decode(alloc, digits).ok()?;
-    patch_sector(disk, sector, offset, part.as_slice())
-}
+// Where the bytes of a row begin.
+const BYTES: usize = 5;
 
-fn patch_sector(disk: &mut Memory, sector: u64, offset: &str, part: &[u8]) -> Option<()> {
-    let at = offset.parse::<usize>().ok()?;
-    if at > SECTOR_BYTES || part.len() > SECTOR_BYTES - at {
+/// Writes the bytes of a row into a sector. None where they reach past it.
+pub fn patch(disk: &mut Memory, asked: &Numbers) -> Option<()> {
+    let offset = asked.at(3) as usize;
+    let size = asked.at(4) as usize;
+    if offset > SECTOR_BYTES || size > SECTOR_BYTES - offset {
         return None;
     }
-    let mut bytes = [0; SECTOR_BYTES];
+    let sector = asked.at(2);
     if !disk.are_sectors(sector, SECTOR_BYTES) {
         return None;
     }
+    let mut bytes = [0; SECTOR_BYTES];
     disk.read(sector, &mut bytes).ok()?;
-    let end = at + part.len();
-    bytes[at..end].copy_from_slice(part);
+    overwrite(&mut bytes, asked, offset, size);
     disk::put(disk, sector, &bytes).ok()
 }
 
-/// The number of the block in each slot, 0 where it isn't valid. None where the disk fails.
-pub fn numbers(alloc: Global, disk: &mut Memory) -> Option<Vec<u64>> {
-    let slots = slots_of(disk)?;
-    let mut numbers = Vec::new(alloc);
-    for slot in 0..slots {
-        numbers.push(number_at(disk, slot, slots)?).ok()?;
+fn overwrite(bytes: &mut [u8; 512], asked: &Numbers, offset: usize, size: usize)
+    requires { offset + size ≤ 512 }
+{
+    for index in 0..size {
+        bytes[offset + index] = asked.at(BYTES + index / 8).to_be_bytes()[index % 8];
     }
-    Some(numbers)
 }
 
+/// Tells how many slots there are, and of each the number of its block.
+pub fn tell_slots(disk: &mut Memory, told: &mut Numbers) {
+    let Some(slots) = slots_of(disk) else {
+        return told.tell(0);
+    };
+    told.tell(u64::from(slots));
+    for slot in 0..slots {
+        match number_at(disk, slot, slots) {
+            Some(number) => told.tell_all(&[1, number]),
+            None => told.tell_all(&[0, 0]),
+        }
+    }
+}
+
+// The number of the block in a slot, 0 where it isn't valid. None where it can't be read.
 fn number_at(disk: &mut Memory, slot: u32, slots: u32) -> Option<u64>
     requires { slot < slots }
 {

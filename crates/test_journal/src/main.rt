@@ -1,76 +1,65 @@
-//! Rows of the journal over a disk in memory. Each line of the input is one row. The rows are done in turn, and each is printed again with
-//! what comes of it. An empty line begins with a disk of no sectors.
+//! The journal over a disk in memory, asked and told in numbers. The rows are done in turn, each on what those before
+//! it left. What befalls the disk is told by 1, or by 0 where it can't be done: there is no memory, or no such block or
+//! sector.
 //!
-//!     # a comment
-//!     disk 25                   a disk of so many sectors, all zeros
-//!     format 4                  makes an empty journal of so many slots
-//!     open                      opens the journal
-//!     commit 2 7                commits so many records, and as what is kept so many lives
-//!     commits 1000 1            so many commits of so many records each, up to the first that is refused
-//!     block 3                   reads a block
-//!     retained                  reads each block of the run
-//!     slots                     the number of the block in each slot, 0 where it isn't valid
-//!     fail 2                    of the calls from here on the one of this number, counted from 0, fails once
-//!     cut 2                     .. loses power
-//!     settle old new ff zeros   what is found after a cut: what each open sector holds, in rising order; the last synced bytes beyond the list
-//!     keep                      the disk as it is settled now is what `again` goes back to
-//!     again                     a disk as that one, on which nothing was called
-//!     make 1 5 9 2              writes a block by hand: its format, its number, how many events are kept, and its records
-//!     patch 2 28:09             writes these bytes into a sector, from an offset on
-//!     list                      lists the journal, and prints the lines
-//!     list 40 room              .. to a writer that has room for so many bytes
-//!     list 40 memory            .. to one that is refused memory behind so many bytes
+//!     0 0 SECTORS                        a disk of so many sectors, all zeros, and no journal
+//!     0 1                                the disk as it is settled now is what `0 2` goes back to
+//!     0 2                                a disk as that one, on which nothing was called
+//!     0 3 CALL                           the call of this number from here on, counted from 0, fails once
+//!     0 4 CALL                           .. loses power
+//!     0 5 COUNT CHOICE ..                what is found after a cut: 0 old, 1 new, N + 2 the byte N, for each open
+//!                                        sector in rising order
+//!     0 6 FORMAT NUMBER EVENTS COUNT     writes a block by hand: its format and its number, how many events are kept,
+//!                                        and how many records it has
+//!     0 7 SECTOR OFFSET SIZE BYTES       writes so many bytes into a sector, eight to a number, the first the highest
 //!
-//! An answer ends with how many calls of the disk were made, and, where the count of its faults went up, with that.
+//! Calls of the journal, and its listing. Each is told by what stands in `calls.rt` and `pages.rt`, and behind it three
+//! numbers: how many calls of the disk were made, and its count of faults before and now.
+//!
+//!     1 0 SLOTS                          makes an empty journal
+//!     1 1                                opens the journal
+//!     1 2 COUNT LIVES                    commits so many records, and as what is kept so many lives
+//!     1 3 TIMES COUNT                    so many commits of so many records each, up to the first that is refused
+//!     1 4 NUMBER                         reads a block
+//!     1 5                                reads each block of the run
+//!     1 6 ROOM REFUSAL                   lists the journal to a writer that has room for so many bytes, and behind
+//!                                        these says that there is no room (0), or no memory (1)
+//!
+//! The slots, of which two sectors each are read:
+//!
+//!     2                                  for how many the disk has room, and of each 1 and the number of its block, 0
+//!                                        where it isn't valid; 0 and 0 where it can't be read
+//!
+//! A row that is none of these gets no answer.
 #![tactic(auto)]
 
 mod batches;
+mod befalling;
+mod calls;
 mod images;
 mod pages;
-mod questions;
-mod rows;
 mod session;
-mod telling;
 
-use crate::rows::read_row;
 use crate::session::Session;
-use crate::telling::answer;
+use number_rows::{Answers, Numbers, run};
 use std::alloc::Global;
 use std::io;
 use std::io::ErrorKind;
 
+impl Answers for Session {
+    fn answer(&mut self, alloc: Global, asked: &Numbers, told: &mut Numbers) {
+        match asked.at(0) {
+            0 => told.tell(u64::from(befalling::befall(self, alloc, asked))),
+            1 => calls::answer(self, alloc, asked, told),
+            2 => images::tell_slots(&mut self.disk, told),
+            _ => {}
+        }
+    }
+}
+
 fn main(rt: HostRuntime) -> io::Result<()> {
-    let alloc = rt.alloc();
-    let Ok(mut session) = Session::new(alloc, 0) else {
+    let Ok(mut session) = Session::new(rt.alloc(), 0) else {
         return Err(io::Error::from(ErrorKind::OutOfMemory));
     };
-    for line in rt.lines(alloc) {
-        let line = line?;
-        tell_line(&rt, alloc, &mut session, line.as_str())?;
-    }
-    Ok(())
-}
-
-// Prints a line again, with what comes of it.
-fn tell_line(rt: &impl Print, alloc: Global, session: &mut Session, line: &str) -> io::Result<()> {
-    let words: Vec<&str> = line.split_whitespace().collect(alloc)?;
-    print!(rt; "{line}")?;
-    tell_words(rt, alloc, session, words.as_slice())?;
-    println!(rt; "")
-}
-
-fn tell_words(
-    rt: &impl Print,
-    alloc: Global,
-    session: &mut Session,
-    words: &[&str],
-) -> io::Result<()> {
-    match words.first() {
-        None => telling::tell_done(rt, session.start(alloc, 0)),
-        Some(&"#") => Ok(()),
-        Some(_) => match read_row(words) {
-            Some(row) => answer(rt, alloc, session, row),
-            None => print!(rt; ": no row"),
-        },
-    }
+    run(&rt, &mut session)
 }

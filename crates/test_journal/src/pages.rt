@@ -1,6 +1,8 @@
-//! The listing of a disk.
+//! The listing of a disk. It is told by 0, or by the number of the refusal in docs/REFUSALS.md. Behind 0 come how many
+//! bytes were written, and these, eight to a number, the first the highest. An answer has room for 4,056 of them; of
+//! a longer page it ends before the count of calls, so that the row differs.
 use crate::session::Session;
-use crate::telling::{Calls, tell_calls};
+use number_rows::Numbers;
 use reader::{ListingError, listing};
 use std::alloc::Global;
 use std::io;
@@ -8,7 +10,7 @@ use std::io::{ErrorKind, Write};
 
 /// What a writer refuses behind its last byte.
 #[derive(Clone, Copy)]
-pub enum Refusal {
+enum Refusal {
     /// There is no more room.
     Room,
     /// Memory is refused.
@@ -55,40 +57,54 @@ impl Write for Page {
     }
 }
 
-fn word(done: Result<(), ListingError>) -> &'static str {
-    match done {
-        Ok(()) => "listed",
-        Err(ListingError::DeviceFault) => "30 DeviceFault",
-        Err(ListingError::NotFormatted) => "31 NotFormatted",
-        Err(ListingError::Damaged) => "32 Damaged",
-        Err(ListingError::Write) => "33 Write",
-        Err(ListingError::NoMemory) => "34 NoMemory",
-    }
-}
-
-/// Lists the journal to a writer with room for so many bytes, and prints the lines behind the answer, where all were
+/// Lists the journal to a writer with room for so many bytes, and tells the bytes behind the answer, where all were
 /// written.
-pub fn tell_listing(
-    rt: &impl Print,
-    alloc: Global,
-    session: &mut Session,
-    room: usize,
-    refusal: Refusal,
-    before: Calls,
-) -> io::Result<()> {
-    let mut page = Page::new(alloc, room, refusal);
-    let done = listing(&mut session.disk, &mut page);
-    print!(rt; ": {}", word(done))?;
-    tell_calls(rt, session, before)?;
-    tell_lines(rt, done.is_ok(), page.bytes.as_slice())
+pub fn tell_listing(session: &mut Session, alloc: Global, asked: &Numbers, told: &mut Numbers) {
+    let mut page = Page::new(alloc, asked.at(2) as usize, refusal_of(asked.at(3)));
+    let done = of_listing(listing(&mut session.disk, &mut page));
+    told.tell(done);
+    if done == 0 {
+        tell_bytes(told, page.bytes.as_slice());
+    }
 }
 
-fn tell_lines(rt: &impl Print, all: bool, bytes: &[u8]) -> io::Result<()> {
-    if !all {
-        return Ok(());
+fn refusal_of(number: u64) -> Refusal {
+    if number == 0 {
+        Refusal::Room
+    } else {
+        Refusal::Memory
     }
-    for line in str::from_utf8(bytes).unwrap_or("no text").lines() {
-        print!(rt; "\n{line}")?;
+}
+
+fn of_listing(done: Result<(), ListingError>) -> u64 {
+    match done {
+        Ok(()) => 0,
+        Err(ListingError::DeviceFault) => 30,
+        Err(ListingError::NotFormatted) => 31,
+        Err(ListingError::Damaged) => 32,
+        Err(ListingError::Write) => 33,
+        Err(ListingError::NoMemory) => 34,
     }
-    Ok(())
+}
+
+fn tell_bytes(told: &mut Numbers, bytes: &[u8]) {
+    told.tell(bytes.len() as u64);
+    for first in 0..bytes.len().div_ceil(8) {
+        told.tell(eight_at(bytes, first.saturating_mul(8)));
+    }
+}
+
+fn eight_at(bytes: &[u8], first: usize) -> u64 {
+    let mut eight = [0; 8];
+    for offset in 0..8 {
+        eight[offset] = byte_at(bytes, first.saturating_add(offset));
+    }
+    u64::from_be_bytes(eight)
+}
+
+fn byte_at(bytes: &[u8], offset: usize) -> u8 {
+    match bytes.get(offset) {
+        Some(byte) => *byte,
+        None => 0,
+    }
 }

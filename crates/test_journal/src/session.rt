@@ -1,7 +1,7 @@
 //! A disk, and the journal that was opened on it.
 use crate::batches::{batch, kept_of};
 use blocks::Block;
-use disk::{Choice, Disk, Memory, Plan, SECTOR_BYTES};
+use disk::{Choice, Disk, Memory};
 use journal::{BlockError, BlockRun, CommitError, FormatError, Found, Journal, OpenError};
 use std::alloc::Global;
 use units::NoMemory;
@@ -14,7 +14,7 @@ const CALLS: u64 = 8_192;
 pub struct Session {
     /// The disk.
     pub disk: Memory,
-    /// What `again` goes back to.
+    /// The disk that was remembered.
     kept: Memory,
     /// The journal, while it is open.
     pub journal: Option<Journal>,
@@ -49,19 +49,11 @@ impl Session {
         Ok(())
     }
 
-    /// Plans what is to go wrong.
-    pub fn plan(&mut self, plan: Plan) {
-        self.disk.plan(plan);
-    }
-
-    /// The power comes back; what the words say stands in the open sectors. False where a word says nothing.
-    pub fn settle(&mut self, alloc: Global, words: &[&str]) -> Result<bool, NoMemory> {
-        let Some(choices) = choices(alloc, words)? else {
-            return Ok(false);
-        };
-        self.disk = self.disk.settle(alloc, choices.as_slice())?;
+    /// The power comes back: the open sectors hold what is chosen, and no journal is open.
+    pub fn settle(&mut self, alloc: Global, choices: &[Choice]) -> Result<(), NoMemory> {
+        self.disk = self.disk.settle(alloc, choices)?;
         self.journal = None;
-        Ok(true)
+        Ok(())
     }
 
     /// Makes an empty journal of so many slots.
@@ -109,27 +101,5 @@ impl Session {
     pub fn run(&self) -> Option<BlockRun> {
         let journal = self.journal.as_ref()?;
         Some(journal.blocks())
-    }
-}
-
-// What the words say of the open sectors. None where one says nothing.
-fn choices(alloc: Global, words: &[&str]) -> Result<Option<Vec<Choice>>, NoMemory> {
-    let mut choices = Vec::new(alloc);
-    for word in words {
-        let Some(choice) = choice_of(word) else {
-            return Ok(None);
-        };
-        choices.push(choice)?;
-    }
-    Ok(Some(choices))
-}
-
-fn choice_of(word: &str) -> Option<Choice> {
-    match word {
-        "old" => Some(Choice::Old),
-        "new" => Some(Choice::New),
-        "ff" => Some(Choice::Given([0xFF; SECTOR_BYTES])),
-        "zeros" => Some(Choice::Given([0; SECTOR_BYTES])),
-        _ => None,
     }
 }

@@ -26,4 +26,5 @@ rows() {
 rows test_decode 291 etcs
 rows test_disk 353
 rows test_blocks 741
+rows test_onboard 34585
 exit $status

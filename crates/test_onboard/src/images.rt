@@ -66,11 +66,12 @@ pub fn put_slot(device: &mut Device, asked: &Numbers) -> Option<()> {
 pub fn flip(device: &mut Device, asked: &Numbers) -> Option<()> {
     let mut bytes = [0; SECTOR_BYTES];
     let (sector, offset) = (asked.at(1), asked.at(2) as usize);
+    let mask = byte(asked.at(3))?;
     if offset >= SECTOR_BYTES {
         return None;
     }
     read(device, sector, &mut bytes)?;
-    bytes[offset] ^= byte(asked.at(3))?;
+    bytes[offset] ^= mask;
     put(device, sector, &bytes)
 }
 
@@ -79,7 +80,8 @@ pub fn choices(alloc: Global, memory: Memory, asked: &Numbers) -> Option<Vec<Cho
     let mut memory = memory;
     let mut choices = Vec::new(alloc);
     for index in 1..asked.len() {
-        choices.push(choice(&mut memory, asked.at(index))?).ok()?;
+        let left = choice(&mut memory, asked.at(index))?;
+        choices.push(left).ok()?;
     }
     Some(choices)
 }

@@ -45,7 +45,8 @@ pub fn packed(bytes: &[u8], offset: usize) -> u64 {
     u64::from_be_bytes(part)
 }
 
-fn byte_of(bytes: &[u8], index: usize) -> u8 {
+/// The byte of an index; 0 behind the last one.
+pub fn byte_of(bytes: &[u8], index: usize) -> u8 {
     match bytes.get(index) {
         Some(byte) => *byte,
         None => 0,

@@ -12,7 +12,7 @@ use crate::calls::found;
 use crate::digest::Digest;
 use crate::images::{SLOT_BYTES, slot_at};
 use crate::keeping::tell_kept;
-use crate::packing::tell_bytes;
+use crate::packing::{byte_of, tell_bytes};
 use crate::releases::{brake_number, level_number};
 use crate::session::Session;
 use blocks::{Block, BlockRecord, Format, Situation, read_block};
@@ -104,6 +104,7 @@ fn show_block(journal: &Journal, memory: &mut Memory, index: u64, told: &mut Num
     }
 }
 
+// The records behind each other: so many bytes each, of which some stand before those of the event.
 fn tell_block(bytes: &[u8; SLOT_BYTES], told: &mut Numbers) {
     let mut block = Block::blank();
     if read_block(bytes, &mut block).is_err() {
@@ -111,23 +112,18 @@ fn tell_block(bytes: &[u8; SLOT_BYTES], told: &mut Numbers) {
     }
     let records = block.records.as_slice();
     told.tell_all(&[0, block.number, records.len() as u64]);
-    let (width, before) = sizes(block.format);
+    let (width, before) = match block.format {
+        Format::One => (128, 24),
+        Format::Two | Format::Three => (256, 48),
+    };
     for (record, bytes) in records.iter().zip(bytes[1_024..].chunks(width)) {
         tell_record(told, record, bytes, before);
     }
 }
 
-// How many bytes a record has, and how many of them stand before those of the event.
-fn sizes(format: Format) -> (usize, usize) {
-    match format {
-        Format::One => (128, 24),
-        Format::Two | Format::Three => (256, 48),
-    }
-}
-
 fn tell_record(told: &mut Numbers, record: &BlockRecord, bytes: &[u8], before: usize) {
     told.tell_all(&front(record));
-    tell_bytes(told, payload(bytes, before));
+    tell_payload(told, bytes, before);
     told.tell_all(&situation(&record.situation));
 }
 
@@ -153,14 +149,11 @@ fn kind(event: &Event) -> u64 {
 }
 
 // The bytes of the event, whose number stands in the fourth byte of a record.
-fn payload(bytes: &[u8], before: usize) -> &[u8] {
-    let size = match bytes.get(3) {
-        Some(size) => usize::from(*size),
-        None => 0,
-    };
+fn tell_payload(told: &mut Numbers, bytes: &[u8], before: usize) {
+    let size = usize::from(byte_of(bytes, 3));
     match bytes.get(before..before.saturating_add(size)) {
-        Some(payload) => payload,
-        None => &[],
+        Some(payload) => tell_bytes(told, payload),
+        None => told.tell(0),
     }
 }
 

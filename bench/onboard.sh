@@ -3,7 +3,7 @@
 # `Onboard::accept` and within an eighth of `Onboard::flush`, and how often memory is asked for in an accept. What callgrind counts for
 # 48 batches less what it counts for 24, by their events: all on slots that are used again. Beside them an eighth of a commit in plain Rust,
 # which makes the same calls of the disk (bench/plain_journal.rs). Then the events a second of `live` in memory, with the printing of the
-# released pairs; and those of `etcs run` and of plain Rust over a file, with the syncs of each batch. The program must be there
+# first 84 released pairs; and those of `etcs run` and of plain Rust over a file, with the syncs of each batch. The program must be there
 # (./etcs --prove). Builds all else first; what the builds have to say goes to standard error.
 #
 #     bench/onboard.sh [BATCHES]
@@ -12,17 +12,22 @@ top=$(cd "$(dirname "$0")/.." && pwd)
 out=$top/bench/out
 batches=${1:-10000}
 mkdir -p "$out"
-(cd "$top/crates/test_onboard" && rt run <stdin) >"$out/rows"
-cmp "$out/rows" "$top/crates/test_onboard/stdout" >&2
+(cd "$top/crates/test_onboard" && rt run </dev/null) >&2
 program=$top/crates/test_onboard/out/test_onboard
+python3 "$top/tests/rows/test_onboard.py" "$program" >&2
 rustc -O -C target-cpu=x86-64-v2 -g "$top/bench/plain_journal.rs" -o "$out/plain_journal" >&2
 cd "$out"
 
 # The start of a life in Full Supervision, on a track of one gradient and one speed.
 start='hear 90007F802001432024A8007FE007D002B00D900010000DC03A400020801FE0; enter-identity A; choose-level 1; enter-train-data 20000 160000 70 0 15; start; flush'
 
-# life START INPUT BATCHES [RUN]: a row
+# life START INPUT BATCHES [RUN]: the rows of a life, in numbers
 life() {
+    said "$@" | python3 "$top/tests/rows/onboard_words.py"
+}
+
+# said START INPUT BATCHES [RUN]: its commands
+said() {
     awk -v start="$1" -v input="$2" -v batches="$3" -v run="$4" 'BEGIN {
         printf "format 4; live unknown; %s", start
         for (i = 0; i < batches; i++) { for (j = 0; j < 8; j++) printf "; %s", input; printf "; flush" }
@@ -78,7 +83,8 @@ milliseconds() {
 
 # 200 lives of 70 batches, and the same with nothing lived
 for run in '; run' ''; do
-    { echo 'group lives'; printf 'for 1 200: '; life "$start" 'move 1' 70 "$run"; echo end; } >rows
+    life "$start" 'move 1' 70 "$run" >one
+    for _ in $(seq 200); do cat one; done >rows
     echo "200 lives of 560 readings, '$run': $(milliseconds "$program" <rows) ms"
 done
 

@@ -27,4 +27,5 @@ rows test_decode 291 etcs
 rows test_disk 353
 rows test_blocks 741
 rows test_journal 1045
+rows test_onboard 34585
 exit $status

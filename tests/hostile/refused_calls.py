@@ -6,7 +6,8 @@ Where `accept` is refused memory it says so and changes nothing: the same input 
 answers are those of an undisturbed run. `open` asks for no memory. A `live` that is refused memory names the step, and has released just
 what its earlier flushes released; an opening behind it finds all of that. Where `step` or `apply` is refused memory, the program tells
 place and kept items, which are those before the event, and hands it in again: all answers are those of an undisturbed run. (`power_up`
-can't refuse.) A program that is refused memory for its own text ends with what it printed so far, or says that it has no such row.
+can't refuse.) A program that is refused memory for itself ends with what it printed so far, or says that it has no such row, that nothing
+was done, or that it has no disk.
 """
 import os
 import re
@@ -17,6 +18,9 @@ from pathlib import Path
 
 from built import AUTHORITY, RESTRICTION, TOP, Failures, built, test_program
 from onboard_lives import RINGS, Made
+
+sys.path.insert(0, str(TOP / "tests/rows"))
+import onboard_words
 
 MOST = 1_000_000
 ENTRIES = ["enter-identity A", "choose-level 1", "enter-train-data 20000 160000 70 0 15", "start"]
@@ -71,13 +75,55 @@ class Calls:
                 yield at, status, answers[len(begin):]
 
 
+class UnitCalls(Calls):
+    """The program of the unit, which is asked in numbers: a line is one or several commands."""
+
+    def ran(self, name, lines, at):
+        """Status and lines of a run, each command with what it was answered, and whether a request was refused. A line that wasn't
+        answered whole is left out."""
+        status, rows, refused = super().ran(name, [row for line in lines for row in rows_of(line)], at)
+        answers, place = [], 0
+        for line in lines:
+            end = place + len(rows_of(line))
+            if end > len(rows):
+                break
+            answers.append(with_answers(line, rows[place:end]))
+            place = end
+        return status, answers, refused
+
+    def requests_of(self, lines, row):
+        """How many requests a run has that asks a row of numbers behind lines."""
+        super().ran("test_onboard", [*(row for line in lines for row in rows_of(line)), row], 0)
+        return int(self.counted.read_text())
+
+
+def commands_of(line):
+    return [said.strip() for said in line.split(";")]
+
+
+def rows_of(line):
+    return [" ".join(map(str, numbers)) for said in commands_of(line) for numbers in onboard_words.questions(said)]
+
+
+def with_answers(line, rows):
+    """A line's commands, each with what it was answered."""
+    told = iter([int(number) for number in row.split()] for row in rows)
+    answers = [(said, onboard_words.answer(said, [next(told) for _ in rows_of(said)])) for said in commands_of(line)]
+    return "; ".join(f"{said}: {answer}" if answer else said for said, answer in answers)
+
+
 def is_beginning(lines, undisturbed):
     return lines == undisturbed[:len(lines)]
 
 
+def is_own(answer):
+    """Whether memory was refused to the program itself, which then did nothing of what it was asked."""
+    return "not done" in answer or "no disk" in answer
+
+
 def opens_without_memory(row, calls, begin, failures):
-    """A power-up, and a line without meaning that is as long as it and as its answer, have as many requests."""
-    counts = [calls.requests("test_onboard", [*begin, line]) for line in ("open unknown", "open-unknown")]
+    """A power-up, and a row that is none and as long as it, have as many requests."""
+    counts = [calls.requests_of(begin, asked) for asked in (*rows_of("open unknown"), "0 0")]
     failures.unless(0 < counts[0] == counts[1], f"{row}: {counts} requests with a power-up and without one")
 
 
@@ -86,7 +132,7 @@ def unit(row, calls, begin, lines, failures):
     accepted, ended = 0, 0
     for at, _, answers in calls.refusals("test_onboard", lines, failures, begin):
         other = [k for k, (one, wanted) in enumerate(zip(answers, undisturbed)) if one != wanted]
-        if not other or answers[other[0]] == f"{lines[other[0]]}: no row":
+        if not other or is_own(answers[other[0]]):
             ended += 1
             failures.unless(other or is_beginning(answers, undisturbed), f"{row}, request {at}: {answers[-1:]}")
             continue
@@ -98,7 +144,7 @@ def unit(row, calls, begin, lines, failures):
         failures.unless(answers[k].endswith("12 NoMemory") and answers[:k] + answers[k + 1:] == undisturbed,
                         f"{row}, request {at}: behind the refusal {[one for one in answers if one not in undisturbed]}")
     failures.unless(accepted, f"{row}: no input was refused memory")
-    print(f"{row}: {accepted} refusals of an input, {ended} of the program's text")
+    print(f"{row}: {accepted} refusals of an input, {ended} of the program's own")
 
 
 def records_in(listing):
@@ -118,7 +164,7 @@ def life(row, calls, begin, lines, failures):
     told = undisturbed[run].partition("released ")[2].split(", ")[1:]
     stopped = 0
     for at, _, answers in calls.refusals("test_onboard", lines, failures, begin):
-        if any(answer.endswith(": no row") for answer in answers):
+        if any(map(is_own, answers)):
             continue
         if len(answers) <= run or answers[run] == undisturbed[run]:
             failures.unless(is_beginning(answers, undisturbed), f"{row}, request {at}: {answers[-1:]}")
@@ -198,11 +244,11 @@ def on_rings(calls, failures):
 def main():
     failures = Failures()
     with tempfile.TemporaryDirectory() as name:
-        calls = Calls(name)
+        calls, of_unit = Calls(name), UnitCalls(name)
         for row, lines in UNIT.items():
-            unit(row, calls, [], lines, failures)
-        life("a life", calls, ["format 4"], LIFE, failures)
-        on_rings(calls, failures)
+            unit(row, of_unit, [], lines, failures)
+        life("a life", of_unit, ["format 4"], LIFE, failures)
+        on_rings(of_unit, failures)
         kernel("the kernel", calls, KERNEL, failures)
         for row in STORIES:
             kernel(f"the kernel, {row}", calls, story(row), failures)

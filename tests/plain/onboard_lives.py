@@ -1,9 +1,9 @@
 #!/usr/bin/env python3
-"""The rows of crates/test_onboard that are made here: old images, cuts and faults at each call, altered bytes, and pseudo-random lives.
+"""The rows of the onboard unit that are made here: old images, cuts and faults at each call, altered bytes, and pseudo-random lives.
 
-    tests/plain/onboard_lives.py            writes them behind the rows worked out by hand, and what the program is to print
-    tests/plain/onboard_lives.py --check    makes both anew; the exit status is 1 where others stand there, or where a row worked
-                                            out by hand wants something else than the plain unit answers
+    tests/plain/onboard_lives.py            writes them behind the rows worked out by hand, with what each command is to answer
+    tests/plain/onboard_lives.py --check    makes all of them anew; the exit status is 1 where others stand there, or where a row
+                                            worked out by hand wants something else than the plain unit answers
 
 As they are made, each cut is held against the table: before the gate is written what is found is what was durable, while it is written
 or not synced that or the same with the whole batch, behind it the latter.
@@ -20,7 +20,7 @@ from onboard import Known
 from onboard_rows import Reader, Session
 from random_lists import Numbers, SUPERVISION, event
 
-FOLDER = Path(__file__).resolve().parents[2] / "crates/test_onboard"
+ROWS = Path(__file__).resolve().parents[1] / "rows/test_onboard.row"
 HEADING = """
 # ==== All that follows is made by tests/plain/onboard_lives.py.
 """
@@ -369,7 +369,7 @@ class World:
         for said in ("blocks", "kept counts", "kept level", "kept position", "kept national", "bytes"):
             say(said)
         self.found()
-        self.made.lines.append("; ".join(said for said, _ in done))
+        self.made.reader.write(done)
         self.made.reader.tell(done)
 
     def accepted(self, known):
@@ -400,14 +400,7 @@ def random_lives(made):
     made.say("end")
 
 
-def main(words):
-    text = (FOLDER / "stdin").read_text()
-    worked, _, written = text.partition(HEADING)
-    made = Made()
-    for line in worked.rstrip("\n").split("\n"):
-        made.reader.take(line)
-    for line in HEADING.rstrip("\n").split("\n"):
-        made.reader.take(line)
+def make(made):
     numbers = Numbers(2_026)
     old_images(made)
     cuts(made, numbers)
@@ -415,15 +408,22 @@ def main(words):
     faults(made)
     altered(made)
     random_lives(made)
+
+
+def main(words):
+    text = ROWS.read_text()
+    made = Made()
+    worked = text.partition(HEADING)[0].rstrip("\n") + "\n" + HEADING
+    for line in worked.rstrip("\n").split("\n"):
+        made.reader.take(line)
+    by_hand = len(made.reader.written)
+    make(made)
     for difference in made.reader.differences:
         print(difference)
-    new = "\n".join(made.lines) + "\n"
-    printed = "\n".join(made.reader.printed) + "\n"
     if words != ["--check"]:
-        (FOLDER / "stdin").write_text(worked.rstrip("\n") + "\n" + HEADING + new)
-        (FOLDER / "stdout").write_text(printed)
+        ROWS.write_text(worked + "\n".join(made.reader.written[by_hand:]) + "\n")
         return 1 if made.reader.differences else 0
-    same = new == written and printed == (FOLDER / "stdout").read_text()
+    same = text == "\n".join(made.reader.written) + "\n"
     print(f"the rows of the onboard unit are {'the same' if same else 'others'}")
     return 0 if same and not made.reader.differences else 1
 

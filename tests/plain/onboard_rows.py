@@ -1,22 +1,14 @@
-"""Rows of the onboard unit, as the program test_onboard reads them: each answer is worked out by the plain unit over the plain disk."""
+"""Rows of the onboard unit (tests/rows/test_onboard.row): each answer is worked out by the plain unit over the plain disk."""
 from functools import lru_cache
-from math import prod
 
 import blocks
 import rows
 from disk import SECTOR_BYTES, Disk
 from journal import BRAKES, KINDS, MODES, Journal, Refused, first_sector, kept_in, read_block
 from onboard import MOST_PENDING, Unit
+from row_lines import Group, combined, digest_of, ranged
 
-MASK = (1 << 64) - 1
 MODE_NAMES = {number: name for name, number in MODES.items()}
-
-
-def digest_of(data, digest=0xCBF29CE484222325):
-    """FNV-1a of 64 bits."""
-    for byte in data:
-        digest = ((digest ^ byte) * 0x100000001B3) & MASK
-    return digest
 
 
 @lru_cache(None)
@@ -195,65 +187,46 @@ class Session:
         return f"{digest_of(b''.join(block_digest(data) for data in self.loaded())):016x}"
 
 
-class Group:
-    def __init__(self, name):
-        self.name, self.lines, self.answers = name, 0, []
-
-    def take(self, answers):
-        self.lines += 1
-        if not self.answers or self.answers[-1] != answers:
-            self.answers.append(answers)
-
-    def text(self):
-        digest = digest_of("".join(answers + "\n" for answers in self.answers).encode())
-        return f"{self.name}: {self.lines} lines, {len(self.answers)} answers, digest {digest:016x}"
-
-
-STRIDE = 2_654_435_761
-
-
-def combined(each):
-    """The lines of `try`: the number that is tried at most, lists for one sign and for the other, and the line."""
-    head, _, line = each.partition(":")
-    most, _, lists = head.partition(" ")
-    first, _, second = ([words.split(",") for words in part.split()] for part in lists.partition("/"))
-    count = prod(map(len, first + second))
-    tried = min(int(most), count)
-    for k in range(tried):
-        rest, words = (k * STRIDE & MASK) % count if tried < count else k, []
-        for choice in first + second:
-            rest, place = divmod(rest, len(choice))
-            words.append(" " + choice[place])
-        yield line.replace("*", "".join(words[:len(first)])).replace("%", "".join(words[len(first):]))
+def written(done):
+    """Commands, each with what it answers where it answers something."""
+    return "; ".join(said + (" -> " + answer if answer else "") for said, answer in done)
 
 
 class Reader:
-    """Takes rows line by line, as the program does."""
+    """Takes rows line by line. What is written are the lines with all that they answer, of a group with its digest."""
 
     def __init__(self):
-        self.session, self.group, self.printed, self.differences = Session(), None, [], []
+        self.session, self.group, self.written, self.differences = Session(), None, [], []
 
     def take(self, line):
-        """The answers to the commands of a line; a list of them where it is for each number of a range."""
-        if not line or line[0] == "#":
-            self.printed.append(line)
-        elif line.startswith("group "):
-            self.group = Group(line[6:])
-        elif line == "end":
-            self.printed.append(self.group.text())
-            self.group = None
-        elif line.startswith("for "):
-            each, _, line = line[4:].partition(":")
-            first, last = map(int, each.split())
-            return [self.row(line.replace("*", str(number))) for number in range(first, last + 1)]
-        elif line.startswith("try "):
-            before = {}
-            return [self.tried(text, before) for text in combined(line[4:])]
-        else:
+        """The answers to the commands of a line; a list of them where it stands for many."""
+        word, _, rest = line.partition(" ")
+        if word in ("for", "try"):
+            self.written.append(line)
+            return self.each(rest) if word == "for" else self.tried_each(rest)
+        if line and line[0] != "#" and word not in ("group", "end"):
             return self.row(line)
+        if word == "group":
+            self.group = Group()
+        if word == "end":
+            line, self.group = f"end -> {self.group.text()}", None
+        self.written.append(line)
         return []
 
+    def each(self, each):
+        return [self.tell(self.done(line)) for line in ranged(each)]
+
+    def tried_each(self, each):
+        before = {}
+        return [self.tell(self.tried(line, before)) for line in combined(each)]
+
     def row(self, line):
+        done = self.done(line)
+        self.write(done)
+        return self.tell(done)
+
+    def done(self, line):
+        """The commands of a line with their answers."""
         done = []
         for part in line.split(";"):
             said, _, wanted = (text.strip() for text in part.partition("->"))
@@ -261,7 +234,7 @@ class Reader:
             done.append((said, answer))
             if wanted and wanted != answer:
                 self.differences.append(f"{line}: wanted {wanted}, found {answer} by the plain program")
-        return self.tell(done)
+        return done
 
     def tried(self, line, before):
         """A row that begins as one before it, up to a `settle`, goes on from there: what is settled isn't changed by it."""
@@ -276,16 +249,18 @@ class Reader:
             if place in settled:
                 before[tuple(parts[:place])] = done[:], dict(self.session.__dict__)
             done.append((parts[place], self.command(parts[place])))
-        return self.tell(done)
+        return done
 
     def command(self, said):
         return self.session.answer(said).strip()
 
+    def write(self, done):
+        """Writes a line of its own: in a group without the answers."""
+        self.written.append("; ".join(said for said, _ in done) if self.group else written(done))
+
     def tell(self, done):
-        """Prints a line's commands with their answers, or takes these into the group."""
+        """The answers to a line's commands; a group takes them."""
         answers = [answer for _, answer in done]
         if self.group:
             self.group.take("; ".join(answers))
-        else:
-            self.printed.append("; ".join(said + (": " + answer if answer else "") for said, answer in done))
         return answers

@@ -4,7 +4,14 @@ ghost use Rattle.disk.specs.Memory.{memory_state};
 
 use disk::{Choice, Disk, DiskFault, Memory, Plan};
 use std::alloc::Global;
-use units::NoMemory;
+
+/// What a cut leaves of a disk. None where there is no memory.
+pub fn settled(memory: &Memory, alloc: Global, choices: &[Choice]) -> Option<Memory> {
+    match memory.settle(alloc, choices) {
+        Ok(memory) => Some(memory),
+        Err(_) => None,
+    }
+}
 
 /// A disk in memory whose plan may wait for a write or a sync. How often the unit reads is its own matter, so rows
 /// don't count reads. It is called dishonest, since nothing is proved of it but that it is safe and counts its faults.
@@ -53,9 +60,9 @@ impl Device {
         self.memory.faults()
     }
 
-    /// What a cut leaves.
-    pub fn settle(&self, alloc: Global, choices: &[Choice]) -> Result<Memory, NoMemory> {
-        self.memory.settle(alloc, choices)
+    /// What a cut leaves. None where there is no memory.
+    pub fn settle(&self, alloc: Global, choices: &[Choice]) -> Option<Memory> {
+        settled(&self.memory, alloc, choices)
     }
 
     // Another write or sync begins.

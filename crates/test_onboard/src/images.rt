@@ -1,49 +1,43 @@
 //! Disks made by hand.
 use crate::calls::{format, put, read};
-use crate::device::Device;
+use crate::device::{Device, settled};
+use crate::packing::{byte, fill, word};
 use crate::session::{blank, sectors_of};
 use disk::{Choice, Memory, SECTOR_BYTES};
+use number_rows::Numbers;
 use std::alloc::Global;
-use units::NoMemory;
 
 /// The bytes of a slot: gate, head and four sectors of records.
 pub const SLOT_BYTES: usize = 3_072;
 
-/// An empty journal of so many slots. None where there is no such one.
-pub fn formatted(alloc: Global, slots: u32) -> Result<Option<Memory>, NoMemory> {
+/// An empty journal of so many slots. None where there is no such one, or no memory.
+pub fn formatted(alloc: Global, slots: u64) -> Option<Memory> {
+    let slots = word(slots)?;
     let mut memory = blank(alloc, 1 + 6 * u64::from(slots))?;
-    match format(&mut memory, slots) {
-        Some(()) => settled(alloc, &memory),
-        None => Ok(None),
-    }
+    format(&mut memory, slots)?;
+    settled(&memory, alloc, &[])
 }
 
-// The disk as the next life has it.
-fn settled(alloc: Global, memory: &Memory) -> Result<Option<Memory>, NoMemory> {
-    Ok(Some(memory.settle(alloc, &[])?))
-}
-
-/// The same disk without its last sector. None where it has none.
-pub fn shortened(alloc: Global, memory: &mut Memory) -> Result<Option<Memory>, NoMemory> {
-    let sectors = sectors_of(memory);
+/// The same disk without its last sector. None where it has none, or there is no memory.
+pub fn shortened(alloc: Global, memory: Memory) -> Option<Memory> {
+    let mut memory = memory;
+    let sectors = sectors_of(&memory);
     if sectors == 0 {
-        return Ok(None);
+        return None;
     }
     let mut short = blank(alloc, sectors - 1)?;
     for sector in 0..sectors - 1 {
-        if copy_sector(memory, &mut short, sector).is_none() {
-            return Ok(None);
-        }
+        copy_sector(&mut memory, &mut short, sector)?;
     }
-    settled(alloc, &short)
+    settled(&short, alloc, &[])
 }
 
 fn copy_sector(from: &mut Memory, to: &mut Memory, sector: u64) -> Option<()> {
     put(to, sector, &sector_at(from, sector)?)
 }
 
-/// What a sector holds. None where it can't be read.
-pub fn sector_at(memory: &mut Memory, sector: u64) -> Option<[u8; SECTOR_BYTES]> {
+// What a sector holds. None where it can't be read.
+fn sector_at(memory: &mut Memory, sector: u64) -> Option<[u8; SECTOR_BYTES]> {
     let mut bytes = [0; SECTOR_BYTES];
     read(memory, sector, &mut bytes)?;
     Some(bytes)
@@ -61,31 +55,18 @@ pub fn slot_at(memory: &mut Memory, slot: u64) -> Option<[u8; SLOT_BYTES]> {
     Some(bytes)
 }
 
-/// Makes the sectors of a slot of some bytes, OFFSET:HEX each, all others zero. None where there is no such slot or
-/// byte.
-pub fn put_slot(alloc: Global, device: &mut Device, slot: u64, patches: &str) -> Option<()> {
+/// Makes the sectors of a slot of the bytes of a row. None where there is no such slot.
+pub fn put_slot(device: &mut Device, asked: &Numbers) -> Option<()> {
     let mut bytes = [0; SLOT_BYTES];
-    for text in patches.split_whitespace() {
-        patch(alloc, &mut bytes, text)?;
-    }
-    put(device, first_of(slot)?, &bytes)
+    fill(asked, 2, &mut bytes);
+    put(device, first_of(asked.at(1))?, &bytes)
 }
 
-fn patch(alloc: Global, bytes: &mut [u8], text: &str) -> Option<()> {
-    let (offset, digits) = text.split_once(':')?;
-    let at = offset.parse::<usize>().ok()?;
-    let part = hex::decode(alloc, digits).ok()?;
-    if at > bytes.len() || part.len() > bytes.len() - at {
-        return None;
-    }
-    let end = at + part.len();
-    bytes[at..end].copy_from_slice(part.as_slice());
-    Some(())
-}
-
-/// Changes the bits of a mask in a byte of a sector. None where there is none.
-pub fn flip(device: &mut Device, sector: u64, offset: usize, mask: u8) -> Option<()> {
+/// Changes the bits of a mask in a byte of a sector, as a row tells them. None where there is none.
+pub fn flip(device: &mut Device, asked: &Numbers) -> Option<()> {
     let mut bytes = [0; SECTOR_BYTES];
+    let (sector, offset) = (asked.at(1), asked.at(2) as usize);
+    let mask = byte(asked.at(3))?;
     if offset >= SECTOR_BYTES {
         return None;
     }
@@ -94,31 +75,26 @@ pub fn flip(device: &mut Device, sector: u64, offset: usize, mask: u8) -> Option
     put(device, sector, &bytes)
 }
 
-/// What is left of open sectors, by their words; the disk holds what `@` names. None where a word says nothing.
-pub fn choices(
-    alloc: Global,
-    memory: &mut Memory,
-    words: &str,
-) -> Result<Option<Vec<Choice>>, NoMemory> {
+/// What a row leaves of open sectors of this disk. None where a number says nothing, or there is no memory.
+pub fn choices(alloc: Global, memory: Memory, asked: &Numbers) -> Option<Vec<Choice>> {
+    let mut memory = memory;
     let mut choices = Vec::new(alloc);
-    for word in words.split_whitespace() {
-        match choice(memory, word) {
-            Some(choice) => choices.push(choice)?,
-            None => return Ok(None),
-        }
+    for index in 1..asked.len() {
+        let left = choice(&mut memory, asked.at(index))?;
+        choices.push(left).ok()?;
     }
-    Ok(Some(choices))
+    Some(choices)
 }
 
-fn choice(memory: &mut Memory, word: &str) -> Option<Choice> {
-    match word {
-        "old" => Some(Choice::Old),
-        "new" => Some(Choice::New),
-        "ff" => Some(Choice::Given([0xFF; SECTOR_BYTES])),
-        "zeros" => Some(Choice::Given([0; SECTOR_BYTES])),
-        _ => {
-            let sector = word.strip_prefix("@")?.parse().ok()?;
-            Some(Choice::Given(sector_at(memory, sector)?))
-        }
+fn choice(memory: &mut Memory, number: u64) -> Option<Choice> {
+    match number {
+        0 => Some(Choice::Old),
+        1 => Some(Choice::New),
+        2 => Some(Choice::Given([0xFF; SECTOR_BYTES])),
+        3 => Some(Choice::Given([0; SECTOR_BYTES])),
+        _ => Some(Choice::Given(sector_at(
+            memory,
+            number.saturating_sub(4),
+        )?)),
     }
 }

@@ -1,75 +1,78 @@
-//! Rows of the onboard unit over a disk in memory. Each line of the input is one row, of one or several commands with `;` between
-//! them. They are done in turn, and the line is printed again with what comes of each. A row may say behind `->` what is wanted; that
-//! is for the reader, and for the plain program beside the unit.
+//! The onboard unit over a disk in memory, asked and told in numbers. A row's first number is what is asked, and others
+//! follow; what a row doesn't have is 0. What the unit does (`acting.rt`):
 //!
-//!     # a comment
-//!     format 4                 a disk for so many slots, and an empty journal on it
-//!     less                     the same disk with one sector less
-//!     put 1 0:45544353 ..      makes the six sectors of a slot of these bytes, each run from an offset on; all others are zero
-//!     flip 0 11 03             changes the bits of this mask in a sector's byte
-//!     keep                     the disk as it is settled now is what `again` goes back to
-//!     again                    a disk as that one, on which nothing was called
-//!     cut 3                    of the writes and syncs from here on the one of this number, counted from 0, loses power
-//!     fail 3                   .. fails once
-//!     cut-any 3                the same, with reads counted too
-//!     fail-any 3
-//!     open unknown             or moved, not-moved: the unit powers up
-//!     clock 1000               an input, in the words of the kernel's rows
-//!     flush                    with each pair that is released: the number of the event, mode, level, brake, limit, indications
-//!     close                    hands the disk back: how many writes and syncs it had, and how many faults
-//!     calls                    whether the disk had as many calls as the one that was asked before, reads too
-//!     default                  the pair that no flush released
-//!     live unknown             the inputs and flushes behind it are a life
-//!     run                      lives it, and tells how it ended and all pairs
-//!     run-in 7                 the same, into a list that has room for so many pairs and doesn't grow
-//!     openings 1000 unknown    so many lives without an event
-//!     settle old new ff zeros @7    power comes back: what each open sector holds, in rising order, Old beyond the list; @7 is what
-//!                              sector 7 holds
-//!     blocks                   the number of the oldest block that is retained and of the newest, and how many events there were
-//!     kept level               what the newest block keeps, as the kernel's rows ask for it
-//!     list                     a line for each record that is retained
-//!     bytes                    a digest of all bytes of the blocks that are retained
-//!     for 0 511: flip 0 * 01; ..    the rest of the line for each number of this range, which stands in the place of `*`
-//!     try 4096 old,new old,ff / new,@7: cut 3; open moved; settle *; cut 1; open moved; settle %   the rest of the line for each
-//!                              combination that has a word of each list, where there are at most so many, else for so many of
-//!                              them; the words of the lists before `/` stand in the place of `*`, the others in that of `%`
-//!     group NAME               the lines from here on are not printed, up to
-//!     end                      .. which prints how many they were, how often the answers changed from one line to the next, and
-//!                              the digest of the answers, each that is the same as the line's before it left out
+//!     1 WORD                  powers up with this word: 0 unknown, 1 moved, 2 not moved; answered by 0, or by the
+//!                             number of the refusal
+//!     2 KIND VALUES           takes an input (`inputs.rt`); answered in the same way
+//!     3                       flushes: 0, how many pairs are released, and each (`releases.rt`); or the refusal
+//!     4                       power goes off: 0, how many writes and syncs the disk had, and how many faults
+//!     5                       whether the disk had as many calls as when that was asked last, reads too: 1 yes, 0 no
+//!     6                       the pair that no flush released, as by 3
+//!     7 WORD                  the inputs and flushes behind it are the steps of a life; they get no answer
+//!     8                       lives it: how it ended, three numbers, then how many pairs, and each
+//!     9 ROOM                  the same, into a list that has room for so many pairs and doesn't grow
+//!
+//! What is done to the disk (`making.rt`); it gets no answer:
+//!
+//!     10 SLOTS                a disk for so many slots, and an empty journal on it
+//!     11                      the same disk with one sector less
+//!     12                      the disk as it is settled now is what 13 goes back to
+//!     13                      a disk as that one, on which nothing was called
+//!     14 CHOICE ..            power comes back: what each open sector holds, in rising order: 0 old, 1 new, 2 all
+//!                             ones, 3 zeros, N + 4 what sector N holds; old beyond the list
+//!     15 CALL                 of the writes and syncs from here on the one of this number, counted from 0, loses power
+//!     16 CALL                 .. fails once
+//!     17 CALL                 as 15, with reads counted too
+//!     18 CALL                 as 16, with reads counted too
+//!     19 SLOT BYTES           the six sectors of a slot, eight bytes to a number, the first the highest; bytes that a
+//!                             row doesn't have are zero
+//!     20 SECTOR OFFSET MASK   changes the bits of a mask in a sector's byte
+//!
+//! What is on the disk (`showing.rt`): 0 and what is said there, or 1 to 3 where no journal is found:
+//!
+//!     21                      the number of the oldest block that is retained and of the newest, and how many events
+//!     22                      what the newest block keeps (`keeping.rt`)
+//!     23 INDEX                the records of a block, counted from the oldest one that is retained
+//!     24                      a digest of all bytes of the blocks that are retained
+//!
+//! Where nothing of it can be done the answer is one of `refusals.rt`. A row that is none of these gets no answer.
 #![tactic(auto)]
 
-mod answering;
+mod acting;
+mod actions;
 mod calls;
-mod combinations;
-mod commands;
 mod device;
 mod digest;
-mod group;
 mod images;
-mod listing;
+mod inputs;
+mod keeping;
+mod making;
 mod narrow;
-mod pairs;
-mod rows;
+mod packing;
+mod refusals;
+mod releases;
 mod session;
-mod words;
+mod showing;
 
-use crate::rows::Rows;
-use crate::session::Session;
+use number_rows::{Answers, Numbers, run};
+use session::Session;
 use std::alloc::Global;
-use std::io::{BufRead, BufReader};
+use std::io;
 
-fn read_all(rt: &(impl Print + Input), alloc: Global, session: &mut Session) -> anyhow::Result<()> {
-    let mut rows = Rows::new(alloc);
-    for line in BufReader::new(alloc, rt.reader())?.lines(alloc) {
-        rows.take(rt, session, line?.as_str())?;
+impl Answers for Session {
+    fn answer(&mut self, alloc: Global, asked: &Numbers, told: &mut Numbers) {
+        match asked.at(0) {
+            1..=9 => acting::answer(self, alloc, asked, told),
+            10..=20 => making::answer(self, alloc, asked, told),
+            21..=24 => showing::answer(self, alloc, asked, told),
+            _ => {}
+        }
     }
-    Ok(())
 }
 
-fn main(rt: HostRuntime) -> anyhow::Result<()> {
-    let alloc = rt.alloc();
-    let mut session = Session::new(alloc)?;
-    let done = read_all(&rt, alloc, &mut session);
+fn main(rt: HostRuntime) -> io::Result<()> {
+    let mut session = Session::new(rt.alloc());
+    let done = run(&rt, &mut session);
     session.end();
     done
 }

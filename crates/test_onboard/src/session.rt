@@ -1,6 +1,6 @@
 //! A disk, and the unit on it while it has power.
 use crate::calls::{Unit, accepted, closed, flushed, lived, lived_in, opened};
-use crate::device::Device;
+use crate::device::{Device, settled};
 use crate::narrow::Narrow;
 use arrayvec::ArrayVec;
 use disk::{Choice, Disk, Memory};
@@ -9,7 +9,6 @@ use mode_table::Cold;
 use onboard::{AcceptError, FlushError, LiveError, OpenError, Released, Step};
 use std::alloc::Global;
 use std::mem;
-use units::NoMemory;
 
 /// Room for the calls of the longest life.
 const CALLS: u64 = 1_024;
@@ -29,8 +28,8 @@ enum Station {
 /// A disk, and the unit on it while it has power.
 pub struct Session {
     station: Station,
-    /// What `again` goes back to.
-    kept: Memory,
+    /// The disk that was remembered.
+    kept: Option<Memory>,
     /// The word and the steps of a life to come.
     cold: Cold,
     steps: Vec<Step>,
@@ -47,29 +46,29 @@ fn off(station: Station) -> Option<Device> {
     }
 }
 
-/// A disk of so many sectors.
-pub fn blank(alloc: Global, sectors: u64) -> Result<Memory, NoMemory> {
-    Memory::new(
-        alloc,
-        sectors,
+/// A disk of so many sectors. None where there is no memory.
+pub fn blank(alloc: Global, sectors: u64) -> Option<Memory> {
+    let (calls, written) = (
         CALLS.saturating_add(sectors),
         WRITTEN.saturating_add(sectors),
-    )
+    );
+    match Memory::new(alloc, sectors, calls, written) {
+        Ok(memory) => Some(memory),
+        Err(_) => None,
+    }
 }
 
 impl Session {
-    /// A disk without a sector, and power off.
-    pub fn new(alloc: Global) -> Result<Session, NoMemory> {
-        let first = blank(alloc, 0)?;
-        let kept = blank(alloc, 0)?;
-        Ok(Session {
-            station: Station::Off(Device::new(first)),
-            kept,
+    /// No disk.
+    pub fn new(alloc: Global) -> Session {
+        Session {
+            station: Station::Gone,
+            kept: None,
             cold: Cold::Unknown,
             steps: Vec::new(alloc),
             is_collecting: false,
             calls: 0,
-        })
+        }
     }
 
     /// Gives all of it back.
@@ -94,15 +93,15 @@ impl Session {
         let _device = off(mem::replace(&mut self.station, station));
     }
 
-    /// Power is off, and this is the disk.
-    fn set_disk(&mut self, memory: Memory) {
-        self.set(Station::Off(Device::new(memory)));
-    }
-
-    /// The same with a disk that may be none; None where it is.
-    pub fn put_in(&mut self, memory: Option<Memory>) -> Option<()> {
-        self.set_disk(memory?);
-        Some(())
+    /// Power is off, and this is the disk. Whether there is one; else all stays as it was.
+    pub fn put_in(&mut self, memory: Option<Memory>) -> bool {
+        match memory {
+            Some(memory) => {
+                self.set(Station::Off(Device::new(memory)));
+                true
+            }
+            None => false,
+        }
     }
 
     /// The disk while power is off.
@@ -113,45 +112,46 @@ impl Session {
         }
     }
 
-    /// Power goes off. None where it was off.
-    pub fn close(&mut self) -> Option<()> {
+    /// Power goes off. Whether it was on.
+    pub fn close(&mut self) -> bool {
         match mem::replace(&mut self.station, Station::Gone) {
             Station::On(unit) => {
                 self.set(Station::Off(closed(unit)));
-                Some(())
+                true
             }
             Station::Off(device) => {
                 self.set(Station::Off(device));
-                None
+                false
             }
-            Station::Gone => None,
+            Station::Gone => false,
         }
     }
 
-    /// What the disk holds after a cut now; power goes off.
-    pub fn settled(
-        &mut self,
-        alloc: Global,
-        choices: &[Choice],
-    ) -> Result<Option<Memory>, NoMemory> {
+    /// What the disk holds after a cut now; power goes off. None where there is no disk, or no memory.
+    pub fn settled(&mut self, alloc: Global, choices: &[Choice]) -> Option<Memory> {
         let _was_on = self.close();
         match self.device() {
-            Some(device) => Ok(Some(device.settle(alloc, choices)?)),
-            None => Ok(None),
+            Some(device) => device.settle(alloc, choices),
+            None => None,
         }
     }
 
-    /// What `again` goes back to. None where there is no disk.
-    pub fn keep(&mut self, memory: Option<Memory>) -> Option<()> {
-        self.kept = memory?;
-        Some(())
+    /// Remembers a disk. Whether there is one.
+    pub fn keep(&mut self, memory: Option<Memory>) -> bool {
+        if memory.is_none() {
+            return false;
+        }
+        self.kept = memory;
+        true
     }
 
-    /// The disk is the remembered one again, and power is off.
-    pub fn go_back(&mut self, alloc: Global) -> Result<(), NoMemory> {
-        let memory = self.kept.settle(alloc, &[])?;
-        self.set_disk(memory);
-        Ok(())
+    /// The disk is the remembered one again, and power is off. Whether there is one, and memory for it.
+    pub fn go_back(&mut self, alloc: Global) -> bool {
+        let memory = match &self.kept {
+            Some(memory) => settled(memory, alloc, &[]),
+            None => None,
+        };
+        self.put_in(memory)
     }
 
     /// Powers up.
@@ -181,10 +181,9 @@ impl Session {
         self.is_collecting
     }
 
-    /// A step more of the life that is collected.
-    pub fn push(&mut self, step: Step) -> Result<(), NoMemory> {
-        self.steps.push(step)?;
-        Ok(())
+    /// A step more of the life that is collected. Whether there was memory for it.
+    pub fn push(&mut self, step: Step) -> bool {
+        self.steps.push(step).is_ok()
     }
 
     /// Whether the disk had as many calls as when that was asked last. None while power is on.

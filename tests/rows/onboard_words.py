@@ -1,0 +1,355 @@
+"""Commands of the onboard unit's rows as numbers for the program `test_onboard`, and its answers as words.
+
+    format 4                 a disk for so many slots, and an empty journal on it
+    less                     the same disk with one sector less
+    put 1 0:45544353 ..      makes the six sectors of a slot of these bytes, each run from an offset on; others are zero
+    flip 0 11 03             changes the bits of this mask in a sector's byte
+    keep                     the disk as it is settled now is what `again` goes back to
+    again                    a disk as that one, on which nothing was called
+    cut 3                    of the writes and syncs from here on the one of this number, counted from 0, loses power
+    fail 3                   .. fails once
+    cut-any 3                the same, with reads counted too
+    fail-any 3
+    open unknown             or moved, not-moved: the unit powers up
+    clock 1000               an input: a moment of the clock
+    move 100 5000            .. a reading: the movement, and the speed, which is 0 where none is told
+    hear 90007F80            .. the bytes of a telegram
+    start                    .. an action of the driver (ACTIONS)
+    flush                    with each pair that is released: number of the event, mode, level, brake, limit and
+                             indications
+    close                    hands the disk back: how many writes and syncs it had, and how many faults
+    calls                    whether the disk had as many calls as the one that was asked before, reads too
+    default                  the pair that no flush released
+    live unknown             the inputs and flushes behind it are a life
+    run                      lives it, and tells how it ended and all pairs
+    run-in 7                 the same, into a list that has room for so many pairs and doesn't grow
+    openings 1000 unknown    so many lives without an event
+    settle old new ff zeros @7    power comes back: what each open sector holds, in rising order, old beyond the list;
+                             @7 is what sector 7 holds
+    blocks                   the number of the oldest block that is retained and of the newest, and how many events
+    kept level               what the newest block keeps (ITEMS)
+    list                     a line for each record that is retained
+    bytes                    a digest of all bytes of the blocks that are retained
+
+The numbers stand in crates/test_onboard/src. Where it is run, it prints the numbers of the commands on standard input,
+which stand on lines with `;` between them: tests/rows/onboard_words.py <ROWS"""
+import sys
+from functools import lru_cache
+
+from asking import Told, packed, signed
+
+SLOT_BYTES = 3_072
+MOST_BLOCKS = 4  # that are listed
+COLD = {"unknown": 0, "moved": 1, "not-moved": 2}
+CHOICES = {"old": 0, "new": 1, "ff": 2, "zeros": 3}
+MODES = {0: "FS", 1: "OS", 2: "SR", 3: "SH", 4: "UN", 6: "SB", 7: "TR", 8: "PT", 9: "SF"}
+LEVELS = ["0", "1", "-"]
+BRAKES = ["none", "service", "emergency"]
+KINDS = {1: "powerup", 2: "telegram", 3: "odometer", 4: "clock", 5: "driver"}
+
+# What is asked with no number, or with numbers alone.
+ALONE = {"flush": 3, "close": 4, "calls": 5, "default": 6, "run": 8, "less": 11, "keep": 12, "again": 13, "blocks": 21,
+         "bytes": 24}
+NUMBERED = {"run-in": 9, "format": 10, "cut": 15, "fail": 16, "cut-any": 17, "fail-any": 18}
+
+# The driver's actions: codes, and what is confirmed or acknowledged.
+ACTIONS = {"start": 6, "choose-shunting": 7, "leave-shunting": 8, "override": 9, "close-desk": 11}
+CONFIRMED = {"identity": 1, "running-number": 2, "train-data": 3, "level": 4}
+ACKNOWLEDGED = {"trip": 1, "on-sight": 2, "shunting": 3, "level-0": 4}
+
+# Refusals by number.
+OPEN = {0: "opened", 1: "1 DeviceFault", 2: "2 NotFormatted", 3: "3 Damaged", 4: "4 NoMemory", 6: "6 WornOut",
+        30: "no disk", 31: "not done"}
+ACCEPT = {0: "accepted", 10: "10 PendingFull", 11: "11 ClockBack", 12: "12 NoMemory", 13: "13 Failed",
+          30: "no power", 31: "not done"}
+FLUSH = {20: "20 DeviceFault", 21: "21 Failed", 23: "23 WornOut", 30: "no power", 31: "not done"}
+SHOW = {1: "1 DeviceFault", 2: "2 NotFormatted", 3: "3 Damaged", 30: "no disk", 31: "not read", 32: "no block",
+        33: "| no block"}
+REFUSED = (1, 2, 3, 30)  # of these, those that are answered in place of all blocks
+CALLS = {0: "another number", 1: "as many as before", 30: "power is on"}
+
+
+def data(part):
+    """How many bytes there are, and the bytes, eight to a number."""
+    return [len(part), *packed(part)]
+
+
+# ---- what is asked
+
+@lru_cache(None)
+def questions(said):
+    """The rows of numbers that a command asks."""
+    word, _, value = said.partition(" ")
+    if word in ALONE and not value:
+        return ((ALONE[word],),)
+    if word in NUMBERED:
+        return ((NUMBERED[word], int(value)),)
+    if word in ASKED:
+        return tuple(map(tuple, ASKED[word](*value.split())))
+    return ((2, *an_input(word, value.split())),)
+
+
+def openings(times, cold):
+    return [[1, COLD[cold]], [14]] * int(times)
+
+
+def settle(*words):
+    return [[14, *(CHOICES[word] if word in CHOICES else 4 + int(word.removeprefix("@")) for word in words)]]
+
+
+def put(slot, *patches):
+    content = bytearray(SLOT_BYTES)
+    for offset, digits in (patch.split(":") for patch in patches):
+        part = bytes.fromhex(digits)
+        if int(offset) + len(part) > SLOT_BYTES:
+            raise ValueError("a patch reaches past the bytes")
+        content[int(offset):int(offset) + len(part)] = part
+    return [[19, int(slot), *packed(bytes(content))]]
+
+
+def kept(item):
+    if item not in ITEMS:
+        raise ValueError(f"{item} isn't kept")
+    return [[22]]
+
+
+ASKED = {
+    "open": lambda cold: [[1, COLD[cold]]],
+    "openings": openings,
+    "live": lambda cold: [[7, COLD[cold]]],
+    "settle": settle,
+    "put": put,
+    "flip": lambda sector, offset, mask: [[20, int(sector), int(offset), int(mask, 16)]],
+    "kept": kept,
+    "list": lambda: [[23, index] for index in range(MOST_BLOCKS + 1)],
+}
+
+
+def an_input(word, values):
+    if word == "hear":
+        return [2, *data(bytes.fromhex(values[0]))]
+    if word == "move":
+        return [3, int(values[0]) % 2**64, int(values[1]) if len(values) > 1 else 0]
+    return [4, int(values[0])] if word == "clock" else [5, *an_action(word, values)]
+
+
+def an_action(word, values):
+    if word == "enter-identity":
+        return [1, *data(values[0].encode())]
+    if word == "enter-train-data":
+        return [3, *map(int, values)]
+    if word in ACTIONS:
+        return [ACTIONS[word]]
+    return {
+        "enter-running-number": lambda: [2, int(values[0])],
+        "choose-level": lambda: [4, int(values[0])],
+        "confirm": lambda: [5, CONFIRMED[values[0]]],
+        "acknowledge": lambda: [10, ACKNOWLEDGED[values[0]]],
+    }[word]()
+
+
+# ---- what is answered
+
+def answer(said, rows):
+    """The words of what a command's rows were answered; where they say none, what is wrong."""
+    word = said.partition(" ")[0]
+    told = rows if word == "list" else rows[-2 if word == "openings" else -1]
+    return words(said if word == "kept" else word, tuple(map(tuple, told)) if word == "list" else tuple(told))
+
+
+@lru_cache(None)
+def words(word, numbers):
+    try:
+        return listing(numbers) if word == "list" else whole(word, numbers)
+    except (ValueError, KeyError, IndexError, OverflowError) as fault:
+        return f"no answer ({fault}): {numbers}"
+
+
+def whole(word, numbers):
+    if not numbers:
+        return ""
+    told = Told(numbers)
+    text = told_by(word)(told)
+    told.end()
+    return text
+
+
+def told_by(word):
+    """Which answer is read as what: one of a command's own, else that of an input or of what is done to the disk."""
+    if word.startswith("kept "):
+        return lambda told: kept_words(word.split()[1], told)
+    if word in ANSWERED:
+        return ANSWERED[word]
+    return done if word in NUMBERED or word in ALONE or word in ASKED else lambda told: ACCEPT[told.take()]
+
+
+def done(told):
+    """What is done to the disk, and a life that is begun, have no answer but this."""
+    return {31: "not done"}[told.take()]
+
+
+def flushed(told):
+    refusal = told.take()
+    return released(told) if refusal == 0 else FLUSH[refusal]
+
+
+def released(told):
+    count = told.take()
+    return ", ".join([f"released {count}", *(pair(*told.take(6)) for _ in range(count))])
+
+
+def pair(event, mode, level, brake, limit, indications):
+    return f"{event} {MODES[mode]} {LEVELS[level]} {BRAKES[brake]} {limit} {indications}"
+
+
+def closed(told):
+    state, changes, faults = told.take(3)
+    return {0: f"{changes} writes and syncs, faults {faults}", 30: "no power"}[state]
+
+
+def lived(told):
+    kind, step, refusal = told.take(3)
+    ends = {
+        0: lambda: "done",
+        1: lambda: OPEN[refusal],
+        2: lambda: f"step {step} {ACCEPT[refusal]}",
+        3: lambda: f"step {step} {FLUSH[refusal]}",
+        4: lambda: f"step {step} NoMemory",
+        30: lambda: "no disk",
+    }
+    return f"{ends[kind]()}, {released(told)}"
+
+
+def lived_in(told):
+    return done(told) if len(told.numbers) == 1 else lived(told)
+
+
+def shown(text):
+    """What is told behind a 0; what stands there else is a refusal."""
+    def read(told):
+        refusal = told.take()
+        return SHOW[refusal] if refusal else text(told)
+    return read
+
+
+def run_of_blocks(told):
+    return "{} to {}, events {}".format(*told.take(3))
+
+
+ANSWERED = {
+    "open": lambda told: OPEN[told.take()],
+    "openings": lambda told: OPEN[told.take()],
+    "flush": flushed,
+    "close": closed,
+    "calls": lambda told: CALLS[told.take()],
+    "default": flushed,
+    "run": lived,
+    "run-in": lived_in,
+    "blocks": shown(run_of_blocks),
+    "bytes": shown(lambda told: f"{told.take():016x}"),
+}
+
+
+# ---- what is kept
+
+def kept_words(item, told):
+    """An item of those that are told, one behind the other."""
+    refusal = told.take()
+    if refusal:
+        return SHOW[refusal]
+    return {name: text(told) for name, text in ITEMS.items()}[item]
+
+
+def counts(told):
+    return "{} {}".format(*told.take(2))
+
+
+def trip(told):
+    return ["no", "yes"][told.take()]
+
+
+def identity(told):
+    size = told.take()
+    text = told.data(size, 2)
+    return text.hex() if size else "-"
+
+
+def running_number(told):
+    known, number = told.take(2)
+    return str(number) if known else "-"
+
+
+def train_data(told):
+    known, *train = told.take(6)
+    return " ".join(map(str, train)) if known else "-"
+
+
+STATUS = ["unknown", "valid", "invalid"]
+
+
+def level(told):
+    status, number = told.take(2)
+    return f"{STATUS[status]} {number}" if status else STATUS[status]
+
+
+def position(told):
+    status, country, group, distance = told.take(4)
+    return f"{STATUS[status]} {country} {group} {signed(distance)}" if status else STATUS[status]
+
+
+def national(told):
+    values = told.take(9)
+    for _ in ("override_time", "staff_responsible_distance"):
+        known, limit = told.take(2)
+        values.append(limit if known else "-")
+    return " ".join(map(str, [*values, "of", *(told.take() for _ in range(told.take()))]))
+
+
+ITEMS = {"counts": counts, "trip": trip, "identity": identity, "running-number": running_number,
+         "train-data": train_data, "level": level, "position": position, "national": national}
+
+
+# ---- the listing
+
+def listing(rows):
+    """The records of each block; a refusal where no journal is found."""
+    first = rows[0][0]
+    if first in REFUSED:
+        return SHOW[first]
+    if not rows[-1][0]:
+        raise ValueError(f"more than {MOST_BLOCKS} blocks")
+    return " ".join(text for text in map(block, rows) if text)
+
+
+def block(numbers):
+    told = Told(numbers)
+    refusal = told.take()
+    if refusal:
+        return "" if refusal == 32 else SHOW[refusal]
+    number, count = told.take(2)
+    text = " ".join(f"| block {number} {record(told)}" for _ in range(count))
+    told.end()
+    return text
+
+
+def record(told):
+    event, kind, mode, status, brake, indications = told.take(6)
+    text = f"event {event} {KINDS[kind]} {MODES[mode]} {LEVELS[status]} {BRAKES[brake]} {indications} "
+    text += payload(told) or "-"
+    known, estimate, uncertainty, limit = told.take(4)
+    return text + (f" at {signed(estimate)} unc {uncertainty} limit {limit}" if known else "")
+
+
+def payload(told):
+    size = told.take()
+    data = b"".join(told.take().to_bytes(8, "big") for _ in range((size + 7) // 8))
+    if any(data[size:]):
+        raise ValueError("bytes beyond the size")
+    return data[:size].hex()
+
+
+if __name__ == "__main__":
+    for line in sys.stdin:
+        for said in line.split(";"):
+            for numbers in questions(said.strip()):
+                print(*numbers)

@@ -9,9 +9,13 @@ use std::alloc::Global;
 use track_store::ProfileStore;
 use units::{NoMemory, Permille};
 
-// Before an answer; before what stands where memory was refused; in place of an answer where it was refused again.
+// Stands before an answer.
 const ANSWERED: u64 = 1;
+
+// Stands before what is told where memory was refused.
 const REFUSED: u64 = 2;
+
+// Stands in place of an answer where it was refused again.
 const REFUSED_AGAIN: u64 = 3;
 
 // A way to run a row.

@@ -1,7 +1,7 @@
 #!/bin/bash
 # The rows of the proved programs of tests. Each module of rows/ makes numbers of its rows, asks its program, makes
 # words of what that tells, and compares with the answers that are wanted. Fails where one differs, where a program is
-# missing, and where fewer rows were tried than stand here.
+# missing, where fewer rows were tried than stand here, and where a question that is too long for a program is asked.
 #
 #     tests/rows.sh            the programs that rt ci leaves in crates/
 #     tests/rows.sh FOLDER     FOLDER/test_disk and so on
@@ -23,9 +23,11 @@ rows() {
     [ "${count:-0}" -ge "$2" ] || { echo "$1: fewer rows than $2"; status=1; }
 }
 
+python3 long_questions.py || status=1
 rows test_decode 291 etcs
 rows test_disk 353
 rows test_blocks 741
 rows test_journal 1045
 rows test_onboard 34585
+rows test_kernel 619
 exit $status

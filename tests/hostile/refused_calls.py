@@ -20,6 +20,7 @@ from built import AUTHORITY, RESTRICTION, TOP, Failures, built, test_program
 from onboard_lives import RINGS, Made
 
 sys.path.insert(0, str(TOP / "tests/rows"))
+import kernel_words
 import onboard_words
 
 MOST = 1_000_000
@@ -40,7 +41,6 @@ KERNEL = ["power-up unknown", f"hear {RESTRICTION}", *ENTRIES, *READINGS, "power
 # Rows of the kernel: what they hear takes memory in each of the lists that it keeps.
 STORIES = ("an area ahead that is acknowledged", "an announced group in time", "several announced 1", "values ahead", "two restrictions 255 in a message",
            "end timer", "position over several power-ups")
-ITEMS = ("identity", "running-number", "train-data", "level", "position", "national", "trip", "counts")
 
 
 class Calls:
@@ -191,45 +191,62 @@ def released_before(steps, stop):
 
 def story(name):
     """What happens in a row of the kernel's."""
-    text = (TOP / "crates/test_kernel/stdin").read_text()
+    text = (TOP / "tests/rows/test_kernel.row").read_text()
     lines = text.partition(f"\nrow {name}\n")[2].partition("\nrow ")[0].splitlines()
     said = [re.split("->|#", line)[0].strip() for line in lines]
     return [line for line in said if line and not line.startswith(("place", "kept"))]
 
 
 def kernel(row, calls, lines, failures):
-    """The events of a row; each answer is wanted to be another one, so that the program prints all of them."""
-    asked = ["row refused", *(f"{line} -> none" for line in lines)]
-    questions = [f"{word} -> none" for word in ("place", *(f"kept {item}" for item in ITEMS))]
+    """The events of a row, in numbers. Where one is refused memory, all other answers are those of an undisturbed run."""
+    asked = [in_numbers(kernel_words.NEW), *map(event, lines)]
     _, undisturbed, _ = calls.ran("test_kernel", asked, 0)
-    before = stood(calls, lines, questions)
-    refused = {"step": 0, "apply": 0, "power_up": 0}
+    before, refused = stood(calls, asked), dict.fromkeys(kernel_words.WAYS, 0)
     for at, status, answers in calls.refusals("test_kernel", asked, failures):
-        told = [(k, re.fullmatch(r"refused, line (\d+): no memory for (\w+), (.*)", answer)) for k, answer in enumerate(answers)]
-        told = [(k, match) for k, match in told if match]
-        if not told:
-            failures.unless(is_beginning(answers, undisturbed) or any(answer.endswith("what is that?") for answer in answers),
-                            f"{row}, request {at}: {status} {answers[-2:]}")
+        others = [k for k, (one, wanted) in enumerate(zip(answers, undisturbed)) if one != wanted]
+        if status or not others:
+            failures.unless(is_told_so_far(answers, undisturbed) if status else answers == undisturbed,
+                            f"{row}, request {at}: {status} {answers[-1:]}")
             continue
-        (k, match), *more = told
-        line, way, stands = match.groups()
+        k = others[0]
+        way, is_right = refused_way(lines[k - 1], answers[k], undisturbed[k], before[k])
         refused[way] += 1
-        failures.unless(not more and (status, answers[:k] + answers[k + 1:]) == (0, undisturbed), f"{row}, request {at}: {status} {answers[k:]}")
-        failures.unless(stands == before[int(line) - 2][way], f"{row}, request {at}: {answers[k]}, before it {before[int(line) - 2][way]}")
+        failures.unless(is_right and others == [k] and len(answers) == len(undisturbed),
+                        f"{row}, request {at}: {lines[k - 1]}: {answers[k]}, before it {before[k]}")
     failures.unless(refused["step"], f"{row}: no event was refused memory")
     print(f"{row}: {', '.join(f'{count} refusals of {way}' for way, count in refused.items())}")
 
 
-def stood(calls, lines, questions):
-    """Before each event place and items, by each way."""
-    asked = [one for line in lines for one in (*questions, line)]
-    # Another row asks, so that an answer isn't wanted by chance: each is wanted to be `none`.
-    _, answers, _ = calls.ran("test_kernel", ["row asked", *asked], 0)
-    found = [re.fullmatch(r"asked, line (\d+): wanted none, found (.*) by (\w+)", answer) for answer in answers]
-    by_line = {(int(match.group(1)), match.group(3)): match.group(2) for match in found if match}
-    size = len(questions) + 1
-    return [{way: ", ".join(by_line[2 + size * k + j, way] for j in range(len(questions))) for way in ("step", "apply", "power_up")}
-            for k in range(len(lines))]
+def is_told_so_far(answers, undisturbed):
+    """The last line may be cut where what is written was full."""
+    return "\n".join(undisturbed).startswith("\n".join(answers))
+
+
+def refused_way(line, told, undisturbed, stood):
+    """The one way in which an event was refused memory; and whether that tells what stood before it, and then each way its answer."""
+    found, wanted = (kernel_words.answers(*words_of(line), map(int, numbers.split())) for numbers in (told, undisturbed))
+    (way, answer), = ((way, answer) for way, answer in found.items() if answer.refused)
+    return way, answer.refused == stood[way] and all(found[one].text == wanted[one].text for one in found)
+
+
+def words_of(line):
+    """The word of a line, and what follows it."""
+    return line.partition(" ")[::2]
+
+
+def in_numbers(numbers):
+    return " ".join(map(str, numbers))
+
+
+def event(line):
+    return in_numbers(kernel_words.question(*words_of(line)))
+
+
+def stood(calls, asked):
+    """Before each row of numbers place and items, by each way."""
+    known = in_numbers(kernel_words.KNOWN)
+    _, answers, _ = calls.ran("test_kernel", [one for numbers in asked for one in (known, numbers)], 0)
+    return [kernel_words.states(map(int, told.split())) for told in answers[::2]]
 
 
 def on_rings(calls, failures):

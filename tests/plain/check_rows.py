@@ -5,7 +5,7 @@ those bytes.
 
     tests/plain/check_rows.py [FILE ..]
 
-The rows of crates/test_kernel/stdin are taken where no file is named. The last line has the numbers of rows, of events, of
+The rows of tests/rows/test_kernel.row are taken where no file is named. The last line has the numbers of rows, of events, of
 answers that are wanted and of differences. The exit status is 1 where there is a difference.
 """
 import re
@@ -16,7 +16,7 @@ import rows
 import telegrams
 from named import written
 
-STDIN = Path(__file__).resolve().parents[2] / "crates/test_kernel/stdin"
+ROWS = Path(__file__).resolve().parents[1] / "rows/test_kernel.row"
 
 GENERATED = "\n# ==== Pseudo-random lists"
 # The name of a telegram and its bytes, and below them its fields.
@@ -46,7 +46,7 @@ def misnamed(text):
 
 def main(paths):
     found, events, answers, count = 0, 0, 0, 0
-    for path in paths or [STDIN]:
+    for path in paths or [ROWS]:
         text = Path(path).read_text()
         for difference in misnamed(text):
             found += 1

@@ -1,7 +1,7 @@
 #!/usr/bin/env python3
 """Pseudo-random lists of events of several lives, the same in every run, with the answers that the plain program gives.
 
-    tests/plain/random_lists.py            writes them behind the rows of crates/test_kernel/stdin
+    tests/plain/random_lists.py            writes them behind the rows of tests/rows/test_kernel.row
     tests/plain/random_lists.py --check    makes them anew; the exit status is 1 where others stand there, or where a mode, a
                                            row of the mode table or a cause to brake does not come up
 """
@@ -12,7 +12,7 @@ import modes
 import output
 import pools
 import rows
-from check_rows import STDIN
+from check_rows import ROWS
 from items import VALID
 from life import Life
 from named import written
@@ -169,12 +169,12 @@ def lists():
 
 
 def main(words):
-    worked, heading, written = STDIN.read_text().partition(HEADING)
+    worked, heading, written = ROWS.read_text().partition(HEADING)
     made = list(lists())
     text = "".join("\n" + one.text() for one in made)
     counted = sum((one.counted for one in made), Counter())
     if words != ["--check"]:
-        STDIN.write_text(worked + HEADING + text)
+        ROWS.write_text(worked + HEADING + text)
         return 0
     print(f"the random lists are {'the same' if text == written else 'others'}")
     print("of these came up: " + ", ".join(f"{name} {counted[name]}" for name in WANTED))

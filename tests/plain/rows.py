@@ -1,4 +1,4 @@
-"""Rows of the kernel, as the program test_kernel reads them: lists of events of one or several lives."""
+"""Rows of the kernel: lists of events of one or several lives. tests/rows/test_kernel.py runs them on the program."""
 from collections import namedtuple
 
 from items import UNKNOWN, Kept

@@ -8,6 +8,7 @@ import sys
 from pathlib import Path
 
 HERE = Path(__file__).resolve().parent
+MOST = 512  # numbers that a program takes in a row (number_rows::MOST); it drops those behind them
 
 
 def rows_of(text):
@@ -60,8 +61,16 @@ class Told:
             raise ValueError("too many numbers")
 
 
+def refuse_long(program, questions):
+    """Ends the run where a question has more numbers than a program takes in a row."""
+    for place, numbers in enumerate(questions, 1):
+        if len(numbers) > MOST:
+            raise SystemExit(f"{program}: question {place} has {len(numbers)} numbers, and a row {MOST} at most")
+
+
 def asked(program, questions):
     """The rows of numbers that a program answers to rows of numbers."""
+    refuse_long(program, questions)
     text = "".join(" ".join(map(str, numbers)) + "\n" for numbers in questions)
     ran = subprocess.run([program], input=text.encode(), capture_output=True, timeout=120)
     if ran.returncode or ran.stderr:

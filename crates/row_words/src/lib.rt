@@ -1,5 +1,4 @@
-//! Inputs, outputs and what is kept, in the words of rows: for the programs that run rows of the kernel and of the
-//! unit.
+//! Inputs, outputs and what is kept, in the words of rows: for the program that runs rows of the unit.
 #![tactic(auto)]
 
 mod actions;

@@ -48,10 +48,10 @@ pub fn kept_by<G: ProfileStore<Permille> + Drop, S: ProfileStore<CategorySpeeds>
     state.kept()
 }
 
-/// The estimate and its uncertainty.
+/// The estimate, by its two's complement, and its uncertainty.
 pub fn place_of<G: ProfileStore<Permille> + Drop, S: ProfileStore<CategorySpeeds> + Drop>(
     state: &Known<G, S>,
-) -> (i64, u64) {
+) -> [u64; 2] {
     let (estimate, uncertainty) = state.place_of();
-    (estimate.get(), uncertainty)
+    [estimate.get().cast_unsigned(), uncertainty]
 }

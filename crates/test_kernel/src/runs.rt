@@ -1,44 +1,35 @@
 //! One row, run in three ways side by side.
-use crate::answers::{item_text, place_text};
-use crate::calls::{Listing, Short, after, apply, begin, listing, short};
+use crate::calls::{Known, Listing, Short, after, apply, begin, kept_by, listing, place_of, short};
+use crate::keeping::tell_kept;
+use crate::outputs::numbers_of;
 use events::{Event, Output};
-use row_words::Item;
-use std::alloc::{AllocError, Global};
-use units::NoMemory;
+use number_rows::Numbers;
+use speed_profile::CategorySpeeds;
+use std::alloc::Global;
+use track_store::ProfileStore;
+use units::{NoMemory, Permille};
 
-/// All that is kept.
-pub const ITEMS: [Item; 8] = [
-    Item::Identity,
-    Item::RunningNumber,
-    Item::TrainData,
-    Item::Level,
-    Item::Position,
-    Item::National,
-    Item::Trip,
-    Item::Counts,
-];
+// Stands before an answer.
+const ANSWERED: u64 = 1;
 
-/// A way to run a row.
+// Stands before what is told where memory was refused.
+const REFUSED: u64 = 2;
+
+// Stands in place of an answer where it was refused again.
+const REFUSED_AGAIN: u64 = 3;
+
+// A way to run a row.
 #[derive(Clone, Copy)]
-pub enum Way {
-    /// By `step`, over stores that keep all that was told.
+enum Way {
+    // By `step`, over stores that keep all that was told.
     Step,
-    /// In place, over stores that stay short.
+    // In place, over stores that stay short.
     Apply,
-    /// The same, where each life begins with what was kept.
+    // The same, where each life begins with what was kept.
     PowerUp,
 }
 
-impl Way {
-    /// Its word in what is printed.
-    pub fn name(self) -> &'static str {
-        match self {
-            Way::Step => "step",
-            Way::Apply => "apply",
-            Way::PowerUp => "power_up",
-        }
-    }
-}
+const WAYS: [Way; 3] = [Way::Step, Way::Apply, Way::PowerUp];
 
 /// The three states of a row, one for each way.
 #[derive(Drop)]
@@ -58,8 +49,34 @@ impl Runs {
         }
     }
 
-    /// What is answered to an event. Where memory is refused, it can be handed in again.
-    pub fn take(&mut self, alloc: Global, way: Way, event: &Event) -> Result<Output, NoMemory> {
+    /// Hands an event in by each way, and tells what is answered.
+    pub fn take(&mut self, alloc: Global, event: &Event, told: &mut Numbers) {
+        for way in WAYS {
+            self.take_by(alloc, way, event, told);
+        }
+    }
+
+    // An event that is refused memory is handed in once more, behind what stands then.
+    fn take_by(&mut self, alloc: Global, way: Way, event: &Event, told: &mut Numbers) {
+        match self.answer(alloc, way, event) {
+            Ok(output) => tell_answer(told, &output),
+            Err(NoMemory) => {
+                told.tell(REFUSED);
+                self.tell_by(way, told);
+                self.take_again(alloc, way, event, told);
+            }
+        }
+    }
+
+    fn take_again(&mut self, alloc: Global, way: Way, event: &Event, told: &mut Numbers) {
+        match self.answer(alloc, way, event) {
+            Ok(output) => tell_answer(told, &output),
+            Err(NoMemory) => told.tell(REFUSED_AGAIN),
+        }
+    }
+
+    // What is answered to an event. Where memory is refused, it can be handed in again.
+    fn answer(&mut self, alloc: Global, way: Way, event: &Event) -> Result<Output, NoMemory> {
         match way {
             Way::Step => self.step(alloc, event),
             Way::Apply => apply(alloc, &mut self.short, event),
@@ -82,21 +99,32 @@ impl Runs {
         Ok(output)
     }
 
-    /// The estimate and its uncertainty.
-    pub fn place(&self, alloc: Global, way: Way) -> Result<String, AllocError> {
-        match way {
-            Way::Step => place_text(alloc, &self.listing),
-            Way::Apply => place_text(alloc, &self.short),
-            Way::PowerUp => place_text(alloc, &self.revived),
+    /// Tells by each way where the train is, and what is kept.
+    pub fn tell(&self, told: &mut Numbers) {
+        for way in WAYS {
+            self.tell_by(way, told);
         }
     }
 
-    /// An item of what is kept.
-    pub fn item(&self, alloc: Global, way: Way, item: Item) -> Result<String, AllocError> {
+    fn tell_by(&self, way: Way, told: &mut Numbers) {
         match way {
-            Way::Step => item_text(alloc, &self.listing, item),
-            Way::Apply => item_text(alloc, &self.short, item),
-            Way::PowerUp => item_text(alloc, &self.revived, item),
+            Way::Step => tell_known(told, &self.listing),
+            Way::Apply => tell_known(told, &self.short),
+            Way::PowerUp => tell_known(told, &self.revived),
         }
     }
+}
+
+fn tell_answer(told: &mut Numbers, output: &Output) {
+    told.tell(ANSWERED);
+    told.tell_all(&numbers_of(output));
+}
+
+// Where the train is, and what is kept.
+fn tell_known<G: ProfileStore<Permille> + Drop, S: ProfileStore<CategorySpeeds> + Drop>(
+    told: &mut Numbers,
+    state: &Known<G, S>,
+) {
+    told.tell_all(&place_of(state));
+    tell_kept(told, &kept_by(state));
 }

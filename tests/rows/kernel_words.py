@@ -1,0 +1,174 @@
+"""What happens in the kernel's rows as numbers for the program `test_kernel`, and its answers as words.
+
+    power-up unknown                 or moved, not-moved: another life begins
+    hear 90007F8020017FC0            the bytes of a balise
+    move 100 20000                   a movement (cm, 10,000 at most) and the speed (m/h); without a speed it is 0
+    clock 4000                       a moment (ms)
+    enter-identity A 7               what the driver does: enters an identity,
+    enter-running-number 4711
+    enter-train-data 20000 160000 70 0 15    length (cm), greatest speed (m/h), deceleration (cm/s^2), reaction (ms),
+                                     category
+    choose-level 1                   or 0
+    confirm identity                 or running-number, train-data, level
+    start                            or choose-shunting, leave-shunting, override, close-desk
+    acknowledge trip                 or on-sight, shunting, level-0
+    place                            asks for the estimate and its uncertainty (cm)
+    kept level                       asks for what is kept, also of identity (its bytes), running-number, train-data,
+                                     position (a group and the distance behind it, cm), trip, counts (events and
+                                     lives), and national (the values, and the countries that they are of)
+
+An event is answered by the mode, the level, the brake, the limit (m/h) and the indications: `SR 1 none 40000 0`. The
+numbers stand in crates/test_kernel/src."""
+from collections import namedtuple
+
+from asking import Told, packed, signed
+
+NEW = [0]  # equipment that never had power
+KNOWN = [3]  # where the train is, and what is kept
+WAYS = ("step", "apply", "power_up")
+ANSWERED, REFUSED = 1, 2
+
+COLD = {"unknown": 0, "moved": 1, "not-moved": 2}
+ALONE = {"start": 6, "choose-shunting": 7, "leave-shunting": 8, "override": 9, "close-desk": 11}
+CONFIRMED = {"identity": 1, "running-number": 2, "train-data": 3, "level": 4}
+ACKNOWLEDGED = {"trip": 1, "on-sight": 2, "shunting": 3, "level-0": 4}
+MODES = {0: "FS", 1: "OS", 2: "SR", 3: "SH", 4: "UN", 6: "SB", 7: "TR", 8: "PT", 9: "SF"}
+LEVELS = ["0", "1", "-"]
+BRAKES = ["none", "service", "emergency"]
+STATUS = ["unknown", "valid", "invalid"]
+
+
+# ---- what is asked
+
+def question(word, value):
+    """The row of numbers of a line's word and what follows it."""
+    if word == "place" and not value or word == "kept" and value in ITEMS:
+        return KNOWN
+    return [1, COLD[value]] if word == "power-up" else [2, *an_input(word, value)]
+
+
+def an_input(word, value):
+    if word == "hear":
+        return [2, *data(bytes.fromhex(value))]
+    if word == "move":
+        movement, *speed = map(int, value.split())
+        return [3, movement % 2**64, *only(1, speed or [0])]
+    return [4, int(value)] if word == "clock" else [5, *an_action(word, value)]
+
+
+def an_action(word, value):
+    if word in ALONE and not value:
+        return [ALONE[word]]
+    return {
+        "enter-identity": lambda: [1, *data(value.encode())],
+        "enter-running-number": lambda: [2, int(value)],
+        "enter-train-data": lambda: [3, *only(5, list(map(int, value.split())))],
+        "choose-level": lambda: [4, int(value)],
+        "confirm": lambda: [5, CONFIRMED[value]],
+        "acknowledge": lambda: [10, ACKNOWLEDGED[value]],
+    }[word]()
+
+
+def only(count, numbers):
+    if len(numbers) != count:
+        raise ValueError(f"{count} numbers are wanted")
+    return numbers
+
+
+def data(part):
+    """How many bytes there are, and the bytes, eight to a number."""
+    return [len(part), *packed(part)]
+
+
+# ---- what is answered
+
+# What one way answers: the words, and place and items where it was refused memory first, else None.
+Answer = namedtuple("Answer", "text refused")
+
+
+def answers(word, value, numbers):
+    """What each way answers to a line. ValueError and the like where the numbers say nothing."""
+    told = Told(numbers)
+    read = output if question(word, value) != KNOWN else lambda told: Answer(known(told)[item(word, value)], None)
+    found = [read(told) for _ in WAYS]
+    told.end()
+    return dict(zip(WAYS, found))
+
+
+def item(word, value):
+    return value if word == "kept" else word
+
+
+def states(numbers):
+    """Place and items by each way."""
+    told = Told(numbers)
+    found = {way: known(told) for way in WAYS}
+    told.end()
+    return found
+
+
+def output(told):
+    kind, stood = told.take(), None
+    if kind == REFUSED:
+        stood, kind = known(told), told.take()
+    if kind != ANSWERED:
+        raise ValueError("memory was refused again")
+    mode, level, brake, limit, indications = told.take(5)
+    return Answer(f"{MODES[mode]} {LEVELS[level]} {BRAKES[brake]} {limit} {indications}", stood)
+
+
+def known(told):
+    """Place and each item that is kept, by name."""
+    return {name: words(told) for name, words in (("place", place), *ITEMS.items())}
+
+
+def place(told):
+    estimate, uncertainty = told.take(2)
+    return f"{signed(estimate)} {uncertainty}"
+
+
+def counts(told):
+    return "{} {}".format(*told.take(2))
+
+
+def trip(told):
+    return ["no", "yes"][told.take()]
+
+
+def identity(told):
+    size = told.take()
+    text = told.data(size, 2)
+    return text.hex() if size else "-"
+
+
+def running_number(told):
+    is_known, number = told.take(2)
+    return str(number) if is_known else "-"
+
+
+def train_data(told):
+    is_known, *train = told.take(6)
+    return " ".join(map(str, train)) if is_known else "-"
+
+
+def level(told):
+    status, number = told.take(2)
+    return f"{STATUS[status]} {number}" if status else STATUS[status]
+
+
+def position(told):
+    status, country, group, distance = told.take(4)
+    return f"{STATUS[status]} {country} {group} {signed(distance)}" if status else STATUS[status]
+
+
+def national(told):
+    values = told.take(9)
+    for _ in ("override_time", "staff_responsible_distance"):
+        is_known, limit = told.take(2)
+        values.append(limit if is_known else "-")
+    return " ".join(map(str, [*values, "of", *(told.take() for _ in range(told.take()))]))
+
+
+# In the order in which they are told.
+ITEMS = {"counts": counts, "trip": trip, "identity": identity, "running-number": running_number,
+         "train-data": train_data, "level": level, "position": position, "national": national}

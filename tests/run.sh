@@ -13,6 +13,7 @@ echo "$found"
 python3 random_lists.py --check || status=1
 python3 blocks.py || status=1
 python3 limit_rows.py --check || status=1
+python3 part_rows.py --check || status=1
 python3 onboard_lives.py --check || status=1
 python3 program_rows.py --check || status=1
 python3 page_rows.py || status=1

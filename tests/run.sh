@@ -14,6 +14,7 @@ wanted="619 rows, 23586 events, 24637 answers, 0 differences"
 python3 random_lists.py --check || status=1
 python3 blocks.py || status=1
 python3 limit_rows.py --check || status=1
+python3 part_rows.py --check || status=1
 python3 onboard_lives.py --check || status=1
 python3 program_rows.py --check || status=1
 python3 page_rows.py || status=1

@@ -1,256 +1,230 @@
-//! Worked rows of national values: what they are written in, and the values that a packet tells.
-mod turns;
-
-use crate::numbers::{cm, distance, group_place, kmh, reach, speed_step};
-use crate::wanted::same;
+//! National values:
+//!
+//!     5 1                          the defaults are in force, nothing is announced, and nothing is laid aside
+//!     5 2 COUNTRY PLACE PACKET     packet 3 comes, of a group of a country at a place (cm)
+//!     5 3 FRONT                    the maximum safe front is here
+//!     5 4 COUNTRY                  a group of this country is accepted
+//!     5 5                          what is announced is forgotten
+//!     5 6                          a life begins with what is in force
+//!     5 7                          a copy is laid aside, in place of the one before
+//!     5 8                          what was laid aside goes on, and what went on is laid aside
+//!     5 9                          what is in force: the values, the distance of rolling again, how many countries,
+//!                                  and each
+//!     5 10 0 0 PACKET              the values that the packet tells
+//!
+//! A packet is asked by the numbers of Q_SCALE, D_VALIDNV, V_NVSHUNT, V_NVSTFF, V_NVONSIGHT, V_NVUNFIT, V_NVREL,
+//! D_NVROLL, V_NVALLOWOVTRP, V_NVSUPOVTRP, D_NVOVTRP, T_NVOVTRP, D_NVSTFF, how many countries it lists, and each.
+//! Values are told in the order from V_NVSHUNT on, in m/h, cm and ms, the last two behind a 1, or as two zeros where
+//! they have no end. All told comes behind a 1.
+use crate::numbers::{cm, group_place, variable};
 use arrayvec::ArrayVec;
-use national::{CountryValues, National, OverrideDuration, StaffResponsibleDistance, Values};
+use national::{CountryValues, National, Values};
+use number_rows::Numbers;
 use packets::NationalValues;
 use std::mem::swap;
-use std::process::Abort;
-use vars::{Country, OpenLength, OverrideTime, Scale, StartPlace, ValidityDirection, Variable};
+use units::{Cm, GroupPlace};
+use vars::{Country, ValidityDirection, Variable};
 
-/// Packet 3 of a group of country 1, by the numbers of its variables.
-#[derive(Clone, Copy)]
-pub struct Sent {
-    /// Q_SCALE.
-    pub scale: Scale,
-    /// D_VALIDNV.
-    pub start: u16,
-    /// V_NVSTFF.
-    pub staff_responsible: u8,
-    /// The countries that it lists.
-    pub listed: &'static [u16],
-    /// T_NVOVTRP.
-    pub override_time: u8,
-    /// D_NVSTFF.
-    pub staff_responsible_distance: u16,
+// Where a row has the packet's Q_SCALE, with which it begins, and the first country that it lists.
+const SCALE: usize = 4;
+
+const FIRST_COUNTRY: usize = 18;
+
+/// The national values, and those that were laid aside.
+#[derive(Drop)]
+pub struct InForce {
+    national: National,
+    aside: National,
 }
 
-/// In metres and in force at once, for the country of its group alone; 30 km/h in Staff Responsible.
-pub const SENT: Sent = Sent {
-    scale: Scale::OneMetre,
-    start: 32_767,
-    staff_responsible: 6,
-    listed: &[],
-    override_time: 254,
-    staff_responsible_distance: 32_766,
-};
-
-/// What happens, and what is in force.
-pub enum Event {
-    /// Packet 3 of a group at this place.
-    Announce(Sent, i32),
-    /// The maximum safe front is here.
-    Reach(i64),
-    /// A group of this country is accepted.
-    Enter(u16),
-    /// What is announced is forgotten.
-    Forget,
-    /// A life begins with what is in force.
-    PowerUp,
-    /// A copy is laid aside, in place of the one before.
-    Keep,
-    /// What was laid aside goes on, and what went on is laid aside.
-    Turn,
-    /// The speed in Staff Responsible, in km/h.
-    Speed(u32),
-    /// The countries that the values are for.
-    For(&'static [u16]),
-    /// The distance that the train may roll, in centimetres.
-    Roll(u32),
-}
-
-use Event::{Announce, Enter, For, Forget, Keep, PowerUp, Reach, Roll, Speed, Turn};
-
-/// What a row is called, and what happens in it.
-pub type Row = (&'static str, &'static [Event]);
-
-fn country<R: Abort>(rt: &R, nid_c: u16) -> Country {
-    assert!(rt; nid_c < 1_024, "a country");
-    Country::of_number(u64::from(nid_c))
-        .ok()
-        .expect(rt, "a country")
-}
-
-fn start<R: Abort>(rt: &R, d_validnv: u16) -> StartPlace {
-    assert!(rt; d_validnv < 32_768, "a place");
-    StartPlace::of_number(u64::from(d_validnv))
-        .ok()
-        .expect(rt, "a place")
-}
-
-fn open_length<R: Abort>(rt: &R, d_nvstff: u16) -> OpenLength {
-    assert!(rt; d_nvstff < 32_768, "a length");
-    OpenLength::of_number(u64::from(d_nvstff))
-        .ok()
-        .expect(rt, "a length")
-}
-
-fn time<R: Abort>(rt: &R, t_nvovtrp: u8) -> OverrideTime {
-    OverrideTime::of_number(u64::from(t_nvovtrp))
-        .ok()
-        .expect(rt, "a time")
-}
-
-fn countries<R: Abort>(rt: &R, listed: &[u16]) -> ArrayVec<Country, 31> {
-    let mut countries = ArrayVec::new();
-    for nid_c in listed {
-        assert!(rt;
-            countries.try_push(country(rt, *nid_c)).is_ok(),
-            "a country"
-        );
-    }
-    countries
-}
-
-fn packet<R: Abort>(rt: &R, sent: &Sent) -> NationalValues {
-    NationalValues {
-        direction: ValidityDirection::Both,
-        scale: sent.scale,
-        start: start(rt, sent.start),
-        countries: countries(rt, sent.listed),
-        shunting: speed_step(rt, 1),
-        staff_responsible: speed_step(rt, sent.staff_responsible),
-        on_sight: speed_step(rt, 3),
-        unfitted: speed_step(rt, 120),
-        release: speed_step(rt, 5),
-        roll: distance(rt, 3),
-        override_allowed: speed_step(rt, 7),
-        override_speed: speed_step(rt, 8),
-        override_distance: distance(rt, 150),
-        override_time: time(rt, sent.override_time),
-        staff_responsible_distance: open_length(rt, sent.staff_responsible_distance),
-    }
-}
-
-fn announce<R: Abort>(rt: &R, national: &mut National, sent: &Sent, place: i32) {
-    national.announce(
-        &packet(rt, sent),
-        country(rt, 1),
-        group_place(rt, i64::from(place)),
-    );
-}
-
-fn is_for(national: &National, listed: &[u16]) -> bool {
-    let countries = national.countries();
-    for (country, nid_c) in countries.iter().zip(listed) {
-        if country.number() != u64::from(*nid_c) {
-            return false;
+impl InForce {
+    /// The defaults.
+    pub fn new() -> InForce {
+        InForce {
+            national: National::new(),
+            aside: National::new(),
         }
     }
-    countries.len() == listed.len()
-}
 
-fn happens<R: Abort>(rt: &R, national: &mut National, event: &Event, row: &str, step: usize) {
-    match event {
-        Announce(sent, place) => announce(rt, national, sent, *place),
-        Reach(max_front) => national.reach(cm(rt, *max_front)),
-        Enter(nid_c) => national.enter(country(rt, *nid_c)),
-        Forget => national.forget_announced(),
-        PowerUp => {
-            let countries = ArrayVec::try_from(national.countries()).unwrap();
-            let kept = CountryValues::new(national.values(), countries);
-            *national = National::kept(kept.copy());
+    /// Answers a row.
+    pub fn answer(&mut self, asked: &Numbers, told: &mut Numbers) {
+        match asked.at(1) {
+            9 => tell(told, &self.national),
+            10 => told.tell_all(&told_by(&packet(asked))),
+            _ => told.tell(u64::from(self.is_done(asked))),
         }
-        Speed(wanted) => {
-            let speed = national.values().staff_responsible.get() / 1_000;
-            same(rt, &speed, wanted, row, step);
+    }
+
+    fn is_done(&mut self, asked: &Numbers) -> bool {
+        match asked.at(1) {
+            1 => *self = InForce::new(),
+            6 => self.national = powered_up(&self.national),
+            7 => self.aside = copied(&self.national),
+            8 => swap(&mut self.national, &mut self.aside),
+            _ => return happens(&mut self.national, asked),
         }
-        For(listed) => same(rt, &is_for(national, listed), &true, row, step),
-        Roll(wanted) => same(
-            rt,
-            &national.in_force().values().roll.get(),
-            wanted,
-            row,
-            step,
-        ),
-        Keep | Turn => {}
+        true
     }
 }
 
 // With no clauses, so that those of the national values don't come to the rows.
-fn copy(national: &National) -> National {
+fn copied(national: &National) -> National {
     national.copy()
 }
 
-/// Runs rows; a difference ends the test.
-pub fn rows<R: Abort>(rt: &R, rows: &[Row]) {
-    for (row, events) in rows {
-        let mut national = National::new();
-        let mut aside = National::new();
-        for (step, event) in events.iter().enumerate() {
-            match event {
-                Keep => aside = copy(&national),
-                Turn => swap(&mut national, &mut aside),
-                _ => happens(rt, &mut national, event, row, step),
-            }
+fn powered_up(national: &National) -> National {
+    let countries = ArrayVec::try_from(national.countries()).unwrap();
+    let kept = CountryValues::new(national.values(), countries);
+    National::kept(kept.copy())
+}
+
+fn happens(national: &mut National, asked: &Numbers) -> bool {
+    match asked.at(1) {
+        2 => announce(
+            national,
+            &packet(asked),
+            variable(asked, 2),
+            group_place(asked, 3),
+        ),
+        3 => reach(national, cm(asked, 2)),
+        4 => enter(national, variable(asked, 2)),
+        5 => {
+            national.forget_announced();
+            true
         }
+        _ => false,
     }
 }
 
-/// What packet 3 tells in a scale, with these lengths in centimetres.
-fn told<R: Abort>(rt: &R, roll: u32, override_distance: u32, staff_responsible: u32) -> Values {
-    Values {
-        shunting: kmh(rt, 5),
-        staff_responsible: kmh(rt, 10),
-        on_sight: kmh(rt, 15),
-        unfitted: kmh(rt, 600),
-        release: kmh(rt, 25),
-        roll: reach(rt, roll),
-        override_allowed: kmh(rt, 35),
-        override_speed: kmh(rt, 40),
-        override_distance: reach(rt, override_distance),
-        override_time: OverrideDuration::new(254_000),
-        staff_responsible_distance: StaffResponsibleDistance::new(staff_responsible),
+fn announce(
+    national: &mut National,
+    packet: &Option<NationalValues>,
+    country: Option<Country>,
+    place: Option<GroupPlace>,
+) -> bool {
+    match (packet, country, place) {
+        (Some(packet), Some(country), Some(place)) => {
+            national.announce(packet, country, place);
+            true
+        }
+        _ => false,
     }
 }
 
-#[test]
-fn values_told(rt: HostRuntime) {
-    for (scale, roll, override_distance, staff_responsible) in [
-        (Scale::TenCentimetres, 30, 1_500, 327_660),
-        (Scale::OneMetre, 300, 15_000, 3_276_600),
-        (Scale::TenMetres, 3_000, 150_000, 32_766_000),
-    ] {
-        let mut sent = Sent {
-            scale,
-            staff_responsible: 2,
-            ..SENT
-        };
-        let wanted = told(&rt, roll, override_distance, staff_responsible);
-        same(&rt, &Values::of(&packet(&rt, &sent)), &wanted, "values", 0);
-        sent.override_time = 255;
-        sent.staff_responsible_distance = 32_767;
-        let endless = Values::of(&packet(&rt, &sent));
-        same(&rt, &endless.override_time, &None, "an endless time", 0);
-        same(
-            &rt,
-            &endless.staff_responsible_distance,
-            &None,
-            "an endless distance",
-            0,
-        );
+fn reach(national: &mut National, max_front: Option<Cm>) -> bool {
+    match max_front {
+        Some(max_front) => {
+            national.reach(max_front);
+            true
+        }
+        None => false,
     }
 }
 
-#[test]
-fn defaults(rt: HostRuntime) {
-    let told = Values {
-        shunting: kmh(&rt, 30),
-        staff_responsible: kmh(&rt, 40),
-        on_sight: kmh(&rt, 30),
-        unfitted: kmh(&rt, 100),
-        release: kmh(&rt, 40),
-        roll: reach(&rt, 200),
-        override_allowed: kmh(&rt, 0),
-        override_speed: kmh(&rt, 30),
-        override_distance: reach(&rt, 20_000),
-        override_time: OverrideDuration::new(60_000),
-        staff_responsible_distance: None,
-    };
-    let mut national = National::new();
-    same(&rt, national.values(), &told, "defaults", 0);
-    national.enter(country(&rt, 5));
-    same(&rt, &is_for(&national, &[]), &true, "for no country", 0);
+fn enter(national: &mut National, country: Option<Country>) -> bool {
+    match country {
+        Some(country) => {
+            national.enter(country);
+            true
+        }
+        None => false,
+    }
+}
+
+// The countries that a row's packet lists.
+fn listed(asked: &Numbers) -> Option<ArrayVec<Country, 31>> {
+    let mut countries: ArrayVec<Country, 31> = ArrayVec::new();
+    for index in 0..asked.at(SCALE + 13).min(31) as usize {
+        let country: Country = variable(asked, FIRST_COUNTRY + index)?;
+        let _ = countries.try_push(country);
+    }
+    Some(countries)
+}
+
+// The packet of a row; None where a number of its has no value.
+fn packet(asked: &Numbers) -> Option<NationalValues> {
+    Some(NationalValues {
+        direction: ValidityDirection::Both,
+        scale: variable(asked, SCALE)?,
+        start: variable(asked, SCALE + 1)?,
+        countries: listed(asked)?,
+        shunting: variable(asked, SCALE + 2)?,
+        staff_responsible: variable(asked, SCALE + 3)?,
+        on_sight: variable(asked, SCALE + 4)?,
+        unfitted: variable(asked, SCALE + 5)?,
+        release: variable(asked, SCALE + 6)?,
+        roll: variable(asked, SCALE + 7)?,
+        override_allowed: variable(asked, SCALE + 8)?,
+        override_speed: variable(asked, SCALE + 9)?,
+        override_distance: variable(asked, SCALE + 10)?,
+        override_time: variable(asked, SCALE + 11)?,
+        staff_responsible_distance: variable(asked, SCALE + 12)?,
+    })
+}
+
+fn told_by(packet: &Option<NationalValues>) -> [u64; 14] {
+    match packet {
+        Some(packet) => numbers_of(&values_of(packet)),
+        None => [0; 14],
+    }
+}
+
+fn values_of(packet: &NationalValues) -> Values {
+    Values::of(packet)
+}
+
+fn numbers_of(values: &Values) -> [u64; 14] {
+    let [is_time, time] = time(values);
+    let [is_distance, distance] = distance(values);
+    [
+        1,
+        u64::from(values.shunting.get()),
+        u64::from(values.staff_responsible.get()),
+        u64::from(values.on_sight.get()),
+        u64::from(values.unfitted.get()),
+        u64::from(values.release.get()),
+        u64::from(values.roll.get()),
+        u64::from(values.override_allowed.get()),
+        u64::from(values.override_speed.get()),
+        u64::from(values.override_distance.get()),
+        is_time,
+        time,
+        is_distance,
+        distance,
+    ]
+}
+
+fn time(values: &Values) -> [u64; 2] {
+    match values.override_time {
+        Some(limit) => [1, u64::from(limit.get())],
+        None => [0; 2],
+    }
+}
+
+fn distance(values: &Values) -> [u64; 2] {
+    match values.staff_responsible_distance {
+        Some(limit) => [1, u64::from(limit.get())],
+        None => [0; 2],
+    }
+}
+
+fn values_in_force(national: &National) -> [u64; 14] {
+    numbers_of(national.values())
+}
+
+fn roll(national: &National) -> u64 {
+    u64::from(national.in_force().values().roll.get())
+}
+
+fn tell(told: &mut Numbers, national: &National) {
+    told.tell_all(&values_in_force(national));
+    told.tell(roll(national));
+    tell_countries(told, national.countries());
+}
+
+fn tell_countries(told: &mut Numbers, countries: &[Country]) {
+    told.tell(countries.len() as u64);
+    for country in countries {
+        told.tell(country.number());
+    }
 }

@@ -1,14 +1,27 @@
-//! What is left of a telegram with a fault.
+//! What is left of a telegram:
+//!
+//!     9 COUNT BYTES     so many bytes, at most 104, eight to a number
+//!
+//! Told are 1, whether it has a fault, and whether it is left without packets.
+use crate::numbers::bytes;
+use number_rows::Numbers;
 use telegram::{Telegram, decode_into};
 
-/// A header, a packet 200 of 23 bits, and a second one that tells 22.
-const WRONG_LENGTH: [u8; 12] = [
-    0x90, 0x00, 0x7F, 0x80, 0x20, 0x02, 0xF2, 0x20, 0x0B, 0xE4, 0x40, 0x16,
-];
+/// The answer to a row.
+pub fn answer(asked: &Numbers) -> [u64; 3] {
+    let bytes = bytes(asked, 2);
+    match bytes.get(..asked.at(1) as usize) {
+        Some(bytes) => left(bytes),
+        None => [0; 3],
+    }
+}
 
-#[test]
-fn no_packets_after_a_fault(rt: HostRuntime) {
+fn left(bytes: &[u8]) -> [u64; 3] {
     let mut telegram = Telegram::new();
-    assert!(rt; decode_into(&WRONG_LENGTH, &mut telegram).is_err());
-    assert!(rt; telegram.packets.is_empty());
+    let has_fault = decode_into(bytes, &mut telegram).is_err();
+    [
+        1,
+        u64::from(has_fault),
+        u64::from(telegram.packets.is_empty()),
+    ]
 }

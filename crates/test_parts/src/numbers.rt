@@ -1,49 +1,63 @@
-//! Quantities and variables made of plain numbers.
-ghost use Rattle.std.specs.Prelude.{◌≡◌};
+//! Quantities, variables and bytes by the numbers of a row; None where a number is beyond its limits.
+use number_rows::Numbers;
+use packets::TELEGRAM_BYTES;
+use units::{Cm, GroupPlace, Length, Mph, Permille, Reach, Stretch};
+use vars::Variable;
 
-use std::process::Abort;
-use units::{Cm, GroupPlace, Mph, Reach};
-use vars::{Distance, SpeedStep, Variable};
+/// A number that may be below 0.
+pub fn signed(asked: &Numbers, index: usize) -> i64 {
+    asked.at(index).cast_signed()
+}
 
-/// So many centimetres.
-pub fn cm<R: Abort>(rt: &R, number: i64) -> Cm
-    ensures { result ≡ number }
-{
-    Cm::new(number).expect(rt, "a place")
+/// The value of a variable by its number, of which only the lowest bits are taken.
+pub fn variable<V: Variable>(asked: &Numbers, index: usize) -> Option<V> {
+    V::of_number(asked.at(index) % (1 << V::WIDTH)).ok()
+}
+
+/// A place, in centimetres.
+pub fn cm(asked: &Numbers, index: usize) -> Option<Cm> {
+    Cm::new(signed(asked, index))
 }
 
 /// The place of a group, in centimetres.
-pub fn group_place<R: Abort>(rt: &R, number: i64) -> GroupPlace {
-    GroupPlace::new(number).expect(rt, "a place of a group")
+pub fn group_place(asked: &Numbers, index: usize) -> Option<GroupPlace> {
+    GroupPlace::new(signed(asked, index))
+}
+
+/// A length, in centimetres.
+pub fn length(asked: &Numbers, index: usize) -> Option<Length> {
+    Length::new(asked.at(index))
 }
 
 /// A reach, in centimetres.
-pub fn reach<R: Abort>(rt: &R, number: u32) -> Reach {
-    Reach::new(number).expect(rt, "a reach")
+pub fn reach(asked: &Numbers, index: usize) -> Option<Reach> {
+    Reach::new(u32::try_from(asked.at(index)).ok()?)
 }
 
 /// A speed, in metres per hour.
-pub fn mph<R: Abort>(rt: &R, number: u32) -> Mph {
-    Mph::new(number).expect(rt, "a speed")
+pub fn mph(asked: &Numbers, index: usize) -> Option<Mph> {
+    Mph::new(u32::try_from(asked.at(index)).ok()?)
 }
 
-/// A speed, in km/h.
-pub fn kmh<R: Abort>(rt: &R, speed: u32) -> Mph {
-    mph(rt, speed.checked_mul(1_000).expect(rt, "a speed"))
+/// A gradient, per mille.
+pub fn permille(asked: &Numbers, index: usize) -> Option<Permille> {
+    Permille::new(i16::try_from(signed(asked, index)).ok()?)
 }
 
-/// A speed by its number, in steps of 5 km/h.
-pub fn speed_step<R: Abort>(rt: &R, number: u8) -> SpeedStep {
-    assert!(rt; number < 128, "a speed");
-    SpeedStep::of_number(u64::from(number))
-        .ok()
-        .expect(rt, "a speed")
+/// The track that a train may cover, from three places in a row, in centimetres.
+pub fn stretch(asked: &Numbers, index: usize) -> Option<Stretch> {
+    Stretch::new(
+        cm(asked, index)?,
+        cm(asked, index.saturating_add(1))?,
+        cm(asked, index.saturating_add(2))?,
+    )
 }
 
-/// A distance of a packet, by its number.
-pub fn distance<R: Abort>(rt: &R, number: u16) -> Distance {
-    assert!(rt; number < 32_768, "a distance");
-    Distance::of_number(u64::from(number))
-        .ok()
-        .expect(rt, "a distance")
+/// The bytes of a telegram, eight to a number, the first the highest.
+pub fn bytes(asked: &Numbers, first: usize) -> [u8; TELEGRAM_BYTES] {
+    let mut bytes = [0; TELEGRAM_BYTES];
+    for offset in 0..TELEGRAM_BYTES {
+        bytes[offset] = asked.at(first.saturating_add(offset / 8)).to_be_bytes()[offset % 8];
+    }
+    bytes
 }

@@ -1,4 +1,0 @@
-//! Worked rows of linking.
-mod missing;
-mod reading;
-mod rows;

@@ -1,0 +1,133 @@
+#!/usr/bin/env python3
+"""Rows of tests/rows/test_parts.row that are too many for a hand: groups of balises of which one is missed or none, and
+permitted speeds, as the definition says, speed by speed and centimetre by centimetre.
+
+    tests/plain/part_rows.py            writes them behind the rows by hand
+    tests/plain/part_rows.py --check    makes them anew; the exit status is 1 where others stand there
+"""
+import sys
+from collections import namedtuple
+from functools import lru_cache
+from pathlib import Path
+
+ROWS = Path(__file__).resolve().parents[1] / "rows" / "test_parts.row"
+HEADING = "# ---- Written by tests/plain/part_rows.py.\n"
+
+Gradient = namedtuple("Gradient", "begins changes ends before behind")
+Train = namedtuple("Train", "deceleration reaction")
+
+# In m/h.
+LIMIT, SLOWER = 900, 700
+TRAINS = [Train(1, 0), Train(70, 400), Train(300, 10_000)]
+GRADIENTS = [Gradient(-5, 9, 21, *both) for both in ((0, 0), (-5, 254), (-254, 12), (33, -71))]
+FRONTS = -7, 0, 4
+
+
+# ---- groups
+
+
+def balise(place, total, duplicate=0):
+    """The words of a balise of group 5: its N_PIG, N_TOTAL and M_DUP."""
+    told = {"N_PIG": (place, 0), "N_TOTAL": (total, 1), "M_DUP": (duplicate, 0)}
+    differing = (f"{name}={number}" for name, (number, usual) in told.items() if number != usual)
+    return " ".join(["balises read", *differing])
+
+
+def whole(total, missing=None):
+    """The message of a group whose balises were read in order, at the start of a life."""
+    known = total if missing is None else total - 1
+    return f"5 {'nominal' if known else 'unknown'} 0 0" + (" missed" if missing == 0 else "")
+
+
+def read(total):
+    """Groups whose balises are all read."""
+    yield "balises new", "done"
+    for place in range(total + 1):
+        yield balise(place, total), f"own {whole(total)}" if place == total else "nothing"
+
+
+def missed(total, missing, before, behind):
+    """Groups of which one balise isn't read, with these M_DUP before and behind it: a neighbour repeats it, or not."""
+    yield "balises new", "done"
+    for place in range(total + 1):
+        if place != missing:
+            yield balise(place, total, before if place < missing else behind), "nothing"
+    is_repeated = before == 1 and missing > 0 or behind == 2 and missing < total
+    yield "balises move 1301", f"left {whole(total, missing)}" if is_repeated else "left 5 broken: missing"
+
+
+def groups():
+    for total in range(8):
+        yield from read(total)
+    for total in range(1, 8):
+        for missing in range(total + 1):
+            for before, behind in ((0, 0), (1, 0), (0, 2), (2, 1)):
+                yield from missed(total, missing, before, behind)
+
+
+# ---- speeds
+
+
+def slowing(train, gradient, place):
+    """The deceleration at a centimetre, in cm/s2, rounded down; 0 where no gradient is told."""
+    if not gradient.begins <= place < gradient.ends:
+        return 0
+    steepness = gradient.before if place < gradient.changes else gradient.behind
+    return max(0, train.deceleration + 981 * steepness // 1000)
+
+
+@lru_cache(maxsize=None)
+def taken_off(train, gradient, first, behind):
+    """What the centimetres from one up to another, without it, take off the square of the speed: 1 cm/s is 36 m/h."""
+    return sum(2 * 36**2 * slowing(train, gradient, place) for place in range(first, behind))
+
+
+def fits(speed, train, gradient, front, target):
+    """The speed is no greater than the target's, or the brakes act before the target and take off enough."""
+    place, slower = target
+    if speed <= slower:
+        return True
+    first = front - -speed * train.reaction // 36_000
+    return first < place and speed**2 <= slower**2 + taken_off(train, gradient, first, place)
+
+
+def permitted(train, gradient, front, targets):
+    """The greatest speed up to the limit that fits all targets; 0 where none does."""
+    def fits_all(speed):
+        return all(fits(speed, train, gradient, front, target) for target in targets)
+
+    return next((speed for speed in range(LIMIT, 0, -1) if fits_all(speed)), 0)
+
+
+def speeds():
+    """Before a stop at each distance, and slower track at half of it."""
+    for train in TRAINS:
+        for gradient in GRADIENTS:
+            for distance in range(25):
+                targets = (distance, 0), (distance // 2, SLOWER)
+                before = [f"{place}={speed}" for place, speed in targets]
+                for front in FRONTS:
+                    words = ["speed permitted", front, LIMIT, "by", *train, "on", *gradient, "before", *before]
+                    yield " ".join(map(str, words)), permitted(train, gradient, front, targets)
+
+
+def made():
+    yield "\n# balise_groups: groups of one to eight balises, one of them missed or none (SUBSET-026, 3.4.1, 3.16.2)"
+    yield from (f"{question}: {answer}" for question, answer in groups())
+    yield "\n# braking, brakes: a stop at each distance, and slower track at half of it (this project's profile)"
+    yield from (f"{question}: {answer}" for question, answer in speeds())
+
+
+def main(words):
+    rows = list(made())
+    text = "".join(f"{row}\n" for row in rows)
+    by_hand, _, written = ROWS.read_text().partition(HEADING)
+    if words == ["--check"]:
+        print(f"{len(rows) - 2} rows of parts are {'the same' if written == text else 'others'}")
+        return 0 if written == text else 1
+    ROWS.write_text(by_hand + HEADING + text)
+    return 0
+
+
+if __name__ == "__main__":
+    sys.exit(main(sys.argv[1:]))

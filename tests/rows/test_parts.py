@@ -1,0 +1,42 @@
+#!/usr/bin/env python3
+"""Runs test_parts.row over the program: tests/rows/test_parts.py [PROGRAM]
+
+A row's first word names the part that it is for; `test_parts_track.py`, `test_parts_packets.py` and
+`test_parts_groups.py` list what each part is asked. A row goes on where the one before of its part ended; `new` begins
+anew. What is asked and told, in numbers, stands in crates/test_parts/src. The rows behind the line that says so, and
+what they want, are made by tests/plain/part_rows.py; all others were worked out by hand from SUBSET-026 and this
+project's profile."""
+import sys
+
+import test_parts_groups
+import test_parts_packets
+import test_parts_track
+from asking import main
+
+# Of each part its number, what makes numbers of a question's words, and what makes words of the answer.
+PARTS = {
+    "place": (1, test_parts_track.place, test_parts_track.place_told),
+    "restriction": (2, test_parts_track.restriction, test_parts_track.restriction_told),
+    "profile": (3, test_parts_track.profile, test_parts_track.profile_told),
+    "links": (4, test_parts_groups.links, test_parts_groups.links_told),
+    "national": (5, test_parts_packets.national, test_parts_packets.national_told),
+    "authority": (6, test_parts_packets.authority, test_parts_packets.authority_told),
+    "balises": (7, test_parts_groups.balises, test_parts_groups.balises_told),
+    "speed": (8, test_parts_track.speed, test_parts_track.speed_told),
+    "telegram": (9, test_parts_groups.telegram, test_parts_groups.telegram_told),
+}
+
+
+def question(row):
+    part, *words = row.split()
+    number, numbers_of, _ = PARTS[part]
+    return [number, *numbers_of(words)]
+
+
+def answer(row, told):
+    part, *words = row.split()
+    return [PARTS[part][2](words, told)]
+
+
+if __name__ == "__main__":
+    sys.exit(main("test_parts", question, answer))

@@ -24,6 +24,7 @@ rows() {
 }
 
 rows test_decode 291 etcs
+rows test_modes 2613
 rows test_disk 353
 rows test_blocks 741
 exit $status

@@ -26,6 +26,7 @@ rows() {
 python3 long_questions.py || status=1
 rows test_decode 291 etcs
 rows test_parts 2732
+rows test_modes 2613
 rows test_disk 353
 rows test_blocks 741
 rows test_journal 1045

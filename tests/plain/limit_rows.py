@@ -1,8 +1,8 @@
 #!/usr/bin/env python3
-"""Pseudo-random tracks for the rows of crates/test_modes, the same in every run, with what the definitions say of them
+"""Pseudo-random tracks for tests/rows/test_modes.row, the same in every run, with what the definitions say of them
 centimetre by centimetre.
 
-    tests/plain/limit_rows.py            writes them behind the worked rows of crates/test_modes, and their answers
+    tests/plain/limit_rows.py            writes them behind the worked rows there, with their answers
     tests/plain/limit_rows.py --check    makes them anew; the exit status is 1 where others stand there
 """
 import sys
@@ -11,8 +11,8 @@ from pathlib import Path
 
 from random_lists import Numbers
 
-CRATE = Path(__file__).resolve().parents[2] / "crates" / "test_modes"
-HEADING = "random tracks"
+ROWS = Path(__file__).resolve().parents[1] / "rows/test_modes.row"
+HEADING = "random tracks: no row\n"
 
 TRACKS, OF_EACH = 12, 10
 LENGTH_CM = 3_000
@@ -42,7 +42,7 @@ class Track:
 
     def say(self, word, *values, answer=""):
         line = " ".join([word, *map(str, values)])
-        self.said.append((line, f"{line}:" + "".join(f" {number}" for number in answer)))
+        self.said.append(f"{line}:" + "".join(f" {number}" for number in answer))
 
     def tell_statics(self, numbers):
         """Packet 27 from place 0 on; 127 is an end mark, and of equal places the last holds."""
@@ -202,22 +202,14 @@ def tracks():
 
 
 def main(words):
-    made = [track.said for track in tracks()]
-    rows = {
-        "stdin": "".join("\n" + "".join(f"{line}\n" for line, _ in said) for said in made),
-        "stdout": "".join("\n" + "".join(f"{answer}\n" for _, answer in said) for said in made),
-    }
-    same = True
-    for name, text in rows.items():
-        path = CRATE / name
-        heading = f"{HEADING}\n" if name == "stdin" else f"{HEADING}: no row\n"
-        worked, _, written = path.read_text().partition(heading)
-        same = same and written == text
-        if words != ["--check"]:
-            path.write_text(worked + heading + text)
+    made = "".join("\nnew:\n" + "".join(f"{row}\n" for row in track.said) for track in tracks())
+    worked, heading, written = ROWS.read_text().partition(HEADING)
+    if not heading:
+        raise SystemExit(f"{ROWS} has no heading of random tracks")
     if words == ["--check"]:
-        print(f"the random tracks are {'the same' if same else 'others'}")
-        return 0 if same else 1
+        print(f"the random tracks are {'the same' if written == made else 'others'}")
+        return 0 if written == made else 1
+    ROWS.write_text(worked + heading + made)
     return 0
 
 

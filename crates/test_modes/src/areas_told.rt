@@ -1,15 +1,27 @@
-//! Rows of mode areas and of the announced level: `area DISTANCE MODE SPEED LENGTH ACKNOWLEDGEMENT` writes one area
-//! more of a packet 80 in metres, `replace PLACE` takes it, `order LEVEL ACKNOWLEDGEMENT` writes one element more of a
-//! packet 41, `announce PLACE DISTANCE` takes it, and the rest asks and looks.
+//! Mode areas and the announced level. `elements.rt` has the numbers of elements; distances are in metres.
+//!
+//!     0 AREA                      writes an element more of a packet 80
+//!     1 ORDER                     .. of a packet 41
+//!     2 PLACE                     takes the packet 80 of a group at this place
+//!     3 PLACE D_LEVELTR           .. the packet 41
+//!     4                           deletes areas and level
+//!     5 MODE MIN MAX              whether an area of a mode is met, from the minimum to the maximum safe front; a mode
+//!                                 by M_MAMODE
+//!     6 MODE MIN MAX              .. asks for an acknowledgement
+//!     7 MODE MIN                  .. is left
+//!     8 MIN MAX OTHERWISE         the least speed
+//!     9 MAX                       the level that comes into force: 0, 1, or 2 for none
+//!     10                          whether an announcement of level 0 is left
+//!     11 MAX                      .. asks for an acknowledgement
 use crate::answer::Answer;
-use crate::names::announced_level;
-use crate::words::Words;
+use crate::elements::{level_order, mode_area, no_areas, no_orders};
+use crate::values::{cm, group_place, mph, value};
 use areas::{AnnouncedLevel, Areas, NationalSpeeds};
-use arrayvec::ArrayVec;
 use mode_table::TrainLevel;
-use packets::{LevelOrder, LevelTransition, ModeArea, ModeProfile};
-use units::{Cm, GroupPlace, Mph, Stretch};
-use vars::{AreaMode, Scale, StartPlace, ValidityDirection};
+use number_rows::Numbers;
+use packets::{LevelTransition, ModeProfile};
+use units::{Cm, Mph, Stretch};
+use vars::{AreaMode, Scale};
 
 /// The mode areas and the announced level that rows go to, and the packets being written.
 #[derive(Drop)]
@@ -26,127 +38,112 @@ impl AreasTold {
         AreasTold {
             areas: Areas::new(),
             level: AnnouncedLevel::new(),
-            profile: ModeProfile {
-                direction: ValidityDirection::Both,
-                scale: Scale::OneMetre,
-                areas: ArrayVec::new(),
-            },
-            transition: LevelTransition {
-                direction: ValidityDirection::Both,
-                scale: Scale::OneMetre,
-                start: StartPlace::Now,
-                orders: ArrayVec::new(),
-            },
+            profile: no_areas(Scale::OneMetre),
+            transition: no_orders(),
         }
     }
 
     /// The answer to a row.
-    pub fn answer(&mut self, words: &mut Words<'_>) -> Answer {
-        match words.word() {
-            "area" => return self.write_area(words),
-            "order" => return self.write_order(words),
-            "replace" => self.replace(words.group_place()),
-            "announce" => {
-                let place = words.group_place();
-                self.announce(place, words.value(StartPlace::Now));
-            }
-            "clear" => {
-                self.areas.clear();
-                self.level.clear();
-            }
-            asked => return self.asked(asked, words),
+    pub fn answer(&mut self, asked: &Numbers) -> Answer {
+        match asked.at(1) {
+            0 => Answer::push(mode_area(asked), &mut self.profile.areas),
+            1 => Answer::push(level_order(asked), &mut self.transition.orders),
+            2 => self.replace(asked),
+            3 => self.announce(asked),
+            4 => self.clear(),
+            9 => self.reach(asked),
+            _ => Answer::of(self.asked(asked)),
         }
-        Answer::done()
     }
 
-    fn write_area(&mut self, words: &mut Words<'_>) -> Answer {
-        let blank = ModeArea::default();
-        let area = ModeArea {
-            distance: words.value(blank.distance),
-            mode: words.area_mode(),
-            speed: words.value(blank.speed),
-            length: words.value(blank.length),
-            acknowledgement: words.value(blank.acknowledgement),
+    fn replace(&mut self, asked: &Numbers) -> Answer {
+        let Some(place) = group_place(asked, 2) else {
+            return Answer::NoRow;
         };
-        match self.profile.areas.try_push(area) {
-            Ok(()) => Answer::done(),
-            Err(_) => Answer::no_row(),
-        }
-    }
-
-    fn write_order(&mut self, words: &mut Words<'_>) -> Answer {
-        let blank = LevelOrder::default();
-        let level = announced_level(words.word());
-        let order = LevelOrder {
-            level: level.unwrap_or(blank.level),
-            stm: None,
-            acknowledgement: words.value(blank.acknowledgement),
-        };
-        match self.transition.orders.try_push(order) {
-            Ok(()) if level.is_some() => Answer::done(),
-            _ => Answer::no_row(),
-        }
-    }
-
-    fn replace(&mut self, place: GroupPlace) {
         self.areas.replace(&self.profile, place);
-        self.profile.areas = ArrayVec::new();
+        self.profile = no_areas(Scale::OneMetre);
+        Answer::Done
     }
 
-    fn announce(&mut self, place: GroupPlace, start: StartPlace) {
+    fn announce(&mut self, asked: &Numbers) -> Answer {
+        let (Some(place), Some(start)) = (group_place(asked, 2), value(asked, 3)) else {
+            return Answer::NoRow;
+        };
         self.transition.start = start;
         self.level.announce(&self.transition, place);
-        self.transition.orders = ArrayVec::new();
+        self.transition = no_orders();
+        Answer::Done
     }
 
-    fn asked(&mut self, asked: &str, words: &mut Words<'_>) -> Answer {
-        match asked {
-            "is_met" | "asks" => {
-                let mode = words.area_mode();
-                self.of_fronts(asked, mode, &words.fronts())
-            }
-            "is_left" => {
-                let mode = words.area_mode();
-                self.is_left(mode, words.cm())
-            }
-            "least" => {
-                let train = words.fronts();
-                self.least(&train, words.mph())
-            }
-            "level_0_is_left" => Answer::yes_or_no(self.level.is_left()),
-            "level_0_asks" => Answer::yes_or_no(self.level.asks(words.cm())),
-            "reach" => Answer::Word(name_of(self.level.reach(words.cm()))),
-            _ => Answer::no_row(),
+    fn clear(&mut self) -> Answer {
+        self.areas.clear();
+        self.level.clear();
+        Answer::Done
+    }
+
+    fn reach(&mut self, asked: &Numbers) -> Answer {
+        match cm(asked, 2) {
+            Some(max_front) => Answer::Number(level_number(self.level.reach(max_front))),
+            None => Answer::NoRow,
         }
     }
 
-    fn of_fronts(&self, asked: &str, mode: AreaMode, train: &Stretch) -> Answer {
-        Answer::yes_or_no(if asked == "asks" {
-            self.areas.asks(mode, train)
-        } else {
-            self.areas.is_met(mode, train)
-        })
+    fn asked(&self, asked: &Numbers) -> Option<u64> {
+        match asked.at(1) {
+            5 => self.is_met(asked),
+            6 => self.asks(asked),
+            7 => self.is_left(asked),
+            8 => self.least(asked),
+            10 => Some(u64::from(self.level.is_left())),
+            11 => self.level_asks(asked),
+            _ => None,
+        }
     }
 
-    fn is_left(&self, mode: AreaMode, min_front: Cm) -> Answer {
-        Answer::yes_or_no(self.areas.is_left(mode, min_front))
+    fn is_met(&self, asked: &Numbers) -> Option<u64> {
+        let train = fronts(cm(asked, 3)?, cm(asked, 4)?)?;
+        Some(u64::from(self.areas.is_met(area_mode(asked)?, &train)))
+    }
+
+    fn asks(&self, asked: &Numbers) -> Option<u64> {
+        let train = fronts(cm(asked, 3)?, cm(asked, 4)?)?;
+        Some(u64::from(self.areas.asks(area_mode(asked)?, &train)))
+    }
+
+    fn is_left(&self, asked: &Numbers) -> Option<u64> {
+        let min_front = cm(asked, 3)?;
+        Some(u64::from(self.areas.is_left(area_mode(asked)?, min_front)))
     }
 
     // By national values of 40 km/h in On Sight and 25 km/h in Shunting; of a copy, which is equal.
-    fn least(&self, train: &Stretch, otherwise: Mph) -> Answer {
+    fn least(&self, asked: &Numbers) -> Option<u64> {
         let national = NationalSpeeds {
-            on_sight: Mph::new(40_000).unwrap(),
-            shunting: Mph::new(25_000).unwrap(),
+            on_sight: Mph::new(40_000)?,
+            shunting: Mph::new(25_000)?,
         };
-        let least = self.areas.copy().least(train, &national, otherwise);
-        Answer::Number(u64::from(least.get()))
+        let train = fronts(cm(asked, 2)?, cm(asked, 3)?)?;
+        let otherwise = mph(asked, 4)?;
+        let least = self.areas.copy().least(&train, &national, otherwise);
+        Some(u64::from(least.get()))
+    }
+
+    fn level_asks(&self, asked: &Numbers) -> Option<u64> {
+        Some(u64::from(self.level.asks(cm(asked, 2)?)))
     }
 }
 
-fn name_of(level: Option<TrainLevel>) -> &'static str {
+// The rear is where the front may least be.
+fn fronts(min_front: Cm, max_front: Cm) -> Option<Stretch> {
+    Stretch::new(min_front, min_front, max_front)
+}
+
+fn area_mode(asked: &Numbers) -> Option<AreaMode> {
+    value(asked, 2)
+}
+
+fn level_number(level: Option<TrainLevel>) -> u64 {
     match level {
-        None => "none",
-        Some(TrainLevel::Level0) => "0",
-        Some(TrainLevel::Level1) => "1",
+        Some(level) => u64::from(level.number()),
+        None => 2,
     }
 }

@@ -1,19 +1,28 @@
-//! Rows of the driver: `at MODE SPEED ALLOWED WAITING` makes the situation, `when MOMENT PATH TIME DISTANCE` the
-//! occasion, `accepts ACTION` asks, `do ACTION` does what is accepted, `come_in LEVEL` and `enter MODE` tell, and the
-//! rest asks for what is known.
+//! The driver. `actions.rt` has the numbers of actions.
+//!
+//!     0 MODE SPEED ALLOWED WAITING     makes the situation; ALLOWED is the greatest speed for an override, WAITING the
+//!                                      acknowledgement that is asked for or owed: 0 none, 1 On Sight, 2 Shunting,
+//!                                      3 level 0
+//!     1 MOMENT PATH TIME DISTANCE      makes the occasion; TIME is in seconds, and 255 has no end
+//!     2 ACTION                         whether an action is accepted
+//!     3 ACTION                         .. which is done then
+//!     4 MODE                           a mode is entered
+//!     5 LEVEL                          an announced level comes into force
+//!     6 WORD                           a power-up, with the word on movements without power
+//!     7 MOMENT PATH                    whether the trip is overridden
+//!     8 9 10 11                        the status of identity, running number, train data and level: 0 unknown,
+//!                                      1 valid, 2 invalid
+//!     12 13                            whether a trip is outstanding, whether the train is revalidated
+use crate::actions::action;
 use crate::answer::Answer;
-use crate::words::Words;
-use braking::{Brakes, Deceleration, Reaction};
-use driver::{
-    Acknowledged, Action, ActionSituation, Confirmed, Datum, Driver, DriverIdentity, Kept,
-    Occasion, RunningNumber, TrainData,
-};
-use mode_table::{Cold, Mode, TrainLevel};
+use crate::values::{byte, cold, mode, mph, ms, path, reach, train_level};
+use driver::{Action, ActionSituation, Datum, Driver, Kept, Occasion};
+use mode_table::Mode;
+use number_rows::Numbers;
 use units::{Length, Mph, Ms, Reach};
-use vars::{TrainCategory, Variable};
 
 /// The driver that rows go to, with the situation and the occasion.
-#[derive(Drop)]
+#[derive(Clone, Copy)]
 pub struct Driving {
     driver: Driver,
     situation: ActionSituation,
@@ -35,7 +44,7 @@ impl Driving {
             },
             occasion: Occasion {
                 moment: Ms::new(0).unwrap(),
-                path: Length::new(0).unwrap(),
+                path: Length::ZERO,
                 override_time: None,
                 override_distance: Reach::new(0).unwrap(),
             },
@@ -43,144 +52,106 @@ impl Driving {
     }
 
     /// The answer to a row.
-    pub fn answer(&mut self, words: &mut Words<'_>) -> Answer {
-        match words.word() {
-            "at" => self.situation = situation(words),
-            "when" => self.occasion = occasion(words),
-            "accepts" => return self.accepts(words.word()),
-            "do" => return self.does(words.word()),
-            "enter" => self.driver.turn(words.mode()),
-            "come_in" => self.driver.come_in(words.train_level()),
-            "power_up" => self.power_up(words.cold()),
-            "overridden" => return self.is_overridden(words.ms(), words.length()),
-            asked => return self.known(asked),
-        }
-        Answer::done()
-    }
-
-    fn accepts(&self, word: &str) -> Answer {
-        match action_of(word) {
-            Some(action) => Answer::yes_or_no(self.driver.accepts(&action, &self.situation)),
-            None => Answer::no_row(),
+    pub fn answer(&mut self, asked: &Numbers) -> Answer {
+        match asked.at(1) {
+            0 => Answer::put(situation(asked), &mut self.situation),
+            1 => Answer::put(occasion(asked), &mut self.occasion),
+            2 => Answer::of(self.accepts(asked)),
+            3 => self.act(asked),
+            4 => Answer::put(entered(&self.driver, asked), &mut self.driver),
+            5 => Answer::put(come_in(&self.driver, asked), &mut self.driver),
+            6 => Answer::put(powered_up(&self.driver, asked), &mut self.driver),
+            7 => Answer::of(overridden(&self.driver, asked)),
+            what => Answer::of(known(&self.driver, what)),
         }
     }
 
-    fn power_up(&mut self, word: Cold) {
-        let kept = self.driver.kept().powered_up(word);
-        self.driver = Driver::new(&kept);
+    fn accepts(&self, asked: &Numbers) -> Option<u64> {
+        let action = action(asked)?;
+        Some(u64::from(self.driver.accepts(&action, &self.situation)))
     }
 
-    fn is_overridden(&self, moment: Ms, path: Length) -> Answer {
-        Answer::yes_or_no(self.driver.is_overridden(moment, path))
-    }
-
-    // Does what is accepted.
-    fn does(&mut self, word: &str) -> Answer {
-        let Some(action) = action_of(word) else {
-            return Answer::no_row();
-        };
-        if self.driver.accepts(&action, &self.situation) {
-            self.driver.act(&action, &self.occasion);
-            Answer::done()
-        } else {
-            Answer::Word("not accepted")
+    fn act(&mut self, asked: &Numbers) -> Answer {
+        match action(asked) {
+            Some(action) => self.act_if_accepted(&action),
+            None => Answer::NoRow,
         }
     }
 
-    fn known(&self, asked: &str) -> Answer {
-        let kept = self.driver.kept();
-        match asked {
-            "identity" => status_of(&kept.identity),
-            "running_number" => status_of(&kept.running_number),
-            "train_data" => status_of(&self.driver.train_data()),
-            "level" => status_of(&self.driver.level()),
-            "trip_outstanding" => Answer::yes_or_no(self.driver.is_trip_outstanding()),
-            "revalidated" => Answer::yes_or_no(self.driver.is_revalidated()),
-            _ => Answer::no_row(),
+    fn act_if_accepted(&mut self, action: &Action) -> Answer {
+        if !self.driver.accepts(action, &self.situation) {
+            return Answer::Number(0);
         }
+        self.driver.act(action, &self.occasion);
+        Answer::Number(1)
     }
 }
 
-fn status_of<T: Copy>(datum: &Datum<T>) -> Answer {
-    Answer::Word(match datum {
-        Datum::Unknown => "unknown",
-        Datum::Valid(_) => "valid",
-        Datum::Invalid(_) => "invalid",
+fn entered(driver: &Driver, asked: &Numbers) -> Option<Driver> {
+    let mut next = *driver;
+    next.turn(mode(asked, 2)?);
+    Some(next)
+}
+
+fn come_in(driver: &Driver, asked: &Numbers) -> Option<Driver> {
+    let mut next = *driver;
+    next.come_in(train_level(asked, 2)?);
+    Some(next)
+}
+
+fn powered_up(driver: &Driver, asked: &Numbers) -> Option<Driver> {
+    Some(Driver::new(&driver.kept().powered_up(cold(asked, 2)?)))
+}
+
+fn overridden(driver: &Driver, asked: &Numbers) -> Option<u64> {
+    let is_so = driver.is_overridden(ms(asked, 2)?, path(asked, 3)?);
+    Some(u64::from(is_so))
+}
+
+fn known(driver: &Driver, what: u64) -> Option<u64> {
+    match what {
+        8 => Some(status(&driver.kept().identity)),
+        9 => Some(status(&driver.kept().running_number)),
+        10 => Some(status(&driver.train_data())),
+        11 => Some(status(&driver.level())),
+        12 => Some(u64::from(driver.is_trip_outstanding())),
+        13 => Some(u64::from(driver.is_revalidated())),
+        _ => None,
+    }
+}
+
+fn status<T: Copy>(datum: &Datum<T>) -> u64 {
+    match datum {
+        Datum::Unknown => 0,
+        Datum::Valid(_) => 1,
+        Datum::Invalid(_) => 2,
+    }
+}
+
+fn situation(asked: &Numbers) -> Option<ActionSituation> {
+    Some(ActionSituation {
+        mode: mode(asked, 2)?,
+        speed: mph(asked, 3)?,
+        override_allowed: mph(asked, 4)?,
+        on_sight_waits: asked.at(5) == 1,
+        shunting_waits: asked.at(5) == 2,
+        level_0_waits: asked.at(5) == 3,
     })
 }
 
-fn situation(words: &mut Words<'_>) -> ActionSituation {
-    let (mode, speed, override_allowed) = (words.mode(), words.mph(), words.mph());
-    let waiting = words.word();
-    ActionSituation {
-        mode,
-        speed,
-        override_allowed,
-        on_sight_waits: waiting == "on_sight",
-        shunting_waits: waiting == "shunting",
-        level_0_waits: waiting == "level_0",
+fn occasion(asked: &Numbers) -> Option<Occasion> {
+    Some(Occasion {
+        moment: ms(asked, 2)?,
+        path: path(asked, 3)?,
+        override_time: override_time(byte(asked, 4)?),
+        override_distance: reach(asked, 5)?,
+    })
+}
+
+// 255 has no end, any other is in seconds.
+fn override_time(seconds: u8) -> Option<Ms> {
+    if seconds == 255 {
+        return None;
     }
-}
-
-// A time of 255 has no end, any other is in seconds.
-fn occasion(words: &mut Words<'_>) -> Occasion {
-    let (moment, path, seconds) = (words.ms(), words.length(), words.byte());
-    let override_time = if seconds == 255 {
-        None
-    } else {
-        Ms::new(u64::from(seconds) * 1_000)
-    };
-    Occasion {
-        moment,
-        path,
-        override_time,
-        override_distance: words.reach(),
-    }
-}
-
-// The train of the rows: 200 m, 160 km/h, 70 cm/s2, no reaction time, no category.
-fn train() -> Option<TrainData> {
-    let brakes = Brakes {
-        deceleration: Deceleration::new(70).unwrap(),
-        reaction: Reaction::new(0).unwrap(),
-    };
-    let category = TrainCategory::of_number(15).unwrap();
-    let (length, speed) = (Length::new(20_000).unwrap(), Mph::new(160_000).unwrap());
-    TrainData::new(length, speed, category, brakes)
-}
-
-fn action_of(word: &str) -> Option<Action> {
-    let action = match word {
-        "choose_level_0" => Action::ChooseLevel(TrainLevel::Level0),
-        "choose_level_1" => Action::ChooseLevel(TrainLevel::Level1),
-        "start" => Action::Start,
-        "choose_shunting" => Action::ChooseShunting,
-        "leave_shunting" => Action::LeaveShunting,
-        "override" => Action::Override,
-        "close_desk" => Action::CloseDesk,
-        "enter_identity" => return identity(),
-        "enter_running_number" => Action::EnterRunningNumber(RunningNumber::new(4_711).unwrap()),
-        "enter_train_data" => return Some(Action::EnterTrainData(train()?)),
-        other => return confirming(other),
-    };
-    Some(action)
-}
-
-fn identity() -> Option<Action> {
-    Some(Action::EnterIdentity(DriverIdentity::new(b"A 1")?))
-}
-
-fn confirming(word: &str) -> Option<Action> {
-    let action = match word {
-        "confirm_identity" => Action::Confirm(Confirmed::Identity),
-        "confirm_running_number" => Action::Confirm(Confirmed::RunningNumber),
-        "confirm_train_data" => Action::Confirm(Confirmed::TrainData),
-        "confirm_level" => Action::Confirm(Confirmed::Level),
-        "acknowledge_trip" => Action::Acknowledge(Acknowledged::Trip),
-        "acknowledge_on_sight" => Action::Acknowledge(Acknowledged::OnSight),
-        "acknowledge_shunting" => Action::Acknowledge(Acknowledged::Shunting),
-        "acknowledge_level_0" => Action::Acknowledge(Acknowledged::Level0),
-        _ => return None,
-    };
-    Some(action)
+    Ms::new(u64::from(seconds) * 1_000)
 }

@@ -1,52 +1,46 @@
-//! Worked rows of the mode table, the driver, the mode areas, the acknowledgements, and of the track ahead: each line of the input is one
-//! row, and is printed again with what the crates answer. An empty line begins a new life of new equipment, on another track.
+//! The mode table, the driver, the mode areas, the acknowledgements and the track ahead, asked and told in numbers. A
+//! row's first number is what it is for, its second one what is asked, and others follow; what a row doesn't have is 0:
 //!
-//! `src/tables.rt`, `driving.rt`, `areas_told.rt` and `acknowledging.rt` have the words of their rows. Those of the track:
+//!     1             begins a life of new equipment, on another track
+//!     2 WHAT ..     the tables (`tables.rt`)
+//!     3 WHAT ..     the driver (`driving.rt`)
+//!     4 WHAT ..     mode areas and the announced level (`areas_told.rt`)
+//!     5 WHAT ..     one kind of acknowledgement (`acknowledging.rt`)
+//!     6 WHAT ..     tells of a track (`track.rt`)
+//!     7 WHAT ..     asks what a train may run there (`ahead.rt`)
 //!
-//!     train 70 0 160000 15             deceleration (cm/s^2), reaction (ms), greatest speed (m/h), category
-//!     authority 160000 10000 0         V_MAIN, the end (cm), V_LOA
-//!     national 40000 25000             V_NVONSIGHT, V_NVSHUNT
-//!     static 500 32 1 0                one more element of packet 27: D_STATIC (10 cm), V_STATIC, Q_FRONT, N_ITER
-//!     difference 3 16                  .. and one more of its differences: NC_DIFF, V_DIFF
-//!     statics 0                        takes the packet, from a place (cm): where it begins, and the place and speed of each step
-//!     slope 500 1 20                   one more element of packet 21: D_GRADIENT (10 cm), Q_GDIR, G_A
-//!     slopes 0                         takes the packet: where it begins, and the place and per mille of each step
-//!     mode_area 500 0 8 20             one more element of packet 80: D_MAMODE (10 cm), M_MAMODE, V_MAMODE, L_MAMODE
-//!     mode_areas 0                     takes the packet
-//!     restriction 5000 100 30000 1     the first centimetre, the length, the speed, Q_FRONT
-//!     limit 14000 16000 16500          of a train from these places on: its minimum safe rear, its minimum safe front, its maximum safe front
-//!     targets 0 10000 40000            those ahead of a front, with a last target or none: the place and speed of each
-//!     permitted 0 160000 10000 40000   from a front, up to a limit, with a last target or none
-//!     fitting 0 160000 10000 40000     .. that fits the targets that are told one by one
-//!     either 0 160000 10000 40000 20000 0
+//! Places are in centimetres, by their two's complement; speeds in metres per hour; moments in milliseconds; modes,
+//! levels and words on movements without power by their own numbers; whether something is so is 0 or 1. An answer is 1
+//! and what is told, or 2 alone where memory was refused. A row that is none of these gets no answer.
 #![tactic(auto)]
 
 mod acknowledging;
+mod actions;
+mod ahead;
 mod answer;
 mod areas_told;
 mod driving;
-mod names;
+mod elements;
 mod tables;
 mod track;
-mod words;
-mod written;
+mod values;
 
-use acknowledging::Acknowledging;
 use answer::Answer;
+use areas::Acknowledgement;
 use areas_told::AreasTold;
 use driving::Driving;
-use std::alloc::{AllocError, Global};
+use number_rows::{Answers, Numbers, run};
+use std::alloc::Global;
 use std::io;
-use track::Told;
-use words::Words;
+use track::TrackTold;
 
 // What the rows of one life work on.
 #[derive(Drop)]
 struct Rows {
     driving: Driving,
     areas: AreasTold,
-    kind: Acknowledging,
-    track: Told,
+    kind: Acknowledgement,
+    track: TrackTold,
 }
 
 impl Rows {
@@ -54,66 +48,33 @@ impl Rows {
         Rows {
             driving: Driving::new(),
             areas: AreasTold::new(),
-            kind: Acknowledging::new(),
-            track: Told::nothing(alloc),
+            kind: Acknowledgement::new(),
+            track: TrackTold::nothing(alloc),
         }
     }
 
-    // What the crates answer to a row.
-    fn answer(&mut self, group: &str, words: &mut Words<'_>) -> Answer {
-        match group {
-            "driver" => self.driving.answer(words),
-            "areas" => self.areas.answer(words),
-            "kind" => self.kind.answer(words),
-            "mode" | "entry" | "power_up" | "packet" => tables::answer(group, words),
-            _ => self.track.answer(group, words),
+    fn begin_anew(&mut self, alloc: Global) -> Answer {
+        *self = Rows::new(alloc);
+        Answer::Done
+    }
+}
+
+impl Answers for Rows {
+    fn answer(&mut self, alloc: Global, asked: &Numbers, told: &mut Numbers) {
+        match asked.at(0) {
+            1 => self.begin_anew(alloc).tell(told),
+            2 => Answer::of(tables::answer(asked)).tell(told),
+            3 => self.driving.answer(asked).tell(told),
+            4 => self.areas.answer(asked).tell(told),
+            5 => acknowledging::answer(&mut self.kind, asked).tell(told),
+            6 => self.track.answer(alloc, asked, told),
+            7 => ahead::answer(&self.track, asked, told),
+            _ => {}
         }
     }
-}
-
-fn answer_to(alloc: Global, rows: &mut Rows, line: &str) -> Result<Answer, AllocError> {
-    let words: Vec<&str> = line.split_whitespace().collect(alloc)?;
-    let Some((group, others)) = words.as_slice().split_first() else {
-        *rows = Rows::new(alloc);
-        return Ok(Answer::Word(""));
-    };
-    let mut words = Words::new(others);
-    let answer = rows.answer(group, &mut words);
-    Ok(if words.are_all() {
-        answer
-    } else {
-        Answer::Word("no row")
-    })
-}
-
-fn tell(rt: &impl Print, line: &str, answer: &Answer) -> io::Result<()> {
-    match answer {
-        Answer::Word("") => println!(rt; "{line}"),
-        Answer::Word(word) => println!(rt; "{line}: {word}"),
-        Answer::Number(number) => println!(rt; "{line}: {number}"),
-        Answer::Numbers(numbers) => {
-            print!(rt; "{line}:")?;
-            for number in numbers {
-                print!(rt; " {number}")?;
-            }
-            println!(rt; "")
-        }
-    }
-}
-
-fn take_line(rt: &HostRuntime, rows: &mut Rows, line: &str) -> io::Result<()> {
-    let answer = answer_to(rt.alloc(), rows, line)?;
-    tell(rt, line, &answer)
-}
-
-fn take_all(rt: &HostRuntime, rows: &mut Rows) -> io::Result<()> {
-    for line in rt.lines(rt.alloc()) {
-        take_line(rt, rows, line?.as_str())?;
-    }
-    Ok(())
 }
 
 fn main(rt: HostRuntime) -> io::Result<()> {
     let mut rows = Rows::new(rt.alloc());
-    take_all(&rt, &mut rows)
+    run(&rt, &mut rows)
 }

@@ -92,9 +92,6 @@ fn choice(memory: &mut Memory, number: u64) -> Option<Choice> {
         1 => Some(Choice::New),
         2 => Some(Choice::Given([0xFF; SECTOR_BYTES])),
         3 => Some(Choice::Given([0; SECTOR_BYTES])),
-        _ => Some(Choice::Given(sector_at(
-            memory,
-            number.saturating_sub(4),
-        )?)),
+        _ => Some(Choice::Given(sector_at(memory, number.saturating_sub(4))?)),
     }
 }

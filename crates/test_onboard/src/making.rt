@@ -1,7 +1,7 @@
 //! What is done to the disk.
-use crate::refusals::NOT_DONE;
 use crate::device::Device;
 use crate::images::{choices, flip, formatted, put_slot, shortened};
+use crate::refusals::NOT_DONE;
 use crate::session::Session;
 use disk::Plan;
 use number_rows::Numbers;

@@ -7,12 +7,12 @@
 //!         SIZE BYTES                                  the bytes of the event, eight to a number, the first the highest
 //!         IS ESTIMATE UNCERTAINTY LIMIT               the situation, 0 where there is none
 //!     DIGEST                  of the digests of the blocks
-use crate::refusals::{NO_BLOCK, NO_POWER, NO_SPELLING, NOT_DONE};
 use crate::calls::found;
 use crate::digest::Digest;
 use crate::images::{SLOT_BYTES, slot_at};
 use crate::keeping::tell_kept;
 use crate::packing::{byte_of, tell_bytes};
+use crate::refusals::{NO_BLOCK, NO_POWER, NO_SPELLING, NOT_DONE};
 use crate::releases::{brake_number, level_number};
 use crate::session::Session;
 use blocks::{Block, BlockRecord, Format, Situation, read_block};

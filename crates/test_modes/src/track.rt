@@ -23,7 +23,7 @@ use authority::{End, Release};
 use braking::{Brakes, Deceleration, Reaction};
 use number_rows::Numbers;
 use packets::{Gradients, ModeProfile, StaticSpeeds};
-use speed_profile::{Bounds, CategorySpeeds, Told, gradients, static_speeds};
+use speed_profile::{Bounds, CategorySpeeds, ProfileTold, gradients, static_speeds};
 use std::alloc::Global;
 use track_store::{ProfileStore, Restriction, Restrictions, SegmentStore, Step};
 use units::{Cm, Mph, NoMemory, Permille};
@@ -157,7 +157,7 @@ impl TrackTold {
     }
 }
 
-fn tell_speeds(told: &mut Numbers, profile: &Told<CategorySpeeds>, category: TrainCategory) {
+fn tell_speeds(told: &mut Numbers, profile: &ProfileTold<CategorySpeeds>, category: TrainCategory) {
     told.tell_all(&[1, place_number(profile.start)]);
     for step in profile.steps.as_slice() {
         told.tell_all(&speed_step(step, category));
@@ -172,7 +172,7 @@ fn speed_step(step: &Step<CategorySpeeds>, category: TrainCategory) -> [u64; 3] 
     }
 }
 
-fn tell_gradients(told: &mut Numbers, profile: &Told<Permille>) {
+fn tell_gradients(told: &mut Numbers, profile: &ProfileTold<Permille>) {
     told.tell_all(&[1, place_number(profile.start)]);
     for step in profile.steps.as_slice() {
         told.tell_all(&gradient_step(step));

@@ -80,23 +80,27 @@ fn limit(train: &TrackTold, asked: &Numbers) -> Option<u64> {
 }
 
 fn permitted(train: &TrackTold, asked: &Numbers) -> Option<u64> {
-    let asked = approach_asked(asked)?;
-    Some(permitted_speed(train, &asked))
+    match approach_asked(asked) {
+        Some(approaching) => Some(permitted_speed(train, approaching)),
+        None => None,
+    }
 }
 
-fn permitted_speed(train: &TrackTold, asked: &Approaching) -> u64 {
+fn permitted_speed(train: &TrackTold, asked: Approaching) -> u64 {
     let track = track_of(train);
     let ahead = ahead_of(train, &track, asked.front);
     u64::from(ahead.permitted(asked.limit, asked.last).get())
 }
 
 fn fitting(train: &TrackTold, asked: &Numbers) -> Option<u64> {
-    let asked = approach_asked(asked)?;
-    Some(fitting_speed(train, &asked))
+    match approach_asked(asked) {
+        Some(approaching) => Some(fitting_speed(train, approaching)),
+        None => None,
+    }
 }
 
 // The greatest speed that fits the targets that are told one by one.
-fn fitting_speed(train: &TrackTold, asked: &Approaching) -> u64 {
+fn fitting_speed(train: &TrackTold, asked: Approaching) -> u64 {
     let track = track_of(train);
     let mut approach = Approach::new(asked.front, asked.limit, &train.gradients, &train.brakes);
     for target in ahead_of(train, &track, asked.front).targets(asked.last) {

@@ -135,7 +135,7 @@ def an_input(word, values):
 
 def an_action(word, values):
     if word == "enter-identity":
-        return [1, *data(values[0].encode())]
+        return [1, *data(" ".join(values).encode())]
     if word == "enter-train-data":
         return [3, *map(int, values)]
     if word in ACTIONS:

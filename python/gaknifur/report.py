@@ -68,17 +68,16 @@ def draw_life(life: Life, shown: set[int], anchors: set[int]) -> None:
         return
     life.is_vast = len(part) > chart.MOST_DRAWN
     marks = [] if life.is_vast else marks_of(part, shown)
-    whole = {"marks": marks, "is_vast": life.is_vast}
     wants = []
     if part["place_cm"].nunique() > 1:
         wants.append(Picture("distance", f"Life {life.life}: speed over distance", f"d{life.life}",
-                             groups=groups_of(part), ends=ends_of(part), **whole))
+                             groups=groups_of(part), ends=ends_of(part)))
     if part["time_ms"].nunique() > 2:
-        wants.append(Picture("time", f"Life {life.life}: speed over time", f"t{life.life}", **whole))
+        wants.append(Picture("time", f"Life {life.life}: speed over time", f"t{life.life}"))
     if len(wants) < 2 and len(part) <= SHORT:
-        wants.append(Picture("event", f"Life {life.life}: speed by event", f"e{life.life}", height=3.4, **whole))
+        wants.append(Picture("event", f"Life {life.life}: speed by event", f"e{life.life}", height=3.4))
     for number, picture in enumerate(wants):
-        picture.has_anchors = number == 0
+        picture.has_anchors, picture.marks, picture.is_vast = number == 0, marks, life.is_vast
         life.pictures.append(chart.draw(part, picture))
     if wants:
         anchors.update(marks[:chart.MOST_MARKS])

@@ -31,9 +31,10 @@ HEADER = ("NID_C", "NID_BG", "N_PIG", "N_TOTAL", "M_DUP", "M_MCOUNT", "Q_LINK")
 SHOWS = tuple(f"shows_{name}" for name in INDICATIONS)
 
 
-def numbers(values: Sequence[int | None], kind: str = "Int64") -> Any:
-    """A column of whole numbers, some of which may be missing."""
-    return pd.array(list(values), dtype=kind)
+def numbers(values: Sequence[int | None], kind: Any = np.int64) -> Any:
+    """A column of whole numbers, some of which may be missing. They never pass through floats."""
+    known = np.array([0 if value is None else value for value in values], kind)
+    return pd.arrays.IntegerArray(known, np.array([value is None for value in values], bool))
 
 
 def stretches(block: Sequence[int], event: Sequence[int], life: Sequence[int], source: Sequence[str]) -> Any:
@@ -90,7 +91,7 @@ def frame(journal: Journal) -> pd.DataFrame:
         columns["source"] = source
     shown = [set(record["indications"]) for record in records]
     columns |= {f"shows_{name}": np.asarray([name in one for one in shown], bool) for name in INDICATIONS}
-    columns |= {"place_cm": numbers(told("place_cm")), "uncertainty_cm": numbers(told("uncertainty_cm"), "UInt64")}
+    columns |= {"place_cm": numbers(told("place_cm")), "uncertainty_cm": numbers(told("uncertainty_cm"), np.uint64)}
     columns |= {name: numbers(told(name)) for name in ("min_safe_front_cm", "max_safe_front_cm", "limit_m_per_h")}
     columns["limit_kmh"] = columns["limit_m_per_h"].astype("Float64") / 1000
     columns |= {"movement_cm": numbers(told("movement_cm")), "reading_m_per_h": numbers(told("speed_m_per_h"))}

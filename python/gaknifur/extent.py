@@ -7,7 +7,7 @@ import pandas as pd
 
 from .program import WRONG_WORDS, Failed
 
-FORM = re.compile(r"(-?\d+(?:\.\d+)?)(m|s)?")
+FORM = re.compile(r"(-?[0-9]+(?:\.[0-9]+)?)(m|s)?")
 UNITS = {"m": ("place_cm", 100), "s": ("time_ms", 1000), None: ("event", 1)}
 
 

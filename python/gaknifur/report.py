@@ -152,8 +152,8 @@ def page(journal: Journal, extent: Extent = Extent(), progress: Progress = silen
     """The page of a journal, or of a part of it."""
     table = extent.take(tables.frame(journal))
     found = tables.interventions(table)
-    found[["first_row", "last_row"]] = found[["first_row", "last_row"]].apply(
-        lambda column: [int(table.index[at]) for at in column])
+    for name in ("first_row", "last_row", "most_over_row"):
+        found[name] = [None if pd.isna(at) else int(table.index[int(at)]) for at in found[name]]
     fastest, over = top_of(table[table["kind"] == "odometer"], "speed_kmh"), top_of(table, "over_limit_kmh")
     told = found.head(MOST_TOLD)
     chosen = farthest(found) if len(table) > SHORT else found.head(0)

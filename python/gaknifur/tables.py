@@ -50,7 +50,7 @@ def stretches(block: Sequence[int], event: Sequence[int], life: Sequence[int], s
 
 def held_speed(kind: Sequence[str], reading: Any, stretch: Any) -> Any:
     """The speed of the last reading of a stretch; 0 from a power-up on."""
-    column = pd.Series(reading)
+    column = pd.Series(reading.copy())
     column[(np.asarray(kind, object) == "powerup")] = 0
     return column.groupby(stretch).ffill().array
 

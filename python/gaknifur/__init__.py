@@ -1,0 +1,23 @@
+"""Tables, a database and reports of the journals that the program `etcs_lab` reads.
+
+Every record comes from `etcs_lab`; nothing here reads the bytes of an image. `journal` is the call for a notebook:
+
+    import gaknifur
+    events = gaknifur.journal("image")
+    events[events["brake"] == "emergency"]
+"""
+from pathlib import Path
+
+import pandas as pd
+
+from . import reading, tables
+
+__all__ = ["journal"]
+
+
+def journal(path: str | Path, other_blocks: bool = False) -> pd.DataFrame:
+    """The records of an image as a table, one row each, the oldest first; `tables` has its columns.
+
+    With `other_blocks` also the records that aren't of the journal, which column `source` tells.
+    """
+    return tables.frame(reading.read(path, other_blocks=other_blocks))

@@ -1,0 +1,162 @@
+"""Journals in an SQLite database (`schema.sql`), which the command `sqlite3` reads. One database holds many images.
+
+An image is added whole or not at all; one that is there already, by its SHA-256, is left as it is.
+"""
+import json
+import sqlite3
+from collections.abc import Iterable, Iterator, Sequence
+from pathlib import Path
+from typing import Any
+
+import pandas as pd
+
+from . import causes, tables
+from .program import DEVICE, REFUSED, Failed
+from .reading import Journal, Json
+
+VERSION = 1
+"""The `user_version` of the schema."""
+GREATEST = 2**62
+EVENT = (
+    "block event life stretch kind time_ms mode level brake place_cm uncertainty_cm min_safe_front_cm max_safe_front_cm "
+    "limit_m_per_h movement_cm reading_m_per_h speed_m_per_h word now_ms action refused identity running_number "
+    "chosen_level confirmed acknowledged length_cm maximum_m_per_h category deceleration_cm_per_s2 reaction_ms"
+).split() + list(tables.SHOWS)
+SLOT = ("slot state block first_sector last_sector format life first_event last_event gate_is_own in_journal field record "
+        "byte").split()
+REPLAY = "replay life first_event last_event block reason field".split()
+HEADER = "Q_UPDOWN M_VERSION Q_MEDIA N_PIG N_TOTAL M_DUP M_MCOUNT NID_C NID_BG Q_LINK".split()
+
+
+def schema() -> str:
+    """The statements that make an empty database."""
+    return (Path(__file__).parent / "schema.sql").read_text(encoding="utf-8")
+
+
+def open_database(path: str | Path) -> sqlite3.Connection:
+    """The database in a file. A new file is made; a database of another kind is refused."""
+    try:
+        connection = sqlite3.connect(path, isolation_level=None)
+        connection.execute("PRAGMA foreign_keys = ON")
+        version = connection.execute("PRAGMA user_version").fetchone()[0]
+        is_empty = connection.execute("SELECT COUNT(*) FROM sqlite_schema").fetchone()[0] == 0
+        if is_empty:
+            connection.executescript("BEGIN;" + schema() + "COMMIT;")
+        elif version != VERSION:
+            raise Failed(f"{path}: is no database of journals of version {VERSION}", REFUSED)
+    except sqlite3.Error as error:
+        raise Failed(f"{path}: {error}", DEVICE) from error
+    return connection
+
+
+def insert(connection: sqlite3.Connection, name: str, columns: Sequence[str], rows: Iterable[Sequence[Any]]) -> None:
+    """Adds rows to a table."""
+    marks = ", ".join("?" * len(columns))
+    connection.executemany(f"INSERT INTO {name} ({', '.join(columns)}) VALUES ({marks})", rows)
+
+
+def plain(column: Any) -> list[Any]:
+    """A column's values as SQLite takes them: whole numbers and texts of Python, and None."""
+    missing = column.isna().to_numpy()
+    values = column.to_numpy(object)
+    return [None if gone else value.item() if hasattr(value, "item") else int(value) if isinstance(value, bool) else value
+            for value, gone in zip(values, missing)]
+
+
+def add(connection: sqlite3.Connection, journal: Journal, table: pd.DataFrame) -> bool:
+    """Adds a journal; answers whether it wasn't there yet."""
+    found = connection.execute("SELECT 1 FROM image WHERE sha256 = ?", [journal.sha256]).fetchone()
+    if found:
+        return False
+    try:
+        connection.execute("BEGIN")
+        add_all(connection, journal, table)
+        connection.execute("COMMIT")
+    except BaseException as error:
+        if connection.in_transaction:
+            connection.execute("ROLLBACK")
+        if isinstance(error, sqlite3.Error):
+            raise Failed(f"{journal.path}: can't be added: {error}", DEVICE) from error
+        raise
+    return True
+
+
+def add_all(connection: sqlite3.Connection, journal: Journal, table: pd.DataFrame) -> None:
+    """Adds what belongs to a journal, in one transaction."""
+    image = add_image(connection, journal)
+    insert(connection, "slot", ["image", *("number" if name == "block" else name for name in SLOT)],
+           ([image, *(slot.get(name) for name in SLOT)] for slot in journal.slots))
+    lost = ("first_block", "last_block", "first_event", "last_event")
+    insert(connection, "lost", ["image", *lost], ([image, *(one[name] for name in lost)] for one in journal.lost))
+    insert(connection, "contradiction", ["image", "block", "what"],
+           ([image, one["block"], one["what"]] for one in journal.contradictions))
+    insert(connection, "replay", ["image", "line", "verdict", *REPLAY[1:], "journal", "kernel"],
+           ([image, number, *row] for number, row in enumerate(replay_rows(journal.replay))))
+    add_events(connection, image, table)
+    add_causes(connection, image, journal)
+
+
+def add_image(connection: sqlite3.Connection, journal: Journal) -> int:
+    """Adds the row of the image, and answers its number."""
+    image, extent, power_up = journal.image, journal.examination["journal"] or {}, journal.examination["power_up"]
+    row = {
+        "name": journal.name, "sha256": journal.sha256, "bytes": image["bytes"], "sectors": image["sectors"],
+        "slots": image["slots"], "power_up_opens": power_up["opens"], "power_up_refusal": power_up["refusal"],
+        "is_whole": journal.is_whole, "events_refusal": journal.refusal}
+    row |= {name: extent.get(name) for name in ("first_block", "newest_block", "first_event", "last_event", "lives")}
+    insert(connection, "image", list(row), [list(row.values())])
+    return int(connection.execute("SELECT last_insert_rowid()").fetchone()[0])
+
+
+def replay_rows(lines: list[Json]) -> Iterator[list[Any]]:
+    """The lines of a replay, the last one as verdict `nothing_differs` or `differs_or_lost`."""
+    for line in lines:
+        verdict = line.get("replay", line.get("end"))
+        told = [json.dumps(line[name]) if name in line else None for name in ("journal", "kernel")]
+        yield [verdict, *(line.get(name) for name in REPLAY[1:]), *told]
+
+
+def add_events(connection: sqlite3.Connection, image: int, table: pd.DataFrame) -> None:
+    """Adds blocks and records, and what their telegrams are."""
+    if table.empty:
+        return
+    source = table["source"] if "source" in table else pd.Series("journal", index=table.index)
+    blocks = table.assign(source=source).groupby("block").agg(
+        source=("source", "first"), first_event=("event", "min"), last_event=("event", "max")).reset_index()
+    insert(connection, "block", ["image", "block", "source", "first_event", "last_event"],
+           ([image, *row] for row in zip(*(plain(blocks[name]) for name in blocks))))
+    bounded = table.assign(uncertainty_cm=table["uncertainty_cm"].where(table["uncertainty_cm"] <= GREATEST))
+    columns = [plain(bounded[name]) for name in EVENT]
+    insert(connection, "event", ["image", *EVENT], ([image, *row] for row in zip(*columns)))
+    heard = table[table["kind"] == "telegram"]
+    rows = list(zip(plain(heard["block"]), plain(heard["event"]), heard["telegram"], heard["decoded"]))
+    insert(connection, "telegram", ["image", "block", "event", "digits", "fault", *map(str.lower, HEADER)],
+           ([image, *row] for row in map(telegram_row, rows)))
+    insert(connection, "packet", ["image", "block", "event", "packet", "nid_packet", "skipped_bits"],
+           ([image, block, event, place, packet["packet"], packet.get("skipped_bits")]
+            for block, event, place, packet in packets_in(rows)))
+    insert(connection, "field", ["image", "block", "event", "packet", "field", "name", "value"],
+           ([image, block, event, place, index, *pair]
+            for block, event, place, packet in packets_in(rows) for index, pair in enumerate(packet["fields"])))
+
+
+def telegram_row(row: tuple[int, int, str, Json]) -> list[Any]:
+    """Block, event, digits, fault and header of a telegram."""
+    block, event, digits, decoded = row
+    header = decoded.get("header", {})
+    fault = decoded["refused"]["name"] if "refused" in decoded else None
+    return [block, event, digits, fault, *(header.get(name) for name in HEADER)]
+
+
+def packets_in(rows: list[tuple[int, int, str, Json]]) -> Iterator[tuple[int, int, int, Json]]:
+    """Each packet, with its block, its event and its place in the telegram."""
+    for block, event, _, decoded in rows:
+        for place, packet in enumerate(decoded.get("packets", ())):
+            yield block, event, place, packet
+
+
+def add_causes(connection: sqlite3.Connection, image: int, journal: Journal) -> None:
+    """Adds the causes of brakes, where they are told."""
+    told = causes.causes_of(journal) or {}
+    insert(connection, "cause", ["image", "block", "event", "cause"],
+           ([image, block, event, cause] for (block, event), all_ in told.items() for cause in all_))

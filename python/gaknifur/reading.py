@@ -1,0 +1,170 @@
+"""A journal as `etcs_lab` tells it: the examination of its image, its records and their replay."""
+import hashlib
+import json
+from collections.abc import Callable
+from dataclasses import dataclass, field
+from pathlib import Path
+from typing import Any
+
+from .program import DEVICE, NOT_WHOLE, REFUSED, WHOLE, Failed, Run
+
+Json = dict[str, Any]
+Progress = Callable[[str, int, int], None]
+"""What is told while it goes on: what is done, how much of it, and of how much (0 where that isn't known)."""
+
+
+def silent(what: str, done: int, whole: int) -> None:
+    """Tells nothing."""
+
+
+@dataclass
+class Journal:
+    """What an image holds. The members of the objects are those of `etcs_lab`."""
+
+    path: Path
+    examination: Json
+    records: list[Json] = field(default_factory=list)
+    unreadable: list[int] = field(default_factory=list)
+    """Numbers of blocks of the journal that can't be read."""
+    replay: list[Json] = field(default_factory=list)
+    """The lines of a replay; none where it was refused or not asked for."""
+    refusal: str | None = None
+    """Why no record can be told, although the image was examined."""
+
+    @property
+    def name(self) -> str:
+        """The name of the file, without its folders."""
+        return self.path.name
+
+    @property
+    def image(self) -> Json:
+        """Size, slots and digest."""
+        image: Json = self.examination["image"]
+        return image
+
+    @property
+    def sha256(self) -> str:
+        """The digest of the file."""
+        return str(self.image["sha256"])
+
+    @property
+    def slots(self) -> list[Json]:
+        """Each slot that isn't empty."""
+        slots: list[Json] = self.examination["slots"]
+        return slots
+
+    @property
+    def is_whole(self) -> bool:
+        """Whether nothing of the image is lost, damaged or contradicts."""
+        return bool(self.examination["whole"])
+
+    @property
+    def lost(self) -> list[Json]:
+        """Numbers of blocks and events that no readable block holds."""
+        return [one for one in self.examination["between"] if one["what"] == "lost"]
+
+    @property
+    def contradictions(self) -> list[Json]:
+        """Blocks that don't fit those before them."""
+        return [one for one in self.examination["between"] if one["what"] != "lost"]
+
+    @property
+    def differences(self) -> list[Json]:
+        """What the replay found otherwise than the journal tells it."""
+        return [line for line in self.replay if line.get("replay") in ("record_differs", "head_differs")]
+
+    @property
+    def not_replayed(self) -> list[Json]:
+        """Runs of events that can't be replayed."""
+        return [line for line in self.replay if line.get("replay") == "not_replayed"]
+
+
+def digest(path: Path) -> str:
+    """The SHA-256 of a file."""
+    try:
+        with path.open("rb") as file:
+            return hashlib.file_digest(file, "sha256").hexdigest()
+    except OSError as error:
+        raise Failed(f"{path}: {error.strerror}", DEVICE) from error
+
+
+def parsed(line: str, what: str) -> Json:
+    """The object on a line."""
+    try:
+        told = json.loads(line)
+    except ValueError as error:
+        raise Failed(f"etcs_lab {what} told a line that is no JSON", REFUSED) from error
+    if not isinstance(told, dict):
+        raise Failed(f"etcs_lab {what} told a line that is no object", REFUSED)
+    return told
+
+
+def objects(words: list[str], path: Path, step: Callable[[Json], None]) -> Run:
+    """Hands each line of a run to `step`."""
+    run = Run(words, path)
+    for line in run.lines():
+        step(parsed(line, words[0]))
+    return run
+
+
+def examine(path: Path) -> Json:
+    """What `etcs_lab examine` tells."""
+    told: list[Json] = []
+    run = objects(["examine", "--json"], path, told.append)
+    if run.status not in (WHOLE, NOT_WHOLE) or len(told) != 1:
+        raise run.failed(path)
+    return told[0]
+
+
+def tell_events(journal: Journal, other_blocks: bool, progress: Progress) -> None:
+    """Takes what `etcs_lab events` tells."""
+    extent = journal.examination["journal"] or {}
+    last, first = extent.get("last_event"), extent.get("first_event")
+    whole = 0 if last is None or first is None else last - first + 1
+    ended = False
+
+    def step(told: Json) -> None:
+        nonlocal ended
+        if "event" in told:
+            journal.records.append(told)
+            if len(journal.records) % 1000 == 0:
+                progress("events", len(journal.records), whole)
+        elif "unreadable" in told:
+            journal.unreadable.append(told["unreadable"]["block"])
+        elif "end" in told:
+            ended = True
+
+    run = objects(["events", *(["--all"] if other_blocks else [])], journal.path, step)
+    if run.status == REFUSED and not journal.records:
+        journal.refusal = run.last_said()
+    elif run.status not in (WHOLE, NOT_WHOLE):
+        raise run.failed(journal.path)
+    elif not ended:
+        raise Failed(f"{journal.path}: the listing was cut off", REFUSED)
+
+
+def tell_replay(journal: Journal, progress: Progress) -> None:
+    """Takes what `etcs_lab replay` tells."""
+    progress("replay", 0, 0)
+    run = objects(["replay", "--json"], journal.path, journal.replay.append)
+    if run.status == REFUSED and not journal.replay:
+        return
+    if run.status not in (WHOLE, NOT_WHOLE):
+        raise run.failed(journal.path)
+    if not journal.replay or "end" not in journal.replay[-1]:
+        raise Failed(f"{journal.path}: the replay was cut off", REFUSED)
+
+
+def read(path: str | Path, other_blocks: bool = False, replay: bool = False, progress: Progress = silent) -> Journal:
+    """The journal in a file. An image that isn't formatted is an error; of one that is damaged all is told that can be."""
+    path = Path(path)
+    if not path.exists():
+        raise Failed(f"{path}: there is no such file", DEVICE)
+    progress("examination", 0, 0)
+    journal = Journal(path, examine(path))
+    tell_events(journal, other_blocks, progress)
+    if replay and journal.refusal is None:
+        tell_replay(journal, progress)
+    if digest(path) != journal.sha256:
+        raise Failed(f"{path}: the file changed while it was read", DEVICE)
+    return journal

@@ -1,0 +1,184 @@
+"""The page of one journal: one HTML file that asks nothing of the network, has no script, and reads the same on paper."""
+from collections.abc import Iterator
+from dataclasses import dataclass, field
+from typing import Any
+
+import jinja2
+import numpy as np
+import pandas as pd
+
+from . import chart, tables, words
+from .chart import Picture
+from .extent import Extent
+from .reading import Journal, Json, Progress, silent
+
+MOST_ROWS, MOST_WINDOWS, MOST_LIVES, MOST_TOLD, AROUND, SHORT = 1500, 12, 12, 400, 25, 400
+FIRST_TOLD = 20
+
+
+@dataclass
+class Life:
+    """What the page tells of a life."""
+
+    life: int
+    table: pd.DataFrame
+    pictures: list[str] = field(default_factory=list)
+    is_vast: bool = False
+
+    def summary(self) -> Json:
+        """Its row in the table of lives."""
+        table = self.table
+        speed, way = table["speed_kmh"].dropna(), table["movement_cm"].fillna(0).abs().sum()
+        return {"life": self.life, "events": len(table), "first": table["event"].iat[0], "last": table["event"].iat[-1],
+                "row": table.index[0], "modes": " ".join(dict.fromkeys(table["mode"])), "way_m": float(way) / 100,
+                "fastest_kmh": float(speed.max()) if len(speed) else None, "last_ms": int(table["time_ms"].max())}
+
+
+def groups_of(part: pd.DataFrame) -> list[tuple[int, str]]:
+    """Where telegrams were read, and of which group."""
+    heard = part[(part["kind"] == "telegram") & part["place_cm"].notna()]
+    return [(int(place), f"{country}/{group}" if group is not pd.NA else "not decoded")
+            for place, country, group in zip(heard["place_cm"], heard["nid_c"], heard["nid_bg"])]
+
+
+def ends_of(part: pd.DataFrame) -> list[tuple[int, str]]:
+    """Where authorities end, as their telegrams announce it. Whether one came into force `etcs_lab` doesn't tell yet."""
+    heard = part[(part["kind"] == "telegram") & part["place_cm"].notna()]
+    found = []
+    for event, place, decoded in zip(heard["event"], heard["place_cm"], heard["decoded"]):
+        ahead = words.announced_end_cm(decoded)
+        if ahead is not None:
+            found.append((int(place) + ahead, f"end announced by event {event}"))
+    return found
+
+
+def marks_of(part: pd.DataFrame, shown: set[int]) -> list[int]:
+    """Rows with a circle: all that the page lists, or where these are too many the changes of mode and brake."""
+    notable = [row for row in part.index[tables.is_notable(part)] if row in shown]
+    if len(notable) <= chart.MOST_MARKS:
+        return notable
+    changed = (part["brake"] != part["brake"].shift()) | (part["mode"] != part["mode"].shift())
+    return [row for row in part.index[changed] if row in shown][:chart.MOST_MARKS]
+
+
+def draw_life(life: Life, shown: set[int], anchors: set[int]) -> None:
+    """The pictures of a life: over distance and over time, or over events where neither tells anything."""
+    part = life.table
+    if len(part) < 2:
+        return
+    life.is_vast = len(part) > chart.MOST_DRAWN
+    marks = [] if life.is_vast else marks_of(part, shown)
+    wants = []
+    if part["place_cm"].nunique() > 1:
+        wants.append(Picture("distance", f"Life {life.life}: speed over distance", f"d{life.life}",
+                             groups=groups_of(part), ends=ends_of(part)))
+    if part["time_ms"].nunique() > 2:
+        wants.append(Picture("time", f"Life {life.life}: speed over time", f"t{life.life}"))
+    if len(wants) < 2 and len(part) <= SHORT:
+        wants.append(Picture("event", f"Life {life.life}: speed by event", f"e{life.life}", height=3.4))
+    for number, picture in enumerate(wants):
+        picture.has_anchors, picture.marks, picture.is_vast = number == 0, marks, life.is_vast
+        life.pictures.append(chart.draw(part, picture))
+    if wants:
+        anchors.update(marks[:chart.MOST_MARKS])
+
+
+def farthest(found: pd.DataFrame) -> pd.DataFrame:
+    """The interventions that get a window: those farthest above the limit, in their order; a power-up's brake isn't one."""
+    chosen = found[found["kind"] != "powerup"]
+    over = pd.to_numeric(chosen["most_over_kmh"]).fillna(-1e9).astype(float)
+    return chosen.loc[sorted(over.nlargest(MOST_WINDOWS).index)]
+
+
+def windows(table: pd.DataFrame, found: pd.DataFrame) -> Iterator[str]:
+    """A picture around the beginning of each of some interventions."""
+    stretch = table["stretch"].to_numpy()
+    place = {row: at for at, row in enumerate(table.index)}
+    for _, one in found.iterrows():
+        at = place[one["first_row"]]
+        part = table.iloc[max(at - AROUND, 0):at + AROUND + 1]
+        part = part[part["stretch"] == stretch[at]]
+        where = "" if one["place_cm"] is pd.NA else f" at {one['place_cm'] / 100:,.1f} m"
+        yield chart.draw(part, Picture("event", f"Event {one['first_event']}: {one['brake']} brake{where}",
+                                       f"w{one['first_row']}", marks=[one["first_row"]], has_anchors=False, height=3.0))
+
+
+def listed(table: pd.DataFrame, linked: set[int]) -> pd.DataFrame:
+    """The records that the page lists: what is linked to, changes of mode and brake, and then what else is notable, as
+    long as there is room."""
+    notable = tables.is_notable(table)
+    changed = ((table["brake"] != table["brake"].shift()) | (table["mode"] != table["mode"].shift())).to_numpy()
+    rank = np.where(changed, 1, np.where(notable, 2, 3))
+    rank[np.isin(table.index.to_numpy(), list(linked))] = 0
+    rows = np.flatnonzero(rank < 3)
+    kept = rows[np.argsort(rank[rows], kind="stable")][:MOST_ROWS]
+    return table.iloc[np.sort(kept)]
+
+
+def row_of(record: Json, row: int, mode_before: Any, refused: Any) -> Json:
+    """A record as a row of the page."""
+    return {"row": row, "record": record, "text": words.event_text(record), "is_new": mode_before != record["mode"],
+            "shows": [words.INDICATIONS.get(name, name) for name in record["indications"]],
+            "refused": refused is not pd.NA and bool(refused)}
+
+
+def told_rows(journal: Journal, table: pd.DataFrame, shown: pd.DataFrame) -> list[Json]:
+    """The rows of the page's events, with the speed that held."""
+    mode_before = tables.before(table, "mode")
+    rows = []
+    for row in shown.index:
+        told = row_of(journal.records[row], row, mode_before.at[row], table["refused"].at[row])
+        told |= {"speed_kmh": table["speed_kmh"].at[row], "begins": mode_before.isna().at[row]}
+        rows.append(told)
+    return rows
+
+
+def top_of(table: pd.DataFrame, name: str) -> Json | None:
+    """The greatest of a column, and its row."""
+    values = table[name].astype("Float64").to_numpy(float, na_value=np.nan)
+    if np.isnan(values).all():
+        return None
+    at = int(np.nanargmax(values))
+    return {"value": float(values[at]), "row": int(table.index[at]), "event": int(table["event"].iat[at])}
+
+
+def environment() -> jinja2.Environment:
+    """Templates that escape each text."""
+    return jinja2.Environment(loader=jinja2.PackageLoader("gaknifur"), autoescape=True, trim_blocks=True,
+                              lstrip_blocks=True, undefined=jinja2.StrictUndefined)
+
+
+def page(journal: Journal, extent: Extent = Extent(), progress: Progress = silent) -> str:
+    """The page of a journal, or of a part of it."""
+    table = extent.take(tables.frame(journal))
+    found = tables.interventions(table)
+    for name in ("first_row", "last_row", "most_over_row"):
+        found[name] = [None if pd.isna(at) else int(table.index[int(at)]) for at in found[name]]
+    fastest, over = top_of(table[table["kind"] == "odometer"], "speed_kmh"), top_of(table, "over_limit_kmh")
+    told = found.head(MOST_TOLD)
+    chosen = farthest(found) if len(table) > SHORT else found.head(0)
+    linked = {int(row) for row in [*told["first_row"], *chosen["first_row"]]}
+    linked |= {top["row"] for top in (fastest, over) if top}
+    shown = listed(table, linked)
+    rows, anchors = set(shown.index), set[int]()
+    lives = [Life(int(life), part) for life, part in table.groupby("life", sort=True)]
+    drawn = [life for life in lives if len(life.table) > 1][-MOST_LIVES:]
+    for number, life in enumerate(drawn):
+        progress("charts", number, len(drawn) + len(chosen))
+        draw_life(life, rows, anchors)
+    pictures = []
+    for number, picture in enumerate(windows(table, chosen)):
+        progress("charts", len(drawn) + number, len(drawn) + len(chosen))
+        pictures.append(picture)
+    template = environment().get_template("report.html.j2")
+    return template.render(
+        journal=journal, extent=extent, events=len(table), lives=[life.summary() for life in lives[:MOST_TOLD]],
+        more_lives=max(len(lives) - MOST_TOLD, 0), drawn=[life for life in drawn if life.pictures],
+        undrawn=len(lives) - len(drawn), found=told.to_dict("records"), more_found=len(found) - len(told),
+        first_told=FIRST_TOLD, windows=pictures, all_windows=len(found[found["kind"] != "powerup"]),
+        rows=told_rows(journal, table, shown), row_set=rows, anchors=anchors,
+        quiet=int((~tables.is_notable(table)).sum()), left_out=int(tables.is_notable(table).sum()) - len(shown),
+        fastest=fastest, over=over if over and over["value"] > 0 else None,
+        way_m=float(table["movement_cm"].fillna(0).abs().sum()) / 100, modes=list(dict.fromkeys(table["mode"])),
+        service=int((found["worst"] == "service").sum()), emergency=int((found["worst"] == "emergency").sum()),
+        causes_told=bool(table["causes"].notna().any()), words=words, pd=pd)

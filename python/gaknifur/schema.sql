@@ -1,0 +1,256 @@
+-- What images of journals hold. Units stand in the names: cm, ms, m_per_h (1 km/h is 1,000 m_per_h), kmh. NULL is what
+-- isn't known. `user_version` is the version of this schema.
+CREATE TABLE image (
+    image INTEGER PRIMARY KEY,
+    name TEXT NOT NULL,
+    sha256 TEXT NOT NULL UNIQUE CHECK (length(sha256) = 64),
+    bytes INTEGER NOT NULL,
+    sectors INTEGER NOT NULL,
+    slots INTEGER,
+    first_block INTEGER,
+    newest_block INTEGER,
+    first_event INTEGER,
+    last_event INTEGER,
+    lives INTEGER,
+    power_up_opens INTEGER NOT NULL CHECK (power_up_opens IN (0, 1)),
+    power_up_refusal TEXT,
+    is_whole INTEGER NOT NULL CHECK (is_whole IN (0, 1)),
+    events_refusal TEXT
+) STRICT;
+
+-- each slot that isn't empty
+CREATE TABLE slot (
+    image INTEGER NOT NULL REFERENCES image ON DELETE CASCADE,
+    slot INTEGER NOT NULL,
+    state TEXT NOT NULL,
+    number INTEGER,
+    first_sector INTEGER NOT NULL,
+    last_sector INTEGER NOT NULL,
+    format INTEGER,
+    life INTEGER,
+    first_event INTEGER,
+    last_event INTEGER,
+    gate_is_own INTEGER CHECK (gate_is_own IN (0, 1)),
+    in_journal INTEGER CHECK (in_journal IN (0, 1)),
+    field TEXT,
+    record INTEGER,
+    byte INTEGER,
+    PRIMARY KEY (image, slot)
+) STRICT, WITHOUT ROWID;
+
+-- blocks and events that no readable block holds
+CREATE TABLE lost (
+    image INTEGER NOT NULL REFERENCES image ON DELETE CASCADE,
+    first_block INTEGER NOT NULL,
+    last_block INTEGER NOT NULL,
+    first_event INTEGER,
+    last_event INTEGER,
+    PRIMARY KEY (image, first_block)
+) STRICT, WITHOUT ROWID;
+
+-- blocks that don't fit those before them
+CREATE TABLE contradiction (
+    image INTEGER NOT NULL REFERENCES image ON DELETE CASCADE,
+    block INTEGER NOT NULL,
+    what TEXT NOT NULL,
+    PRIMARY KEY (image, block, what)
+) STRICT, WITHOUT ROWID;
+
+-- the lines of a replay, in their order
+CREATE TABLE replay (
+    image INTEGER NOT NULL REFERENCES image ON DELETE CASCADE,
+    line INTEGER NOT NULL,
+    verdict TEXT NOT NULL,
+    life INTEGER,
+    first_event INTEGER,
+    last_event INTEGER,
+    block INTEGER,
+    reason TEXT,
+    field TEXT,
+    journal TEXT,
+    kernel TEXT,
+    PRIMARY KEY (image, line)
+) STRICT, WITHOUT ROWID;
+
+-- each readable block whose records are here; `source` tells whether it is of the journal
+CREATE TABLE block (
+    image INTEGER NOT NULL REFERENCES image ON DELETE CASCADE,
+    block INTEGER NOT NULL,
+    source TEXT NOT NULL CHECK (source IN ('journal', 'behind_gap', 'replaced', 'unwritten')),
+    first_event INTEGER NOT NULL,
+    last_event INTEGER NOT NULL,
+    PRIMARY KEY (image, block)
+) STRICT, WITHOUT ROWID;
+
+-- Each record. Those of one stretch are of one life, and follow one another without a gap. speed_m_per_h is that of the
+-- last reading of the stretch, 0 from a power-up on. An uncertainty beyond 2^62 cm is NULL.
+CREATE TABLE event (
+    image INTEGER NOT NULL,
+    block INTEGER NOT NULL,
+    event INTEGER NOT NULL,
+    life INTEGER NOT NULL,
+    stretch INTEGER NOT NULL,
+    kind TEXT NOT NULL CHECK (kind IN ('powerup', 'telegram', 'odometer', 'clock', 'driver')),
+    time_ms INTEGER NOT NULL,
+    mode TEXT NOT NULL,
+    level INTEGER,
+    brake TEXT NOT NULL CHECK (brake IN ('none', 'service', 'emergency')),
+    shows_on_sight INTEGER NOT NULL CHECK (shows_on_sight IN (0, 1)),
+    shows_shunting INTEGER NOT NULL CHECK (shows_shunting IN (0, 1)),
+    shows_level_0 INTEGER NOT NULL CHECK (shows_level_0 IN (0, 1)),
+    shows_trip INTEGER NOT NULL CHECK (shows_trip IN (0, 1)),
+    shows_overridden INTEGER NOT NULL CHECK (shows_overridden IN (0, 1)),
+    shows_not_revalidated INTEGER NOT NULL CHECK (shows_not_revalidated IN (0, 1)),
+    shows_overspeed INTEGER NOT NULL CHECK (shows_overspeed IN (0, 1)),
+    place_cm INTEGER,
+    uncertainty_cm INTEGER,
+    min_safe_front_cm INTEGER,
+    max_safe_front_cm INTEGER,
+    limit_m_per_h INTEGER,
+    movement_cm INTEGER,
+    reading_m_per_h INTEGER,
+    speed_m_per_h INTEGER,
+    word TEXT,
+    now_ms INTEGER,
+    action TEXT,
+    refused INTEGER CHECK (refused IN (0, 1)),
+    identity TEXT,
+    running_number INTEGER,
+    chosen_level INTEGER,
+    confirmed TEXT,
+    acknowledged TEXT,
+    length_cm INTEGER,
+    maximum_m_per_h INTEGER,
+    category INTEGER,
+    deceleration_cm_per_s2 INTEGER,
+    reaction_ms INTEGER,
+    PRIMARY KEY (image, block, event),
+    FOREIGN KEY (image, block) REFERENCES block ON DELETE CASCADE
+) STRICT, WITHOUT ROWID;
+
+-- the causes of the brake that a record commands; empty as long as etcs_lab tells none
+CREATE TABLE cause (
+    image INTEGER NOT NULL,
+    block INTEGER NOT NULL,
+    event INTEGER NOT NULL,
+    cause TEXT NOT NULL,
+    PRIMARY KEY (image, block, event, cause),
+    FOREIGN KEY (image, block, event) REFERENCES event ON DELETE CASCADE
+) STRICT, WITHOUT ROWID;
+
+-- each telegram: its header, or the name of its first fault
+CREATE TABLE telegram (
+    image INTEGER NOT NULL,
+    block INTEGER NOT NULL,
+    event INTEGER NOT NULL,
+    digits TEXT NOT NULL,
+    fault TEXT,
+    q_updown INTEGER,
+    m_version INTEGER,
+    q_media INTEGER,
+    n_pig INTEGER,
+    n_total INTEGER,
+    m_dup INTEGER,
+    m_mcount INTEGER,
+    nid_c INTEGER,
+    nid_bg INTEGER,
+    q_link INTEGER,
+    PRIMARY KEY (image, block, event),
+    FOREIGN KEY (image, block, event) REFERENCES event ON DELETE CASCADE
+) STRICT, WITHOUT ROWID;
+
+-- the packets of a telegram, numbered from 0 in their order
+CREATE TABLE packet (
+    image INTEGER NOT NULL,
+    block INTEGER NOT NULL,
+    event INTEGER NOT NULL,
+    packet INTEGER NOT NULL,
+    nid_packet INTEGER NOT NULL,
+    skipped_bits INTEGER,
+    PRIMARY KEY (image, block, event, packet),
+    FOREIGN KEY (image, block, event) REFERENCES telegram ON DELETE CASCADE
+) STRICT, WITHOUT ROWID;
+
+-- the fields of a packet, numbered from 0 in their order: names repeat (SUBSET-026, 7.5.1)
+CREATE TABLE field (
+    image INTEGER NOT NULL,
+    block INTEGER NOT NULL,
+    event INTEGER NOT NULL,
+    packet INTEGER NOT NULL,
+    field INTEGER NOT NULL,
+    name TEXT NOT NULL,
+    value INTEGER NOT NULL,
+    PRIMARY KEY (image, block, event, packet, field),
+    FOREIGN KEY (image, block, event, packet) REFERENCES packet ON DELETE CASCADE
+) STRICT, WITHOUT ROWID;
+
+-- each record of the journal, beside what the record before it told (NULL at the beginning of a stretch) and when and
+-- where the next one of its stretch came
+CREATE VIEW step AS
+SELECT event.*, LAG(mode) OVER behind AS mode_before, LAG(level) OVER behind AS level_before,
+    LAG(brake) OVER behind AS brake_before, LAG(speed_m_per_h) OVER behind AS speed_before_m_per_h,
+    LEAD(event.event) OVER behind AS next_event, LEAD(time_ms) OVER behind AS next_ms,
+    LEAD(place_cm) OVER behind AS next_cm
+FROM event JOIN block USING (image, block) WHERE source = 'journal'
+WINDOW behind AS (PARTITION BY event.image, stretch ORDER BY event.block, event.event);
+
+CREATE VIEW mode_change AS
+SELECT image, block, event, life, time_ms, place_cm, mode_before, mode, level, brake, kind, action
+FROM step WHERE mode <> mode_before;
+
+-- each reading of the odometer
+CREATE VIEW reading AS
+SELECT image, block, event, life, time_ms, place_cm, min_safe_front_cm, max_safe_front_cm, movement_cm, mode, brake,
+    reading_m_per_h / 1000.0 AS speed_kmh, limit_m_per_h / 1000.0 AS limit_kmh,
+    (reading_m_per_h - limit_m_per_h) / 1000.0 AS over_limit_kmh
+FROM step WHERE kind = 'odometer';
+
+-- what the driver did; `refused` is 1 where the action can't have been accepted, NULL where the records don't tell
+CREATE VIEW driver_action AS
+SELECT image, block, event, life, time_ms, place_cm, action, acknowledged, confirmed, chosen_level, identity,
+    running_number, mode_before, mode, speed_before_m_per_h / 1000.0 AS speed_before_kmh, brake, refused
+FROM step WHERE kind = 'driver';
+
+-- Each run of records that commands a brake: its first and its last one, and what the first one shows. `is_power_up`
+-- tells that it began with a power-up, as each life does.
+CREATE VIEW brake_intervention AS
+WITH
+    numbered AS (
+        SELECT *, SUM(brake_before IS NULL OR brake_before = 'none')
+            OVER (PARTITION BY image ORDER BY block, event) AS intervention
+        FROM step WHERE brake <> 'none'),
+    extent AS (
+        SELECT image, intervention, MIN(event) AS first_event, MAX(event) AS last_event, MIN(block) AS first_block,
+            MAX(block) AS last_block, MAX(brake = 'emergency') AS has_emergency,
+            MAX(speed_m_per_h - limit_m_per_h) / 1000.0 AS most_over_kmh
+        FROM numbered GROUP BY image, intervention)
+SELECT extent.image, intervention, first.life, first_event, extent.last_event, extent.first_block, first.brake,
+    CASE WHEN has_emergency THEN 'emergency' ELSE 'service' END AS worst, first.kind, first.kind = 'powerup' AS is_power_up,
+    first.time_ms, last.next_ms AS until_ms, first.place_cm, last.next_cm AS until_cm, first.mode_before, first.mode,
+    first.speed_m_per_h / 1000.0 AS speed_kmh, first.limit_m_per_h / 1000.0 AS limit_kmh, most_over_kmh,
+    (SELECT group_concat(cause, ', ') FROM cause
+        WHERE (cause.image, cause.block, cause.event) = (extent.image, first_block, first_event)) AS causes
+FROM extent
+JOIN step AS first ON (first.image, first.block, first.event) = (extent.image, extent.first_block, extent.first_event)
+JOIN step AS last ON (last.image, last.block, last.event) = (extent.image, extent.last_block, extent.last_event);
+
+-- Each run of records of a stretch whose speed is above the limit: from the first one to the record behind the last one
+-- (`until`, NULL where there is none).
+CREATE VIEW above_limit AS
+WITH
+    told AS (
+        SELECT *, COALESCE(speed_m_per_h > limit_m_per_h, 0) AS is_over FROM step),
+    numbered AS (
+        SELECT *, SUM(1 - is_over) OVER (PARTITION BY image, stretch ORDER BY block, event) AS run FROM told),
+    extent AS (
+        SELECT image, stretch, run, MIN(event) AS first_event, MAX(event) AS last_event, MIN(block) AS first_block,
+            MAX(block) AS last_block, MAX(speed_m_per_h - limit_m_per_h) / 1000.0 AS most_over_kmh
+        FROM numbered WHERE is_over GROUP BY image, stretch, run)
+SELECT extent.image, first.life, first_event, extent.last_event, last.next_event AS until_event, most_over_kmh,
+    first.time_ms, last.next_ms AS until_ms, last.next_ms - first.time_ms AS lasted_ms, first.place_cm,
+    last.next_cm AS until_cm, last.next_cm - first.place_cm AS way_cm
+FROM extent
+JOIN step AS first ON (first.image, first.block, first.event) = (extent.image, extent.first_block, extent.first_event)
+JOIN step AS last ON (last.image, last.block, last.event) = (extent.image, extent.last_block, extent.last_event);
+
+PRAGMA user_version = 1;

@@ -1,0 +1,174 @@
+"""Records as pandas tables. A column's name ends in its unit; what isn't known is missing, and never 0.
+
+Columns of `frame`, in their order:
+
+- `block`, `event`, `life`, `stretch`, `kind`, `time_ms`, `mode`, `level`, `brake`, and `source` where other blocks were
+  asked for. Records of one `stretch` are of one life and follow one another without a gap.
+- `shows_on_sight` and so on: each indication to the driver.
+- `place_cm`, `uncertainty_cm`, `min_safe_front_cm`, `max_safe_front_cm`, `limit_m_per_h`, `limit_kmh`.
+- `movement_cm`, `reading_m_per_h`: of a reading of the odometer.
+- `speed_m_per_h`, `speed_kmh`, `over_limit_kmh`: the speed of the last reading, which holds until the next one of its
+  stretch (0 from a power-up on), and by how much it is above the limit behind the event.
+- `word`, `now_ms`, `action` and the driver's entries; `refused`: whether the action can't have been accepted.
+- `nid_c`, `nid_bg`, `n_pig`, `n_total`, `m_dup`, `m_mcount`, `q_link`, `packets`, `fault`, `telegram`, `decoded`.
+- `causes`: why the brake was commanded; missing where it isn't told (module `causes`).
+"""
+from collections.abc import Callable, Sequence
+from typing import Any
+
+import numpy as np
+import pandas as pd
+
+from . import actions, causes
+from .reading import Journal, Json
+from .words import INDICATIONS
+
+NUMBERS = ("level", "place_cm", "min_safe_front_cm", "max_safe_front_cm", "limit_m_per_h", "movement_cm", "now_ms",
+           "running_number", "chosen_level", "length_cm", "maximum_m_per_h", "category", "deceleration_cm_per_s2",
+           "reaction_ms")
+TEXTS = ("word", "action", "identity", "confirmed", "acknowledged", "telegram")
+HEADER = ("NID_C", "NID_BG", "N_PIG", "N_TOTAL", "M_DUP", "M_MCOUNT", "Q_LINK")
+SHOWS = tuple(f"shows_{name}" for name in INDICATIONS)
+
+
+def numbers(values: Sequence[int | None], kind: Any = np.int64) -> Any:
+    """A column of whole numbers, some of which may be missing. They never pass through floats."""
+    known = np.array([0 if value is None else value for value in values], kind)
+    return pd.arrays.IntegerArray(known, np.array([value is None for value in values], bool))
+
+
+def stretches(block: Sequence[int], event: Sequence[int], life: Sequence[int], source: Sequence[str]) -> Any:
+    """The number of each record's stretch, from 0 on: it ends where the next record is of another life or source, or
+    isn't the next event."""
+    events, lives = np.asarray(event, np.int64), np.asarray(life, np.int64)
+    sources = np.asarray(source, object)
+    if not len(events):
+        return np.zeros(0, np.int64)
+    breaks = (np.diff(events) != 1) | (np.diff(lives) != 0) | (sources[1:] != sources[:-1])
+    return np.concatenate([[0], np.cumsum(breaks)])
+
+
+def held_speed(kind: Sequence[str], reading: Any, stretch: Any) -> Any:
+    """The speed of the last reading of a stretch; 0 from a power-up on."""
+    column = pd.Series(reading.copy())
+    column[(np.asarray(kind, object) == "powerup")] = 0
+    return column.groupby(stretch).ffill().array
+
+
+def decoded_columns(decoded: Sequence[Json | None]) -> dict[str, Any]:
+    """What the telegrams are: header, packets and fault."""
+    heads = [told["header"] if told and "header" in told else {} for told in decoded]
+    columns: dict[str, Any] = {name.lower(): numbers([head.get(name) for head in heads]) for name in HEADER}
+    columns["packets"] = [
+        " ".join(str(packet["packet"]) for packet in told["packets"]) if told and "packets" in told else None
+        for told in decoded]
+    columns["fault"] = [told["refused"]["name"] if told and "refused" in told else None for told in decoded]
+    return columns
+
+
+def cause_column(journal: Journal) -> list[str | None]:
+    """The causes of each record's brake; missing where they aren't told."""
+    told = causes.causes_of(journal)
+    if told is None:
+        return [None] * len(journal.records)
+    return [", ".join(told[key]) if (key := (record["block"], record["event"])) in told else None
+            for record in journal.records]
+
+
+def frame(journal: Journal) -> pd.DataFrame:
+    """One row a record, in the order in which `etcs_lab events` tells them."""
+    records = journal.records
+
+    def told(name: str) -> list[Any]:
+        return [record.get(name) for record in records]
+
+    columns: dict[str, Any] = {name: np.asarray(told(name), np.int64) for name in ("block", "event", "life")}
+    source = told("source")
+    columns["stretch"] = stretches(columns["block"], columns["event"], columns["life"], source)
+    columns |= {"kind": told("kind"), "time_ms": np.asarray(told("time_ms"), np.int64), "mode": told("mode")}
+    columns |= {"level": numbers(told("level")), "brake": told("brake")}
+    if any(source):
+        columns["source"] = source
+    shown = [set(record["indications"]) for record in records]
+    columns |= {f"shows_{name}": np.asarray([name in one for one in shown], bool) for name in INDICATIONS}
+    columns |= {"place_cm": numbers(told("place_cm")), "uncertainty_cm": numbers(told("uncertainty_cm"), np.uint64)}
+    columns |= {name: numbers(told(name)) for name in ("min_safe_front_cm", "max_safe_front_cm", "limit_m_per_h")}
+    columns["limit_kmh"] = columns["limit_m_per_h"].astype("Float64") / 1000
+    columns |= {"movement_cm": numbers(told("movement_cm")), "reading_m_per_h": numbers(told("speed_m_per_h"))}
+    columns["speed_m_per_h"] = held_speed(columns["kind"], columns["reading_m_per_h"], columns["stretch"])
+    columns["speed_kmh"] = columns["speed_m_per_h"].astype("Float64") / 1000
+    columns["over_limit_kmh"] = (columns["speed_m_per_h"] - columns["limit_m_per_h"]).astype("Float64") / 1000
+    columns |= {name: numbers(told(name)) for name in NUMBERS if name not in columns}
+    columns |= {name: told(name) for name in TEXTS}
+    columns |= decoded_columns(told("decoded"))
+    columns |= {"decoded": told("decoded"), "causes": cause_column(journal)}
+    table = pd.DataFrame(columns)
+    table.insert(table.columns.get_loc("action") + 1, "refused", actions.refused(table))
+    return table
+
+
+def before(table: pd.DataFrame, name: str) -> Any:
+    """The column one record earlier; missing at the beginning of a stretch."""
+    return table[name].shift().where(table["stretch"] == table["stretch"].shift())
+
+
+def interventions(table: pd.DataFrame) -> pd.DataFrame:
+    """One row for each run of records of a stretch that command a brake, in their order.
+
+    `first_row` and `last_row` are rows of the table. `steps` are the commands in their order, as "service emergency".
+    `goes_on` tells that the last record told of its stretch still commands it.
+    """
+    brake, stretch = table["brake"].to_numpy(object), table["stretch"].to_numpy()
+    commanded = brake != "none"
+    new = np.ones(len(table), bool)
+    new[1:] = (stretch[1:] != stretch[:-1]) | ~commanded[:-1]
+    firsts = np.flatnonzero(commanded & new)
+    last = np.ones(len(table), bool)
+    last[:-1] = new[1:] & commanded[1:] | ~commanded[1:] | (stretch[1:] != stretch[:-1])
+    lasts = np.flatnonzero(commanded & last)
+    rows = [intervention(table, brake, int(first), int(last)) for first, last in zip(firsts, lasts)]
+    return pd.DataFrame(rows, columns=INTERVENTION)
+
+
+INTERVENTION = ("first_row", "last_row", "life", "first_block", "first_event", "last_event", "brake", "worst", "steps",
+                "kind", "time_ms", "until_ms", "place_cm", "until_cm", "mode_before", "mode", "speed_kmh", "limit_kmh",
+                "most_over_kmh", "most_over_row", "goes_on", "causes")
+
+
+def intervention(table: pd.DataFrame, brake: Any, first: int, last: int) -> Json:
+    """The row of an intervention from one row of the table to another one."""
+    commands = brake[first:last + 1]
+    turns = np.flatnonzero(np.concatenate([[True], commands[1:] != commands[:-1]]))
+    over = pd.to_numeric(table["over_limit_kmh"].iloc[first:last + 1]).astype(float).to_numpy()
+    farthest = None if np.isnan(over).all() else int(np.nanargmax(over))
+    stretch = table["stretch"]
+    has_before = first > 0 and stretch.iat[first - 1] == stretch.iat[first]
+    value: Callable[[str, int], Any] = lambda name, row: table[name].iat[row]
+    return {
+        "first_row": first, "last_row": last, "life": value("life", first), "first_block": value("block", first),
+        "first_event": value("event", first), "last_event": value("event", last), "brake": commands[0],
+        "worst": "emergency" if (commands == "emergency").any() else "service",
+        "steps": " ".join(commands[turns]), "kind": value("kind", first), "time_ms": value("time_ms", first),
+        "until_ms": value("time_ms", last), "place_cm": value("place_cm", first), "until_cm": value("place_cm", last),
+        "mode_before": value("mode", first - 1) if has_before else None, "mode": value("mode", first),
+        "speed_kmh": value("speed_kmh", first), "limit_kmh": value("limit_kmh", first),
+        "most_over_kmh": None if farthest is None else over[farthest],
+        "most_over_row": None if farthest is None else first + farthest,
+        "goes_on": last + 1 == len(table) or stretch.iat[last + 1] != stretch.iat[last],
+        "causes": value("causes", first)}
+
+
+def is_notable(table: pd.DataFrame) -> Any:
+    """Whether a record begins a stretch, changes mode, level, brake or an indication, or is a telegram, an action of the
+    driver or a power-up."""
+    same = (table["stretch"] == table["stretch"].shift()).to_numpy()
+    columns = [table["mode"], table["brake"], table["level"].fillna(-1).astype(int)] + [table[name] for name in SHOWS]
+    for column in columns:
+        same &= (column == column.shift()).to_numpy(bool)
+    return ~same | ~table["kind"].isin(["odometer", "clock"]).to_numpy()
+
+
+def csv_text(table: pd.DataFrame) -> str:
+    """The table as comma-separated values, without the column `decoded`; nothing stands where nothing is known."""
+    text: str = table.drop(columns="decoded").to_csv(index=False, lineterminator="\n")
+    return text

@@ -1,0 +1,41 @@
+"""A journal as `etcs_lab` might tell it, made without any program."""
+from pathlib import Path
+from typing import Any
+
+from gaknifur.reading import Journal, Json
+
+AUTHORITY: Json = {
+    "header": {"Q_UPDOWN": 1, "M_VERSION": 16, "Q_MEDIA": 0, "N_PIG": 0, "N_TOTAL": 1, "M_DUP": 0, "M_MCOUNT": 255,
+               "NID_C": 1, "NID_BG": 2, "Q_LINK": 1},
+    "packets": [{"packet": 12, "fields": [["NID_PACKET", 12], ["Q_DIR", 2], ["L_PACKET", 73], ["Q_SCALE", 1],
+                                          ["L_SECTION", 200], ["L_ENDSECTION", 100]]}],
+    "bits": 243}
+
+
+def record(event: int, kind: str = "clock", **told: Any) -> Json:
+    """A record; what isn't told is usual."""
+    usual = {"block": 1 + event // 8, "event": event, "life": 1, "kind": kind, "time_ms": 0, "mode": "FS", "level": 1,
+             "brake": "none", "indications": [], "place_cm": 100 * event, "uncertainty_cm": 500,
+             "min_safe_front_cm": 100 * event - 500, "max_safe_front_cm": 100 * event + 500, "limit_m_per_h": 40_000}
+    rest: Json = {"clock": {"now_ms": 0}, "powerup": {"word": "unknown"}}.get(kind, {})
+    return usual | rest | told
+
+
+def reading(event: int, speed: int, **told: Any) -> Json:
+    """A reading of the odometer."""
+    return record(event, "odometer", movement_cm=100, speed_m_per_h=speed, **told)
+
+
+def action(event: int, what: str, **told: Any) -> Json:
+    """An action of the driver."""
+    return record(event, "driver", action=what, **told)
+
+
+def journal(*records: Json, **told: Any) -> Journal:
+    """A journal of these records."""
+    examination: Json = {
+        "image": {"bytes": 12_800, "sectors": 25, "slots": 4, "whole_slots": 4, "bytes_behind": 0, "sha256": "ab" * 32},
+        "slots": [], "between": [],
+        "journal": {"first_block": 1, "newest_block": 1, "first_event": 0, "last_event": len(records) - 1, "lives": 1},
+        "power_up": {"opens": True, "refusal": None, "kept": None}, "whole": True}
+    return Journal(Path("image"), examination | told, list(records))

@@ -1,0 +1,82 @@
+"""Reading what a stand-in of `etcs_lab` prints."""
+import hashlib
+import json
+import os
+import tempfile
+import unittest
+from pathlib import Path
+
+from gaknifur.program import Failed
+from gaknifur.reading import Journal, read
+
+from .samples import journal, record
+
+STAND_IN = """#!/bin/sh
+cat "$0.$1"
+cat "$0.$1.said" 1>&2 2>/dev/null
+exit "$(cat "$0.$1.status" 2>/dev/null || echo 0)"
+"""
+
+
+class Reading(unittest.TestCase):
+    """What comes of lines and statuses."""
+
+    def setUp(self) -> None:
+        folder = tempfile.TemporaryDirectory()
+        self.addCleanup(folder.cleanup)
+        self.program = Path(folder.name) / "etcs_lab"
+        self.program.write_text(STAND_IN)
+        self.program.chmod(0o755)
+        self.image = Path(folder.name) / "image"
+        self.image.write_bytes(b"image")
+        before = os.environ.get("GAKNIFUR_ETCS_LAB")
+        os.environ["GAKNIFUR_ETCS_LAB"] = str(self.program)
+        self.addCleanup(lambda: os.environ.pop("GAKNIFUR_ETCS_LAB") if before is None else
+                        os.environ.update(GAKNIFUR_ETCS_LAB=before))
+        told = journal(record(0)).examination
+        told["image"]["sha256"] = hashlib.sha256(b"image").hexdigest()
+        self.says("examine", [told])
+        self.says("events", [{"image": {}}, record(0), {"unreadable": {"block": 4}}, {"end": "done"}])
+        self.says("replay", [{"life": 1, "first_event": 0, "last_event": 0, "replay": "agrees"}, {"end": "nothing_differs"}])
+
+    def says(self, word: str, lines: list[object], status: int = 0, said: str = "") -> None:
+        """What the stand-in prints."""
+        for end, text in ((f".{word}", "".join(json.dumps(line) + "\n" for line in lines)), (f".{word}.said", said),
+                          (f".{word}.status", str(status))):
+            self.program.with_name(self.program.name + end).write_text(text)
+
+    def read(self) -> Journal:
+        return read(self.image, replay=True)
+
+    def test_all(self) -> None:
+        found = self.read()
+        self.assertEqual(([one["event"] for one in found.records], found.unreadable), ([0], [4]))
+        self.assertEqual(len(found.replay), 2)
+
+    def test_a_listing_that_was_cut_off(self) -> None:
+        self.says("events", [{"image": {}}, record(0)])
+        self.assertRaisesRegex(Failed, "cut off", self.read)
+
+    def test_a_replay_that_was_cut_off(self) -> None:
+        self.says("replay", [{"life": 1, "replay": "agrees"}])
+        self.assertRaisesRegex(Failed, "cut off", self.read)
+
+    def test_events_that_are_refused(self) -> None:
+        self.says("events", [], 1, f"etcs_lab: {self.image}: has not the sectors that its first one tells\n")
+        self.assertEqual(self.read().refusal, "has not the sectors that its first one tells")
+
+    def test_no_image(self) -> None:
+        self.says("examine", [{}], 1, f"etcs_lab: {self.image}: is not a formatted image\n")
+        self.assertRaisesRegex(Failed, "image: is not a formatted image$", self.read)
+
+    def test_a_file_that_changes(self) -> None:
+        self.image.write_bytes(b"other")
+        self.assertRaisesRegex(Failed, "changed while it was read", self.read)
+
+    def test_no_json(self) -> None:
+        self.program.with_name("etcs_lab.events").write_text("event 1\n")
+        self.assertRaisesRegex(Failed, "no JSON", self.read)
+
+
+if __name__ == "__main__":
+    unittest.main()

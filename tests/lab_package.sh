@@ -1,0 +1,22 @@
+#!/bin/bash
+# The package python/gaknifur and its script ./lab, on the programs that the gate leaves behind: types, the package's own tests, the commands of
+# docs/LABORATORY.md, tables and database beside plain readers, and reports.
+#
+#     tests/lab_package.sh [ETCS_LAB ETCS [IMAGES [SEED]]]    on other programs, with more or other images
+lab=${1:-$(dirname "$0")/../crates/etcs_lab/out/etcs_lab}
+etcs=${2:-$(dirname "$0")/../crates/etcs/out/etcs}
+lab=$(realpath "$lab") && etcs=$(realpath "$etcs") || exit 1
+cd "$(dirname "$0")/.." || exit 1
+export PYTHONDONTWRITEBYTECODE=1 GAKNIFUR_ETCS_LAB=$lab
+python=/usr/bin/python3 # Debian's packages belong to this one
+for program in "$lab" "$etcs"; do
+    [ -x "$program" ] || { echo "there is no program $program: rt ci makes it"; exit 1; }
+done
+tools/python --checks || exit 1
+status=0
+(cd python && "$python" -m mypy) || status=1
+(cd python && "$python" -m unittest -q) || status=1
+"$python" tests/lab_package/page_rows.py "$etcs" "$lab" || status=1
+"$python" tests/lab_package/told_rows.py "$lab" "${@:3}" || status=1
+"$python" tests/lab_package/report_rows.py "$etcs" "$lab" || status=1
+exit $status

@@ -1,0 +1,155 @@
+#!/usr/bin/env python3
+"""Runs `./lab` on whole, damaged and long images, and looks at what it makes.
+
+    tests/lab_package/report_rows.py ETCS ETCS_LAB
+"""
+import os
+import subprocess
+import sys
+import tempfile
+import time
+from pathlib import Path
+
+HERE = Path(__file__).resolve().parent
+TOP = HERE.parents[1]
+sys.path[:0] = [str(HERE), str(TOP / "tests/events"), str(TOP / "tests/plain")]
+
+from images import blocks, slots_of  # noqa: E402
+from told_rows import page_faults, page_of  # noqa: E402
+
+LONG, MOST_SECONDS, MOST_BYTES = 100_000, 20, 3_000_000
+RECORDS = 8
+EXAMPLES = {"full_supervision": 2, "linking_fault": 3, "on_sight": 3, "power_cut": 4, "staff_responsible": 1, "trip": 2}
+"""Examples, and charts on their pages at the least."""
+
+
+class Rows:
+    def __init__(self, etcs, room):
+        self.etcs, self.room, self.compared, self.differ = etcs, Path(room), 0, 0
+
+    def lab(self, *words, status=0, said=""):
+        """Runs ./lab; its status and its last line on standard error are compared."""
+        done = subprocess.run([TOP / "lab", *map(str, words)], cwd=self.room, capture_output=True, text=True, stdin=subprocess.DEVNULL)
+        last = done.stderr.splitlines()[-1] if done.stderr else ""
+        self.wants(f"lab {' '.join(map(str, words))}", (done.returncode, last), (status, said))
+        return done.stdout
+
+    def wants(self, name, got, want):
+        self.compared += 1
+        if got != want:
+            self.differ += 1
+            print(f"{name}:\n  told   {got}\n  wanted {want}")
+
+    def page(self, name, *words, charts, text=(), said=""):
+        """A report whose page has so many charts at the least, and these texts."""
+        out = self.room / "out.html"
+        out.unlink(missing_ok=True)
+        self.lab("report", name, out.name, *words, said=said)
+        told = out.read_text() if out.exists() else ""
+        page = page_of(told)
+        self.wants(f"{name} {words}, faults of the page", page_faults(told), [])
+        self.wants(f"{name} {words}, at least {charts} charts", page.elements.get("svg", 0) >= charts, True)
+        plain = "".join(page.text)
+        for one in text:
+            self.wants(f"{name} {words} tells \"{one}\"", one in plain, True)
+        return told
+
+    def run(self, *words):
+        subprocess.run([self.etcs, *map(str, words)], cwd=self.room, check=True, stdout=subprocess.DEVNULL)
+
+
+def examples(rows):
+    for name, charts in EXAMPLES.items():
+        rows.run("format", name, 16)
+        for scenario in ("scenario.json", "restart.json"):
+            if (TOP / "examples" / name / scenario).exists():
+                rows.run("run", TOP / "examples" / name / scenario, name)
+        first = rows.page(name, charts=charts, text=["each event agrees with the kernel", "IC 704"])
+        rows.wants(f"{name}, the same page twice", rows.page(name, charts=charts), first)
+    rows.page("trip", charts=2, text=["15.0 km/h", "event 8", "the driver starts (not accepted)", "300.00 – 327.00", "end announced by event 1"])
+    rows.page("trip", "--from", "8", "--to", "11", charts=1, text=["from 8 to 11"])
+    rows.page("trip", "--from", "200m", "--to", "315m", charts=1, text=["from 200m to 315m"])
+    rows.page("on_sight", "--from", "20s", "--to", "40s", "--life", "1", charts=1, text=["of life 1"])
+    rows.page("trip", "--life", "7", charts=0, text=["No record commands a brake"])
+
+
+def damaged(rows):
+    image = (rows.room / "trip").read_bytes()
+    at = 512 * (1 + 6 * 2) + 1024 + 16
+    (rows.room / "byte").write_bytes(image[:at] + b"\xff" + image[at + 1:])
+    lost = "lab: byte: something is lost, damaged or contradicts"
+    rows.page("byte", charts=1, said=lost, text=["block 2 can't be read", "Lost: block 2, with events 1 to 8", "not told"])
+    (rows.room / "newest").write_bytes(image[:512 * (1 + 6 * 3) + 1024 + 16] + b"\xff" + image[512 * (1 + 6 * 3) + 1024 + 17:])
+    rows.page("newest", charts=0, said="lab: newest: something is lost, damaged or contradicts", text=["block 3 can't be read"])
+    (rows.room / "short").write_bytes(image[:-512])
+    told = subprocess.run([TOP / "lab", "report", "short", "out.html"], cwd=rows.room, capture_output=True, text=True)
+    rows.wants("an image that is cut off", (told.returncode, told.stderr.startswith("lab: short: ")), (0, True))
+    rows.run("format", "empty", 4)
+    rows.page("empty", charts=0, text=["No block of a journal can be read", "There is nothing to draw"])
+    rows.lab("table", "empty")
+    rows.lab("database", "empty", "byte", "short", "empty.db", said=subprocess_last(told))
+    (rows.room / "none").write_bytes(b"x" * 5000)
+    rows.lab("report", "none", "none.html", status=1, said="lab: none: is not a formatted image")
+    rows.wants("no page of what is no image", (rows.room / "none.html").exists(), False)
+    rows.lab("report", "missing", "none.html", status=3, said="lab: missing: there is no such file")
+    rows.lab("report", "trip", "no/folder.html", status=3, said="lab: no/folder.html: No such file or directory")
+    rows.lab("report", "trip", "none.html", "--from", "3.5", status=2,
+             said="lab: 3.5: is neither an event (120) nor a place (300m) nor a moment (20.5s)")
+    rows.lab("database", "trip", "trip.db")
+    rows.lab("database", "trip", "trip.db", said="lab: trip: is in the database already")
+    rows.lab("database", "trip", "trip", status=3, said="lab: trip: file is not a database")
+    for word in ("table", "database", "report"):
+        rows.wants(f"lab {word} --help", f"usage: lab {word}" in rows.lab(word, "--help"), True)
+
+
+def subprocess_last(done):
+    """The last line on standard error."""
+    return done.stderr.splitlines()[-1] if done.stderr else ""
+
+
+def long_image(events):
+    """A life of so many events, written by the plain writer: a train that runs, stops, and now and then is far too fast."""
+    records, place, speed = [], 0, 0
+    for number in range(events):
+        at = number % 600
+        speed = min(at, 599 - at) * 400
+        is_fast = number % 7_000 > 6_990
+        way = speed // 36
+        place += way if number else 0
+        told = ("powerup", 0) if number == 0 else ("clock", 500 * number) if number % 2 else ("odometer", min(way, 10_000), speed)
+        records.append(blocks.entry(number, told, moment=500 * (number - 1 + number % 2) if number else 0, mode=0, level=1,
+                                    brake=2 if is_fast or number == 0 else 0, ind=64 if is_fast else 0, estimate=place, uncertainty=500,
+                                    limit=1_000 if is_fast else 130_000))
+    parts = [records[:1]] + [records[at:at + RECORDS] for at in range(1, events, RECORDS)]
+    data, done = [], 0
+    for number, part in enumerate(parts, 1):
+        done += len(part)
+        data.append((number, blocks.data_of(blocks.block(3, number, done, 1, part))))
+    return slots_of(data, len(parts) + 1)
+
+
+def long(rows):
+    (rows.room / "long").write_bytes(long_image(LONG))
+    begun = time.monotonic()
+    told = rows.page("long", charts=14, text=[f"{LONG:,} events", "The 12 interventions farthest above the limit"])
+    took = time.monotonic() - begun
+    rows.wants(f"a report of {LONG} events takes less than {MOST_SECONDS} s and {MOST_BYTES} bytes",
+               (took < MOST_SECONDS, len(told.encode()) < MOST_BYTES), (True, True))
+    print(f"lab: a report of {LONG} events took {took:.1f} s, and has {len(told.encode()):,} bytes")
+    rows.page("long", "--from", "6950", "--to", "7050", charts=2, text=["101"])
+    rows.lab("database", "long", "long.db")
+
+
+def main(words):
+    os.environ["GAKNIFUR_ETCS_LAB"] = str(Path(words[1]).resolve())
+    with tempfile.TemporaryDirectory() as room:
+        rows = Rows(str(Path(words[0]).resolve()), room)
+        examples(rows)
+        damaged(rows)
+        long(rows)
+    print(f"lab: {rows.compared} comparisons of ./lab, {rows.differ} differ")
+    return 1 if rows.differ else 0
+
+
+if __name__ == "__main__":
+    sys.exit(main(sys.argv[1:]))

@@ -1,0 +1,257 @@
+#!/usr/bin/env python3
+"""What `./lab` makes of images, beside what plain readers find in them.
+
+    tests/lab_package/told_rows.py ETCS_LAB [IMAGES [SEED]]
+
+- Tables and the database agree, record by record, with the plain reader of tests/events over pseudo-random images in
+  all three formats, whole and damaged, with and without other blocks; so do interventions and runs above the limit.
+- Whatever text an image holds stands escaped on the page.
+"""
+import csv
+import html.parser
+import io
+import os
+import sqlite3
+import sys
+import tempfile
+from pathlib import Path
+
+TOP = Path(__file__).resolve().parents[2]
+sys.path[:0] = [str(TOP / "python"), str(TOP / "tests/events"), str(TOP / "tests/plain")]
+
+from gaknifur import database, program, reading, report, tables  # noqa: E402
+from images import MARKUP, blocks, random_images, slots_of  # noqa: E402
+from told import SIGNS, Refused, told  # noqa: E402
+
+IMAGES, SEED = 200, 44
+LEAST_RECORDS, LEAST_INTERVENTIONS, LEAST_TELEGRAMS = 4_000, 500, 300
+PLAIN = ("block event life kind time_ms mode level brake place_cm uncertainty_cm min_safe_front_cm max_safe_front_cm limit_m_per_h movement_cm "
+         "now_ms word action identity running_number chosen_level confirmed acknowledged length_cm maximum_m_per_h category "
+         "deceleration_cm_per_s2 reaction_ms telegram").split()
+HEADER = "NID_C NID_BG N_PIG N_TOTAL M_DUP M_MCOUNT Q_LINK".split()
+GREATEST = 2**62
+
+
+def plain_records(image, all_blocks):
+    """The records as dictionaries, and the numbers of blocks that can't be read."""
+    lines, _ = told(image, all_blocks)
+    lines = [dict(line) for line in lines[1:-1]]
+    return [line for line in lines if "event" in line], [dict(line["unreadable"])["block"] for line in lines if "unreadable" in line]
+
+
+def with_speeds(records):
+    """Each record with the speed that holds behind it, and whether it goes on from the record before."""
+    before, speed = None, None
+    for record in records:
+        goes_on = before is not None and (before["event"] + 1, before["life"], before.get("source")) == (
+            record["event"], record["life"], record.get("source"))
+        speed = speed if goes_on else None
+        if record["kind"] == "odometer":
+            speed = record["speed_m_per_h"]
+        elif record["kind"] == "powerup":
+            speed = 0
+        yield record, speed, goes_on
+        before = record
+
+
+def wanted_row(record, speed):
+    """A row of the table as CSV tells it."""
+    row = {name: record.get(name) for name in PLAIN}
+    row |= {"reading_m_per_h": record.get("speed_m_per_h"), "speed_m_per_h": speed, "source": record.get("source")}
+    row |= {f"shows_{sign}": sign in record["indications"] for sign in SIGNS}
+    decoded = dict(record.get("decoded", ()))
+    header = dict(decoded.get("header", ()))
+    row |= {name.lower(): header.get(name) for name in HEADER}
+    row["packets"] = " ".join(str(dict(packet)["packet"]) for packet in decoded["packets"]) if "packets" in decoded else None
+    row["fault"] = dict(decoded["refused"])["name"] if "refused" in decoded else None
+    return {name: "" if value is None else str(value) for name, value in row.items()}
+
+
+def wanted_runs(records, holds):
+    """First and last event of each run of records, going on, for which something holds."""
+    runs = []
+    was = False
+    for record, speed, goes_on in with_speeds(records):
+        is_so = holds(record, speed)
+        if is_so and was and goes_on:
+            runs[-1][1] = record["event"]
+        elif is_so:
+            runs.append([record["event"], record["event"]])
+        was = is_so
+    return runs
+
+
+def is_above(record, speed):
+    return speed is not None and record["limit_m_per_h"] is not None and speed > record["limit_m_per_h"]
+
+
+class Count:
+    def __init__(self):
+        self.images = self.records = self.interventions = self.telegrams = self.compared = self.differ = 0
+
+    def compare(self, name, got, want):
+        self.compared += 1
+        if got != want:
+            self.differ += 1
+            if self.differ <= 5:
+                print(f"{name}:\n  told   {got}\n  wanted {want}")
+
+    def end(self):
+        print(f"lab: {self.records} records of {self.images} images, {self.interventions} interventions, {self.telegrams} telegrams: "
+              f"{self.compared} comparisons, {self.differ} differ")
+        few = self.records < LEAST_RECORDS or self.interventions < LEAST_INTERVENTIONS or self.telegrams < LEAST_TELEGRAMS
+        if few:
+            print("too little was tried")
+        return 1 if self.differ or few else 0
+
+
+def compare_table(count, name, journal, records):
+    """The table, as it comes out of its CSV text."""
+    table = tables.frame(journal)
+    rows = list(csv.DictReader(io.StringIO(tables.csv_text(table))))
+    wanted = [wanted_row(record, speed) for record, speed, _ in with_speeds(records)]
+    got = [{key: row.get(key, "") for key in (wanted[0] if wanted else ())} for row in rows]
+    count.compare(f"{name}, rows", len(got), len(wanted))
+    for one, other in zip(got, wanted):
+        if one != other:
+            count.compare(name, {k: v for k, v in one.items() if v != other[k]}, {k: v for k, v in other.items() if v != one[k]})
+        count.compared += 1
+    runs = wanted_runs(records, lambda record, _: record["brake"] != "none")
+    found = tables.interventions(table)
+    count.compare(f"{name}, interventions", [list(pair) for pair in zip(found["first_event"], found["last_event"])], runs)
+    count.records += len(records)
+    count.interventions += len(runs)
+    return table
+
+
+def compare_database(count, name, connection, journal, table, records):
+    """The rows of the database for the journal that was added last."""
+    database.add(connection, journal, table)
+    image = connection.execute("SELECT image FROM image WHERE sha256 = ?", [journal.sha256]).fetchone()[0]
+    columns = [column for column in PLAIN if column != "telegram"] + ["reading_m_per_h", "speed_m_per_h"] + [f"shows_{sign}" for sign in SIGNS]
+    rows = {row[:2]: list(row[2:]) for row in connection.execute(
+        f"SELECT block, event, {', '.join(columns)} FROM event WHERE image = ?", [image])}
+    wanted, digits, fields = {}, {}, []
+    for record, speed, _ in with_speeds(records):
+        key = record["block"], record["event"]
+        values = {**record, "reading_m_per_h": record.get("speed_m_per_h"), "speed_m_per_h": speed}
+        values |= {f"shows_{sign}": int(sign in record["indications"]) for sign in SIGNS}
+        if (values["uncertainty_cm"] or 0) > GREATEST:
+            values["uncertainty_cm"] = None
+        wanted[key] = [values.get(column) for column in columns]
+        if record["kind"] == "telegram":
+            digits[key] = record["telegram"]
+            for place, packet in enumerate(dict(record["decoded"]).get("packets", ())):
+                fields += [(*key, place, at, *pair) for at, pair in enumerate(dict(packet)["fields"])]
+    count.compare(f"{name}, database", rows, wanted)
+    count.compare(f"{name}, telegrams", {row[:2]: row[2] for row in connection.execute(
+        "SELECT block, event, digits FROM telegram WHERE image = ?", [image])}, digits)
+    count.compare(f"{name}, fields", sorted(connection.execute(
+        "SELECT block, event, packet, field, name, value FROM field WHERE image = ?", [image])), sorted(fields))
+    count.telegrams += len(digits)
+    return image
+
+
+def compare_views(count, name, connection, image, records):
+    """Interventions and runs above the limit, as the views tell them. Where events come twice, views may not tell them."""
+    for view, holds in (("brake_intervention", lambda record, _: record["brake"] != "none"), ("above_limit", is_above)):
+        got = [list(row) for row in connection.execute(
+            f"SELECT first_event, last_event FROM {view} WHERE image = ? ORDER BY first_event, last_event", [image])]
+        count.compare(f"{name}, {view}", got, sorted(wanted_runs(records, holds)))
+
+
+def images_agree(room, images, seed):
+    """Compares all images; each with its other blocks in one database, and without them in another one."""
+    count, path = Count(), Path(room) / "image"
+    for all_blocks in (False, True):
+        connection = database.open_database(Path(room) / f"{all_blocks}.db")
+        for name, image in random_images(images, seed):
+            path.write_bytes(image)
+            try:
+                records, unreadable = plain_records(image, all_blocks)
+            except Refused as refused:
+                count.compare(name, reading.read(path).refusal is not None, str(refused) == "Damaged")
+                continue
+            name += ", all" if all_blocks else ""
+            journal = reading.read(path, other_blocks=all_blocks, replay=True)
+            count.images += 1
+            count.compare(f"{name}, unreadable", journal.unreadable, unreadable)
+            table = compare_table(count, name, journal, records)
+            added = compare_database(count, name, connection, journal, table, records)
+            if not all_blocks:
+                compare_views(count, name, connection, added, records)
+        faults = connection.execute("PRAGMA foreign_key_check").fetchall() + [
+            row for row in connection.execute("PRAGMA integrity_check") if row != ("ok",)]
+        count.compare("the database", faults, [])
+        connection.close()
+    return count.end()
+
+
+class Page(html.parser.HTMLParser):
+    """Which elements and attributes a page has, and its text."""
+
+    def __init__(self):
+        super().__init__()
+        self.elements, self.text, self.ids, self.links, self.styled = {}, [], [], [], False
+
+    def handle_starttag(self, tag, attributes):
+        self.elements[tag] = self.elements.get(tag, 0) + 1
+        for key, value in attributes:
+            if key == "id":
+                self.ids.append(value)
+            if key in ("href", "xlink:href", "src"):
+                self.links.append(value)
+
+    handle_startendtag = handle_starttag
+
+    def handle_data(self, data):
+        self.text.append(data)
+
+
+def page_of(text):
+    page = Page()
+    page.feed(text)
+    page.close()
+    return page
+
+
+def page_faults(text):
+    """What is wrong with a page as such: ids that come twice, links that lead nowhere or out of it, scripts."""
+    page = page_of(text)
+    faults = [f"id {one} twice" for one in {one for one in page.ids if page.ids.count(one) > 1}] if len(page.ids) < 20_000 else []
+    ids = set(page.ids)
+    faults += [f"link {link}" for link in page.links if not link.startswith("#") or link[1:] not in ids]
+    return faults + [tag for tag in ("script", "link", "iframe", "object", "embed", "img", "b2") if tag in page.elements]
+
+
+def markup_stays_text(room):
+    """Each identity with markup, in a record and in a head, stands on the page as text and adds no element."""
+    wrong = 0
+    path = Path(room) / "image"
+    plain = None
+    for text in (b"IC 704", *MARKUP, b"<script>1</scr>", b"<img src=x>", b"'\"><b2>x</b2>", b"{{ 7*7 }}", b"{% raw %}", b"$\\frac{1}{2}$"):
+        text = text[:16]
+        b = blocks.block(3, 1, 1, 1, [blocks.entry(0, ("driver", b"\1" + text))])
+        b["identity"] = text
+        path.write_bytes(slots_of([(1, blocks.data_of(b))], 2))
+        path = path.rename(Path(room) / "<b>&amp;'\"")
+        page = page_of(report.page(reading.read(path, replay=True)))
+        plain = plain or page.elements
+        said = "".join(page.text).replace("\n", " ")
+        if page.elements != plain or f'enters the identity "{text.decode()}"' not in said or f"“{text.decode()}”" not in said:
+            wrong += 1
+            print(f"identity {text}: the page differs")
+    print(f"lab: {len(MARKUP) + 7} identities with markup on a page, {wrong} differ")
+    return wrong
+
+
+def main(words):
+    os.environ["GAKNIFUR_ETCS_LAB"] = str(Path(words[0]).resolve())
+    images, seed = (*(int(word) for word in words[1:3]), *(IMAGES, SEED)[len(words) - 1:])
+    assert program.find() == os.environ["GAKNIFUR_ETCS_LAB"]
+    with tempfile.TemporaryDirectory() as room:
+        return 1 if images_agree(room, images, seed) + markup_stays_text(room) else 0
+
+
+if __name__ == "__main__":
+    sys.exit(main(sys.argv[1:]))

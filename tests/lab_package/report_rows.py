@@ -4,10 +4,10 @@
     tests/lab_package/report_rows.py ETCS ETCS_LAB
 """
 import os
+import resource
 import subprocess
 import sys
 import tempfile
-import time
 from pathlib import Path
 
 HERE = Path(__file__).resolve().parent
@@ -107,6 +107,12 @@ def subprocess_last(done):
     return done.stderr.splitlines()[-1] if done.stderr else ""
 
 
+def processor_seconds():
+    """What all programs that were run have taken; their wall time goes by what else the machine does."""
+    used = resource.getrusage(resource.RUSAGE_CHILDREN)
+    return used.ru_utime + used.ru_stime
+
+
 def long_image(events):
     """A life of so many events, written by the plain writer: a train that runs, stops, and now and then is far too fast."""
     records, place, speed = [], 0, 0
@@ -130,12 +136,12 @@ def long_image(events):
 
 def long(rows):
     (rows.room / "long").write_bytes(long_image(LONG))
-    begun = time.monotonic()
+    begun = processor_seconds()
     told = rows.page("long", charts=14, text=[f"{LONG:,} events", "The 12 interventions farthest above the limit"])
-    took = time.monotonic() - begun
-    rows.wants(f"a report of {LONG} events takes less than {MOST_SECONDS} s and {MOST_BYTES} bytes",
+    took = processor_seconds() - begun
+    rows.wants(f"a report of {LONG} events takes less than {MOST_SECONDS} s of processor time and {MOST_BYTES} bytes",
                (took < MOST_SECONDS, len(told.encode()) < MOST_BYTES), (True, True))
-    print(f"lab: a report of {LONG} events took {took:.1f} s, and has {len(told.encode()):,} bytes")
+    print(f"lab: a report of {LONG} events took {took:.1f} s of processor time, and has {len(told.encode()):,} bytes")
     rows.page("long", "--from", "6950", "--to", "7050", charts=2, text=["101"])
     rows.lab("database", "long", "long.db")
 

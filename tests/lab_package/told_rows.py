@@ -14,6 +14,7 @@ import os
 import sqlite3
 import sys
 import tempfile
+from collections import Counter
 from pathlib import Path
 
 TOP = Path(__file__).resolve().parents[2]
@@ -192,7 +193,7 @@ class Page(html.parser.HTMLParser):
 
     def __init__(self):
         super().__init__()
-        self.elements, self.text, self.ids, self.links, self.styled = {}, [], [], [], False
+        self.elements, self.text, self.ids, self.links = {}, [], [], []
 
     def handle_starttag(self, tag, attributes):
         self.elements[tag] = self.elements.get(tag, 0) + 1
@@ -218,8 +219,8 @@ def page_of(text):
 def page_faults(text):
     """What is wrong with a page as such: ids that come twice, links that lead nowhere or out of it, scripts."""
     page = page_of(text)
-    faults = [f"id {one} twice" for one in {one for one in page.ids if page.ids.count(one) > 1}] if len(page.ids) < 20_000 else []
-    ids = set(page.ids)
+    ids = Counter(page.ids)
+    faults = [f"id {one} {times} times" for one, times in ids.items() if times > 1]
     faults += [f"link {link}" for link in page.links if not link.startswith("#") or link[1:] not in ids]
     return faults + [tag for tag in ("script", "link", "iframe", "object", "embed", "img", "b2") if tag in page.elements]
 

@@ -139,7 +139,7 @@ def draw_lines(main: Any, x: Any, speed: Any, limit: Any, axis: str) -> None:
               marker="." if len(x) <= 150 else None, ms=4)
     above = np.where(speed > limit, speed, np.nan)
     if not np.isnan(above).all():
-        main.plot(x, above, "D", color=ABOVE, ms=3.2, label="above the limit", ls="none")
+        main.plot(x, above, "D", color=ABOVE, ms=3.2, label="above the limit", ls="none", zorder=6)
 
 
 def extreme(pick: Any, values: Any) -> float:

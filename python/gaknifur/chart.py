@@ -18,7 +18,7 @@ from matplotlib.figure import Figure
 
 STYLE = {"svg.fonttype": "none", "svg.hashsalt": "gaknifur", "font.family": "sans-serif", "font.size": 9,
          "axes.spines.top": False, "axes.spines.right": False, "path.simplify": True, "path.simplify_threshold": 0.3,
-         "hatch.linewidth": 0.6, "text.parse_math": False}
+         "hatch.linewidth": 0.6, "text.parse_math": False, "axes.titley": 1.0}
 INK, SPEED, ABOVE, END = "#222222", "#0072B2", "#D55E00", "#882255"
 BRAKES = {"none": "#ffffff", "service": "#E69F00", "emergency": "#D55E00"}
 HATCHES = {"service": "///", "emergency": "xxx"}
@@ -139,7 +139,7 @@ def draw_lines(main: Any, x: Any, speed: Any, limit: Any, axis: str) -> None:
               marker="." if len(x) <= 150 else None, ms=4)
     above = np.where(speed > limit, speed, np.nan)
     if not np.isnan(above).all():
-        main.plot(x, above, "D", color=ABOVE, ms=3.2, label="above the limit", ls="none")
+        main.plot(x, above, "D", color=ABOVE, ms=3.2, label="above the limit", ls="none", zorder=6)
 
 
 def extreme(pick: Any, values: Any) -> float:
@@ -184,7 +184,7 @@ def draw_marks(main: Any, picture: Picture, table: pd.DataFrame, x: Any, speed: 
     """A circle at each mark; over distance also where the front may have been."""
     at = {row: place for place, row in enumerate(table.index)}
     shown = [(row, at[row]) for row in list(picture.marks)[:MOST_MARKS] if row in at]
-    label: str | None = "where the front may have been"
+    label: str | None = "possible front"
     for row, place in shown:
         height = 0.0 if np.isnan(speed[place]) else speed[place]
         fronts = [numbers(table.iloc[[place]], name)[0] / 100 for name in ("min_safe_front_cm", "max_safe_front_cm")]
@@ -203,19 +203,16 @@ def finish(main: Any, last: Any, picture: Picture, table: pd.DataFrame, reach: t
     width = max(right - left, 1e-9)
     main.set_ylabel("km/h")
     main.grid(axis="y", color="#e6e6e6", lw=0.6)
-    main.set_title(picture.title, loc="left", fontsize=10, fontweight="bold")
+    main.set_title(picture.title, loc="left", fontsize=10, fontweight="bold", pad=16 if picture.axis == "event" else 6)
     main.legend(loc="upper left", bbox_to_anchor=(1.0, 1.0), frameon=False, fontsize=8)
     last.set_xlabel(AXES[picture.axis][0])
     main.xaxis.set_major_formatter(lambda value, _: f"{value:,.0f}" if width > 8 else f"{value:,.1f}")
     main.set_xlim(left - width * 0.01, right + width * 0.02)
-    if picture.axis == "event" and table["place_cm"].notna().any():
-        chosen = table.iloc[::max(len(table) // 8, 1)]
-        places = main.secondary_xaxis("top")
-        places.set_xticks(list(chosen["event"].astype(float)),
-                          [f"{place / 100:,.0f} m" for place in numbers(chosen, "place_cm")], fontsize=7,
-                          color="#5b6875")
-        places.tick_params(length=2)
-        places.spines["top"].set_visible(False)
+    if picture.axis == "event":
+        for event, place in list(zip(table["event"], numbers(table, "place_cm")))[::max(len(table) // 8, 1)]:
+            if not np.isnan(place):
+                main.text(event, 1.02, f"{place / 100:,.0f} m", transform=main.get_xaxis_transform(), fontsize=7,
+                          color="#5b6875", ha="center")
 
 
 def svg_of(figure: Figure, prefix: str) -> str:
@@ -229,9 +226,11 @@ def svg_of(figure: Figure, prefix: str) -> str:
 def draw(table: pd.DataFrame, picture: Picture) -> str:
     """The SVG of one life, or of a part of one; the table has at least one record."""
     with matplotlib.rc_context(STYLE):
-        figure = Figure(figsize=(11, picture.height), layout="constrained")
+        figure = Figure(figsize=(11, picture.height))
         FigureCanvasSVG(figure)
-        main, brakes, modes = figure.subplots(3, 1, sharex=True, gridspec_kw={"height_ratios": [12, 1, 1], "hspace": 0.02})
+        main, brakes, modes = figure.subplots(3, 1, sharex=True, gridspec_kw={
+            "height_ratios": [12, 1, 1], "hspace": 0.05, "left": 0.065, "right": 0.825, "top": 1 - 0.42 / picture.height,
+            "bottom": 0.48 / picture.height})
         x = along(table, picture.axis)
         left, right = float(x.min()), float(x.max())
         speed, limit = numbers(table, "speed_kmh"), numbers(table, "limit_kmh")

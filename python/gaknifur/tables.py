@@ -14,6 +14,7 @@ Columns of `frame`, in their order:
 - `causes`: why the brake was commanded; missing where it isn't told (module `causes`).
 """
 from collections.abc import Callable, Sequence
+from operator import itemgetter
 from typing import Any
 
 import numpy as np
@@ -23,10 +24,18 @@ from . import actions, causes
 from .reading import Journal, Json
 from .words import INDICATIONS
 
-NUMBERS = ("level", "place_cm", "min_safe_front_cm", "max_safe_front_cm", "limit_m_per_h", "movement_cm", "now_ms",
-           "running_number", "chosen_level", "length_cm", "maximum_m_per_h", "category", "deceleration_cm_per_s2",
-           "reaction_ms")
+OF_ALL = ("block", "event", "life", "kind", "time_ms", "mode", "level", "brake", "indications", "place_cm",
+          "uncertainty_cm", "min_safe_front_cm", "max_safe_front_cm", "limit_m_per_h")
+"""The members that each record has."""
+NUMBERS = ("now_ms", "running_number", "chosen_level", "length_cm", "maximum_m_per_h", "category",
+           "deceleration_cm_per_s2", "reaction_ms")
 TEXTS = ("word", "action", "identity", "confirmed", "acknowledged", "telegram")
+OF_KIND = {
+    "powerup": ("word",), "telegram": ("telegram", "decoded"), "odometer": ("movement_cm", "speed_m_per_h"),
+    "clock": ("now_ms",),
+    "driver": ("action", "identity", "running_number", "chosen_level", "confirmed", "acknowledged", "length_cm",
+               "maximum_m_per_h", "category", "deceleration_cm_per_s2", "reaction_ms")}
+"""Those of one kind of event."""
 HEADER = ("NID_C", "NID_BG", "N_PIG", "N_TOTAL", "M_DUP", "M_MCOUNT", "Q_LINK")
 SHOWS = tuple(f"shows_{name}" for name in INDICATIONS)
 
@@ -37,7 +46,7 @@ def numbers(values: Sequence[int | None], kind: Any = np.int64) -> Any:
     return pd.arrays.IntegerArray(known, np.array([value is None for value in values], bool))
 
 
-def stretches(block: Sequence[int], event: Sequence[int], life: Sequence[int], source: Sequence[str]) -> Any:
+def stretches(event: Sequence[int], life: Sequence[int], source: Sequence[str | None]) -> Any:
     """The number of each record's stretch, from 0 on: it ends where the next record is of another life or source, or
     isn't the next event."""
     events, lives = np.asarray(event, np.int64), np.asarray(life, np.int64)
@@ -75,33 +84,47 @@ def cause_column(journal: Journal) -> list[str | None]:
             for record in journal.records]
 
 
+def by_kind(records: Sequence[Json]) -> dict[str, list[Any]]:
+    """The members that records of one kind alone have; None in all others."""
+    columns: dict[str, list[Any]] = {name: [None] * len(records) for names in OF_KIND.values() for name in names}
+    for row, record in enumerate(records):
+        for name in OF_KIND.get(record["kind"], ()):
+            columns[name][row] = record.get(name)
+    return columns
+
+
+def shown_columns(indications: Sequence[Sequence[str]]) -> dict[str, Any]:
+    """Of each indication whether it is shown. There are few different lists of them."""
+    lists: dict[tuple[str, ...], int] = {}
+    which = np.array([lists.setdefault(tuple(shown), len(lists)) for shown in indications], np.int64)
+    return {f"shows_{name}": np.array([name in shown for shown in lists], bool)[which] for name in INDICATIONS}
+
+
 def frame(journal: Journal) -> pd.DataFrame:
     """One row a record, in the order in which `etcs_lab events` tells them."""
     records = journal.records
-
-    def told(name: str) -> list[Any]:
-        return [record.get(name) for record in records]
-
-    columns: dict[str, Any] = {name: np.asarray(told(name), np.int64) for name in ("block", "event", "life")}
-    source = told("source")
-    columns["stretch"] = stretches(columns["block"], columns["event"], columns["life"], source)
-    columns |= {"kind": told("kind"), "time_ms": np.asarray(told("time_ms"), np.int64), "mode": told("mode")}
-    columns |= {"level": numbers(told("level")), "brake": told("brake")}
+    rows = list(map(itemgetter(*OF_ALL), records))
+    told: dict[str, Any] = dict(zip(OF_ALL, zip(*rows) if rows else [()] * len(OF_ALL)))
+    source = [record.get("source") for record in records]
+    some = by_kind(records)
+    columns: dict[str, Any] = {name: np.asarray(told[name], np.int64) for name in ("block", "event", "life")}
+    columns["stretch"] = stretches(columns["event"], columns["life"], source)
+    columns |= {"kind": told["kind"], "time_ms": np.asarray(told["time_ms"], np.int64), "mode": told["mode"]}
+    columns |= {"level": numbers(told["level"]), "brake": told["brake"]}
     if any(source):
         columns["source"] = source
-    shown = [set(record["indications"]) for record in records]
-    columns |= {f"shows_{name}": np.asarray([name in one for one in shown], bool) for name in INDICATIONS}
-    columns |= {"place_cm": numbers(told("place_cm")), "uncertainty_cm": numbers(told("uncertainty_cm"), np.uint64)}
-    columns |= {name: numbers(told(name)) for name in ("min_safe_front_cm", "max_safe_front_cm", "limit_m_per_h")}
+    columns |= shown_columns(told["indications"])
+    columns |= {"place_cm": numbers(told["place_cm"]), "uncertainty_cm": numbers(told["uncertainty_cm"], np.uint64)}
+    columns |= {name: numbers(told[name]) for name in ("min_safe_front_cm", "max_safe_front_cm", "limit_m_per_h")}
     columns["limit_kmh"] = columns["limit_m_per_h"].astype("Float64") / 1000
-    columns |= {"movement_cm": numbers(told("movement_cm")), "reading_m_per_h": numbers(told("speed_m_per_h"))}
+    columns |= {"movement_cm": numbers(some["movement_cm"]), "reading_m_per_h": numbers(some["speed_m_per_h"])}
     columns["speed_m_per_h"] = held_speed(columns["kind"], columns["reading_m_per_h"], columns["stretch"])
     columns["speed_kmh"] = columns["speed_m_per_h"].astype("Float64") / 1000
     columns["over_limit_kmh"] = (columns["speed_m_per_h"] - columns["limit_m_per_h"]).astype("Float64") / 1000
-    columns |= {name: numbers(told(name)) for name in NUMBERS if name not in columns}
-    columns |= {name: told(name) for name in TEXTS}
-    columns |= decoded_columns(told("decoded"))
-    columns |= {"decoded": told("decoded"), "causes": cause_column(journal)}
+    columns |= {name: numbers(some[name]) for name in NUMBERS}
+    columns |= {name: some[name] for name in TEXTS}
+    columns |= decoded_columns(some["decoded"])
+    columns |= {"decoded": some["decoded"], "causes": cause_column(journal)}
     table = pd.DataFrame(columns)
     table.insert(table.columns.get_loc("action") + 1, "refused", actions.refused(table))
     return table

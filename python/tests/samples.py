@@ -17,8 +17,8 @@ def record(event: int, kind: str = "clock", **told: Any) -> Json:
     usual = {"block": 1 + event // 8, "event": event, "life": 1, "kind": kind, "time_ms": 0, "mode": "FS", "level": 1,
              "brake": "none", "indications": [], "place_cm": 100 * event, "uncertainty_cm": 500,
              "min_safe_front_cm": 100 * event - 500, "max_safe_front_cm": 100 * event + 500, "limit_m_per_h": 40_000}
-    rest: Json = {"clock": {"now_ms": 0}, "powerup": {"word": "unknown"}}.get(kind, {})
-    return usual | rest | told
+    of_kind: dict[str, Json] = {"clock": {"now_ms": 0}, "powerup": {"word": "unknown"}}
+    return usual | of_kind.get(kind, {}) | told
 
 
 def reading(event: int, speed: int, **told: Any) -> Json:

@@ -3,6 +3,8 @@
 
     tests/lab_package/report_rows.py ETCS ETCS_LAB
 """
+import contextlib
+import io
 import os
 import resource
 import subprocess
@@ -12,14 +14,15 @@ from pathlib import Path
 
 HERE = Path(__file__).resolve().parent
 TOP = HERE.parents[1]
-sys.path[:0] = [str(HERE), str(TOP / "tests/events"), str(TOP / "tests/plain")]
+sys.path[:0] = [str(HERE), str(TOP / "python"), str(TOP / "tests/events"), str(TOP / "tests/plain")]
 
+import gaknifur.__main__  # noqa: E402
 from images import blocks, slots_of  # noqa: E402
 from told_rows import page_faults, page_of  # noqa: E402
 
 LONG, MOST_SECONDS, MOST_BYTES = 100_000, 20, 3_000_000
 RECORDS = 8
-EXAMPLES = {"full_supervision": 2, "linking_fault": 3, "on_sight": 3, "power_cut": 4, "staff_responsible": 1, "trip": 2}
+EXAMPLES = {"full_supervision": 2, "linking_fault": 2, "on_sight": 2, "power_cut": 4, "staff_responsible": 1, "trip": 2}
 """Examples, and charts on their pages at the least."""
 
 
@@ -28,10 +31,22 @@ class Rows:
         self.etcs, self.room, self.compared, self.differ = etcs, Path(room), 0, 0
 
     def lab(self, *words, status=0, said=""):
-        """Runs ./lab; its status and its last line on standard error are compared."""
-        done = subprocess.run([TOP / "lab", *map(str, words)], cwd=self.room, capture_output=True, text=True, stdin=subprocess.DEVNULL)
-        last = done.stderr.splitlines()[-1] if done.stderr else ""
-        self.wants(f"lab {' '.join(map(str, words))}", (done.returncode, last), (status, said))
+        """Does what ./lab does, in this process; its status and its last line on standard error are compared."""
+        out, errors = io.StringIO(), io.StringIO()
+        with contextlib.redirect_stdout(out), contextlib.redirect_stderr(errors):
+            try:
+                got = gaknifur.__main__.main([str(word) for word in words])
+            except SystemExit as end:
+                got = end.code
+        self.said = errors.getvalue().splitlines()[-1] if errors.getvalue() else ""
+        if said is not None:
+            self.wants(f"lab {' '.join(map(str, words))}", (got, self.said), (status, said))
+        return out.getvalue()
+
+    def script(self, *words, status=0):
+        """The same by the script; answers what it prints."""
+        done = subprocess.run([TOP / "lab", *map(str, words)], capture_output=True, text=True, stdin=subprocess.DEVNULL)
+        self.wants(f"./lab {' '.join(map(str, words))}", (done.returncode, done.stderr), (status, ""))
         return done.stdout
 
     def wants(self, name, got, want):
@@ -82,12 +97,13 @@ def damaged(rows):
     (rows.room / "newest").write_bytes(image[:512 * (1 + 6 * 3) + 1024 + 16] + b"\xff" + image[512 * (1 + 6 * 3) + 1024 + 17:])
     rows.page("newest", charts=0, said="lab: newest: something is lost, damaged or contradicts", text=["block 3 can't be read"])
     (rows.room / "short").write_bytes(image[:-512])
-    told = subprocess.run([TOP / "lab", "report", "short", "out.html"], cwd=rows.room, capture_output=True, text=True)
-    rows.wants("an image that is cut off", (told.returncode, told.stderr.startswith("lab: short: ")), (0, True))
+    rows.page("short", charts=0, said=None)
+    short = rows.said
+    rows.wants("an image that is cut off", short.startswith("lab: short: "), True)
     rows.run("format", "empty", 4)
     rows.page("empty", charts=0, text=["No block of a journal can be read", "There is nothing to draw"])
     rows.lab("table", "empty")
-    rows.lab("database", "empty", "byte", "short", "empty.db", said=subprocess_last(told))
+    rows.lab("database", "empty", "byte", "short", "empty.db", said=short)
     (rows.room / "none").write_bytes(b"x" * 5000)
     rows.lab("report", "none", "none.html", status=1, said="lab: none: is not a formatted image")
     rows.wants("no page of what is no image", (rows.room / "none.html").exists(), False)
@@ -100,17 +116,13 @@ def damaged(rows):
     rows.lab("database", "trip", "trip", status=3, said="lab: trip: file is not a database")
     for word in ("table", "database", "report"):
         rows.wants(f"lab {word} --help", f"usage: lab {word}" in rows.lab(word, "--help"), True)
-
-
-def subprocess_last(done):
-    """The last line on standard error."""
-    return done.stderr.splitlines()[-1] if done.stderr else ""
+    rows.wants("./lab table", rows.script("table", rows.room / "trip"), rows.lab("table", "trip"))
 
 
 def processor_seconds():
-    """What all programs that were run have taken; their wall time goes by what else the machine does."""
-    used = resource.getrusage(resource.RUSAGE_CHILDREN)
-    return used.ru_utime + used.ru_stime
+    """What this process and the programs that it ran have taken; wall time goes by what else the machine does."""
+    used = [resource.getrusage(who) for who in (resource.RUSAGE_SELF, resource.RUSAGE_CHILDREN)]
+    return sum(one.ru_utime + one.ru_stime for one in used)
 
 
 def long_image(events):
@@ -148,7 +160,7 @@ def long(rows):
 
 def main(words):
     os.environ["GAKNIFUR_ETCS_LAB"] = str(Path(words[1]).resolve())
-    with tempfile.TemporaryDirectory() as room:
+    with tempfile.TemporaryDirectory() as room, contextlib.chdir(room):
         rows = Rows(str(Path(words[0]).resolve()), room)
         examples(rows)
         damaged(rows)

@@ -2,7 +2,7 @@
 //! have is 0:
 //!
 //!     0                   new equipment, that never had power; it gets no answer
-//!     1 WORD              a power-up (`inputs.rt`)
+//!     1 WORD              a power-up (`inputs.rt` of `event_rows`)
 //!     2 KIND VALUES       an input
 //!     3                   where the train is, and what is kept
 //!
@@ -11,8 +11,8 @@
 //! told by each:
 //!
 //!     ESTIMATE UNCERTAINTY KEPT     where the train is, in centimetres, the estimate by its two's complement; and
-//!                                   what is kept (`keeping.rt`)
-//!     1 OUTPUT                      the answer to an event (`outputs.rt`)
+//!                                   what is kept (`keeping.rt` there)
+//!     1 OUTPUT                      the answer to an event (`outputs.rt` there)
 //!     2 .. 1 OUTPUT                 the same where memory was refused: behind the 2 stands what is told to a 3 then,
 //!                                   and behind that the answer to the same event, handed in once more
 //!     2 .. 3                        memory was refused again
@@ -20,14 +20,10 @@
 //! A row that is none of these gets no answer.
 #![tactic(auto)]
 
-mod actions;
 mod calls;
-mod inputs;
-mod keeping;
-mod outputs;
-mod packing;
 mod runs;
 
+use event_rows::event;
 use number_rows::{Answers, Numbers, run};
 use runs::Runs;
 use std::alloc::Global;
@@ -44,7 +40,7 @@ impl Answers for Runs {
 }
 
 fn hand_in(runs: &mut Runs, alloc: Global, asked: &Numbers, told: &mut Numbers) {
-    if let Some(event) = inputs::event(asked) {
+    if let Some(event) = event(asked) {
         runs.take(alloc, &event, told);
     }
 }

@@ -3,7 +3,7 @@
 //!
 //!     1 WORD                  powers up with this word: 0 unknown, 1 moved, 2 not moved; answered by 0, or by the
 //!                             number of the refusal
-//!     2 KIND VALUES           takes an input (`inputs.rt`); answered in the same way
+//!     2 KIND VALUES           takes an input (`inputs.rt` of `event_rows`); answered in the same way
 //!     3                       flushes: 0, how many pairs are released, and each (`releases.rt`); or the refusal
 //!     4                       power goes off: 0, how many writes and syncs the disk had, and how many faults
 //!     5                       whether the disk had as many calls as when that was asked last, reads too: 1 yes, 0 no
@@ -31,7 +31,7 @@
 //! What is on the disk (`showing.rt`): 0 and what is said there, or 1 to 3 where no journal is found:
 //!
 //!     21                      the number of the oldest block that is retained and of the newest, and how many events
-//!     22                      what the newest block keeps (`keeping.rt`)
+//!     22                      what the newest block keeps (`keeping.rt` there)
 //!     23 INDEX                the records of a block, counted from the oldest one that is retained
 //!     24                      a digest of all bytes of the blocks that are retained
 //!
@@ -39,16 +39,12 @@
 #![tactic(auto)]
 
 mod acting;
-mod actions;
 mod calls;
 mod device;
 mod digest;
 mod images;
-mod inputs;
-mod keeping;
 mod making;
 mod narrow;
-mod packing;
 mod refusals;
 mod releases;
 mod session;

@@ -42,7 +42,8 @@ fn identity(identity: &Option<DriverIdentity>) -> [u64; 3] {
     }
 }
 
-fn text(bytes: &[u8]) -> [u64; 3] {
+/// The size of a text of 16 bytes at most, and its bytes.
+pub fn text(bytes: &[u8]) -> [u64; 3] {
     [bytes.len() as u64, packed(bytes, 0), packed(bytes, 8)]
 }
 
@@ -60,7 +61,8 @@ fn train(train: Option<TrainData>) -> [u64; 6] {
     }
 }
 
-fn of_train(train: &TrainData) -> [u64; 6] {
+/// The data of a train, behind a 1.
+pub fn of_train(train: &TrainData) -> [u64; 6] {
     [
         1,
         train.length().get(),

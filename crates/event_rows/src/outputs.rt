@@ -16,14 +16,16 @@ pub fn numbers_of(output: &Output) -> [u64; 5] {
     ]
 }
 
-fn level_number(level: Option<TrainLevel>) -> u64 {
+/// The number of a level; 2 where none is valid.
+pub fn level_number(level: Option<TrainLevel>) -> u64 {
     match level {
         Some(level) => u64::from(level.number()),
         None => 2,
     }
 }
 
-fn brake_number(brake: Brake) -> u64 {
+/// The number of a command to the brakes.
+pub fn brake_number(brake: Brake) -> u64 {
     match brake {
         Brake::None => 0,
         Brake::Service => 1,

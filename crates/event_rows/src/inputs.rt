@@ -25,7 +25,8 @@ fn power_up(asked: &Numbers) -> Option<Event> {
     Some(Event::PowerUp(Cold::of_number(byte(asked.at(1))?)?))
 }
 
-fn input(asked: &Numbers) -> Option<Input> {
+/// The input of a row. None where it has none.
+pub fn input(asked: &Numbers) -> Option<Input> {
     match asked.at(1) {
         2 => telegram(asked),
         3 => odometer(asked),

@@ -66,7 +66,9 @@ impl Answers for Parts {
     }
 }
 
-fn main(rt: HostRuntime) -> io::Result<()> {
+/// Answers the rows of the kernel's parts that come on standard input. The error is that of reading, writing or memory, or that a word
+/// is no number.
+pub fn answer_rows(rt: &HostRuntime) -> io::Result<()> {
     let mut parts = Parts {
         train: Train::new(),
         restricted: Restricted::new(rt.alloc()),
@@ -76,5 +78,5 @@ fn main(rt: HostRuntime) -> io::Result<()> {
         authorities: Authorities::new(),
         groups: GroupsRead::new(),
     };
-    run(&rt, &mut parts)
+    run(rt, &mut parts)
 }

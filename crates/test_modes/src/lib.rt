@@ -74,7 +74,9 @@ impl Answers for Rows {
     }
 }
 
-fn main(rt: HostRuntime) -> io::Result<()> {
+/// Answers the rows of the mode table, the driver, areas, acknowledgements and the track ahead that come on standard input. The error is that of reading, writing or memory, or that a word
+/// is no number.
+pub fn answer_rows(rt: &HostRuntime) -> io::Result<()> {
     let mut rows = Rows::new(rt.alloc());
-    run(&rt, &mut rows)
+    run(rt, &mut rows)
 }

@@ -37,6 +37,8 @@ impl Answers for Blocks {
     }
 }
 
-fn main(rt: HostRuntime) -> io::Result<()> {
-    run(&rt, &mut Blocks)
+/// Answers the rows of blocks that come on standard input. The error is that of reading, writing or memory, or that a word
+/// is no number.
+pub fn answer_rows(rt: &HostRuntime) -> io::Result<()> {
+    run(rt, &mut Blocks)
 }

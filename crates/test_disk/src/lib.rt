@@ -53,7 +53,9 @@ impl Answers for Disks {
     }
 }
 
-fn main(rt: HostRuntime) -> io::Result<()> {
+/// Answers the rows of disks that come on standard input. The error is that of reading, writing or memory, or that a word
+/// is no number.
+pub fn answer_rows(rt: &HostRuntime) -> io::Result<()> {
     let mut disks = Disks {
         memory: None,
         aside: None,
@@ -61,5 +63,5 @@ fn main(rt: HostRuntime) -> io::Result<()> {
         over: None,
         file: None,
     };
-    run(&rt, &mut disks)
+    run(rt, &mut disks)
 }

@@ -66,9 +66,11 @@ impl Answers for Session {
     }
 }
 
-fn main(rt: HostRuntime) -> io::Result<()> {
+/// Answers the rows of the onboard unit that come on standard input. The error is that of reading, writing or memory, or that a word
+/// is no number.
+pub fn answer_rows(rt: &HostRuntime) -> io::Result<()> {
     let mut session = Session::new(rt.alloc());
-    let done = run(&rt, &mut session);
+    let done = run(rt, &mut session);
     session.end();
     done
 }

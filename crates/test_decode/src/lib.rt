@@ -45,6 +45,8 @@ impl Answers for Decoding {
     }
 }
 
-fn main(rt: HostRuntime) -> io::Result<()> {
-    run(&rt, &mut Decoding)
+/// Answers the rows of telegrams and packets that come on standard input. The error is that of reading, writing or memory, or that a word
+/// is no number.
+pub fn answer_rows(rt: &HostRuntime) -> io::Result<()> {
+    run(rt, &mut Decoding)
 }

@@ -57,9 +57,11 @@ impl Answers for Session {
     }
 }
 
-fn main(rt: HostRuntime) -> io::Result<()> {
+/// Answers the rows of the journal that come on standard input. The error is that of reading, writing or memory, or that a word
+/// is no number.
+pub fn answer_rows(rt: &HostRuntime) -> io::Result<()> {
     let Ok(mut session) = Session::new(rt.alloc(), 0) else {
         return Err(io::Error::from(ErrorKind::OutOfMemory));
     };
-    run(&rt, &mut session)
+    run(rt, &mut session)
 }

@@ -45,7 +45,9 @@ fn hand_in(runs: &mut Runs, alloc: Global, asked: &Numbers, told: &mut Numbers) 
     }
 }
 
-fn main(rt: HostRuntime) -> io::Result<()> {
+/// Answers the rows of the kernel that come on standard input. The error is that of reading, writing or memory, or that a word
+/// is no number.
+pub fn answer_rows(rt: &HostRuntime) -> io::Result<()> {
     let mut runs = Runs::new(rt.alloc());
-    run(&rt, &mut runs)
+    run(rt, &mut runs)
 }

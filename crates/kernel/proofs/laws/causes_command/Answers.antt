@@ -1,5 +1,3 @@
-use Rattle.std.specs.Prelude.{List}
-use Rattle.events.specs.declared.input.Event.{Event}
 use Rattle.mode_table.specs.declared.mode.Mode.TheVariants.{Trip, SystemFailure}
 use Rattle.mode_control.specs.Life.{Life}
 use Rattle.kernel.specs.declared.causes.BrakeCauses.{BrakeCauses}

@@ -146,8 +146,9 @@ def run_tests(told: argparse.Namespace, progress: Progress) -> None:
         raise Failed("pytest is missing; tools/python installs it by Debian's packages", DEVICE) from error
     if not told.folder.exists():
         raise Failed(f"{told.folder}: there is no such folder", DEVICE)
+    root = told.folder if told.folder.is_dir() else told.folder.parent
     selected = [f"--{name}={one}" for name in ("section", "feature") for one in getattr(told, name)]
-    status = pytest.main(["-q", "--no-header", "-p", "no:cacheprovider", "-p", "gaknifur.pytest_plugin", f"--rootdir={told.folder}",
+    status = pytest.main(["-q", "--no-header", "-p", "no:cacheprovider", "-p", "gaknifur.pytest_plugin", f"--rootdir={root}",
                           str(told.folder), *selected, *told.others])
     if status == pytest.ExitCode.NO_TESTS_COLLECTED:
         raise Failed(f"{told.folder}: there is no such test", REFUSED)

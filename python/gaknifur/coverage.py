@@ -165,9 +165,9 @@ def find_section(name: str, known: dict[str, Section]) -> Section | None:
     while name:
         if name in known:
             return known[name]
-        name = name.split(" ")[0] if " " in name else name.rpartition(".")[0]
         if f"{name} all others" in known:
             return known[f"{name} all others"]
+        name = name.split(" ")[0] if " " in name else name.rpartition(".")[0]
     return None
 
 

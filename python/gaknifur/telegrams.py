@@ -21,7 +21,7 @@ HEADER = {"Q_UPDOWN": 1, "M_VERSION": 16, "Q_MEDIA": 0, "N_PIG": 0, "N_TOTAL": 0
 """The header of SUBSET-026, 8.4.2.1, in its order, with what stands where a variable isn't told."""
 HEAD = ("Q_DIR", "L_PACKET", "Q_SCALE")
 USUAL = {"Q_DIR": 2, "Q_SCALE": 1, "V_LOA": 0, "T_LOA": 1023}
-WITHOUT_SCALE = (66, 136)
+WITHOUT_SCALE = (66,)
 END_MARK = 255
 MOST_BYTES = 104
 
@@ -96,7 +96,6 @@ LAYOUTS: dict[int, tuple[Part, ...]] = {
     65: parts("NID_TSR D_TSR L_TSR Q_FRONT V_TSR"),
     66: parts("NID_TSR"),
     80: parts(Repeated(parts("D_MAMODE M_MAMODE V_MAMODE L_MAMODE L_ACKMAMODE"), True)),
-    136: (),
 }
 
 

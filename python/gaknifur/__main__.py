@@ -1,11 +1,11 @@
-"""The words of `./lab`: `table`, `database`, `report`, `build`, `test`, `coverage`."""
+"""The words of `./lab`: `table`, `database`, `report`, `build`, `test`, `coverage`, `campaign`, `compare`."""
 import argparse
 import os
 import sys
 from collections.abc import Callable, Sequence
 from pathlib import Path
 
-from . import coverage, database, report, scenarios, tables
+from . import campaign_words, coverage, database, report, scenarios, tables
 from .extent import Extent, bound
 from .program import DEVICE, REFUSED, WRONG_WORDS, Failed
 from .progress import Terminal
@@ -49,6 +49,7 @@ def words() -> argparse.ArgumentParser:
     page.add_argument("--to", dest="last", metavar="WHERE", help="the same")
     page.add_argument("--life", metavar="N", type=int, help="this life alone")
     add_suites(word)
+    campaign_words.add_words(word)
     return lab
 
 
@@ -166,8 +167,9 @@ def tell_coverage(told: argparse.Namespace, progress: Progress) -> None:
         raise Failed(f"{told.folder}: not all is covered as told", REFUSED)
 
 
+WORDS: dict[str, Callable[[argparse.Namespace, Progress], int | None]]
 WORDS = {"table": write_table, "database": write_database, "report": write_report, "build": write_scenario, "test": run_tests,
-         "coverage": tell_coverage}
+         "coverage": tell_coverage, **campaign_words.WORDS}
 
 
 def main(given: Sequence[str] | None = None) -> int:
@@ -179,7 +181,7 @@ def main(given: Sequence[str] | None = None) -> int:
     told.others = others
     progress = Terminal()
     try:
-        WORDS[told.word](told, progress)
+        return WORDS[told.word](told, progress) or 0
     except Failed as failed:
         progress.end()
         print(f"lab: {failed}", file=sys.stderr)
@@ -192,7 +194,6 @@ def main(given: Sequence[str] | None = None) -> int:
         return DEVICE
     finally:
         progress.end()
-    return 0
 
 
 if __name__ == "__main__":

@@ -35,6 +35,16 @@ def find(name: str = "etcs_lab") -> str:
     raise Failed(f"there is no {name} beside this package; {variable} may name it", DEVICE)
 
 
+def built(name: str) -> Path:
+    """The file of a program that is there already. A script that would compile the sources at each call is refused."""
+    if told := os.environ.get(f"GAKNIFUR_{name.upper()}"):
+        return Path(told)
+    script = Path(find(name))
+    if subprocess.run([script, "--is-proved"], stdin=subprocess.DEVNULL, capture_output=True).returncode:
+        raise Failed(f"there is no proved {name} of these sources; ./{name} --prove makes it", REFUSED)
+    return script.parent / "crates" / name / "out" / name
+
+
 def note_unproved(said: Sequence[str]) -> None:
     """Says once that a run wasn't of the proved build."""
     for line in said:

@@ -23,6 +23,7 @@ fi
 echo "suites: ${count:-no} results came"
 covered=$(./lab coverage suites 2>&1) || { status=1; echo "$covered"; }
 tail -n 1 <<< "$covered"
+/usr/bin/python3 tests/suites/limits.py "$etcs" "$lab" || status=1
 /usr/bin/python3 tests/suites/control.py "$etcs" "$lab" || status=1
 /usr/bin/python3 tests/suites/page_rows.py "$etcs" "$lab" || status=1
 exit $status

@@ -35,6 +35,9 @@ module _ (front : ℤ) (gradient : ℤ → Option ℤ) (brakes : Brakes) (speed 
       let same = ap (λ (p : ℤ). braked gradient brakes.deceleration p n) place in
       omega (arith, ap square next, rest, same, run.slowed m acts)
 
+  pub after_taken : (n m : ℕ) → way ≤ m → square (m + n) ≤ speed * speed - braked gradient brakes.deceleration (front +ℤ pos m) n
+  after_taken n m acts = omega (arith, taken n m acts, no_faster m)
+
   pub slows : (target : Target) → fits front gradient brakes target speed ≡ true → square (distance_to front target) ≤ target.speed * target.speed
   slows target fit =
       let d : ℕ = distance_to front target in

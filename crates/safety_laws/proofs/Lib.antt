@@ -6,3 +6,4 @@ mod Courses
 mod Meeting
 mod AuthorityLater
 mod Lessening
+mod Passing

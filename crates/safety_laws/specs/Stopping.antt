@@ -5,7 +5,7 @@
 -- They speak of a train that begins to brake at the answered limit or below. Between the limit and the margins of the
 -- brake table nothing brakes, and they say nothing of a train that is faster. They take for granted that the true front
 -- isn't beyond the maximum safe front, and that brakes and gradients are those that were entered and told.
-use Rattle.std.specs.Prelude.{ℕ, suc, ◌≡◌, ◌≤◌, ◌-◌, ◌*◌, ℤ, pos, ◌+ℤ◌, ◌-ℤ◌, ◌<ℤ◌, ◌≤ℤ◌, Option, Some, None, IsTrue}
+use Rattle.std.specs.Prelude.{ℕ, suc, ◌≡◌, ◌≤◌, ◌<◌, ◌+◌, ◌-◌, ◌*◌, ℤ, pos, ◌+ℤ◌, ◌-ℤ◌, ◌<ℤ◌, ◌≤ℤ◌, Option, Some, None, IsTrue}
 use Rattle.areas.specs.declared.area.Area.{Area}
 use Rattle.areas.specs.Areas.{speed_in}
 use Rattle.authority.specs.Authority.{end_of}
@@ -101,3 +101,26 @@ abbrev pub KeepsSpeedsAhead : Type 0
 KeepsSpeedsAhead = (life : Life) (train : Train) (end : End) (square : ℕ → ℕ) → IsSupervised life train end →
     BrakesFromLimit life train square →
     (place : ℤ) → front_of life <ℤ place → place ≤ℤ greatest_place → KeepsTrackSpeeds life train square place
+
+-- ---- above the limit: what the brake table commands at a margin, the brakes do later and from a higher speed
+
+-- what the brakes take off between the front and a place ahead lies between two decelerations at each centimetre
+pub record IsBetween (front : ℤ) (gradient : ℤ → Option ℤ) (brakes : Brakes) (way least most : ℕ) : Type 0 where
+  pub at_least : (n : ℕ) → n < way → least ≤ slowing_on brakes.deceleration (gradient (front +ℤ pos n))
+  pub at_most : (n : ℕ) → n < way → slowing_on brakes.deceleration (gradient (front +ℤ pos n)) ≤ most
+
+-- how much later the brakes act at a margin above a speed
+abbrev pub later_by : Brakes → ℕ → ℕ → ℕ
+later_by brakes speed margin = reaction_way brakes.reaction (speed + margin) - reaction_way brakes.reaction speed
+
+-- a train that brakes from a margin above the limit passes the supervised location by so many centimetres at the most:
+-- those that its reaction takes longer, and beyond these as many as take off the margin
+abbrev pub PassesByAtMost : Type 0
+PassesByAtMost = (life : Life) (train : Train) (end : End) (margin speed least most beyond : ℕ) (square : ℕ → ℕ) →
+    IsSupervised life train end → end.speed ≡ 0 →
+    speed ≤ limit life + margin → IsBraking (front_of life) (gradient_along life) train.brakes speed square →
+    (let later = later_by train.brakes (limit life) margin in
+    let way = natural (end.location -ℤ front_of life) + later + beyond in
+    IsBetween (front_of life) (gradient_along life) train.brakes way least most →
+    2 * limit life * margin + margin * margin + 2592 * most * later ≤ 2592 * least * (later + beyond) →
+    square way ≡ 0)

@@ -16,5 +16,7 @@ pub use keeping::level_and_position_over_all;
 pub use modes::{failure_stays, stand_by_is_left, trip_is_left};
 pub use restricting::{nearer_fits_no_more, restrictions_never_raise};
 pub use running::{outstanding_trip_brakes, runs_by_authority, runs_by_valid_data};
-pub use stopping::{halts_at_end, halts_at_location, keeps_speeds_ahead, stops_at_location};
+pub use stopping::{
+    halts_at_end, halts_at_location, keeps_speeds_ahead, passes_by_at_most, stops_at_location,
+};
 pub use unbraked::no_brake_only_where;

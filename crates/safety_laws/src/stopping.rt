@@ -1,5 +1,5 @@
 //! Laws: that a train can stop and slow down where it has to.
-ghost use Rattle.safety_laws.specs.Stopping.{StopsAtLocation, HaltsAtLocation, HaltsAtEnd, KeepsSpeedsAhead};
+ghost use Rattle.safety_laws.specs.Stopping.{StopsAtLocation, HaltsAtLocation, HaltsAtEnd, KeepsSpeedsAhead, PassesByAtMost};
 
 /// A law: in Full Supervision and On Sight, while no speed is allowed at the end of authority, a train at the limit can
 /// still stop at the supervised location.
@@ -21,4 +21,10 @@ pub fn halts_at_end()
 /// that.
 pub fn keeps_speeds_ahead()
     ensures { KeepsSpeedsAhead }
+{}
+
+/// A law: a train that brakes from a margin above the limit passes the supervised location by so many centimetres at the
+/// most.
+pub fn passes_by_at_most()
+    ensures { PassesByAtMost }
 {}

@@ -7,4 +7,4 @@ unfolding national_text
 returns g c =
     let one = rw c.values.ensures at c.in_ok-write_values.ensures in
     let other = rw c.countries.ensures.value at c.in_ok-write_countries.ensures in
-    Appends-trans _ _ _ _ _ one (Appends-trans _ _ _ _ _ other c.in_ok-write_pieces.ensures)
+    Appends-trans _ _ _ _ _ (Appends-trans _ _ _ _ _ one other) c.in_ok-write_pieces.ensures

@@ -32,7 +32,7 @@ COLUMNS = ("name", "job_sha256", "kind", "ended", "image_sha256", "events", "liv
 NOT_COMPARED = ("seconds", "worker")
 NAMED_FILE = re.compile(r"[\w.+/-]+\.(?:yaml|yml|json)")
 MOST_LOSSES = 3
-SECOND = 1.0
+COMMIT_SECONDS = 0.25
 SCHEMA = """
 CREATE TABLE campaign (name TEXT PRIMARY KEY, value TEXT NOT NULL) STRICT;
 CREATE TABLE result (
@@ -268,7 +268,7 @@ class Table:
         marks = ", ".join("?" * len(COLUMNS))
         self.connection.execute(f"INSERT OR REPLACE INTO result ({', '.join(COLUMNS)}) VALUES ({marks})",
                                 [row[name] for name in COLUMNS])
-        if time.monotonic() - self.written > SECOND:
+        if time.monotonic() - self.written > COMMIT_SECONDS:
             self.connection.commit()
             self.written = time.monotonic()
 

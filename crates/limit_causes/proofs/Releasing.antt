@@ -38,38 +38,38 @@ module _ (train : Span) (journey : Journey) (national : ℕ) where
       of_equal (permitted_to train journey None) (permitted_on train journey national) cause
       (ap (λ (o : Option End). released_by (permitted_to train journey) o national) (sym is)) decides
 
-  module _ (end : End) (is : journey.bounds.end ≡ Some end) where
-    by_end : max (permitted_to train journey (Some (at_end end)))
-        (min (release_speed end.release national) (permitted_to train journey (Some (at_location end)))) ≡ permitted_on train journey national
-    by_end = ap (λ (o : Option End). released_by (permitted_to train journey) o national) (sym is)
+module _ (train : Span) (journey : Journey) (national : ℕ) (end : End) (is : journey.bounds.end ≡ Some end) where
+  by_end : max (permitted_to train journey (Some (at_end end)))
+      (min (release_speed end.release national) (permitted_to train journey (Some (at_location end)))) ≡ permitted_on train journey national
+  by_end = ap (λ (o : Option End). released_by (permitted_to train journey) o national) (sym is)
 
-    pub at_the_end : (cause : SpeedCause) →
-        min (release_speed end.release national) (permitted_to train journey (Some (at_location end))) ≤ permitted_to train journey (Some (at_end end)) →
-        IsCause train journey national (permitted_to train journey (Some (at_end end))) cause →
-        IsCause train journey national (permitted_on train journey national) cause
-    at_the_end cause below decides =
-        of_equal (permitted_to train journey (Some (at_end end))) (permitted_on train journey national) cause
-        ((let m : permitted_to train journey (Some (at_end end)) ≡ max (permitted_to train journey (Some (at_end end)))
-        (min (release_speed end.release national) (permitted_to train journey (Some (at_location end)))) = omega arith in m) ∙ by_end) decides
+  pub at_the_end : (cause : SpeedCause) →
+      min (release_speed end.release national) (permitted_to train journey (Some (at_location end))) ≤ permitted_to train journey (Some (at_end end)) →
+      IsCause train journey national (permitted_to train journey (Some (at_end end))) cause →
+      IsCause train journey national (permitted_on train journey national) cause
+  at_the_end cause below decides =
+      of_equal train journey national (permitted_to train journey (Some (at_end end))) (permitted_on train journey national) cause
+      ((let m : permitted_to train journey (Some (at_end end)) ≡ max (permitted_to train journey (Some (at_end end)))
+      (min (release_speed end.release national) (permitted_to train journey (Some (at_location end)))) = omega arith in m) ∙ by_end) decides
 
-    pub at_the_location : (cause : SpeedCause) →
-        permitted_to train journey (Some (at_end end)) < permitted_to train journey (Some (at_location end)) →
-        permitted_to train journey (Some (at_location end)) ≤ release_speed end.release national →
-        IsCause train journey national (permitted_to train journey (Some (at_location end))) cause →
-        IsCause train journey national (permitted_on train journey national) cause
-    at_the_location cause above below decides =
-        of_equal (permitted_to train journey (Some (at_location end))) (permitted_on train journey national) cause
-        ((let m : permitted_to train journey (Some (at_location end)) ≡ max (permitted_to train journey (Some (at_end end)))
-        (min (release_speed end.release national) (permitted_to train journey (Some (at_location end)))) = omega arith in m) ∙ by_end) decides
+  pub at_the_location : (cause : SpeedCause) →
+      permitted_to train journey (Some (at_end end)) < permitted_to train journey (Some (at_location end)) →
+      permitted_to train journey (Some (at_location end)) ≤ release_speed end.release national →
+      IsCause train journey national (permitted_to train journey (Some (at_location end))) cause →
+      IsCause train journey national (permitted_on train journey national) cause
+  at_the_location cause above below decides =
+      of_equal train journey national (permitted_to train journey (Some (at_location end))) (permitted_on train journey national) cause
+      ((let m : permitted_to train journey (Some (at_location end)) ≡ max (permitted_to train journey (Some (at_end end)))
+      (min (release_speed end.release national) (permitted_to train journey (Some (at_location end)))) = omega arith in m) ∙ by_end) decides
 
-    pub by_release : permitted_to train journey (Some (at_end end)) < release_speed end.release national →
-        release_speed end.release national ≤ permitted_to train journey (Some (at_location end)) →
-        IsSomeAnd journey.bounds.end (IsReleasing train journey national (permitted_on train journey national) end.release)
-    by_release above below =
-        let m : release_speed end.release national ≡ max (permitted_to train journey (Some (at_end end)))
-        (min (release_speed end.release national) (permitted_to train journey (Some (at_location end)))) = omega arith in
-        let speed : release_speed end.release national ≡ permitted_on train journey national = m ∙ by_end in
-        let less : permitted_to train journey (Some (at_end end)) < permitted_on train journey national =
-        subst (λ (v : ℕ). permitted_to train journey (Some (at_end end)) < v) speed above in
-        subst (λ (o : Option End). IsSomeAnd o (IsReleasing train journey national (permitted_on train journey national) end.release)) (sym is)
-        (refl, speed, less)
+  pub by_release : permitted_to train journey (Some (at_end end)) < release_speed end.release national →
+      release_speed end.release national ≤ permitted_to train journey (Some (at_location end)) →
+      IsSomeAnd journey.bounds.end (IsReleasing train journey national (permitted_on train journey national) end.release)
+  by_release above below =
+      let m : release_speed end.release national ≡ max (permitted_to train journey (Some (at_end end)))
+      (min (release_speed end.release national) (permitted_to train journey (Some (at_location end)))) = omega arith in
+      let speed : release_speed end.release national ≡ permitted_on train journey national = m ∙ by_end in
+      let less : permitted_to train journey (Some (at_end end)) < permitted_on train journey national =
+      subst (λ (v : ℕ). permitted_to train journey (Some (at_end end)) < v) speed above in
+      subst (λ (o : Option End). IsSomeAnd o (IsReleasing train journey national (permitted_on train journey national) end.release)) (sym is)
+      (refl, speed, less)

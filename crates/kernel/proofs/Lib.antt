@@ -1,3 +1,5 @@
+pub mod Commands
 pub mod Items
 pub mod Leaving
+pub mod Marking
 pub mod Standing

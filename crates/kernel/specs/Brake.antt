@@ -1,5 +1,5 @@
--- When the brakes are commanded: a table, of which the first row counts that holds (SUBSET-026; the rows, their order
--- and their margins: this project's profile). Speeds are metres per hour, distances centimetres, moments
+-- When the brakes are commanded, and why: a table, of which the first row counts that holds, and each row that holds is
+-- a cause (SUBSET-026; the rows, their order and their margins: this project's profile). Speeds are metres per hour, distances centimetres, moments
 -- milliseconds; lists have the newest first. Told elsewhere, and taken for granted here: the limit that an event
 -- answered (`limit`, in speed_supervision), the speed of the last reading (`speed_of`; 0 before the first one), and
 -- when an acknowledgement has been owed too long (`brakes`, in areas).
@@ -12,6 +12,8 @@ use Rattle.driver.specs.Revalidating.{is_whole}
 use Rattle.events.specs.declared.input.Reading.{Reading}
 use Rattle.events.specs.declared.output.Brake.{Brake}
 use Rattle.events.specs.declared.output.Brake.TheVariants as brake
+use Rattle.kernel.specs.declared.causes.BrakeCause.{BrakeCause}
+use Rattle.kernel.specs.declared.causes.BrakeCause.TheVariants as cause
 use Rattle.speed_supervision.specs.Limit.{limit}
 use Rattle.mode_table.specs.declared.mode.Mode.{Mode}
 use Rattle.mode_table.specs.declared.mode.Mode.TheVariants.{StandBy, Trip, PostTrip, SystemFailure}
@@ -108,34 +110,35 @@ owes_too_long life =
 
 -- ---- the table
 
--- a brake, and when it is commanded
+-- a brake, why it is commanded, and when
 pub record Row : Type 0 where
   pub brake : Brake
+  pub cause : BrakeCause
   pub holds : Life → Bool
 
 -- as long as something is so
-abbrev pub while_so : Brake → (Life → Bool) → Row
-while_so command is_so = record { brake = command; holds = is_so }
+abbrev pub while_so : Brake → BrakeCause → (Life → Bool) → Row
+while_so command why is_so = record { brake = command; cause = why; holds = is_so }
 
 -- from an event after which something was so, until one that ends it; where both are at one event it begins
 abbrev pub has_begun : (Moment → Bool) → (Moment → Bool) → Life → Bool
 has_begun begins ends life = list_any begins (since ends (moments life))
 
-abbrev pub from_until : Brake → (Moment → Bool) → (Moment → Bool) → Row
-from_until command begins ends = record { brake = command; holds = has_begun begins ends }
+abbrev pub from_until : Brake → BrakeCause → (Moment → Bool) → (Moment → Bool) → Row
+from_until command why begins ends = record { brake = command; cause = why; holds = has_begun begins ends }
 
 abbrev pub rows : List Row
 rows =
-    while_so brake.Emergency is_not_revalidated  -- this project's profile
-    ∷ while_so brake.Emergency (is_in Trip)  -- 4.4
-    ∷ while_so brake.Emergency (is_in SystemFailure)  -- 4.4
-    ∷ while_so brake.Emergency owes_trip  -- 5.11
-    ∷ from_until brake.Emergency (is_above_limit_by 10_000) train_stood  -- 3.13, 3.14
-    ∷ while_so brake.Emergency has_rolled_too_far  -- 3.14
-    ∷ from_until brake.Service asked_for_service train_stood  -- 3.4.4, 3.16.2
-    ∷ from_until brake.Service (is_above_limit_by 5_000) was_within_limit  -- 3.13, 3.14
-    ∷ while_so brake.Service must_stand  -- 3.14, 4.4
-    ∷ while_so brake.Service owes_too_long  -- 5.7, 5.9, 5.10
+    while_so brake.Emergency cause.NotRevalidated is_not_revalidated  -- this project's profile
+    ∷ while_so brake.Emergency cause.InTrip (is_in Trip)  -- 4.4
+    ∷ while_so brake.Emergency cause.InSystemFailure (is_in SystemFailure)  -- 4.4
+    ∷ while_so brake.Emergency cause.OwesTrip owes_trip  -- 5.11
+    ∷ from_until brake.Emergency cause.FarTooFast (is_above_limit_by 10_000) train_stood  -- 3.13, 3.14
+    ∷ while_so brake.Emergency cause.RolledTooFar has_rolled_too_far  -- 3.14
+    ∷ from_until brake.Service cause.AskedForService asked_for_service train_stood  -- 3.4.4, 3.16.2
+    ∷ from_until brake.Service cause.TooFast (is_above_limit_by 5_000) was_within_limit  -- 3.13, 3.14
+    ∷ while_so brake.Service cause.MustStand must_stand  -- 3.14, 4.4
+    ∷ while_so brake.Service cause.OwesTooLong owes_too_long  -- 5.7, 5.9, 5.10
     ∷ []
 
 -- the first row that holds; none where no row does
@@ -145,3 +148,14 @@ first_of (row ∷ later) life = if row.holds life then row.brake else first_of l
 
 abbrev pub brake_of : Life → Brake
 brake_of life = first_of rows life
+
+-- the causes of all rows that hold, in the order of the table
+abbrev pub where_so : Bool → BrakeCause → List BrakeCause → List BrakeCause
+where_so holds why later = if holds then why ∷ later else later
+
+abbrev pub causes_in : List Row → Life → List BrakeCause
+causes_in [] life = []
+causes_in (row ∷ later) life = where_so (row.holds life) row.cause (causes_in later life)
+
+abbrev pub causes_of : Life → List BrakeCause
+causes_of life = causes_in rows life

@@ -1,22 +1,41 @@
-//! What the brakes are commanded to do, row by row of their table.
-ghost use Rattle.std.specs.Prelude.{◌≡◌, ◌||◌};
-ghost use Rattle.kernel.specs.Brake.{has_rolled_too_far, must_stand, owes_too_long, brake_of};
-ghost use Rattle.kernel.specs.StandsFor.{StandsForLife};
+//! What the brakes are commanded to do, row by row of their table, and why.
+ghost use Rattle.std.specs.Prelude.{◌≡◌, ◌-◌, ◌^◌, ◌||◌, min, List};
+ghost use Rattle.events.specs.declared.input.Event.{Event};
+ghost use Rattle.kernel.specs.Brake.{rolled_backward, has_rolled_too_far, must_stand, owes_too_long, brake_of, causes_of};
+ghost use Rattle.kernel.specs.Causes.{marked, causes_after};
+ghost use Rattle.kernel.specs.Lives.{life_of};
+ghost use Rattle.kernel.specs.StandsFor.{StandsForLife, StandsFor};
+ghost use Rattle.mode_control.specs.History.{tracks};
 ghost use Rattle.mode_control.specs.Life.{Life};
+ghost use Rattle.mode_control.specs.Sentences.{values_of};
 ghost use Rattle.mode_table.specs.Modes.{is_mode};
+ghost use Rattle.track_picture.specs.History.{speed_of};
 
+use crate::causes::BrakeCauses;
 use crate::state::StateOver;
 use events::Brake;
 use mode_table::Mode;
 use speed_profile::CategorySpeeds;
 use track_store::ProfileStore;
-use units::Permille;
+use units::{Mph, Permille};
+
+fn is_trip(mode: Mode) -> bool
+    ensures { result ≡ is_mode Mode.Trip mode }
+{
+    matches!(mode, Mode::Trip)
+}
+
+fn is_system_failure(mode: Mode) -> bool
+    ensures { result ≡ is_mode Mode.SystemFailure mode }
+{
+    matches!(mode, Mode::SystemFailure)
+}
 
 // A mode in which the emergency brake is commanded.
 fn is_stopped_in(mode: Mode) -> bool
     ensures { result ≡ (is_mode Mode.Trip mode || is_mode Mode.SystemFailure mode) }
 {
-    matches!(mode, Mode::Trip | Mode::SystemFailure)
+    is_trip(mode) || is_system_failure(mode)
 }
 
 // A mode in which the train must stand.
@@ -76,5 +95,58 @@ impl<G: ProfileStore<Permille> + Drop, S: ProfileStore<CategorySpeeds> + Drop> S
         } else {
             Brake::None
         }
+    }
+
+    // Which rows of the table hold.
+    fn causes(&self) -> BrakeCauses
+        ensures { (life : Life) → StandsForLife G.profile S.profile self.now life → marked result ≡ causes_of life }
+    {
+        let mode = self.supervision.mode();
+        let driver = self.supervision.driver();
+        let window = &self.parts.window;
+        BrakeCauses {
+            not_revalidated: !driver.is_revalidated(),
+            in_trip: is_trip(mode),
+            in_system_failure: is_system_failure(mode),
+            owes_trip: driver.is_trip_outstanding(),
+            far_too_fast: window.far_too_fast,
+            rolled_too_far: self.has_rolled_too_far(),
+            asked_for_service: window.asked_for_service,
+            too_fast: window.too_fast,
+            must_stand: self.must_stand(),
+            owes_too_long: self.owes_too_long(),
+        }
+    }
+
+    /// Why the brakes are commanded after the last event: all rows of the brake table that hold (SUBSET-026, 3.14; the
+    /// rows: this project's profile). Takes no memory, and is worked out where it is asked alone.
+    pub fn brake_causes(&self) -> BrakeCauses
+        ensures { (events : List Event) → StandsFor G.profile S.profile self.now events → marked result ≡ causes_after events }
+    {
+        self.causes()
+    }
+
+    /// The speed of the last reading of this life, in metres per hour; 0 before the first one.
+    pub fn speed(&self) -> Mph
+        ensures { (events : List Event) → StandsFor G.profile S.profile self.now events
+            → result ≡ speed_of (tracks (life_of events).entries) }
+    {
+        self.supervision.track().speed()
+    }
+
+    /// How far the train has rolled backward since it stood, in centimetres, up to the greatest number of 64 bits.
+    pub fn rolled_backward(&self) -> u64
+        ensures { (events : List Event) → StandsFor G.profile S.profile self.now events
+            → result ≡ min (rolled_backward (life_of events)) (2 ^ 64 - 1) }
+    {
+        self.parts.window.backward
+    }
+
+    /// How far it may roll backward, in centimetres: the national value D_NVROLL that is in force.
+    pub fn allowed_backward(&self) -> u64
+        ensures { (events : List Event) → StandsFor G.profile S.profile self.now events
+            → result ≡ (values_of (life_of events)).roll }
+    {
+        u64::from(self.supervision.track().national().values().roll.get())
     }
 }

@@ -1,4 +1,5 @@
 //! Laws of every list of events.
+ghost use Rattle.kernel.specs.Causes.{EmergencyHasCause, ServiceHasCause, NoneHasNoCause};
 ghost use Rattle.kernel.specs.Laws.{CountsSo, IdentitySo, RunningNumberSo, TrainDataSo, LevelSo, TripSo, PositionSo, NationalSo, Forgets, BrakesUntilRevalidated, TripBrakes};
 
 /// A law: what is kept of a list of events is what the whole list says, item by item.
@@ -26,4 +27,12 @@ pub fn brakes_until_revalidated()
 /// A law: the emergency brake is commanded in Trip and in System Failure.
 pub fn trip_brakes()
     ensures { TripBrakes }
+{}
+
+/// A law: the emergency brake is commanded exactly where one of its causes holds, the service brake exactly where one of
+/// its causes holds and none of the emergency brake's, and none exactly where no cause holds.
+pub fn causes_command()
+    ensures emergency { EmergencyHasCause }
+    ensures service { ServiceHasCause }
+    ensures none { NoneHasNoCause }
 {}

@@ -3,6 +3,7 @@
 //! moments milliseconds.
 #![tactic(auto)]
 
+mod causes;
 mod commanding;
 mod counts;
 mod keeping;
@@ -16,7 +17,10 @@ mod state;
 mod steps;
 mod window;
 
+pub use causes::{BrakeCause, BrakeCauses};
 pub use events::{Event, Input, Kept, Output};
-pub use laws::{brakes_until_revalidated, kept_is_the_last, power_up_forgets, trip_brakes};
+pub use laws::{
+    brakes_until_revalidated, causes_command, kept_is_the_last, power_up_forgets, trip_brakes,
+};
 pub use state::{State, StateOver};
 pub use steps::step;

@@ -23,7 +23,7 @@ module _ (journey : Journey) (end : End) (is : journey.bounds.end ≡ Some end) 
 
   pub location_is_target : (ahead : TargetAhead) → ahead ≡ record { target = at_location end; kind = SupervisedLocation } → IsTarget journey ahead
   location_is_target ahead same =
-      let P : Option End → Type 0 = λ o. IsSomeAnd o (λ e. (end.location ≡ e.location) × (0 ≡ 0)) in
+      let P : Option End → Type 0 = λ o. IsSomeAnd o (λ e. (end.location ≡ e.location) × ((at_location end).speed ≡ 0)) in
       subst (IsTarget journey) (sym same) (subst P (sym is) (refl, refl))
 
 module _ (train : Span) (journey : Journey) (national : ℕ) where

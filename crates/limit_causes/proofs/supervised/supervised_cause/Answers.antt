@@ -15,8 +15,8 @@ returns-in_default g c =
     let journey = journey_by g.S.Profile.value g.G.Profile.value c.args.ahead.now in
     without_end c.args.train.now journey c.args.national c.cause_to.result c.in_default.is (c.cause_to.ensures c.args.national)
 
-pub cause_to-2-requires : goal.cause_to-2-requires
-cause_to-2-requires g c =
+pub cause_to-requires-then-le : goal.cause_to-requires-then-le
+cause_to-requires-then-le g c =
     let journey = journey_by g.S.Profile.value g.G.Profile.value c.args.ahead.now in
     end_is_target journey c.in-Some.end c.in-Some.is c.end_of-to_end.result c.end_of-to_end.ensures
 
@@ -35,9 +35,9 @@ returns-then-le g c =
     let least : c.min-released.result ≡ min c.release_speed-release.result c.permitted_for_either-either.result.1 = grind (arith, nat_tests) in
     let low : c.min-released.result ≤ c.permitted_for_either-either.result.0 = grind (arith, nat_tests) in
     let decides = of_equal train journey c.args.national (permitted_to train journey (Some c.end_of-to_end.result.target))
-    (permitted_to train journey (Some (at_end end))) c.cause_to-2.result
-    (ap (λ (a : TargetAhead). permitted_to train journey (Some a.target)) c.end_of-to_end.ensures) (c.cause_to-2.ensures c.args.national) in
-    at_the_end train journey c.args.national end c.in-Some.is c.cause_to-2.result
+    (permitted_to train journey (Some (at_end end))) c.cause_to-then-le.result
+    (ap (λ (a : TargetAhead). permitted_to train journey (Some a.target)) c.end_of-to_end.ensures) (c.cause_to-then-le.ensures c.args.national) in
+    at_the_end train journey c.args.national end c.in-Some.is c.cause_to-then-le.result
     (omega (arith, low, least, reached, stopped, release)) decides
 
 pub returns-then-lt : goal.returns-then-lt
@@ -58,8 +58,8 @@ returns-then-lt g c =
     by_release train journey c.args.national end c.in-Some.is (omega (arith, above, below, least, reached, stopped, release))
     (omega (arith, below, stopped, release))
 
-pub cause_to-3-requires : goal.cause_to-3-requires
-cause_to-3-requires g c =
+pub cause_to-requires-2 : goal.cause_to-requires-2
+cause_to-requires-2 g c =
     let journey = journey_by g.S.Profile.value g.G.Profile.value c.args.ahead.now in
     location_is_target journey c.in-Some.end c.in-Some.is c.location_of-to_location.result c.location_of-to_location.ensures
 
@@ -79,7 +79,7 @@ returns g c =
     let above : c.permitted_for_either-either.result.0 < c.min-released.result = grind (arith, nat_tests) in
     let below : c.permitted_for_either-either.result.1 ≤ c.release_speed-release.result = grind (arith, nat_tests) in
     let decides = of_equal train journey c.args.national (permitted_to train journey (Some c.location_of-to_location.result.target))
-    (permitted_to train journey (Some (at_location end))) c.cause_to-3.result
-    (ap (λ (a : TargetAhead). permitted_to train journey (Some a.target)) c.location_of-to_location.ensures) (c.cause_to-3.ensures c.args.national) in
-    at_the_location train journey c.args.national end c.in-Some.is c.cause_to-3.result
+    (permitted_to train journey (Some (at_location end))) c.cause_to-2.result
+    (ap (λ (a : TargetAhead). permitted_to train journey (Some a.target)) c.location_of-to_location.ensures) (c.cause_to-2.ensures c.args.national) in
+    at_the_location train journey c.args.national end c.in-Some.is c.cause_to-2.result
     (omega (arith, above, least, reached, stopped)) (omega (arith, below, stopped, release)) decides

@@ -12,7 +12,6 @@ use Rattle.areas.specs.Areas.{is_before, speed_in}
 use Rattle.authority.specs.declared.answers.End.{End}
 use Rattle.braking.specs.declared.target.Target.{Target}
 use Rattle.speed_profile.specs.declared.told.CategorySpeeds.{CategorySpeeds}
-use Rattle.speed_profile.specs.declared.limit.Bounds.{Bounds}
 use Rattle.speed_profile.specs.Told.{speed_of}
 use Rattle.speed_profile.specs.Ahead.{greatest_place, over_ahead, static_targets, restriction_targets, area_targets, targets_at, is_inside, unknown_target, static_target}
 use Rattle.speed_profile.specs.Starts.{rest, first_covered, first_target, first_inside, first_in_area}
@@ -22,8 +21,6 @@ use Rattle.speed_profile.proofs.Members.{in_left, in_right, passes}
 use Rattle.speed_profile.proofs.Reaching.{restriction_asks, no_restriction_asks, area_asks, no_area_asks}
 use Rattle.speed_profile.proofs.Starting.{piece_asks}
 use Rattle.speed_profile.proofs.Together.{told_ask}
-use Rattle.limit_causes.specs.declared.cause.TargetKind.{TargetKind}
-use Rattle.limit_causes.specs.declared.cause.TargetKind.TheVariants as kind
 use Rattle.limit_causes.specs.Targets.{Journey, IsAhead, IsOfKind, along_track, fits_all_on, static_kind}
 use Rattle.limit_causes.proofs.Finding.{all_true, some_same, in_from_contains, contains_from_in, listed_in}
 

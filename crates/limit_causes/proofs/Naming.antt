@@ -1,11 +1,11 @@
 -- What is found over a train gives the limit, or else doesn't.
-use Rattle.std.proofs.Common.{◌≡◌, ℕ, ℤ, pos, ◌-ℤ◌, ◌≤ℤ◌, ◌<ℤ◌, List, [], ◌∷◌, min, ◌⊎◌, inl, inr, Bool, true, false, cond, refl, ap, sym, ◌∙◌, subst, arith, eq-eqb}
-use Rattle.std.specs.Prelude.{Option, None, Some, ◌&&◌, ◌==◌, not, int_lt, nat_lt, find, filter, map, MatchOption}
+use Rattle.std.proofs.Common.{◌≡◌, ℕ, ℤ, pos, ◌-ℤ◌, ◌≤ℤ◌, ◌<ℤ◌, List, Bool, true, false, refl, ap, sym, ◌∙◌, arith, eq-eqb}
+use Rattle.std.specs.Prelude.{Option, None, Some, ◌&&◌, ◌==◌, not, int_lt, find, filter, map, MatchOption}
 use Rattle.std.specs.Int.{int_max, int_min}
 use Rattle.std.proofs.lemmas.Int.{ints, by_lt_z}
 use Rattle.std.proofs.lemmas.Bool.Decides.{nat_tests}
-use Rattle.units.specs.Stretches.{Span, over, least}
-use Rattle.units.proofs.Gathering.{IsIn, over_at}
+use Rattle.units.specs.Stretches.{Span, over}
+use Rattle.units.proofs.Gathering.{over_at}
 use Rattle.vars.specs.declared.restriction.TrainLengthDelay.{TrainLengthDelay}
 use Rattle.vars.specs.declared.restriction.TrainLengthDelay.TheVariants.{Applied, NotApplied}
 use Rattle.areas.specs.declared.area.Area.{Area}
@@ -20,7 +20,7 @@ use Rattle.speed_profile.specs.declared.told.CategorySpeeds.{CategorySpeeds}
 use Rattle.speed_profile.specs.Limit.{limiting_value, least_static}
 use Rattle.speed_profile.specs.Limit as static_limit
 use Rattle.speed_profile.proofs.Members.{one_passed}
-use Rattle.limit_causes.specs.Over.{IsUnder, IsStaticSpeedOver, IsRestrictionOver, IsAreaOver}
+use Rattle.limit_causes.specs.Over.{IsStaticSpeedOver, IsRestrictionOver, IsAreaOver}
 use Rattle.limit_causes.proofs.Finding.{both_true, all_true, found, none_found, listed_is, other_than}
 
 pub equal_by : (a b : ℕ) → (a == b) ≡ true → a ≡ b

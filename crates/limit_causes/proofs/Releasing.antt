@@ -1,15 +1,14 @@
 -- Which part of the release rule gives the permitted speed.
 use Rattle.std.proofs.Common.{◌≡◌, ℕ, ◌<◌, ◌≤◌, min, max, refl, ap, sym, ◌∙◌, subst, arith}
-use Rattle.std.specs.Prelude.{Option, None, Some, IfSome, IsSomeAnd}
+use Rattle.std.specs.Prelude.{Option, None, Some, IsSomeAnd}
 use Rattle.units.specs.Stretches.{Span}
 use Rattle.authority.specs.declared.answers.End.{End}
-use Rattle.authority.specs.declared.answers.Release.{Release}
 use Rattle.braking.specs.declared.target.Target.{Target}
 use Rattle.speed_supervision.specs.Limit.{release_speed, released_by}
 use Rattle.limit_causes.specs.declared.cause.SpeedCause.{SpeedCause}
 use Rattle.limit_causes.specs.declared.cause.TargetAhead.{TargetAhead}
 use Rattle.limit_causes.specs.declared.cause.TargetKind.TheVariants.{EndOfAuthority, SupervisedLocation}
-use Rattle.limit_causes.specs.Targets.{Journey, IsTarget, target_of}
+use Rattle.limit_causes.specs.Targets.{Journey, IsTarget}
 use Rattle.limit_causes.specs.Supervised.{permitted_to, permitted_on, at_end, IsReleasing, IsCause}
 
 abbrev pub at_location : End → Target

@@ -1,6 +1,6 @@
 -- What decides the permitted speed (SUBSET-026, 3.11 to 3.13; this project's profile). Places are centimetres, speeds
 -- metres per hour.
-use Rattle.std.specs.Prelude.{◌≡◌, ℕ, ◌<◌, Option, None, Some, IsSomeAnd}
+use Rattle.std.specs.Prelude.{◌≡◌, ℕ, ◌<◌, Option, Some, IsSomeAnd}
 use Rattle.units.specs.Stretches.{Span}
 use Rattle.authority.specs.declared.answers.End.{End}
 use Rattle.authority.specs.declared.answers.Release.{Release}

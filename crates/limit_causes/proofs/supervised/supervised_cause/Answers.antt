@@ -1,7 +1,6 @@
-use Rattle.std.proofs.Common.{◌≡◌, ◌<◌, ◌≤◌, ℕ, min, ap, sym, ◌∙◌, arith}
+use Rattle.std.proofs.Common.{◌≡◌, ◌<◌, ◌≤◌, ℕ, min, ap, ◌∙◌, arith}
 use Rattle.std.specs.Prelude.{Some}
 use Rattle.std.proofs.lemmas.Bool.Decides.{nat_tests}
-use Rattle.braking.specs.declared.target.Target.{Target}
 use Rattle.speed_profile.specs.Ahead.{permitted_ahead}
 use Rattle.speed_supervision.specs.Limit.{release_speed}
 use Rattle.limit_causes.specs.declared.cause.TargetAhead.{TargetAhead}

@@ -32,7 +32,8 @@ permitted_on train journey national = released_by (permitted_to train journey) j
 abbrev pub at_end : End → Target
 at_end end = record { place = end.end; speed = end.speed }
 
--- a target alone gives a speed: the train can brake for it from that speed, and from no greater one up to a limit
+-- a target alone gives a speed: the train can brake for it from that speed, and from no greater one up to a limit; 0
+-- where it can from none
 abbrev pub IsDeciding : Journey → ℕ → ℕ → TargetAhead → Type 0
 IsDeciding journey limit speed ahead =
     IsTarget journey ahead × (greatest (fits_on journey ahead.target) limit ≡ speed)

@@ -102,8 +102,8 @@ fn static_speed_over<S: Profile<CategorySpeeds>>(
     None
 }
 
-// The first centimetre of a piece that begins at a place, no farther than the train reaches, whose static speed limits it
-// to this one.
+// The first centimetre of a piece that begins at a place, no farther than the train reaches, whose static speed limits
+// it to this one.
 fn limited_on(
     here: &Piece<CategorySpeeds>,
     category: TrainCategory,

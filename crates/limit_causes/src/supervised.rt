@@ -14,9 +14,10 @@ use speed_profile::{Ahead, CategorySpeeds, limit_on};
 use track_store::Profile;
 use units::{Mph, Permille, Stretch};
 
-/// What decides the permitted speed of a train, with the national release speed in metres per hour: what limits it where
-/// it is; else the first target ahead that no greater speed fits, along the track, then the last one; or the release
-/// speed. What limits it where it is goes before what lies ahead, the end of authority before the supervised location.
+/// What decides the permitted speed of a train, with the national release speed in metres per hour: what limits it
+/// where it is; else the first target ahead that no greater speed fits, along the track, then the last one; or the
+/// release speed. What limits it where it is goes before what lies ahead, the end of authority before the supervised
+/// location.
 pub fn supervised_cause<S: Profile<CategorySpeeds>, G: Profile<Permille>>(
     train: &Stretch,
     ahead: &Ahead<'_, S, G>,

@@ -1,0 +1,5 @@
+pub mod Finding
+pub mod Naming
+pub mod Hindering
+pub mod Deciding
+pub mod Releasing

@@ -1,0 +1,17 @@
+use Rattle.std.proofs.Common.{◌≡◌, true}
+use Rattle.speed_profile.specs.Ahead.{over_ahead, area_targets}
+use Rattle.limit_causes.specs.Targets.{journey_by, along_track, fits_all_on, IsUnfit}
+use Rattle.limit_causes.proofs.Finding.{or_else}
+use Rattle.limit_causes.proofs.Hindering.{fit_kinds}
+use Rattle.limit_causes.proofs.ahead.first_unfit.Goals as goal
+
+pub returns : goal.returns
+returns g c =
+    let journey = journey_by g.S.Profile.value g.G.Profile.value c.args.ahead.now in
+    let speed = c.args.speed in
+    or_else c.unfit_area.result
+    (fits_all_on journey (over_ahead journey.front (area_targets journey.track.national journey.track.areas)) speed ≡ true)
+    (fits_all_on journey (along_track journey) speed ≡ true)
+    (IsUnfit journey speed)
+    (λ areas. fit_kinds journey speed c.in_default.ensures c.in_default-unfit_restriction.ensures areas)
+    c.unfit_area.ensures

@@ -1,0 +1,11 @@
+use Rattle.std.proofs.Common.{◌≡◌, true, drop}
+use Rattle.limit_causes.specs.Targets.{journey_by, fits_all_on}
+use Rattle.limit_causes.proofs.Hindering.{inside}
+use Rattle.limit_causes.proofs.ahead.unfit_area.Given as goal
+
+-- a speed that fits those that are left fits all
+abbrev pub invariant-loop-area : goal.invariant-loop-area
+invariant-loop-area g l =
+    let journey = journey_by g.S.Profile.value g.G.Profile.value l.ahead in
+    fits_all_on journey (inside journey l.speed (drop l.area-index l.areas)) l.speed ≡ true →
+    fits_all_on journey (inside journey l.speed l.areas) l.speed ≡ true

@@ -1,0 +1,47 @@
+use Rattle.std.proofs.Common.{◌≡◌, true, ℤ, List, ◌+◌, drop, ap, sym, subst, ◌∙◌}
+use Rattle.std.specs.Prelude.{Option, Contains}
+use Rattle.std.proofs.lemmas.List.{at_drop_all}
+use Rattle.track_store.specs.Profiles.{listed}
+use Rattle.restriction.specs.declared.restriction.Restriction.{Restriction}
+use Rattle.braking.specs.declared.target.Target.{Target}
+use Rattle.speed_profile.specs.Starts.{first_target}
+use Rattle.limit_causes.specs.Targets.{journey_by, fits_all_on}
+use Rattle.limit_causes.proofs.Finding.{one_dropped}
+use Rattle.limit_causes.proofs.Hindering.{restricted, fit_restrictions, fit_no_restriction, restriction_covers, restriction_ahead, at_its_place}
+use Rattle.limit_causes.proofs.ahead.unfit_restriction.Goals as goal
+
+pub returns-in-Some : goal.returns-in-Some
+returns-in-Some g c =
+    let journey = journey_by g.S.Profile.value g.G.Profile.value c.args.ahead.now in
+    let r : Restriction = c.restriction-item.result in
+    let asked : c.first_target-asked.result ≡ first_target journey.front journey.track.restrictions.mark r =
+    c.first_target-asked.ensures ∙ ap (λ (m : ℤ). first_target journey.front m r) c.mark-mark.ensures in
+    let unfit = c.in-Some.ensures in
+    let w = restriction_covers journey c.args.speed r c.in-Some.target (sym asked ∙ unfit.0) in
+    let there : Contains journey.track.restrictions.restrictions r =
+    subst (λ (rs : List Restriction). Contains rs r) c.as_slice-restrictions.ensures
+    (c.loop-restriction.restriction-index, c.loop-restriction-test.true, sym c.restriction-item.is) in
+    let here = restriction_ahead journey c.in-Some.target c.in-Some.target.place w.0 r there w.1 (at_its_place c.in-Some.target r.speed w.2) in
+    ((w.0, there, w.1, w.2), here, unfit.1)
+
+pub loop-restriction-preserved : goal.loop-restriction-preserved
+loop-restriction-preserved g c =
+    let journey = journey_by g.S.Profile.value g.G.Profile.value c.args.ahead.now in
+    let r : Restriction = c.restriction-item.result in
+    let rs = c.as_slice-restrictions.result.now in
+    let i = c.loop-restriction.restriction-index in
+    let asked : c.first_target-asked.result ≡ first_target journey.front journey.track.restrictions.mark r =
+    c.first_target-asked.ensures ∙ ap (λ (m : ℤ). first_target journey.front m r) c.mark-mark.ensures in
+    let here : fits_all_on journey (listed (first_target journey.front journey.track.restrictions.mark r)) c.args.speed ≡ true =
+    ap (λ (t : Option Target). fits_all_on journey (listed t) c.args.speed) (sym asked) ∙ c.in_default.ensures in
+    λ others. c.loop-restriction.invariant (fit_restrictions journey c.args.speed r (drop (i + 1) rs) (drop i rs)
+    (one_dropped rs i r c.loop-restriction-test.true c.restriction-item.is) here others)
+
+pub returns : goal.returns
+returns g c =
+    let journey = journey_by g.S.Profile.value g.G.Profile.value c.args.ahead.now in
+    let rs = c.as_slice-restrictions.result.now in
+    let fit = λ (items : List Restriction). fits_all_on journey (restricted journey c.args.speed items) c.args.speed in
+    ap fit (sym c.as_slice-restrictions.ensures)
+    ∙ c.loop-restriction.invariant (at_drop_all fit rs c.loop-restriction.restriction-index c.loop-restriction-test.false
+    ∙ fit_no_restriction journey c.args.speed)

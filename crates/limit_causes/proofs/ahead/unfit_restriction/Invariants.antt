@@ -1,0 +1,11 @@
+use Rattle.std.proofs.Common.{◌≡◌, true, drop}
+use Rattle.limit_causes.specs.Targets.{journey_by, fits_all_on}
+use Rattle.limit_causes.proofs.Hindering.{restricted}
+use Rattle.limit_causes.proofs.ahead.unfit_restriction.Given as goal
+
+-- a speed that fits those that are left fits all
+abbrev pub invariant-loop-restriction : goal.invariant-loop-restriction
+invariant-loop-restriction g l =
+    let journey = journey_by g.S.Profile.value g.G.Profile.value l.ahead in
+    fits_all_on journey (restricted journey l.speed (drop l.restriction-index l.restrictions)) l.speed ≡ true →
+    fits_all_on journey (restricted journey l.speed l.restrictions) l.speed ≡ true

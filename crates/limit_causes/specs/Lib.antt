@@ -1,0 +1,3 @@
+pub mod Over
+pub mod Targets
+pub mod Supervised

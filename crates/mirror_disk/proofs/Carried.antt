@@ -1,10 +1,10 @@
 -- What a request leaves that is carried out.
-use Rattle.std.proofs.Common.{◌≡◌, ⊎_elim, inl, inr, ℕ, ◌+◌, ◌-◌, ◌*◌, ◌<◌, ◌≤◌, Bool, true, false, List, [], ◌∷◌, ◌++◌, length, take, drop, get_or, refl, sym, ◌∙◌, ap, arith, Option, Some, None, length-drop}
-use Rattle.std.specs.Prelude.{if◌then◌else◌, nat_le, nat_lt, ◌&&◌}
+use Rattle.std.proofs.Common.{◌≡◌, ⊎_elim, ℕ, ◌+◌, ◌-◌, ◌*◌, ◌<◌, ◌≤◌, Bool, true, false, List, ◌++◌, length, take, drop, get_or, refl, sym, ◌∙◌, ap, arith, Option, Some, None, length-drop}
+use Rattle.std.specs.Prelude.{if◌then◌else◌}
 use Rattle.std.proofs.lemmas.Bool.{cases_lt}
 use Rattle.std.proofs.lemmas.Bool.Decides.{nat_tests}
-use Rattle.std.proofs.lemmas.Slice.{take-put_mid_below, take-put_mid, drop-put_mid}
-use Rattle.std.proofs.lemmas.List.{drop_at, drop-drop, drop-take, take-take, length-take-le, take-append-le, drop-append-le}
+use Rattle.std.proofs.lemmas.Slice.{take-put_mid_below, drop-put_mid}
+use Rattle.std.proofs.lemmas.List.{drop-drop, drop-take, take-take, length-take-le, take-append-le, drop-append-le}
 use Rattle.std.proofs.lemmas.List.Sums.{fold_more}
 use Rattle.std.proofs.Math.Seq.{drop-append-add}
 use borrow.Rule.Slice.PartMut.{put_mid, post_of}

@@ -1,3 +1,4 @@
 pub mod Carried
 pub mod Found
 pub mod Noted
+pub mod Shut

@@ -1,6 +1,6 @@
 -- What contracts see of a disk that hands out its calls (this project's profile). Sectors have 512 bytes and are
 -- numbered from 0; requests are in the order of the calls.
-use Rattle.std.specs.Prelude.{◌≡◌, ℕ, ◌+◌, ◌-◌, ◌*◌, ◌/◌, ◌≤◌, ◌&&◌, ◌++◌, ◌∷◌, [], nat_le, nat_lt, Bool, if◌then◌else◌, List, length, take, drop, fold, All, Option, Some, None, vec_len, vec_capacity}
+use Rattle.std.specs.Prelude.{◌≡◌, ℕ, ◌+◌, ◌-◌, ◌*◌, ◌/◌, ◌≤◌, ◌&&◌, ◌++◌, ◌∷◌, [], nat_le, nat_lt, Bool, true, false, if◌then◌else◌, List, length, take, drop, fold, All, Option, Some, None, vec_len, vec_capacity}
 use Rattle.disk.specs.State.{State, sector_of}
 use Rattle.disk.specs.Record.{state_of, IsWithin}
 use Rattle.disk.specs.declared.record.Call.{Call}
@@ -75,3 +75,14 @@ found_in s requests = fold (found_next s) None requests
 abbrev pub told_at : List ℕ → List ℕ → ℕ → Option ℕ → List ℕ
 told_at start written s None = sector_of start s
 told_at start written s (Some at) = take 512 (drop at written)
+
+-- whether a request is a sync
+abbrev pub is_sync : Call → Bool
+is_sync Quiet = false
+is_sync Synced = true
+is_sync (Written span) = false
+is_sync (Torn span) = false
+
+-- whether the last of these requests is a sync, or there is none
+abbrev pub ends_in_sync : List Call → Bool
+ends_in_sync requests = fold (λ before request. is_sync request) true requests

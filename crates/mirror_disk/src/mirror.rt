@@ -40,7 +40,7 @@ impl Model for MirrorDisk {
 }
 
 impl MirrorDisk {
-    ghost use Rattle.mirror_disk.specs.Mirror.{mirror_state, IsMirroring, IsRequest, IsNoted, has_room_for};
+    ghost use Rattle.mirror_disk.specs.Mirror.{mirror_state, IsMirroring, IsRequest, IsNoted, has_room_for, ends_in_sync};
 
     /// A copy of these sectors; bytes behind the last whole one are left out. NoMemory where there is none for it.
     pub fn of(alloc: Global, bytes: &[u8]) -> Result<MirrorDisk, NoMemory>
@@ -91,8 +91,20 @@ impl MirrorDisk {
         &self.written[span.from..span.from + SECTOR_BYTES * span.sectors as usize]
     }
 
-    /// Empties the list, behind a medium that carried it out: the disk holds what it held. The caller owes that the last
-    /// request was a sync, so that no sector is open.
+    /// Whether the last request is a sync, or there is none: then no sector is open.
+    pub fn is_synced(&self) -> bool
+        ensures last { result ≡ ends_in_sync self.now.requests }
+        ensures synced { result ≡ true → IsSynced (mirror_state self.now) }
+    {
+        let mut synced = true;
+        for request in &self.requests {
+            synced = matches!(request, Call::Synced);
+        }
+        synced
+    }
+
+    /// Empties the list, behind a medium that carried it out: the disk holds what it held. The caller owes that no sector
+    /// is open, as `is_synced` tells.
     pub fn empty(&mut self)
         requires { IsSynced (mirror_state self.old) }
         ensures none { self.new.requests ≡ [] }

@@ -1,4 +1,4 @@
-use Rattle.std.proofs.Common.{◌≡◌, ℕ, ◌+◌, ◌-◌, ◌*◌, Option, take, drop, sym, ◌∙◌, ap, arith}
+use Rattle.std.proofs.Common.{◌≡◌, ℕ, ◌+◌, ◌-◌, ◌*◌, Option, take, drop, ◌∙◌, ap, arith}
 use Rattle.mirror_disk.specs.Mirror.{told_at}
 use Rattle.mirror_disk.proofs.Found.{bytes_told}
 use Rattle.mirror_disk.proofs.record.sector_in.Goals as goal

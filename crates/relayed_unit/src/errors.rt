@@ -1,0 +1,27 @@
+//! Why calls are refused (this project's profile).
+use thiserror::Error;
+
+/// Why a flush wasn't prepared.
+#[derive(Clone, Copy, Debug, PartialEq, Eq, Error)]
+pub enum PrepareError {
+    /// The medium failed, or the unit did; open again.
+    #[error("Failed")]
+    Failed,
+    /// Requests of the flush before, or of the power-up, aren't released yet.
+    #[error("RequestsOwed")]
+    RequestsOwed,
+    /// The block of the greatest number has the last number, 2^40; nothing is asked for.
+    #[error("WornOut")]
+    WornOut,
+}
+
+/// Why nothing was released.
+#[derive(Clone, Copy, Debug, PartialEq, Eq, Error)]
+pub enum ReleaseError {
+    /// The medium failed, or the unit did; open again.
+    #[error("Failed")]
+    Failed,
+    /// Not all requests are done.
+    #[error("RequestsOwed")]
+    RequestsOwed,
+}

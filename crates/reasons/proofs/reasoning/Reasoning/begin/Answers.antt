@@ -1,0 +1,19 @@
+use Rattle.std.proofs.Common.{◌≡◌, ap, ◌∷◌, arith}
+use Rattle.events.specs.declared.input.Event.TheVariants.{PowerUp}
+use Rattle.events.specs.declared.kept.Kept.{Kept}
+use Rattle.reasons.specs.Runs.{number_behind}
+use Rattle.reasons.proofs.Numbers.{one_more_behind}
+use Rattle.reasons.proofs.reasoning.Reasoning.begin.Goals as goal
+
+pub returns-clause-stands : goal.returns-clause-stands
+returns-clause-stands c = λ events left.
+    let knows = c.power_up-state.ensures.stands events left in
+    let number : c.args.kept.now.events ≡ number_behind events = ap (λ (k : Kept). k.events) left in
+    record {
+      knows = knows;
+      numbered = omega (arith, number, one_more_behind events (PowerUp c.args.word));
+      runs_are = c.begun-runs.ensures events c.args.word (c.brake_causes-causes.ensures (PowerUp c.args.word ∷ events) knows) number;
+    }
+
+pub returns-clause-output : goal.returns-clause-output
+returns-clause-output c = λ events left. c.power_up-state.ensures.output events left

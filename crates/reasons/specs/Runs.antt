@@ -1,0 +1,74 @@
+-- From which event on each cause of a brake has held (this project's profile). Lists of events have the newest first;
+-- events are numbered from 0, over all lives, up to the greatest number of 64 bits. Told elsewhere, and taken for
+-- granted here: which causes hold behind a list of events (`causes_after`, in kernel).
+use Rattle.std.specs.Prelude.{ℕ, Bool, true, false, Option, Some, None, List, [], ◌∷◌}
+use Rattle.events.specs.declared.input.Event.{Event}
+use Rattle.events.specs.declared.input.Event.TheVariants.{PowerUp, Input}
+use Rattle.kernel.specs.declared.causes.BrakeCause.{BrakeCause}
+use Rattle.kernel.specs.declared.causes.BrakeCause.TheVariants as cause
+use Rattle.kernel.specs.Causes.{is_among, causes_after}
+use Rattle.kernel.specs.Lives.{counts_of}
+use Rattle.reasons.specs.declared.runs.Runs.{Runs}
+
+-- the number of the event behind a list
+abbrev pub number_behind : List Event → ℕ
+number_behind events = (counts_of events).events
+
+-- a run of events goes on, begins at this number, or is none
+abbrev pub gone_on : Bool → Option ℕ → ℕ → Option ℕ
+gone_on false before number = None
+gone_on true None number = Some number
+gone_on true (Some first) number = Some first
+
+-- the first event of the unbroken run of events of this life, up to the last one, behind each of which a cause holds;
+-- none where it doesn't hold
+abbrev pub run_of : BrakeCause → List Event → Option ℕ
+run_of why [] = None
+run_of why (PowerUp cold ∷ events) = gone_on (is_among why (causes_after (PowerUp cold ∷ events))) None (number_behind events)
+run_of why (Input input ∷ events) = gone_on (is_among why (causes_after (Input input ∷ events))) (run_of why events) (number_behind events)
+
+-- of each cause
+abbrev pub runs_of : List Event → Runs
+runs_of events = record {
+  not_revalidated = run_of cause.NotRevalidated events;
+  in_trip = run_of cause.InTrip events;
+  in_system_failure = run_of cause.InSystemFailure events;
+  owes_trip = run_of cause.OwesTrip events;
+  far_too_fast = run_of cause.FarTooFast events;
+  rolled_too_far = run_of cause.RolledTooFar events;
+  asked_for_service = run_of cause.AskedForService events;
+  too_fast = run_of cause.TooFast events;
+  must_stand = run_of cause.MustStand events;
+  owes_too_long = run_of cause.OwesTooLong events;
+}
+
+-- ---- the same event by event
+
+abbrev pub no_runs : Runs
+no_runs = record {
+  not_revalidated = None;
+  in_trip = None;
+  in_system_failure = None;
+  owes_trip = None;
+  far_too_fast = None;
+  rolled_too_far = None;
+  asked_for_service = None;
+  too_fast = None;
+  must_stand = None;
+  owes_too_long = None;
+}
+
+-- behind a further event, of this number, behind which these causes hold
+abbrev pub runs_held : Runs → List BrakeCause → ℕ → Runs
+runs_held before held number = record {
+  not_revalidated = gone_on (is_among cause.NotRevalidated held) before.not_revalidated number;
+  in_trip = gone_on (is_among cause.InTrip held) before.in_trip number;
+  in_system_failure = gone_on (is_among cause.InSystemFailure held) before.in_system_failure number;
+  owes_trip = gone_on (is_among cause.OwesTrip held) before.owes_trip number;
+  far_too_fast = gone_on (is_among cause.FarTooFast held) before.far_too_fast number;
+  rolled_too_far = gone_on (is_among cause.RolledTooFar held) before.rolled_too_far number;
+  asked_for_service = gone_on (is_among cause.AskedForService held) before.asked_for_service number;
+  too_fast = gone_on (is_among cause.TooFast held) before.too_fast number;
+  must_stand = gone_on (is_among cause.MustStand held) before.must_stand number;
+  owes_too_long = gone_on (is_among cause.OwesTooLong held) before.owes_too_long number;
+}

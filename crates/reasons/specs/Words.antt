@@ -1,0 +1,41 @@
+-- The words of each cause of a brake (this project's profile; docs/BRAKES.md lists them): as JSON has it, in a sentence,
+-- and how it ends.
+use Rattle.std.specs.Prelude.{ℕ, List, codes}
+use Rattle.kernel.specs.declared.causes.BrakeCause.{BrakeCause}
+use Rattle.kernel.specs.declared.causes.BrakeCause.TheVariants as cause
+
+abbrev pub word_of : BrakeCause → List ℕ
+word_of cause.NotRevalidated = codes "not_revalidated"
+word_of cause.InTrip = codes "in_trip"
+word_of cause.InSystemFailure = codes "in_system_failure"
+word_of cause.OwesTrip = codes "owes_trip"
+word_of cause.FarTooFast = codes "far_too_fast"
+word_of cause.RolledTooFar = codes "rolled_too_far"
+word_of cause.AskedForService = codes "asked_for_service"
+word_of cause.TooFast = codes "too_fast"
+word_of cause.MustStand = codes "must_stand"
+word_of cause.OwesTooLong = codes "owes_too_long"
+
+abbrev pub sentence_of : BrakeCause → List ℕ
+sentence_of cause.NotRevalidated = codes "the driver has not revalidated since the power-up"
+sentence_of cause.InTrip = codes "the mode is Trip"
+sentence_of cause.InSystemFailure = codes "the mode is System Failure"
+sentence_of cause.OwesTrip = codes "a trip is not acknowledged"
+sentence_of cause.FarTooFast = codes "the speed was above the limit by more than 10000 m/h, and the train has not stood since"
+sentence_of cause.RolledTooFar = codes "the train rolled backward too far since it stood"
+sentence_of cause.AskedForService = codes "linking or a balise group asked for the service brake, and the train has not stood since"
+sentence_of cause.TooFast = codes "the speed was above the limit by more than 5000 m/h, and not within it since"
+sentence_of cause.MustStand = codes "the train moves where it must stand"
+sentence_of cause.OwesTooLong = codes "an acknowledgement has been owed for 5000 ms or longer"
+
+abbrev pub ending_of : BrakeCause → List ℕ
+ending_of cause.NotRevalidated = codes "ends when the driver has revalidated"
+ending_of cause.InTrip = codes "ends when the driver acknowledges the trip at standstill"
+ending_of cause.InSystemFailure = codes "ends at a power-up alone"
+ending_of cause.OwesTrip = codes "ends when the driver acknowledges the trip at standstill"
+ending_of cause.FarTooFast = codes "ends when the train stands"
+ending_of cause.RolledTooFar = codes "ends when the train stands, or a greater D_NVROLL comes into force"
+ending_of cause.AskedForService = codes "ends when the train stands"
+ending_of cause.TooFast = codes "ends when the speed is within the limit"
+ending_of cause.MustStand = codes "ends when the train stands, or in another mode"
+ending_of cause.OwesTooLong = codes "ends when the driver acknowledges, or a mode deletes it"

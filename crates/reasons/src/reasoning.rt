@@ -1,0 +1,95 @@
+//! A life that is run again, with why it brakes.
+ghost use Rattle.std.specs.Prelude.{◌≡◌, List, ◌∷◌, IfOk, OnOk, OnErr};
+ghost use Rattle.events.specs.declared.input.Event.{Event};
+ghost use Rattle.events.specs.declared.input.Event.TheVariants.{PowerUp};
+ghost use Rattle.kernel.specs.Causes.{marked, causes_after};
+ghost use Rattle.kernel.specs.Lives.{left_by, kept_by};
+ghost use Rattle.kernel.specs.Output.{output_after};
+ghost use Rattle.reasons.specs.Runs.{runs_of};
+
+use crate::runs::Runs;
+use events::{Event, Kept, Output};
+use kernel::{BrakeCauses, State};
+use mode_table::Cold;
+use std::alloc::Global;
+use std::marker::Model;
+use units::NoMemory;
+
+/// A life that is run again from its power-up on, with the causes of each brake. It stores no history: what it says is
+/// said of every list of events that it stands behind.
+#[derive(Drop)]
+pub struct Reasoning {
+    state: State,
+    // The number of the next event, up to the greatest number of 64 bits.
+    next: u64,
+    runs: Runs,
+}
+
+impl Model for Reasoning {
+    ghost use Rattle.reasons.specs.Told.{Reasoned};
+
+    ghost Value = { Reasoned };
+
+    ghost view = { λ r. record { state = r.state; next = r.next; runs = r.runs } };
+}
+
+impl Reasoning {
+    ghost use Rattle.reasons.specs.Told.{Reasons};
+
+    /// Begins a life behind what was kept, and answers its power-up. It takes no memory.
+    pub fn begin(alloc: Global, kept: &Kept, word: Cold) -> (Reasoning, Output)
+        ensures stands { (events : List Event) → left_by word kept.now ≡ left_by word (kept_by events)
+            → Reasons (PowerUp word ∷ events) result.0 }
+        ensures output { (events : List Event) → left_by word kept.now ≡ left_by word (kept_by events)
+            → result.1 ≡ output_after (PowerUp word ∷ events) }
+    {
+        let (state, output) = State::power_up(alloc, kept, word);
+        let causes = state.brake_causes();
+        let number = kept.events;
+        let runs = Runs::begun(&causes, number);
+        let reasoning = Reasoning {
+            state,
+            next: number.saturating_add(1),
+            runs,
+        };
+        (reasoning, output)
+    }
+
+    /// Runs one event more, and answers it. NoMemory where memory is refused; then nothing changes.
+    pub fn follow(&mut self, alloc: Global, event: &Event) -> Result<Output, NoMemory>
+        ensures refused { OnErr result (self.new ≡ self.old) }
+        ensures stands { (events : List Event) → Reasons events self.old → OnOk result (Reasons (event.now ∷ events) self.new) }
+        ensures output { (events : List Event) → Reasons events self.old
+            → IfOk result (λ output. output ≡ output_after (event.now ∷ events)) }
+    {
+        let Ok(output) = self.state.apply(alloc, event) else {
+            return Err(NoMemory);
+        };
+        let causes = self.state.brake_causes();
+        let number = self.next;
+        self.runs = self.runs.after(event, &causes, number);
+        self.next = number.saturating_add(1);
+        Ok(output)
+    }
+
+    /// The causes that hold behind the last event.
+    pub fn causes(&self) -> BrakeCauses
+        ensures { (events : List Event) → Reasons events self.now → marked result ≡ causes_after events }
+    {
+        self.state.brake_causes()
+    }
+
+    /// From which event on each of them has held.
+    pub fn runs(&self) -> Runs
+        ensures { (events : List Event) → Reasons events self.now → result ≡ runs_of events }
+    {
+        self.runs
+    }
+
+    /// What the kernel knows behind the last event.
+    pub fn state(&self) -> &State
+        ensures { result.now ≡ self.now.state }
+    {
+        &self.state
+    }
+}

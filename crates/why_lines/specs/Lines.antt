@@ -1,0 +1,63 @@
+-- The line of an event with the causes of its brake, for people and as a JSON object (this project's profile). Events
+-- are numbered from 0; speeds are metres per hour, distances centimetres.
+use Rattle.std.specs.Prelude.{ℕ, Option, Some, None, List, [], ◌∷◌, ◌++◌, codes, decimal, flat_map}
+use Rattle.kernel.specs.declared.causes.BrakeCause.{BrakeCause}
+use Rattle.kernel.specs.declared.causes.BrakeCause.TheVariants as a_cause
+use Rattle.output_lines.specs.Words.{brake_text}
+use Rattle.pieces.specs.Pieces.{text_in, joined}
+use Rattle.pieces.specs.declared.piece.Form.{Form}
+use Rattle.reasons.specs.declared.runs.Runs.{Runs}
+use Rattle.reasons.specs.Words.{word_of, sentence_of, ending_of}
+use Rattle.why_lines.specs.declared.lines.Answer.{Answer}
+use Rattle.why_lines.specs.declared.lines.Told.{Told}
+
+-- what was answered, and the numbers that causes speak of
+abbrev pub front_text : Form → Answer → List ℕ
+front_text form a =
+    joined (text_in form (codes "event ") (codes "{\"event\":") ∷ decimal a.event ∷ text_in form (codes ": brake ") (codes ",\"brake\":\"")
+    ∷ brake_text a.brake ∷ text_in form (codes ", limit ") (codes "\",\"limit_m_per_h\":") ∷ decimal a.limit
+    ∷ text_in form (codes " m/h, speed ") (codes ",\"speed_m_per_h\":") ∷ decimal a.speed
+    ∷ text_in form (codes " m/h, rolled backward ") (codes ",\"backward_cm\":") ∷ decimal a.backward
+    ∷ text_in form (codes " cm of ") (codes ",\"allowed_backward_cm\":") ∷ decimal a.allowed
+    ∷ text_in form (codes " cm") [] ∷ [])
+
+-- a cause that holds since an event, and how it ends; of one that doesn't hold nothing for people, and null as JSON
+abbrev pub held_text : Form → BrakeCause → ℕ → List ℕ
+held_text form cause first =
+    joined (text_in form (codes "; ") (codes ",\"") ∷ text_in form (sentence_of cause) (word_of cause)
+    ∷ text_in form (codes " (since event ") (codes "\":") ∷ decimal first ∷ text_in form (codes ", ") []
+    ∷ text_in form (ending_of cause) [] ∷ text_in form (codes ")") [] ∷ [])
+
+abbrev pub free_text : Form → BrakeCause → List ℕ
+free_text form cause = joined (text_in form [] (codes ",\"") ∷ text_in form [] (word_of cause) ∷ text_in form [] (codes "\":null") ∷ [])
+
+abbrev pub run_text : Form → BrakeCause → Option ℕ → List ℕ
+run_text form cause (Some first) = held_text form cause first
+run_text form cause None = free_text form cause
+
+abbrev pub cause_text : Form → Told → List ℕ
+cause_text form told = run_text form told.cause told.first
+
+-- each cause with its first event, in the order of the brake table
+abbrev pub cause_told : BrakeCause → Option ℕ → Told
+cause_told cause first = record { cause = cause; first = first }
+
+abbrev pub told_of : Runs → List Told
+told_of runs =
+    cause_told a_cause.NotRevalidated runs.not_revalidated
+    ∷ cause_told a_cause.InTrip runs.in_trip
+    ∷ cause_told a_cause.InSystemFailure runs.in_system_failure
+    ∷ cause_told a_cause.OwesTrip runs.owes_trip
+    ∷ cause_told a_cause.FarTooFast runs.far_too_fast
+    ∷ cause_told a_cause.RolledTooFar runs.rolled_too_far
+    ∷ cause_told a_cause.AskedForService runs.asked_for_service
+    ∷ cause_told a_cause.TooFast runs.too_fast
+    ∷ cause_told a_cause.MustStand runs.must_stand
+    ∷ cause_told a_cause.OwesTooLong runs.owes_too_long
+    ∷ []
+
+abbrev pub end_text : Form → List ℕ
+end_text form = text_in form (codes "\n") (codes "}\n")
+
+abbrev pub line_of : Form → Answer → List Told → List ℕ
+line_of form answer told = front_text form answer ++ flat_map (cause_text form) told ++ end_text form

@@ -1,0 +1,41 @@
+//! Errors.
+use std::io;
+use std::io::ErrorKind;
+use thiserror::Error;
+
+/// Why a journal was not walked to its end (this project's profile).
+#[derive(Clone, Copy, Debug, PartialEq, Eq, Error)]
+pub enum WhyError {
+    /// The device failed in this call.
+    #[error("DeviceFault")]
+    DeviceFault,
+    /// The first sector is not that of a journal, or there is none.
+    #[error("NotFormatted")]
+    NotFormatted,
+    /// The number of sectors isn't that of the slots.
+    #[error("Damaged")]
+    Damaged,
+    /// The text could not be written.
+    #[error("Write")]
+    Write,
+    /// Memory was refused.
+    #[error("NoMemory")]
+    NoMemory,
+}
+
+/// Why a walk stopped behind its first sector, but for the device.
+#[derive(Clone, Copy)]
+pub(crate) enum LateError {
+    /// The text could not be written.
+    Write,
+    /// Memory was refused.
+    NoMemory,
+}
+
+/// An error of the writer.
+pub(crate) fn writing_error(error: &io::Error) -> LateError {
+    match error.kind() {
+        ErrorKind::OutOfMemory => LateError::NoMemory,
+        _ => LateError::Write,
+    }
+}

@@ -1,0 +1,183 @@
+//! The line of an event with the causes of its brake.
+ghost use Rattle.std.specs.Prelude.{◌≡◌, OnOk, flat_map};
+ghost use Rattle.std.specs.Io.KnownBytes.{Appends};
+ghost use Rattle.pieces.specs.Pieces.{texts};
+ghost use Rattle.pieces.specs.declared.piece.Form.{Form as a_form};
+ghost use Rattle.why_lines.specs.Lines.{front_text, held_text, free_text, cause_text, told_of, end_text, line_of};
+
+use events::Brake;
+use kernel::BrakeCause;
+use output_lines::brake_word;
+use pieces::{Form, Piece, both, write_pieces};
+use reasons::{Runs, ending, sentence, word};
+use std::io;
+use std::io::Write;
+
+/// What was answered to an event, and the numbers that causes speak of.
+#[derive(Clone, Copy)]
+pub struct Answer {
+    /// The number of the event.
+    pub event: u64,
+    /// What the brakes were commanded to do.
+    pub brake: Brake,
+    /// The limit, in metres per hour.
+    pub limit: u64,
+    /// The speed of the last reading, in metres per hour.
+    pub speed: u64,
+    /// How far the train has rolled backward since it stood, in centimetres.
+    pub backward: u64,
+    /// How far it may, in centimetres.
+    pub allowed: u64,
+}
+
+/// A cause, and the first event behind which it has held, if it holds.
+#[derive(Clone, Copy)]
+pub struct Told {
+    /// The cause.
+    pub cause: BrakeCause,
+    /// The number of that event.
+    pub first: Option<u64>,
+}
+
+/// Each cause with its first event, in the order of the brake table.
+pub fn told_of(runs: &Runs) -> [Told; 10]
+    ensures { result ≡ told_of runs.now }
+{
+    [
+        Told {
+            cause: BrakeCause::NotRevalidated,
+            first: runs.not_revalidated,
+        },
+        Told {
+            cause: BrakeCause::InTrip,
+            first: runs.in_trip,
+        },
+        Told {
+            cause: BrakeCause::InSystemFailure,
+            first: runs.in_system_failure,
+        },
+        Told {
+            cause: BrakeCause::OwesTrip,
+            first: runs.owes_trip,
+        },
+        Told {
+            cause: BrakeCause::FarTooFast,
+            first: runs.far_too_fast,
+        },
+        Told {
+            cause: BrakeCause::RolledTooFar,
+            first: runs.rolled_too_far,
+        },
+        Told {
+            cause: BrakeCause::AskedForService,
+            first: runs.asked_for_service,
+        },
+        Told {
+            cause: BrakeCause::TooFast,
+            first: runs.too_fast,
+        },
+        Told {
+            cause: BrakeCause::MustStand,
+            first: runs.must_stand,
+        },
+        Told {
+            cause: BrakeCause::OwesTooLong,
+            first: runs.owes_too_long,
+        },
+    ]
+}
+
+fn front_pieces(answer: &Answer) -> [Piece; 13]
+    ensures { (form : a_form) → texts form result ≡ front_text form answer.now }
+{
+    [
+        Piece::Text("event ", "{\"event\":"),
+        Piece::Number(answer.event),
+        Piece::Text(": brake ", ",\"brake\":\""),
+        both(brake_word(answer.brake)),
+        Piece::Text(", limit ", "\",\"limit_m_per_h\":"),
+        Piece::Number(answer.limit),
+        Piece::Text(" m/h, speed ", ",\"speed_m_per_h\":"),
+        Piece::Number(answer.speed),
+        Piece::Text(" m/h, rolled backward ", ",\"backward_cm\":"),
+        Piece::Number(answer.backward),
+        Piece::Text(" cm of ", ",\"allowed_backward_cm\":"),
+        Piece::Number(answer.allowed),
+        Piece::Text(" cm", ""),
+    ]
+}
+
+fn held_pieces(cause: BrakeCause, first: u64) -> [Piece; 7]
+    ensures { (form : a_form) → texts form result ≡ held_text form cause first }
+{
+    [
+        Piece::Text("; ", ",\""),
+        Piece::Text(sentence(cause), word(cause)),
+        Piece::Text(" (since event ", "\":"),
+        Piece::Number(first),
+        Piece::Text(", ", ""),
+        Piece::Text(ending(cause), ""),
+        Piece::Text(")", ""),
+    ]
+}
+
+fn free_pieces(cause: BrakeCause) -> [Piece; 3]
+    ensures { (form : a_form) → texts form result ≡ free_text form cause }
+{
+    [
+        Piece::Text("", ",\""),
+        Piece::Text("", word(cause)),
+        Piece::Text("", "\":null"),
+    ]
+}
+
+fn end_piece() -> [Piece; 1]
+    ensures { (form : a_form) → texts form result ≡ end_text form }
+{
+    [Piece::Text("\n", "}\n")]
+}
+
+fn write_cause<W: Write>(form: Form, told: &Told, out: &mut W) -> io::Result<()>
+    ensures { OnOk result (Appends (W.contents out.old) (W.contents out.new) (cause_text form told.now)) }
+{
+    match told.first {
+        Some(first) => write_pieces(form, &held_pieces(told.cause, first), out),
+        None => write_pieces(form, &free_pieces(told.cause), out),
+    }
+}
+
+fn write_causes<W: Write>(form: Form, told: &[Told], out: &mut W) -> io::Result<()>
+    ensures { OnOk result (Appends (W.contents out.old) (W.contents out.new) (flat_map (cause_text form) told.now)) }
+{
+    for one in told {
+        write_cause(form, one, out)?;
+    }
+    Ok(())
+}
+
+fn write_front<W: Write>(form: Form, answer: &Answer, out: &mut W) -> io::Result<()>
+    ensures { OnOk result (Appends (W.contents out.old) (W.contents out.new) (front_text form answer.now)) }
+{
+    write_pieces(form, &front_pieces(answer), out)
+}
+
+fn write_end<W: Write>(form: Form, out: &mut W) -> io::Result<()>
+    ensures { OnOk result (Appends (W.contents out.old) (W.contents out.new) (end_text form)) }
+{
+    write_pieces(form, &end_piece(), out)
+}
+
+/// Writes the line of an event with these causes. The error is that of a write.
+pub fn write_line<W: Write>(
+    form: Form,
+    answer: &Answer,
+    told: &[Told],
+    out: &mut W,
+) -> io::Result<()>
+    ensures { OnOk result (Appends (W.contents out.old) (W.contents out.new) (line_of form answer.now told.now)) }
+{
+    write_front(form, answer, out)?;
+    write_causes(form, told, out)?;
+    write_end(form, out)?;
+    Ok(())
+}

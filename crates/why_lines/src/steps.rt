@@ -1,0 +1,131 @@
+//! The steps of a walk: block by block, and in a block record by record.
+
+use crate::course::Course;
+use crate::errors::{LateError, writing_error};
+use crate::lines::{Answer, told_of, write_line};
+use blocks::{Block, BlockRecord};
+use events::{Event, Kept, Output};
+use mode_table::Cold;
+use pieces::Form;
+use reasons::Reasoning;
+use std::alloc::Global;
+use std::io::Write;
+use units::NoMemory;
+
+// What was kept before a power-up that a block begins with, if it is known.
+fn kept_before(course: &Course, number: u64) -> Option<Kept> {
+    match &course.before {
+        Some(kept) => Some(kept.copy()),
+        None if number == 0 => Some(Kept::nothing()),
+        None => None,
+    }
+}
+
+// A life begins with the first record of a block.
+fn begin_life(alloc: Global, course: &mut Course, number: u64, word: Cold) -> Option<Output> {
+    course.shown = None;
+    let Some(kept) = kept_before(course, number) else {
+        course.life = None;
+        return None;
+    };
+    let (life, output) = Reasoning::begin(alloc, &kept, word);
+    course.life = Some(life);
+    Some(output)
+}
+
+// Runs one event more; None where the life isn't known.
+fn go_on(alloc: Global, course: &mut Course, event: &Event) -> Result<Option<Output>, LateError> {
+    match &mut course.life {
+        None => Ok(None),
+        Some(life) => match life.follow(alloc, event) {
+            Ok(output) => Ok(Some(output)),
+            Err(NoMemory) => Err(LateError::NoMemory),
+        },
+    }
+}
+
+fn answered(
+    alloc: Global,
+    course: &mut Course,
+    place: usize,
+    record: &BlockRecord,
+) -> Result<Option<Output>, LateError> {
+    match &record.event {
+        Event::PowerUp(word) if place == 0 => Ok(begin_life(alloc, course, record.number, *word)),
+        event => go_on(alloc, course, event),
+    }
+}
+
+// Writes the line of an event that was answered so.
+fn write_event<W: Write>(
+    life: &Reasoning,
+    event: u64,
+    output: &Output,
+    form: Form,
+    out: &mut W,
+) -> Result<(), LateError> {
+    let state = life.state();
+    let answer = Answer {
+        event,
+        brake: output.brake,
+        limit: u64::from(output.limit.get()),
+        speed: u64::from(state.speed().get()),
+        backward: state.rolled_backward(),
+        allowed: state.allowed_backward(),
+    };
+    let told = told_of(&life.runs());
+    match write_line(form, &answer, &told, out) {
+        Ok(()) => Ok(()),
+        Err(error) => Err(writing_error(&error)),
+    }
+}
+
+// Tells one record, if it is asked for.
+fn tell_record<W: Write>(
+    alloc: Global,
+    course: &mut Course,
+    place: usize,
+    record: &BlockRecord,
+    form: Form,
+    out: &mut W,
+) -> Result<(), LateError> {
+    let Some(output) = answered(alloc, course, place, record)? else {
+        return Ok(());
+    };
+    if course.tells(record.number, &output) {
+        if let Some(life) = &course.life {
+            write_event(life, record.number, &output, form, out)?;
+        }
+        course.lines = course.lines.saturating_add(1);
+    }
+    course.note(&output);
+    Ok(())
+}
+
+// Whether the events of a block follow those of the block before, as its head tells their count.
+fn follows(course: &Course, block: &Block) -> bool {
+    match (&course.before, block.records.as_slice().first()) {
+        (Some(kept), Some(first)) => kept.events == first.number,
+        _ => true,
+    }
+}
+
+/// Tells the events of a block.
+pub(crate) fn tell_block<W: Write>(
+    alloc: Global,
+    course: &mut Course,
+    block: &Block,
+    form: Form,
+    out: &mut W,
+) -> Result<(), LateError> {
+    if !follows(course, block) {
+        course.pass_gap();
+    }
+    let mut place = 0;
+    for record in block.records.as_slice() {
+        tell_record(alloc, course, place, record, form, out)?;
+        place = 1;
+    }
+    course.before = Some(block.kept.copy());
+    Ok(())
+}

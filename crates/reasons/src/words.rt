@@ -31,10 +31,13 @@ pub fn sentence(cause: BrakeCause) -> &'static str
         BrakeCause::InTrip => "the mode is Trip",
         BrakeCause::InSystemFailure => "the mode is System Failure",
         BrakeCause::OwesTrip => "a trip is not acknowledged",
-        BrakeCause::FarTooFast => "the speed was above the limit by more than 10000 m/h, and the train has not stood since",
+        BrakeCause::FarTooFast =>
+            "the speed was above the limit by more than 10000 m/h, and the train has not stood since",
         BrakeCause::RolledTooFar => "the train rolled backward too far since it stood",
-        BrakeCause::AskedForService => "linking or a balise group asked for the service brake, and the train has not stood since",
-        BrakeCause::TooFast => "the speed was above the limit by more than 5000 m/h, and not within it since",
+        BrakeCause::AskedForService =>
+            "linking or a balise group asked for the service brake, and the train has not stood since",
+        BrakeCause::TooFast =>
+            "the speed was above the limit by more than 5000 m/h, and not within it since",
         BrakeCause::MustStand => "the train moves where it must stand",
         BrakeCause::OwesTooLong => "an acknowledgement has been owed for 5000 ms or longer",
     }
@@ -50,7 +53,8 @@ pub fn ending(cause: BrakeCause) -> &'static str
         BrakeCause::InSystemFailure => "ends at a power-up alone",
         BrakeCause::OwesTrip => "ends when the driver acknowledges the trip at standstill",
         BrakeCause::FarTooFast => "ends when the train stands",
-        BrakeCause::RolledTooFar => "ends when the train stands, or a greater D_NVROLL comes into force",
+        BrakeCause::RolledTooFar =>
+            "ends when the train stands, or a greater D_NVROLL comes into force",
         BrakeCause::AskedForService => "ends when the train stands",
         BrakeCause::TooFast => "ends when the speed is within the limit",
         BrakeCause::MustStand => "ends when the train stands, or in another mode",

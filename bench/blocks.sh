@@ -11,9 +11,9 @@ runs=${1:-1000}
 # What the library calls to take memory is in the toolchain's C library.
 memory=$(dirname "$(rt doc)")/c/liblibc_c.a
 
-(cd "$top/crates/bench_blocks" && rt lib) >&2
+"$top/bench/library" blocks >&2
 mkdir -p "$out"
-gcc -O2 -Wall -Wextra "$top/bench/blocks.c" "$top/crates/bench_blocks/out/libbench_blocks.a" "$memory" \
+gcc -O2 -Wall -Wextra "$top/bench/blocks.c" "$out/libbench_blocks.a" "$memory" \
     -o "$out/blocks" >&2
 
 # counted CALL COUNT: the instructions of the whole process

@@ -12,8 +12,8 @@ top=$(cd "$(dirname "$0")/.." && pwd)
 out=$top/bench/out
 slots=${*:-1024 4096 16384}
 mkdir -p "$out"
-program=$top/crates/test_journal/out/test_journal
-(cd "$top/crates/test_journal" && rt run) </dev/null >&2
+program=$top/crates/test_rows/out/test_rows
+(cd "$top/crates/test_rows" && rt run -- test_journal) </dev/null >&2
 python3 "$top/tests/rows/test_journal.py" "$program" >&2
 rustc -O -C target-cpu=x86-64-v2 -g "$top/bench/plain_journal.rs" -o "$out/plain_journal" >&2
 cd "$out"
@@ -29,7 +29,7 @@ collected() {
 # proved FUNCTION COMMITS: a disk of 25 sectors, a format of 4 slots, an opening, and so many commits of 8 records
 proved() {
     printf '0 0 25\n1 0 4\n1 1\n1 3 %d 8\n' "$2" >rows
-    collected "$1" "$program" <rows
+    collected "$1" "$program" test_journal <rows
 }
 
 # row TITLE FEW MANY
@@ -51,9 +51,9 @@ milliseconds() {
 # The first sector is written by hand: its mark, version 2, and the number of slots.
 for count in $slots; do
     printf '0 0 %d\n0 7 0 0 16 %d %d\n' $((1 + 6 * count)) $((0x455443534a525531)) $((0x200000000 + count)) >rows
-    made=$(milliseconds "$program" <rows)
+    made=$(milliseconds "$program" test_journal <rows)
     echo 1 1 >>rows
-    all=$(milliseconds "$program" <rows)
+    all=$(milliseconds "$program" test_journal <rows)
     calls=$(tail -n 1 answers | awk '$1 == 0 && NF == 14 { print $12 }')
     printf '%d slots: opened by %d calls, %d ms, of which %d make the disk\n' "$count" "$calls" "$all" "$made"
 done

@@ -13,9 +13,9 @@ calls=${2:-200}
 # What the library calls to take memory is in the toolchain's C library.
 memory=$(dirname "$(rt doc)")/c/liblibc_c.a
 
-(cd "$top/crates/bench_kernel" && rt lib) >&2
+"$top/bench/library" kernel >&2
 mkdir -p "$out"
-gcc -O2 -Wall -Wextra "$top/bench/kernel.c" "$top/crates/bench_kernel/out/libbench_kernel.a" "$memory" \
+gcc -O2 -Wall -Wextra "$top/bench/kernel.c" "$out/libbench_kernel.a" "$memory" \
     -o "$out/kernel" >&2
 
 # counted FUNCTION WORD..: the instructions within the function, with all that it calls, where the harness is called with these words.

@@ -9,14 +9,13 @@ top=$(cd "$(dirname "$0")/.." && pwd)
 out=$top/bench/out
 calls=${*:-decode decode_into encode walk walk_into etcs_decode etcs_packet_count}
 
-for crate in etcs_c bench_telegram; do
-    (cd "$top/crates/$crate" && rt lib) >&2
-done
+(cd "$top/crates/etcs_c" && rt lib) >&2
+"$top/bench/library" telegram >&2
 mkdir -p "$out"
 gcc -O2 -Wall -Wextra -I "$top/include" "$top/tests/c/check.c" "$top/crates/etcs_c/out/libetcs_c.a" -o "$out/check" >&2
 "$out/check" >&2
 gcc -O2 -Wall -Wextra -I "$top/include" "$top/bench/bench.c" \
-    "$top/crates/bench_telegram/out/libbench_telegram.a" "$top/crates/etcs_c/out/libetcs_c.a" -o "$out/bench" >&2
+    "$out/libbench_telegram.a" "$top/crates/etcs_c/out/libetcs_c.a" -o "$out/bench" >&2
 
 # counted CALL HEX RUNS: the instructions of the whole process. The environment and the program's name are the same each
 # time, since the C library's memset and memcpy go by where the stack lies.

@@ -12,8 +12,8 @@ top=$(cd "$(dirname "$0")/.." && pwd)
 out=$top/bench/out
 batches=${1:-10000}
 mkdir -p "$out"
-(cd "$top/crates/test_onboard" && rt run </dev/null) >&2
-program=$top/crates/test_onboard/out/test_onboard
+(cd "$top/crates/test_rows" && rt run -- test_onboard </dev/null) >&2
+program=$top/crates/test_rows/out/test_rows
 python3 "$top/tests/rows/test_onboard.py" "$program" >&2
 rustc -O -C target-cpu=x86-64-v2 -g "$top/bench/plain_journal.rs" -o "$out/plain_journal" >&2
 cd "$out"
@@ -61,9 +61,9 @@ unit() {
     life "$2" "$3" 24 '; run' >few
     life "$2" "$3" 48 '; run' >many
     for within in accept flush; do
-        first=$(collected "onboard::onboard::Onboard::$within*" "$program" <few)
+        first=$(collected "onboard::onboard::Onboard::$within*" "$program" test_onboard <few)
         memory=$(asked)
-        second=$(collected "onboard::onboard::Onboard::$within*" "$program" <many)
+        second=$(collected "onboard::onboard::Onboard::$within*" "$program" test_onboard <many)
         row "$1: $within" "$first" "$second" 192
         printf '%-60s %10d\n' "memory asked for in 192 of them" $(($(asked) - memory))
     done
@@ -85,7 +85,7 @@ milliseconds() {
 for run in '; run' ''; do
     life "$start" 'move 1' 70 "$run" >one
     for _ in $(seq 200); do cat one; done >rows
-    echo "200 lives of 560 readings, '$run': $(milliseconds "$program" <rows) ms"
+    echo "200 lives of 560 readings, '$run': $(milliseconds "$program" test_onboard <rows) ms"
 done
 
 etcs=$top/crates/etcs/out/etcs

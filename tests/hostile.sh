@@ -8,7 +8,7 @@
 #     tests/hostile.sh files [LIVES [SEED]]                   lives on image files, more or others
 #     tests/hostile.sh inputs [TELEGRAMS SCENARIOS [SEED]]    random inputs, more or others
 #
-# ETCS=PROGRAM names another program than the one that the gate leaves behind, and TESTS=FOLDER where other test_onboard and test_kernel are.
+# ETCS=PROGRAM names another program than the one that the gate leaves behind, and TESTS=FOLDER where another test_rows is.
 [ -z "$ETCS" ] || ETCS=$(realpath "$ETCS") || exit 1
 [ -z "$TESTS" ] || TESTS=$(realpath "$TESTS") || exit 1
 cd "$(dirname "$0")" || exit 1

@@ -19,4 +19,5 @@ status=0
 "$python" tests/lab_package/page_rows.py "$etcs" "$lab" || status=1
 "$python" tests/lab_package/told_rows.py "$lab" "${@:3}" || status=1
 "$python" tests/lab_package/report_rows.py "$etcs" "$lab" || status=1
+"$python" tests/lab_package/campaign_rows.py "$etcs" "$lab" || status=1
 exit $status

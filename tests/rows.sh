@@ -1,22 +1,24 @@
 #!/bin/bash
-# The rows of the proved programs of tests. Each module of rows/ makes numbers of its rows, asks its program, makes
-# words of what that tells, and compares with the answers that are wanted. Fails where one differs, where a program is
-# missing, where fewer rows were tried than stand here, and where a question that is too long for a program is asked.
+# The rows of the crates, by the proved program test_rows. Each module of rows/ makes numbers of its rows, asks the
+# program, makes words of what that tells, and compares with the answers that are wanted. Fails where one differs, where
+# a program is missing, where fewer rows were tried than stand here, and where a question that is too long for a program
+# is asked.
 #
 #     tests/rows.sh            the programs that rt ci leaves in crates/
-#     tests/rows.sh FOLDER     FOLDER/test_disk and so on
+#     tests/rows.sh FOLDER     FOLDER/test_rows and FOLDER/etcs
 folder=${1:+$(realpath "$1")}
 cd "$(dirname "$0")/rows" || exit 1
 export PYTHONDONTWRITEBYTECODE=1
 status=0
+programs=()
+for name in test_rows etcs; do
+    programs+=("${folder:-../../crates/$name/out}/$name")
+    [ -x "${programs[-1]}" ] || { echo "rows: no program ${programs[-1]}"; exit 1; }
+done
 
-# rows NAME FLOOR [OTHER]: the rows of a program, which also ask another one
+# rows NAME FLOOR: the rows of a crate
 rows() {
-    local name programs=() found count
-    for name in "$1" ${3:+"$3"}; do
-        programs+=("${folder:-../../crates/$name/out}/$name")
-        [ -x "${programs[-1]}" ] || { echo "$1: no program ${programs[-1]}"; status=1; return; }
-    done
+    local found count
     found=$(python3 "$1.py" "${programs[@]}") || status=1
     echo "$found"
     count=$(sed -n '$s/.*: \([0-9]*\) rows, .*/\1/p' <<< "$found")
@@ -24,7 +26,7 @@ rows() {
 }
 
 python3 long_questions.py || status=1
-rows test_decode 291 etcs
+rows test_decode 291
 rows test_parts 2732
 rows test_modes 2613
 rows test_disk 353

@@ -3,7 +3,8 @@
 # and there are as many rows, events and answers as are told here. The random lists, the tracks, the rows of blocks and
 # the lives of the onboard unit, with all that its program is to print, are those that are made here. So are the answers
 # that the rows of the program and the examples want. The reader that was written from the page of the format alone
-# lists what the plain unit wrote. The tables of the plain program are those of the definitions.
+# lists what the plain unit wrote. The tables of the plain program are those of the definitions. The safety laws hold
+# behind each event of the kernel's rows.
 cd "$(dirname "$0")/plain" || exit 1
 export PYTHONDONTWRITEBYTECODE=1
 status=0
@@ -11,6 +12,7 @@ found=$(python3 check_rows.py) || status=1
 echo "$found"
 wanted="619 rows, 23586 events, 24637 answers, 0 differences"
 [ "$found" = "$wanted" ] || { echo "the kernel's rows are to be: $wanted"; status=1; }
+python3 law_rows.py || status=1
 python3 random_lists.py --check || status=1
 python3 blocks.py || status=1
 python3 limit_rows.py --check || status=1

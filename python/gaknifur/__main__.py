@@ -1,27 +1,30 @@
-"""The words of `./lab`: `table`, `database`, `report`."""
+"""The words of `./lab`: `table`, `database`, `report`, `build`, `test`, `coverage`, `campaign`, `compare`."""
 import argparse
 import os
 import sys
-from collections.abc import Sequence
+from collections.abc import Callable, Sequence
 from pathlib import Path
 
-from . import database, report, tables
+from . import campaign_words, coverage, database, report, scenarios, tables
 from .extent import Extent, bound
-from .program import DEVICE, Failed
+from .program import DEVICE, REFUSED, WRONG_WORDS, Failed
 from .progress import Terminal
 from .reading import Journal, Progress, read
 
 NEXT = """\
-  0 made   1 refused: not formatted, or no database of journals   2 wrong words   3 a file, or etcs_lab
+  0 made   1 refused: not formatted, no database of journals, a fault in a YAML file, or a test that failed
+  2 wrong words   3 a file, etcs or etcs_lab
 
 Of a damaged image all is told that can be read, and one line on standard error says so. Take a digest of the image
-before anything reads it, and work on a copy. docs/LABORATORY.md goes through all words."""
+before anything reads it, and work on a copy. docs/LABORATORY.md goes through the first three words,
+docs/TESTING_A_TRAIN.md through the others."""
 
 
 def words() -> argparse.ArgumentParser:
     """The words, with their help."""
     lab = argparse.ArgumentParser(
-        prog="lab", description="Tables, a database and reports of images of journals, as etcs_lab reads them.",
+        prog="lab", description="Tables, a database and reports of images of journals, as etcs_lab reads them; and suites of "
+        "test cases.",
         epilog=NEXT, formatter_class=argparse.RawDescriptionHelpFormatter, allow_abbrev=False)
     subjects = lab.add_subparsers(dest="word", metavar="WORD", required=True)
 
@@ -45,7 +48,25 @@ def words() -> argparse.ArgumentParser:
     page.add_argument("--from", dest="first", metavar="WHERE", help="an event (120), a place (300m), a moment (20.5s)")
     page.add_argument("--to", dest="last", metavar="WHERE", help="the same")
     page.add_argument("--life", metavar="N", type=int, help="this life alone")
+    add_suites(word)
+    campaign_words.add_words(word)
     return lab
+
+
+def add_suites(word: Callable[[str, str, str], argparse.ArgumentParser]) -> None:
+    """The words of suites of test cases."""
+    build = word("build", "makes of a scenario in YAML the JSON that etcs run reads",
+                 "Each fault is told with its file, line and column.")
+    build.add_argument("yaml", metavar="FILE.yaml", type=Path)
+    build.add_argument("out", metavar="OUT.json", nargs="?", type=Path, help="the file; else standard output")
+    test = word("test", "plays the test cases of a folder, and judges what they expect",
+                "Further words are pytest's: -k, -x, --junitxml=FILE and the others.")
+    test.add_argument("folder", metavar="FOLDER", type=Path, help="or a file of cases")
+    test.add_argument("--section", action="append", default=[], help="only results about this section, or a part of it")
+    test.add_argument("--feature", action="append", default=[], help="only cases of this feature")
+    told = word("coverage", "tells which sections and transitions the cases of a folder are about",
+                "1 where one that the product covers has no case, and no reason why.")
+    told.add_argument("folder", metavar="FOLDER", type=Path)
 
 
 def add_all(parser: argparse.ArgumentParser) -> None:
@@ -107,15 +128,60 @@ def write_report(told: argparse.Namespace, progress: Progress) -> None:
     note(journal)
 
 
-WORDS = {"table": write_table, "database": write_database, "report": write_report}
+def write_scenario(told: argparse.Namespace, progress: Progress) -> None:
+    """The word `build`."""
+    text = scenarios.read(told.yaml).text()
+    if told.out is None:
+        sys.stdout.write(text)
+        sys.stdout.flush()
+    else:
+        write(told.out, text)
+
+
+def run_tests(told: argparse.Namespace, progress: Progress) -> None:
+    """The word `test`."""
+    try:
+        import pytest
+    except ImportError as error:
+        raise Failed("pytest is missing; tools/python installs it by Debian's packages", DEVICE) from error
+    if not told.folder.exists():
+        raise Failed(f"{told.folder}: there is no such folder", DEVICE)
+    root = told.folder if told.folder.is_dir() else told.folder.parent
+    selected = [f"--{name}={one}" for name in ("section", "feature") for one in getattr(told, name)]
+    status = pytest.main(["-q", "--no-header", "-p", "no:cacheprovider", "-p", "gaknifur.pytest_plugin", f"--rootdir={root}",
+                          str(told.folder), *selected, *told.others])
+    if status == pytest.ExitCode.NO_TESTS_COLLECTED:
+        raise Failed(f"{told.folder}: there is no such test", REFUSED)
+    if status == pytest.ExitCode.USAGE_ERROR:
+        raise Failed("pytest doesn't take these words", WRONG_WORDS)
+    if status != pytest.ExitCode.OK:
+        raise Failed(f"{told.folder}: not all that was expected came", REFUSED)
+
+
+def tell_coverage(told: argparse.Namespace, progress: Progress) -> None:
+    """The word `coverage`."""
+    found = coverage.matrix(told.folder)
+    sys.stdout.write(coverage.told(found))
+    sys.stdout.flush()
+    if found.faults:
+        raise Failed(f"{told.folder}: not all is covered as told", REFUSED)
+
+
+WORDS: dict[str, Callable[[argparse.Namespace, Progress], int | None]]
+WORDS = {"table": write_table, "database": write_database, "report": write_report, "build": write_scenario, "test": run_tests,
+         "coverage": tell_coverage, **campaign_words.WORDS}
 
 
 def main(given: Sequence[str] | None = None) -> int:
     """Does what the words ask, and answers the status."""
-    told = words().parse_args(given)
+    parser = words()
+    told, others = parser.parse_known_args(given)
+    if others and told.word != "test":
+        parser.error(f"unrecognized arguments: {' '.join(others)}")
+    told.others = others
     progress = Terminal()
     try:
-        WORDS[told.word](told, progress)
+        return WORDS[told.word](told, progress) or 0
     except Failed as failed:
         progress.end()
         print(f"lab: {failed}", file=sys.stderr)
@@ -128,7 +194,6 @@ def main(given: Sequence[str] | None = None) -> int:
         return DEVICE
     finally:
         progress.end()
-    return 0
 
 
 if __name__ == "__main__":

@@ -1,8 +1,9 @@
-"""The program `etcs_lab`. No other module starts a process.
+"""The programs `etcs_lab` and `etcs`. No other module starts a process.
 
-`$GAKNIFUR_ETCS_LAB` names the program; without it the script `etcs_lab` of this repository is taken, which runs the
-proved program or says that a run isn't of the proved build.
+`$GAKNIFUR_ETCS_LAB` and `$GAKNIFUR_ETCS` name the programs; without them the scripts of this repository are taken,
+which run the proved program or say that a run isn't of the proved build.
 """
+import functools
 import os
 import subprocess
 import sys
@@ -23,14 +24,33 @@ class Failed(Exception):
         self.status = status
 
 
-def find() -> str:
-    """The path of the program."""
-    if told := os.environ.get("GAKNIFUR_ETCS_LAB"):
+def find(name: str = "etcs_lab") -> str:
+    """The path of a program."""
+    variable = f"GAKNIFUR_{name.upper()}"
+    if told := os.environ.get(variable):
         return told
-    script = Path(__file__).resolve().parents[2] / "etcs_lab"
+    script = Path(__file__).resolve().parents[2] / name
     if script.exists():
         return str(script)
-    raise Failed("there is no etcs_lab beside this package; GAKNIFUR_ETCS_LAB may name it", DEVICE)
+    raise Failed(f"there is no {name} beside this package; {variable} may name it", DEVICE)
+
+
+def built(name: str) -> Path:
+    """The file of a program that is there already. A script that would compile the sources at each call is refused."""
+    if told := os.environ.get(f"GAKNIFUR_{name.upper()}"):
+        return Path(told)
+    script = Path(find(name))
+    if subprocess.run([script, "--is-proved"], stdin=subprocess.DEVNULL, capture_output=True).returncode:
+        raise Failed(f"there is no proved {name} of these sources; ./{name} --prove makes it", REFUSED)
+    return script.parent / "crates" / name / "out" / name
+
+
+def note_unproved(said: Sequence[str]) -> None:
+    """Says once that a run wasn't of the proved build."""
+    for line in said:
+        if UNPROVED in line and line not in told_once:
+            told_once.add(line)
+            print(line, file=sys.stderr)
 
 
 class Run:
@@ -54,10 +74,7 @@ class Run:
                 raise Failed(f"{self.words[0]}: {error.strerror}", DEVICE) from error
             errors.seek(0)
             self.said = errors.read().decode("utf-8", "replace").splitlines()
-        for line in self.said:
-            if UNPROVED in line and line not in told_once:
-                told_once.add(line)
-                print(line, file=sys.stderr)
+        note_unproved(self.said)
 
     def last_said(self) -> str:
         """The last line on standard error, without the program's name and the image."""
@@ -68,3 +85,28 @@ class Run:
     def failed(self, image: Path) -> Failed:
         """The error of a run that didn't do what was asked."""
         return Failed(f"{image}: {self.last_said()}", self.status if self.status > 0 else REFUSED)
+
+
+def etcs(*words: str) -> tuple[int, list[str]]:
+    """The status of a run of `etcs`, and the lines that it prints."""
+    path = find("etcs")
+    try:
+        done = subprocess.run([path, *words], stdin=subprocess.DEVNULL, capture_output=True, text=True, encoding="utf-8",
+                              errors="replace")
+    except OSError as error:
+        raise Failed(f"{path}: {error.strerror}", DEVICE) from error
+    said = done.stderr.splitlines()
+    note_unproved(said)
+    printed = done.stdout.splitlines()
+    if not printed and (done.returncode < 0 or done.returncode > DEVICE):
+        raise Failed(f"etcs {words[0]} ended with status {done.returncode}{': ' + said[-1] if said else ''}", REFUSED)
+    return done.returncode, printed
+
+
+@functools.lru_cache(maxsize=4096)
+def decode(digits: str) -> list[str]:
+    """What `etcs decode` prints of a telegram."""
+    lines = etcs("decode", "--", digits)[1]
+    if not lines:
+        raise Failed("etcs decode printed nothing", REFUSED)
+    return lines

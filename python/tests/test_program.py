@@ -62,8 +62,8 @@ class Reading(unittest.TestCase):
         self.assertRaisesRegex(Failed, "cut off", self.read)
 
     def test_events_that_are_refused(self) -> None:
-        self.says("events", [], 1, f"etcs_lab: {self.image}: has not the sectors that its first one tells\n")
-        self.assertEqual(self.read().refusal, "has not the sectors that its first one tells")
+        self.says("events", [], 1, f"etcs_lab: {self.image}: can't be told: nothing can be written\n")
+        self.assertEqual(self.read().refusal, "can't be told: nothing can be written")
 
     def test_no_image(self) -> None:
         self.says("examine", [{}], 1, f"etcs_lab: {self.image}: is not a formatted image\n")

@@ -13,7 +13,7 @@ from pathlib import Path
 
 sys.path.insert(0, str(Path(__file__).resolve().parents[1] / "plain"))
 
-from images import MARKUP, example_images, random_images, worked_images  # noqa: E402
+from images import MARKUP, cut_images, example_images, random_images, worked_images  # noqa: E402
 from told import Refused, told  # noqa: E402
 
 RINGS, SEED = 300, 41
@@ -24,6 +24,7 @@ EACH = 5
 
 def all_images(rings, seed):
     yield from worked_images()
+    yield from cut_images()
     yield from random_images(rings, seed)
     for name, image, damaged in example_images():
         yield name, image

@@ -163,6 +163,25 @@ def random_images(count, seed):
     numbers, known = Numbers(seed), known_telegrams()
     for k in range(count):
         yield f"ring {k} of seed {seed}", ring(numbers, known)
+    sizes = Numbers(seed + 1)
+    for k in range(count // 3):
+        yield f"ring {k} of seed {seed} of another size", resized(sizes, ring(numbers, known))
+
+
+def resized(numbers, image):
+    """An image that is cut off anywhere, within a sector too, or has bytes behind its slots."""
+    if numbers.below(3):
+        return image[:numbers.below(len(image))]
+    return image + bytes(numbers.below(2) for _ in range(1 + numbers.below(14 * SECTOR)))
+
+
+def cut_images():
+    """A ring whose run goes on from its last slot in its first, with so many sectors, from none to more than it has."""
+    records = [("clock", k) for k in range(9)]
+    parts = [(number, blocks.data_of(blocks.block(3, number, 50 + number, 1, [blocks.entry(49 + number, records[number % 9])]))) for number in range(6, 11)]
+    image = slots_of(parts, 5)
+    for sectors in range(len(image) // SECTOR + 9):
+        yield f"{sectors} sectors of {len(image) // SECTOR}", image.ljust(sectors * SECTOR, b"\1")[:sectors * SECTOR]
 
 
 def worked_images():

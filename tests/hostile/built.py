@@ -1,6 +1,6 @@
 """The built programs, as tests run them, and what is given to them.
 
-`ETCS` names another program than the one that the gate leaves behind, `TESTS` a folder with other test programs.
+`ETCS` names another program than the one that the gate leaves behind, `TESTS` a folder with another program of rows.
 """
 import os
 import struct
@@ -15,8 +15,8 @@ PROGRAM = os.environ.get("ETCS") or str(TOP / "crates/etcs/out/etcs")
 
 
 def test_program(name):
-    folder = os.environ.get("TESTS")
-    return Path(folder) / name if folder else TOP / f"crates/{name}/out/{name}"
+    """The words that start the program of rows for a crate's."""
+    return [Path(os.environ.get("TESTS") or TOP / "crates/test_rows/out") / "test_rows", name]
 
 
 sys.path.insert(0, str(TOP / "tests/plain"))

@@ -44,7 +44,7 @@ STORIES = ("an area ahead that is acknowledged", "an announced group in time", "
 
 
 class Calls:
-    """The programs, with a request that is refused."""
+    """The program of rows, with a request that is refused."""
 
     def __init__(self, folder):
         self.refuse, self.said, self.counted = built("refuse"), Path(folder) / "said", Path(folder) / "counted"
@@ -53,7 +53,7 @@ class Calls:
         """Status and lines of a run, and whether a request was refused."""
         self.said.unlink(missing_ok=True)
         env = dict(os.environ, LD_PRELOAD=self.refuse, REFUSE_AT=str(at), REFUSE_SAYS=str(self.said), REFUSE_COUNTS=str(self.counted))
-        done = subprocess.run([test_program(name)], input="".join(line + "\n" for line in lines).encode(), capture_output=True,
+        done = subprocess.run(test_program(name), input="".join(line + "\n" for line in lines).encode(), capture_output=True,
                               env=env, timeout=60)
         return done.returncode, done.stdout.decode().splitlines(), self.said.exists()
 

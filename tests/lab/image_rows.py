@@ -27,6 +27,7 @@ SECTOR = 512
 SLOT = 6 * SECTOR
 LEAST = 9_900
 NOBODY = 65_534
+NO_END = 2**32 - 1
 
 
 # ---- writing images
@@ -116,6 +117,10 @@ def formats():
         yield f"format {form} kept", image_of(5, {0: data_of(with_(full(form), identity=b'A"\\z ~', running=99_999_999, trip=0))})
         yield f"format {form} nothing kept", image_of(5, {0: data_of(with_(full(form), identity=None, running=None, train=None, level=(0, 0), position=(0, 0, 0, 0)))})
         yield f"format {form} level 0", image_of(5, {0: data_of(with_(full(form), level=(2, 0), position=(2, 1_023, 16_383, -(2**41))))})
+        values = [1_000, 2_000, 3_000, 4_000, 5_000, 600, 7_000, 8_000, 900, 10_000, 1_100]
+        yield f"format {form} values", image_of(5, {0: data_of(with_(full(form), values=values, countries=[]))})
+        yield f"format {form} values without end", image_of(5, {0: data_of(with_(full(form), v_override_time=NO_END, countries=list(range(992, 1_024))))})
+        yield f"format {form} any distance", image_of(5, {0: data_of(with_(full(form), v_override_time=0, v_staff_responsible_distance=32_766_000, countries=[0]))})
     mixed = {n: b for form in (1, 2, 3) for n, b in blocks_of(9, form).items() if n % 3 == form - 1}
     yield "formats side by side", image_of(5, ring(5, mixed))
     for size in (8, 16):
@@ -377,8 +382,8 @@ def compare_big(program, etcs, room, compared):
     big_journal(full_one, 12_500, 20_000)
     seconds, most, status, printed = timed([program, "examine", str(full_one)])
     lines = printed.splitlines()
-    compared.same("100,000 events", (len(lines), lines[-9:-8], lines[-1], status),
-                  (12_500 + 11, ["journal blocks 7501..20000 events 59993..159992 lives 1"], "whole", 0))
+    compared.same("100,000 events", (len(lines), lines[-13:-12], lines[-1], status),
+                  (12_500 + 15, ["journal blocks 7501..20000 events 59993..159992 lives 1"], "whole", 0))
     print(f"an image of 100,000 events: {seconds:.2f} s, {most:.0f} MB")
     if etcs:
         seconds, most, status, printed = timed([etcs, "journal", str(full_one)])

@@ -17,6 +17,7 @@ from life import Life
 WHOLE, REFUSED, LOST = 0, 1, 4
 MODE_WORDS = {number: word for word, number in MODES.items()}
 STATUS_WORDS = ("unknown", "valid", "invalid")
+SIGNS = ("on_sight", "shunting", "level_0", "trip", "overridden", "not_revalidated", "overspeed")
 VALUES = ("shunting_m_per_h", "staff_responsible_m_per_h", "on_sight_m_per_h", "unfitted_m_per_h", "release_m_per_h", "roll_cm",
           "override_allowed_m_per_h", "override_speed_m_per_h", "override_distance_cm", "override_time_ms", "staff_responsible_distance_cm")
 RECORD_FIELDS = (("event", "number"), ("time_ms", "moment"), ("mode", "mode"), ("level", "level"), ("brake", "brake"), ("indications", "ind"),
@@ -54,7 +55,8 @@ def input_of(event):
 def answer_object(record, form):
     """What is told of an event beside the event."""
     told = {"event": record["number"], "time_ms": record["moment"], "mode": MODE_WORDS[record["mode"]],
-            "level": None if record["level"] == 255 else record["level"], "brake": BRAKES[record["brake"]], "indications": record["ind"]}
+            "level": None if record["level"] == 255 else record["level"], "brake": BRAKES[record["brake"]],
+            "indications": [sign for bit, sign in enumerate(SIGNS) if record["ind"] >> bit & 1]}
     if form > 1:
         told |= {"place_cm": record["estimate"], "uncertainty_cm": record["uncertainty"], "limit_m_per_h": record["limit"]}
     return told

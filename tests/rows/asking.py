@@ -8,6 +8,7 @@ import sys
 from pathlib import Path
 
 HERE = Path(__file__).resolve().parent
+PROGRAM = HERE.parents[1] / "crates/test_rows/out/test_rows"  # its word names the crate that answers
 MOST = 512  # numbers that a program takes in a row (number_rows::MOST); it drops those behind them
 
 
@@ -61,23 +62,23 @@ class Told:
             raise ValueError("too many numbers")
 
 
-def refuse_long(program, questions):
+def refuse_long(words, questions):
     """Ends the run where a question has more numbers than a program takes in a row."""
     for place, numbers in enumerate(questions, 1):
         if len(numbers) > MOST:
-            raise SystemExit(f"{program}: question {place} has {len(numbers)} numbers, and a row {MOST} at most")
+            raise SystemExit(f"{words[-1]}: question {place} has {len(numbers)} numbers, and a row {MOST} at most")
 
 
-def asked(program, questions):
-    """The rows of numbers that a program answers to rows of numbers."""
-    refuse_long(program, questions)
+def asked(words, questions):
+    """The rows of numbers that a program, run with these words, answers to rows of numbers."""
+    refuse_long(words, questions)
     text = "".join(" ".join(map(str, numbers)) + "\n" for numbers in questions)
-    ran = subprocess.run([program], input=text.encode(), capture_output=True, timeout=120)
+    ran = subprocess.run(words, input=text.encode(), capture_output=True, timeout=120)
     if ran.returncode or ran.stderr:
-        raise SystemExit(f"{program}: status {ran.returncode} {ran.stderr.decode()}")
+        raise SystemExit(f"{words[-1]}: status {ran.returncode} {ran.stderr.decode()}")
     answers = [[int(word) for word in line.split()] for line in ran.stdout.decode().splitlines()]
     if len(answers) != len(questions):
-        raise SystemExit(f"{program}: {len(questions)} rows, {len(answers)} answers")
+        raise SystemExit(f"{words[-1]}: {len(questions)} rows, {len(answers)} answers")
     return answers
 
 
@@ -97,7 +98,7 @@ def compare(name, program, question_of, answer_of):
 
     `question_of` makes numbers of a question, `answer_of` makes lines of a question and `Told`."""
     rows = rows_of((HERE / f"{name}.row").read_text())
-    answers = asked(program, [question_of(question) for _, question, _ in rows])
+    answers = asked([program, name], [question_of(question) for _, question, _ in rows])
     differ = 0
     for (place, question, wanted), numbers in zip(rows, answers):
         found = words_of(lambda told: answer_of(question, told), numbers)
@@ -111,5 +112,5 @@ def compare(name, program, question_of, answer_of):
 
 def main(name, question_of, answer_of):
     """Runs a file of rows over the program of the first word. The exit status is 1 where one differs."""
-    program = sys.argv[1] if len(sys.argv) > 1 else HERE.parents[1] / f"crates/{name}/out/{name}"
+    program = sys.argv[1] if len(sys.argv) > 1 else PROGRAM
     return 0 if compare(name, program, question_of, answer_of) else 1

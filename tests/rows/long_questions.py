@@ -9,7 +9,7 @@ from asking import MOST, asked
 
 def is_refused(numbers):
     try:
-        return asked("cat", [[1], numbers, [2]]) != [[1], numbers, [2]]
+        return asked(["cat"], [[1], numbers, [2]]) != [[1], numbers, [2]]
     except SystemExit as refusal:
         return str(refusal) == f"cat: question 2 has {len(numbers)} numbers, and a row {MOST} at most"
 

@@ -10,7 +10,7 @@ import sys
 import tempfile
 from concurrent.futures import ThreadPoolExecutor
 
-from asking import HERE, Told, asked, rows_of
+from asking import HERE, PROGRAM, Told, asked, rows_of
 
 FAULTS = {0: "decoded", 1: "Truncated", 2: "WrongLength", 3: "Spare", 4: "OutOfRange", 5: "WrongVersion",
           6: "NotUplink", 7: "NotBalise", 8: "NoEnd", 9: "TooLong"}
@@ -47,7 +47,7 @@ class Programs:
         self.program, self.etcs = program, etcs
 
     def ask(self, questions):
-        return [Told(numbers) for numbers in asked(self.program, questions)]
+        return [Told(numbers) for numbers in asked([self.program, "test_decode"], questions)]
 
     def told(self, text):
         """What `etcs decode` prints, and its status."""
@@ -255,7 +255,7 @@ ASKED = {"decode": decode, "short": short, "numbers": numbers, "again": again, "
 
 def main(words):
     top = HERE.parents[1]
-    program = words[0] if words else top / "crates/test_decode/out/test_decode"
+    program = words[0] if words else PROGRAM
     programs = Programs(program, words[1] if len(words) > 1 else top / "crates/etcs/out/etcs")
     rows = rows_of((HERE / "test_decode.row").read_text())
     differ = 0

@@ -14,7 +14,7 @@ refused memory, and each whose answer says nothing. What is asked and told, in n
 crates/test_kernel/src; tests/plain/check_rows.py works out the wanted answers by the plain program."""
 import sys
 
-from asking import HERE, asked
+from asking import HERE, PROGRAM, asked
 from kernel_words import NEW, answers, question
 
 sys.path.insert(0, str(HERE.parent / "plain"))
@@ -50,7 +50,7 @@ def is_met(wanted, found):
 
 def told(lists, program):
     """Each line of the lists with its row and the numbers that it is answered."""
-    numbers = iter(asked(program, [one for row in lists for one in questions(row)]))
+    numbers = iter(asked([program, NAME], [one for row in lists for one in questions(row)]))
     for row in lists:
         if next(numbers):
             raise SystemExit(f"{NAME}: new equipment is answered")
@@ -75,7 +75,7 @@ def compare(program):
 
 
 def main():
-    program = sys.argv[1] if len(sys.argv) > 1 else HERE.parents[1] / f"crates/{NAME}/out/{NAME}"
+    program = sys.argv[1] if len(sys.argv) > 1 else PROGRAM
     return 0 if compare(program) else 1
 
 

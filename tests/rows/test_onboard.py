@@ -7,7 +7,7 @@ A row is one or several commands with `;` between them, which are done in turn. 
 in crates/test_onboard/src."""
 import sys
 
-from asking import HERE, asked
+from asking import HERE, PROGRAM, asked
 from onboard_words import answer, questions
 
 sys.path.insert(0, str(HERE.parent / "plain"))
@@ -49,7 +49,7 @@ class Answers:
     """The rows of answers to those of all questions, taken one command after the other."""
 
     def __init__(self, program, rows):
-        self.rows = iter(asked(program, rows))
+        self.rows = iter(asked([program, NAME], rows))
 
     def take(self, said):
         return answer(said, [next(self.rows) for _ in questions(said)])
@@ -91,7 +91,7 @@ def compare(program):
 
 
 def main():
-    program = sys.argv[1] if len(sys.argv) > 1 else HERE.parents[1] / f"crates/{NAME}/out/{NAME}"
+    program = sys.argv[1] if len(sys.argv) > 1 else PROGRAM
     return 0 if compare(program) else 1
 
 

@@ -13,6 +13,7 @@ use Rattle.mode_table.specs.declared.level.TrainLevel.TheVariants.{Level0, Level
 use Rattle.pieces.specs.Pieces.{text_in, joined}
 use Rattle.pieces.specs.declared.piece.Form.{Form}
 use Rattle.pieces.specs.declared.piece.Form.TheVariants.{People, Json}
+use Rattle.lab_lines.specs.NationalLines.{national_text}
 
 -- a printable character; in JSON a quotation mark and a backslash behind a backslash
 unfoldable pub escaped : Form → ℕ → List ℕ
@@ -77,8 +78,12 @@ trip_text form false = joined (text_in form (codes "kept no trip outstanding\n")
 abbrev pub entered_text : Form → Kept → List ℕ
 entered_text form k = identity_text form k.identity ++ running_text form k.running_number ++ train_text form k.train_data
 
+-- the national values, and the outstanding trip, which ends the object
+abbrev pub last_text : Form → Kept → List ℕ
+last_text form k = national_text form k.national ++ trip_text form k.trip_outstanding
+
 abbrev pub known_text : Form → Kept → List ℕ
-known_text form k = level_text form k.level ++ position_text form k.position ++ trip_text form k.trip_outstanding
+known_text form k = level_text form k.level ++ position_text form k.position ++ last_text form k
 
 abbrev pub kept_text : Form → Kept → List ℕ
 kept_text form k = entered_text form k ++ known_text form k

@@ -2,6 +2,7 @@ pub mod EndLines
 pub mod ImageLines
 pub mod JournalLines
 pub mod KeptLines
+pub mod NationalLines
 pub mod NumberLines
 pub mod SlotLines
 pub mod Texts

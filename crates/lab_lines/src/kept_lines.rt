@@ -1,11 +1,12 @@
 //! The lines of what a power-up would keep.
 ghost use Rattle.std.specs.Prelude.{◌≡◌, flat_map, OnOk};
 ghost use Rattle.std.specs.Io.KnownBytes.{Appends};
-ghost use Rattle.lab_lines.specs.KeptLines.{escaped, identity_text, entered_text, known_text, kept_text, found_text};
+ghost use Rattle.lab_lines.specs.KeptLines.{escaped, identity_text, entered_text, last_text, known_text, kept_text, found_text};
 
 use crate::kept_values::{
     level_pieces, position_pieces, running_pieces, train_pieces, trip_pieces,
 };
+use crate::national_lines::write_national;
 use events::Kept;
 use journal::Found;
 use pieces::{Form, Piece, write_pieces};
@@ -54,12 +55,19 @@ fn write_entered<W: Write>(form: Form, kept: &Kept, out: &mut W) -> io::Result<(
     write_pieces(form, &train_pieces(kept.train_data), out)
 }
 
+fn write_last<W: Write>(form: Form, kept: &Kept, out: &mut W) -> io::Result<()>
+    ensures { OnOk result (Appends (W.contents out.old) (W.contents out.new) (last_text form kept.now)) }
+{
+    write_national(form, &kept.national, out)?;
+    write_pieces(form, &trip_pieces(kept.trip_outstanding), out)
+}
+
 fn write_known<W: Write>(form: Form, kept: &Kept, out: &mut W) -> io::Result<()>
     ensures { OnOk result (Appends (W.contents out.old) (W.contents out.new) (known_text form kept.now)) }
 {
     write_pieces(form, &level_pieces(kept.level), out)?;
     write_pieces(form, &position_pieces(kept.position), out)?;
-    write_pieces(form, &trip_pieces(kept.trip_outstanding), out)
+    write_last(form, kept, out)
 }
 
 fn write_kept<W: Write>(form: Form, kept: &Kept, out: &mut W) -> io::Result<()>

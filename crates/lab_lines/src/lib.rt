@@ -9,6 +9,7 @@ mod image_lines;
 mod journal_lines;
 mod kept_lines;
 mod kept_values;
+mod national_lines;
 mod number_lines;
 mod opening;
 mod power_up;

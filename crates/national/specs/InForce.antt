@@ -1,7 +1,6 @@
 -- The national values in force, read off what one life brought (SUBSET-026, 3.18.2; when they come into force: this
 -- project's profile). Lists of entries have the newest first. Places are centimetres.
-use Rattle.std.specs.Prelude.{ℕ, ℤ, pos, ◌+ℤ◌, Bool, true, false, not, ◌||◌, int_lt, is_some, if◌then◌else◌, Option, Some, None, option_map, unwrap_or, List, [], ◌∷◌}
-use Rattle.std.specs.List.{list_any}
+use Rattle.std.specs.Prelude.{ℕ, ℤ, pos, ◌+ℤ◌, Bool, true, false, not, ◌||◌, int_lt, if◌then◌else◌, Option, Some, None, option_map, List, [], ◌∷◌}
 use Rattle.vars.specs.declared.scale.Scale.{Scale}
 use Rattle.vars.specs.declared.special_distance.StartPlace.{StartPlace}
 use Rattle.vars.specs.declared.special_distance.StartPlace.TheVariants.{At, Now}
@@ -39,58 +38,60 @@ abbrev pub is_reached : Option ℤ → ℤ → Bool
 is_reached None max_front = true
 is_reached (Some start) max_front = not (int_lt max_front start)
 
--- the latest packet 3, and the maximum safe fronts of the looks since
-abbrev pub latest : List NationalEntry → Option Fact
-latest [] = None
-latest (Announced fact ∷ entries) = Some fact
-latest (Entered country ∷ entries) = latest entries
-latest (Reached max_front ∷ entries) = latest entries
+-- what an entry brings
+abbrev pub brought : NationalEntry → Option Fact
+brought (Announced fact) = Some fact
+brought (Entered country) = None
+brought (Reached max_front) = None
 
-abbrev pub fronts_since : List NationalEntry → List ℤ
-fronts_since [] = []
-fronts_since (Announced fact ∷ entries) = []
-fronts_since (Entered country ∷ entries) = fronts_since entries
-fronts_since (Reached max_front ∷ entries) = max_front ∷ fronts_since entries
+-- what ends the wait of a packet 3: a later one, and a look that finds its start reached; a group doesn't
+abbrev pub ends : NationalEntry → Fact → Bool
+ends (Announced later) fact = true
+ends (Entered country) fact = false
+ends (Reached max_front) fact = is_reached (start_of fact) max_front
 
--- the latest packet 3 waits while no look since has found its start reached
-abbrev pub while_unreached : List ℤ → Option Fact → Option Fact
-while_unreached fronts None = None
-while_unreached fronts (Some fact) = if list_any (is_reached (start_of fact)) fronts then None else Some fact
+abbrev pub unless_ended_by : NationalEntry → Option Fact → Option Fact
+unless_ended_by entry None = None
+unless_ended_by entry (Some fact) = if ends entry fact then None else Some fact
 
+abbrev pub or_before : Option Fact → Option Fact → Option Fact
+or_before None before = before
+or_before (Some fact) before = Some fact
+
+-- the packet 3 that waits: it came, and nothing later has ended its wait
 abbrev pub waiting : List NationalEntry → Option Fact
-waiting entries = while_unreached (fronts_since entries) (latest entries)
+waiting [] = None
+waiting (entry ∷ earlier) = or_before (brought entry) (unless_ended_by entry (waiting earlier))
 
 -- ---- what is in force
 
--- the packet 3 that a look puts in force: the one that waits, where its start is reached
-abbrev pub where_reached : ℤ → Option Fact → Option Fact
-where_reached max_front None = None
-where_reached max_front (Some fact) = if is_reached (start_of fact) max_front then Some fact else None
+-- a table: what an entry leaves in force, by what waits and what was in force before it
+--   a group of a country that is foreign to these values: the defaults, for that country alone
+--   a look that finds the start of the waiting packet 3 reached: the values of that packet, for its countries
+--   everything else: what was in force
+abbrev pub in_force_behind : NationalEntry → Option Fact → ValuesFor → ValuesFor
+in_force_behind (Entered country) waits before =
+    if is_foreign country before.countries then values_for defaults (country ∷ []) else before
+in_force_behind (Reached max_front) (Some fact) before =
+    if is_reached (start_of fact) max_front then told_by fact.packet fact.country else before
+in_force_behind (Reached max_front) None before = before
+in_force_behind (Announced fact) waits before = before
 
-abbrev pub coming : ℤ → List NationalEntry → Option Fact
-coming max_front entries = where_reached max_front (waiting entries)
-
--- a group of a foreign country puts the defaults in force, for that country alone
-abbrev pub defaults_at : ℕ → List ℕ → Option ValuesFor
-defaults_at country countries = if is_foreign country countries then Some (values_for defaults (country ∷ [])) else None
-
--- what an entry puts in force, if it does, behind earlier entries and over what they left in force
-abbrev pub put_by : NationalEntry → List NationalEntry → ValuesFor → Option ValuesFor
-put_by (Announced fact) entries before = None
-put_by (Entered country) entries before = defaults_at country before.countries
-put_by (Reached max_front) entries before = option_map (λ fact. told_by fact.packet fact.country) (coming max_front entries)
-
--- the newest that was put in force, or else what a power-up kept
+-- at first it is what a power-up kept
 abbrev pub in_force : ValuesFor → List NationalEntry → ValuesFor
 in_force kept [] = kept
-in_force kept (entry ∷ entries) = unwrap_or (put_by entry entries (in_force kept entries)) (in_force kept entries)
+in_force kept (entry ∷ earlier) = in_force_behind entry (waiting earlier) (in_force kept earlier)
 
 -- whether a packet 3 came into force
+abbrev pub comes_by : NationalEntry → Option Fact → Bool
+comes_by (Reached max_front) (Some fact) = is_reached (start_of fact) max_front
+comes_by (Reached max_front) None = false
+comes_by (Entered country) waits = false
+comes_by (Announced fact) waits = false
+
 abbrev pub has_come : List NationalEntry → Bool
 has_come [] = false
-has_come (Announced fact ∷ entries) = has_come entries
-has_come (Entered country ∷ entries) = has_come entries
-has_come (Reached max_front ∷ entries) = is_some (coming max_front entries) || has_come entries
+has_come (entry ∷ earlier) = comes_by entry (waiting earlier) || has_come earlier
 
 -- ---- what is known
 

@@ -4,30 +4,30 @@ use Rattle.std.specs.Prelude.{ℕ, List, [], ◌∷◌, ◌++◌, codes, decimal
 use Rattle.std.specs.Fmt.{signed_decimal}
 use Rattle.blocks.specs.declared.records.BlockRecord.{BlockRecord}
 use Rattle.blocks.specs.declared.records.Situation.{Situation}
-use Rattle.events.specs.Indications.{number_of}
 use Rattle.mode_table.specs.declared.level.TrainLevel.{TrainLevel}
 use Rattle.mode_table.specs.declared.level.TrainLevel.TheVariants.{Level0, Level1}
 use Rattle.output_lines.specs.Words.{mode_text, brake_text}
 use Rattle.pieces.specs.Pieces.{joined}
+use Rattle.record_objects.specs.Signs.{signs_of}
 
 abbrev pub level_value : Option TrainLevel → List ℕ
 level_value None = codes "null"
 level_value (Some Level0) = codes "0"
 level_value (Some Level1) = codes "1"
 
--- the indications are the sum of their bits
+-- up to the list of the indications
 abbrev pub front_of : BlockRecord → List ℕ
 front_of r =
     joined (codes "{\"event\":" ∷ decimal r.number ∷ codes ",\"time_ms\":" ∷ decimal r.moment ∷ codes ",\"mode\":\"" ∷ mode_text r.mode
-    ∷ codes "\",\"level\":" ∷ level_value r.level ∷ codes ",\"brake\":\"" ∷ brake_text r.brake ∷ codes "\",\"indications\":"
-    ∷ decimal (number_of r.indications) ∷ [])
+    ∷ codes "\",\"level\":" ∷ level_value r.level ∷ codes ",\"brake\":\"" ∷ brake_text r.brake ∷ codes "\",\"indications\":[" ∷ [])
 
+-- behind it
 abbrev pub situation_of : Option Situation → List ℕ
-situation_of None = codes "}"
+situation_of None = codes "]}"
 situation_of (Some s) =
-    joined (codes ",\"place_cm\":" ∷ signed_decimal s.estimate ∷ codes ",\"uncertainty_cm\":" ∷ decimal s.uncertainty
+    joined (codes "],\"place_cm\":" ∷ signed_decimal s.estimate ∷ codes ",\"uncertainty_cm\":" ∷ decimal s.uncertainty
     ∷ codes ",\"limit_m_per_h\":" ∷ decimal s.limit ∷ codes "}" ∷ [])
 
 -- the whole object
 abbrev pub answer_of : BlockRecord → List ℕ
-answer_of r = front_of r ++ situation_of r.situation
+answer_of r = front_of r ++ signs_of r.indications ++ situation_of r.situation

@@ -2,28 +2,19 @@
 use crate::telling::tell;
 use crate::writing::is_written_again;
 use blocks::{Block, read_block, read_first_sector, valid_number, write_first_sector};
+use event_rows::fill;
 use number_rows::Numbers;
 
 // Where the bytes of a row begin.
 const BYTES: usize = 3;
 
-// The byte of an offset.
-fn byte_at(asked: &Numbers, offset: usize) -> u8 {
-    asked.at(BYTES + offset / 8).to_be_bytes()[offset % 8]
-}
-
-// The bytes of the row from a sector on.
-fn fill(asked: &Numbers, bytes: &mut [u8], sector: usize) {
-    let first = sector.saturating_mul(512);
-    for offset in 0..bytes.len() {
-        bytes[offset] = byte_at(asked, first.saturating_add(offset));
-    }
-}
+// Where the bytes of the second sector begin, eight to a number.
+const SECOND: usize = BYTES + 64;
 
 /// How many slots a first sector tells, and whether it is written again as it was.
 pub fn sector(asked: &Numbers) -> [u64; 3] {
     let mut bytes = [0; 512];
-    fill(asked, &mut bytes, 0);
+    fill(asked, BYTES, &mut bytes);
     match read_first_sector(&bytes) {
         Some(slots) => [
             1,
@@ -64,15 +55,15 @@ fn number_in(asked: &Numbers, slot: u32, slots: u32) -> Option<u64> {
     }
     let mut gate = [0; 512];
     let mut head = [0; 512];
-    fill(asked, &mut gate, 0);
-    fill(asked, &mut head, 1);
+    fill(asked, BYTES, &mut gate);
+    fill(asked, SECOND, &mut head);
     valid_number(&gate, &head, slot, slots)
 }
 
 /// Of how many bytes from one offset up to another each, set to 1 alone, makes a block no spelling.
 pub fn refused(asked: &Numbers) -> [u64; 2] {
     let mut bytes = [0; 3_072];
-    fill(asked, &mut bytes, 0);
+    fill(asked, BYTES, &mut bytes);
     [1, count_refused(&mut bytes, asked.at(1), asked.at(2))]
 }
 
@@ -99,7 +90,7 @@ fn is_refused_at(bytes: &mut [u8; 3_072], offset: usize) -> bool {
 /// The block that the bytes hold, and whether it is written again as it was.
 pub fn block(asked: &Numbers, told: &mut Numbers) {
     let mut bytes = [0; 3_072];
-    fill(asked, &mut bytes, 0);
+    fill(asked, BYTES, &mut bytes);
     let mut block = Block::blank();
     if read_block(&bytes, &mut block).is_err() {
         return told.tell(0);

@@ -8,11 +8,10 @@
 //!         3 MOVEMENT SPEED                          a reading of the odometer
 //!         4 MOMENT                                  the clock
 //!         5 CODE VALUES                             an action of the driver
-use crate::telling::{of_train, packed, text};
 use blocks::{BlockRecord, Situation};
 use driver::{Acknowledged, Action, Confirmed};
-use events::{Brake, Event, Input, Reading, TelegramBytes};
-use mode_table::TrainLevel;
+use event_rows::{brake_number, level_number, of_train, packed, text};
+use events::{Event, Input, Reading, TelegramBytes};
 use number_rows::Numbers;
 
 /// Tells a record.
@@ -34,21 +33,6 @@ fn front(record: &BlockRecord) -> [u64; 6] {
         brake_number(record.brake),
         u64::from(record.indications.number()),
     ]
-}
-
-fn level_number(level: Option<TrainLevel>) -> u64 {
-    match level {
-        Some(level) => u64::from(level.number()),
-        None => 2,
-    }
-}
-
-fn brake_number(brake: Brake) -> u64 {
-    match brake {
-        Brake::None => 0,
-        Brake::Service => 1,
-        Brake::Emergency => 2,
-    }
 }
 
 fn situation(told: &Option<Situation>) -> [u64; 4] {

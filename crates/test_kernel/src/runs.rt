@@ -1,7 +1,6 @@
 //! One row, run in three ways side by side.
 use crate::calls::{Known, Listing, Short, after, apply, begin, kept_by, listing, place_of, short};
-use crate::keeping::tell_kept;
-use crate::outputs::numbers_of;
+use event_rows::{numbers_of, tell_kept};
 use events::{Event, Output};
 use number_rows::Numbers;
 use speed_profile::CategorySpeeds;

@@ -7,12 +7,11 @@
 //!     2 STEP REFUSAL     the input of this step wasn't accepted
 //!     3 STEP REFUSAL     the flush of this step released nothing
 //!     4 STEP 0           there was no room for what the flush of this step may release
-use crate::inputs::input;
 use crate::narrow::Narrow;
-use crate::packing::byte;
 use crate::refusals::{NO_POWER, NOT_DONE};
 use crate::releases::tell_pairs;
 use crate::session::Session;
+use event_rows::{byte, input};
 use events::Input;
 use mode_table::Cold;
 use number_rows::Numbers;

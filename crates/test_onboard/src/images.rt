@@ -1,9 +1,9 @@
 //! Disks made by hand.
 use crate::calls::{format, put, read};
 use crate::device::{Device, settled};
-use crate::packing::{byte, fill, word};
 use crate::session::{blank, sectors_of};
 use disk::{Choice, Memory, SECTOR_BYTES};
+use event_rows::{byte, fill, word};
 use number_rows::Numbers;
 use std::alloc::Global;
 

@@ -1,22 +1,20 @@
 //! What is on the disk, of which a copy is read. What is told behind 0:
 //!
 //!     FIRST NEWEST EVENTS     of the run of blocks
-//!     KEPT                    what the newest block keeps (`keeping.rt`)
+//!     KEPT                    what the newest block keeps (`keeping.rt` of `event_rows`)
 //!     NUMBER COUNT RECORD ..  of a block, where each record is
-//!         EVENT KIND MODE LEVEL BRAKE INDICATIONS     as in `releases.rt`; kinds as in `inputs.rt`, 1 for a power-up
+//!         EVENT KIND MODE LEVEL BRAKE INDICATIONS     as in `releases.rt`; kinds as in `inputs.rt` there, 1 for a power-up
 //!         SIZE BYTES                                  the bytes of the event, eight to a number, the first the highest
 //!         IS ESTIMATE UNCERTAINTY LIMIT               the situation, 0 where there is none
 //!     DIGEST                  of the digests of the blocks
 use crate::calls::found;
 use crate::digest::Digest;
 use crate::images::{SLOT_BYTES, slot_at};
-use crate::keeping::tell_kept;
-use crate::packing::{byte_of, tell_bytes};
 use crate::refusals::{NO_BLOCK, NO_POWER, NO_SPELLING, NOT_DONE};
-use crate::releases::{brake_number, level_number};
 use crate::session::Session;
 use blocks::{Block, BlockRecord, Format, Situation, read_block};
 use disk::Memory;
+use event_rows::{brake_number, byte_of, level_number, tell_bytes, tell_kept};
 use events::{Event, Input};
 use journal::{Found, Journal, OpenError};
 use number_rows::Numbers;

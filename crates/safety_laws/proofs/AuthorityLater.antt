@@ -1,0 +1,258 @@
+-- Where an event uses no authority, the end isn't farther behind it.
+use Rattle.std.proofs.Common.{◌≡◌, ℕ, ◌≤◌, ℤ, ◌≤ℤ◌, List, [], ◌∷◌, Bool, true, false, cond, refl, ap, sym, ◌∙◌, subst, arith}
+use Rattle.std.specs.Prelude.{not, ◌&&◌, ◌||◌, Option, Some, None, is_some, map, unwrap_or}
+use Rattle.std.specs.List.{list_any}
+use Rattle.std.specs.Option.{option_map, option_map_or, option_or}
+use Rattle.std.proofs.lemmas.Int.{ints}
+use Rattle.std.proofs.lemmas.Bool.{and_parts, and_from, or_parts, not-true, not_from_false}
+use Rattle.std.proofs.lemmas.Bool.Decides.{nat_tests}
+use Rattle.authority.specs.declared.answers.End.{End}
+use Rattle.authority.specs.declared.timers.TimedSection.{TimedSection}
+use Rattle.authority.specs.Timers.{has_run_out, started_has_run_out}
+use Rattle.authority.specs.Entries as authority
+use Rattle.authority.specs.Entries.{AuthorityEntry, Sight, now_of, accepted, sights}
+use Rattle.authority.specs.Entries.AuthorityEntry.{Ticked, Accepted as Granted, Passed, Cleared}
+use Rattle.authority.specs.Track.{told_end}
+use Rattle.authority.specs.Authority.{reaches, was_stopped, section_has_run_out, started_before, end_timer_has_run_out, end_now, end_of}
+use Rattle.authority.proofs.Places.{now_sooner}
+use Rattle.balise_groups.specs.declared.message.Closed.{Closed}
+use Rattle.balise_groups.specs.declared.message.Closed.TheVariants as closed
+use Rattle.balise_groups.specs.declared.message.Message.{Message}
+use Rattle.events.specs.declared.input.Event.{Event}
+use Rattle.events.specs.declared.input.Event.TheVariants as an_event
+use Rattle.events.specs.declared.input.Input.{Input}
+use Rattle.linking.specs.declared.judgement.Verdict.{Verdict}
+use Rattle.linking.specs.declared.judgement.Verdict.TheVariants.{Accept, Ignore, Reaction}
+use Rattle.linking.specs.declared.judgement.Judgement.{Judgement}
+use Rattle.mode_table.specs.declared.mode.Mode.{Mode}
+use Rattle.mode_table.specs.declared.statuses.Item.TheVariants as item
+use Rattle.mode_table.specs.Statuses.{status_on}
+use Rattle.packets.specs.declared.authority.EndTimer.{EndTimer}
+use Rattle.packets.specs.declared.authority.MovementAuthority.{MovementAuthority}
+use Rattle.packets.specs.declared.packet.Packet.{Packet}
+use Rattle.packets.specs.Packets.{as_movement_authority}
+use Rattle.units.specs.Stretches.{Span}
+use Rattle.vars.specs.declared.scale.Scale.{Scale}
+use Rattle.vars.specs.declared.group.GroupIdentity.{GroupIdentity}
+use Rattle.track_picture.specs.Entry.{TrackEntry, Begun, Used, Outcome, Fact, blank, added, asking_for}
+use Rattle.track_picture.specs.History.{moment_of, is_deleted, after_column, after_clock, after_authority, after_facts, after_told, facts_in, authority_deleted, authorities, groups_of}
+use Rattle.track_picture.specs.Sentences.{begun, happened_first, with_closed, closed_by, used_by, outcome, outcome_at_first, judged}
+use Rattle.mode_control.specs.History.{tracks, mode_of}
+use Rattle.mode_control.specs.Sentences.{told, entry_of}
+use Rattle.kernel.specs.Lives.{life_of}
+use Rattle.safety_laws.specs.Ends.{is_authority, tells_authority, uses_authority, end_after, moment_after}
+use Rattle.safety_laws.proofs.Events.{train}
+
+-- ---- what has run out has run out later
+
+over_later : (time start now later : ℕ) → now ≤ later → has_run_out time start now ≡ true → has_run_out time start later ≡ true
+over_later time start now later o h = grind (arith, nat_tests)
+
+section_later : (start now later : ℕ) (seen : List Sight) (section : TimedSection) → now ≤ later →
+    section_has_run_out start now seen section ≡ true → section_has_run_out start later seen section ≡ true
+section_later start now later seen section o h =
+    let parts = and_parts (has_run_out section.time start now) (not (was_stopped start seen section)) h in
+    and_from (has_run_out section.time start later) (not (was_stopped start seen section)) (over_later section.time start now later o parts.0) parts.1
+
+stopped_no_more : (a b c : Bool) → b ≡ true → c ≡ false → ((a && not b) || c) ≡ false
+stopped_no_more true b c e f = rw (e, f) refl
+stopped_no_more false b c e f = f
+
+section_seen : (start : ℕ) (sight : Sight) (seen : List Sight) (section : TimedSection) →
+    section_has_run_out start sight.moment seen section ≡ true → section_has_run_out start sight.moment (sight ∷ seen) section ≡ true
+section_seen start sight seen section h =
+    let parts = and_parts (has_run_out section.time start sight.moment) (not (was_stopped start seen section)) h in
+    let same : was_stopped start (sight ∷ seen) section ≡ false =
+    stopped_no_more (reaches sight.train.min_front section.stop_at) (has_run_out section.time start sight.moment) (was_stopped start seen section) parts.0 (not-true _ parts.1) in
+    and_from (has_run_out section.time start sight.moment) (not (was_stopped start (sight ∷ seen) section)) parts.0 (not_from_false _ same)
+
+started_later : (time now later : ℕ) (started : Option ℕ) → now ≤ later → started_has_run_out time started now ≡ true → started_has_run_out time started later ≡ true
+started_later time now later None o h = h
+started_later time now later (Some start) o h = over_later time start now later o h
+
+timer_later : (end : ℤ) (scale : Scale) (now later : ℕ) (seen : List Sight) (timer : Option EndTimer) → now ≤ later →
+    end_timer_has_run_out end scale now seen timer ≡ true → end_timer_has_run_out end scale later seen timer ≡ true
+timer_later end scale now later seen None o h = h
+timer_later end scale now later seen (Some timer) o h = started_later timer.time now later (started_before end scale timer.start seen) o h
+
+started_kept : (time now : ℕ) (before more : Option ℕ) → started_has_run_out time before now ≡ true → started_has_run_out time (option_or before more) now ≡ true
+started_kept time now None more h = absurd (cc)
+started_kept time now (Some start) more h = h
+
+timer_seen : (end : ℤ) (scale : Scale) (now : ℕ) (sight : Sight) (seen : List Sight) (timer : Option EndTimer) →
+    end_timer_has_run_out end scale now seen timer ≡ true → end_timer_has_run_out end scale now (sight ∷ seen) timer ≡ true
+timer_seen end scale now sight seen None h = h
+timer_seen end scale now sight seen (Some timer) h = started_kept timer.time now (started_before end scale timer.start seen) _ h
+
+abbrev end_at : authority.Fact → List AuthorityEntry → ℤ
+end_at fact entries = (end_now fact (now_of entries) (sights entries)).end
+
+-- a moment of the clock, and a place of the train
+by_clock : (fact : authority.Fact) (moment : ℕ) (before : List AuthorityEntry) → now_of before ≤ moment →
+    end_at fact (Ticked moment ∷ before) ≤ℤ end_at fact before
+by_clock fact moment before o =
+    now_sooner fact (now_of before) moment (sights before) (sights before)
+    (λ s h. section_later fact.moment (now_of before) moment (sights before) s o h)
+    (λ h. timer_later (told_end fact) fact.packet.scale (now_of before) moment (sights before) fact.packet.end_timer o h)
+
+by_sight : (fact : authority.Fact) (here : Span) (before : List AuthorityEntry) → end_at fact (Passed here ∷ before) ≤ℤ end_at fact before
+by_sight fact here before =
+    let sight : Sight = record { moment = now_of before; train = here } in
+    now_sooner fact (now_of before) (now_of before) (sights before) (sight ∷ sights before)
+    (λ s h. section_seen fact.moment sight (sights before) s h)
+    (λ h. timer_seen (told_end fact) fact.packet.scale (now_of before) sight (sights before) fact.packet.end_timer h)
+
+by_both : (fact : authority.Fact) (clock : Option ℕ) (here : Span) (before : List AuthorityEntry) → now_of before ≤ unwrap_or clock (now_of before) →
+    end_at fact (Passed here ∷ after_clock clock before) ≤ℤ end_at fact before
+by_both fact None here before o = by_sight fact here before
+by_both fact (Some moment) here before o =
+    let one = by_sight fact here (Ticked moment ∷ before) in
+    let other = by_clock fact moment before o in
+    omega (arith, ints, one, other)
+
+-- ---- what an event that uses no authority adds
+
+no_packet : (packet : Option MovementAuthority) (fact : Fact) (entries : List AuthorityEntry) → is_some packet ≡ false →
+    option_map_or (λ p. Granted (authority.fact_of p fact.place fact.moment) ∷ entries) packet entries ≡ entries
+no_packet None fact entries h = refl
+no_packet (Some p) fact entries h = absurd (let no : true ≡ false = h in cc)
+
+no_facts : (facts : List Fact) (entries : List AuthorityEntry) → list_any is_authority facts ≡ false → after_facts after_authority facts entries ≡ entries
+no_facts [] entries h = refl
+no_facts (fact ∷ facts) entries h =
+    let parts = or_parts (is_authority fact) (list_any is_authority facts) h in
+    ap (after_facts after_authority facts) (no_packet (as_movement_authority fact.packet) fact entries parts.0) ∙ no_facts facts entries parts.1
+
+no_groups : (outcomes : List Outcome) (entries : List AuthorityEntry) → list_any tells_authority outcomes ≡ false → after_told after_authority outcomes entries ≡ entries
+no_groups [] entries h = refl
+no_groups (outcome ∷ outcomes) entries h =
+    let parts = or_parts (tells_authority outcome) (list_any tells_authority outcomes) h in
+    no_facts (facts_in outcome) (after_told after_authority outcomes entries) parts.0 ∙ no_groups outcomes entries parts.1
+
+-- an end behind a mode that was entered was there before it
+not_deleted : (b : Bool) (entries : List AuthorityEntry) (end : End) → end_of (cond b (authority_deleted entries) entries) ≡ Some end → end_of entries ≡ Some end
+not_deleted true entries end h = absurd (let no : None ≡ Some end = h in cc)
+not_deleted false entries end h = h
+
+past_mode : (entered : Option Mode) (entries : List AuthorityEntry) (end : End) →
+    end_of (after_column item.Authority authority_deleted entered entries) ≡ Some end → end_of entries ≡ Some end
+past_mode None entries end h = h
+past_mode (Some mode) entries end h = not_deleted (is_deleted (status_on item.Authority mode)) entries end h
+
+accepted_same : (clock : Option ℕ) (before : List AuthorityEntry) → accepted (after_clock clock before) ≡ accepted before
+accepted_same None before = refl
+accepted_same (Some moment) before = refl
+
+by_fact : (fact : Option authority.Fact) (before after : authority.Fact → End) (new : End) → ((f : authority.Fact) → (after f).end ≤ℤ (before f).end) →
+    option_map after fact ≡ Some new → (old : End) × (option_map before fact ≡ Some old) × (new.end ≤ℤ old.end)
+by_fact None before after new h e = absurd (let no : None ≡ Some new = e in cc)
+by_fact (Some f) before after new h e =
+    let same : after f ≡ new = cc in
+    (before f, refl, subst (λ (x : End). x.end ≤ℤ (before f).end) same (h f))
+
+no_farther : (clock : Option ℕ) (here : Span) (before : List AuthorityEntry) (new : End) → now_of before ≤ unwrap_or clock (now_of before) →
+    end_of (Passed here ∷ after_clock clock before) ≡ Some new → (old : End) × (end_of before ≡ Some old) × (new.end ≤ℤ old.end)
+no_farther clock here before new o h =
+    let later : List AuthorityEntry = Passed here ∷ after_clock clock before in
+    by_fact (accepted before) (λ (f : authority.Fact). end_now f (now_of before) (sights before)) (λ (f : authority.Fact). end_now f (now_of later) (sights later)) new
+    (λ f. by_both f clock here before o)
+    (sym (ap (option_map (λ (f : authority.Fact). end_now f (now_of later) (sights later))) (accepted_same clock before)) ∙ h)
+
+-- ---- the moment of a life is that of its authority's entries
+
+abbrev facts_at : ℕ → List Fact → Type 0
+facts_at moment [] = Unit {0}
+facts_at moment (fact ∷ facts) = (fact.moment ≡ moment) × facts_at moment facts
+
+abbrev groups_at : ℕ → List Outcome → Type 0
+groups_at moment [] = Unit {0}
+groups_at moment (outcome ∷ outcomes) = facts_at moment (facts_in outcome) × groups_at moment outcomes
+
+used_at : (group : GroupIdentity) (place : ℤ) (moment : ℕ) (packets : List Packet) →
+    facts_at moment (map (λ packet. record { group = group; place = place; moment = moment; packet = packet }) packets)
+used_at group place moment [] = tt
+used_at group place moment (packet ∷ packets) = (refl, used_at group place moment packets)
+
+module _ (mode : Mode) (entries : List TrackEntry) (first : Begun) where
+  abbrev now : ℕ
+  now = unwrap_or first.clock (moment_of entries)
+
+  by_verdict : (used : Used) (message : Message) (verdict : Verdict) →
+      facts_at now (facts_in (outcome mode (record blank { begun = first; used = used } ∷ entries) message verdict))
+  by_verdict used message (Accept announced) = used_at message.group _ now _
+  by_verdict used message Ignore = tt
+  by_verdict used message (Reaction a) = tt
+
+  at_now : (group : Option Closed) (used : Used) → groups_at now used.groups → groups_at now (with_closed mode entries first group used).groups
+  at_now None used h = h
+  at_now (Some (closed.Broken b)) used h = (tt, h)
+  at_now (Some (closed.Whole message)) used h =
+      let judgement : Judgement = judged (record blank { begun = first; used = used } ∷ entries) message in
+      (by_verdict (added (outcome_at_first message judgement.verdict) (asking_for judgement.effect used)) message judgement.verdict, h)
+
+all_now : (mode : Mode) (entries : List TrackEntry) (input : Input) →
+    groups_at (unwrap_or (begun entries input).clock (moment_of entries)) (used_by mode entries input).groups
+all_now mode entries input =
+    let first = begun entries input in
+    let closed = closed_by (groups_of entries) first.heard in
+    let base : Used = record { groups = []; happened = happened_first entries input } in
+    at_now mode entries first closed.whole (with_closed mode entries first closed.ended base) (at_now mode entries first closed.ended base tt)
+
+now_by_packet : (packet : Option MovementAuthority) (fact : Fact) (entries : List AuthorityEntry) (moment : ℕ) → fact.moment ≡ moment → now_of entries ≡ moment →
+    now_of (option_map_or (λ p. Granted (authority.fact_of p fact.place fact.moment) ∷ entries) packet entries) ≡ moment
+now_by_packet None fact entries moment at h = h
+now_by_packet (Some p) fact entries moment at h = at
+
+now_by_facts : (facts : List Fact) (entries : List AuthorityEntry) (moment : ℕ) → facts_at moment facts → now_of entries ≡ moment →
+    now_of (after_facts after_authority facts entries) ≡ moment
+now_by_facts [] entries moment at h = h
+now_by_facts (fact ∷ facts) entries moment at h =
+    now_by_facts facts (after_authority fact entries) moment at.1 (now_by_packet (as_movement_authority fact.packet) fact entries moment at.0 h)
+
+now_by_groups : (outcomes : List Outcome) (entries : List AuthorityEntry) (moment : ℕ) → groups_at moment outcomes → now_of entries ≡ moment →
+    now_of (after_told after_authority outcomes entries) ≡ moment
+now_by_groups [] entries moment at h = h
+now_by_groups (outcome ∷ outcomes) entries moment at h =
+    now_by_facts (facts_in outcome) (after_told after_authority outcomes entries) moment at.0 (now_by_groups outcomes entries moment at.1 h)
+
+now_by_clock : (clock : Option ℕ) (entries : List AuthorityEntry) → now_of (after_clock clock entries) ≡ unwrap_or clock (now_of entries)
+now_by_clock None entries = refl
+now_by_clock (Some moment) entries = refl
+
+now_by_mode : (entered : Option Mode) (entries : List AuthorityEntry) → now_of (after_column item.Authority authority_deleted entered entries) ≡ now_of entries
+now_by_mode None entries = refl
+now_by_mode (Some mode) entries =
+    let cases : (b : Bool) → now_of (cond b (authority_deleted entries) entries) ≡ now_of entries = elim [ true ↦ refl | false ↦ refl ] in
+    cases (is_deleted (status_on item.Authority mode))
+
+now_is : (events : List Event) → now_of (authorities (tracks (life_of events).entries)) ≡ moment_after events
+now_is [] = refl
+now_is (an_event.PowerUp c ∷ events) = refl
+now_is (an_event.Input input ∷ events) =
+    let life = life_of events in
+    let event = told life input in
+    let before = tracks life.entries in
+    let clock = event.begun.clock in
+    let known = after_clock clock (authorities before) in
+    now_by_mode (entry_of life input).track.entered (Passed (train life input) ∷ after_told after_authority event.used.groups known)
+    ∙ now_by_groups event.used.groups known (unwrap_or clock (moment_of before)) (all_now (mode_of life.entries) before input)
+    (now_by_clock clock (authorities before) ∙ ap (unwrap_or clock) (now_is events))
+
+-- ---- one event
+
+pub never_forward : (events : List Event) (input : Input) (new : End) → uses_authority events input ≡ false →
+    moment_after events ≤ moment_after (an_event.Input input ∷ events) → end_after (an_event.Input input ∷ events) ≡ Some new →
+    (old : End) × (end_after events ≡ Some old) × (new.end ≤ℤ old.end)
+never_forward events input new none order is =
+    let life = life_of events in
+    let event = told life input in
+    let before = authorities (tracks life.entries) in
+    let clock = event.begun.clock in
+    let here : Span = train life input in
+    let kept = past_mode (entry_of life input).track.entered (Passed here ∷ after_told after_authority event.used.groups (after_clock clock before)) new is in
+    let alone : end_of (Passed here ∷ after_clock clock before) ≡ Some new =
+    sym (ap (λ (entries : List AuthorityEntry). end_of (Passed here ∷ entries)) (no_groups event.used.groups (after_clock clock before) none)) ∙ kept in
+    let at : now_of before ≡ moment_of (tracks life.entries) = now_is events in
+    let sooner : now_of before ≤ unwrap_or clock (now_of before) =
+    subst (λ (n : ℕ). n ≤ unwrap_or clock n) (sym at) order in
+    no_farther clock here before new sooner alone

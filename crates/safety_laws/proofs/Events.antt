@@ -1,0 +1,33 @@
+-- One event of a life: what its change of mode is read off.
+use Rattle.std.proofs.Common.{◌≡◌, ◌∷◌, refl}
+use Rattle.std.specs.Prelude.{unwrap_or}
+use Rattle.events.specs.declared.input.Input.{Input}
+use Rattle.mode_table.specs.declared.conditions.Conditions.{Conditions}
+use Rattle.mode_table.specs.declared.mode.Mode.{Mode}
+use Rattle.mode_table.specs.Rows.{next_mode}
+use Rattle.units.specs.Stretches.{Span}
+use Rattle.mode_control.specs.Conditions.{conditions}
+use Rattle.mode_control.specs.Entry.{SupervisionEntry, begun}
+use Rattle.mode_control.specs.History.{mode_of}
+use Rattle.mode_control.specs.Life.{Life, grown}
+use Rattle.mode_control.specs.Sentences.{changed, deed_of, told, standing_in, the_train_is_seen, entry_of}
+
+-- the mode behind an event, by the one before it and the conditions
+abbrev pub turned : Mode → Conditions → Mode
+turned old c = unwrap_or (changed old (next_mode old c)) old
+
+module _ (life : Life) (input : Input) where
+  abbrev pub event_begun : SupervisionEntry
+  event_begun = begun (told life input) (deed_of life input)
+
+  abbrev pub train : Span
+  train = standing_in (grown life event_begun)
+
+  abbrev pub event_seen : SupervisionEntry
+  event_seen = the_train_is_seen (grown life event_begun) event_begun
+
+  abbrev pub found : Conditions
+  found = conditions (grown life event_seen) train
+
+  pub mode_is : mode_of (entry_of life input ∷ life.entries) ≡ turned (mode_of life.entries) found
+  mode_is = refl

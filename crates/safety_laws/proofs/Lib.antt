@@ -1,0 +1,9 @@
+pub mod Events
+mod ByData
+mod ByAuthority
+mod Leaving
+mod Courses
+mod Meeting
+mod AuthorityLater
+mod Lessening
+mod Passing

@@ -1,0 +1,22 @@
+//! What a safety assessor asks for, proved of the definitions of the kernel: laws of every list of events and of every
+//! life (SUBSET-026; where it leaves a choice, this project's profile). Distances are centimetres, speeds metres per
+//! hour, moments milliseconds.
+#![tactic(auto)]
+
+mod ends;
+mod keeping;
+mod modes;
+mod restricting;
+mod running;
+mod stopping;
+mod unbraked;
+
+pub use ends::end_never_moves_forward;
+pub use keeping::level_and_position_over_all;
+pub use modes::{failure_stays, stand_by_is_left, trip_is_left};
+pub use restricting::{nearer_fits_no_more, restrictions_never_raise};
+pub use running::{outstanding_trip_brakes, runs_by_authority, runs_by_valid_data};
+pub use stopping::{
+    halts_at_end, halts_at_location, keeps_speeds_ahead, passes_by_at_most, stops_at_location,
+};
+pub use unbraked::no_brake_only_where;

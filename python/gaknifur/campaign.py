@@ -1,0 +1,328 @@
+"""Campaigns: many scenarios, case files or random lives, played by many processors, and one table of what came of them.
+
+A job is data alone: the bytes of its files. Who plays it needs this package and the two programs, and no common folder.
+A job whose worker is lost is played again, and what is in the table already isn't: a campaign that was interrupted
+goes on where it was. A row tells the same whoever plays it, but for `seconds` and `worker`.
+"""
+import csv
+import hashlib
+import os
+import random
+import re
+import socket
+import sqlite3
+import tempfile
+import time
+from collections.abc import Callable, Iterable, Iterator
+from concurrent.futures import FIRST_COMPLETED, Future, ProcessPoolExecutor, wait
+from concurrent.futures.process import BrokenProcessPool
+from dataclasses import dataclass
+from pathlib import Path
+from typing import Any
+
+from . import cases, coverage, playing, program, random_lives
+from .program import DEVICE, REFUSED, Failed
+from .reading import Json, digest, read
+
+Row = dict[str, Any]
+Take = Callable[[Row], None]
+
+COLUMNS = ("name", "job_sha256", "kind", "ended", "image_sha256", "events", "lives", "mode", "brake", "limit_m_per_h",
+           "place_cm", "emergencies", "trips", "tests", "missed", "first_missed", "sound", "seconds", "worker")
+NOT_COMPARED = ("seconds", "worker")
+NAMED_FILE = re.compile(r"[\w.+/-]+\.(?:yaml|yml|json)")
+MOST_LOSSES = 3
+SECOND = 1.0
+SCHEMA = """
+CREATE TABLE campaign (name TEXT PRIMARY KEY, value TEXT NOT NULL) STRICT;
+CREATE TABLE result (
+    name TEXT PRIMARY KEY, job_sha256 TEXT NOT NULL, kind TEXT NOT NULL, ended TEXT NOT NULL, image_sha256 TEXT, events INTEGER,
+    lives INTEGER, mode TEXT, brake TEXT, limit_m_per_h INTEGER, place_cm INTEGER, emergencies INTEGER, trips INTEGER,
+    tests INTEGER, missed INTEGER, first_missed TEXT, sound INTEGER NOT NULL, seconds REAL, worker TEXT) STRICT;
+"""
+
+
+@dataclass(frozen=True)
+class Job:
+    """What is to be played: a scenario, or a case file with the files that it names."""
+
+    name: str
+    kind: str
+    """`scenario` or `case`."""
+    files: tuple[tuple[str, bytes], ...]
+    """Paths within the job, and their bytes; the first one is played."""
+    slots: int
+
+    @property
+    def sha256(self) -> str:
+        """The SHA-256 of all that is played."""
+        parts = [self.kind, str(self.slots), *(part for name, data in self.files for part in (name, hashlib.sha256(data).hexdigest()))]
+        return hashlib.sha256("\n".join(parts).encode()).hexdigest()
+
+
+# ---- the jobs
+
+def of_folder(folder: Path, slots: int) -> Iterator[Job]:
+    """A job for each case file and each scenario below a folder, but for those that a case names."""
+    if not folder.is_dir():
+        raise Failed(f"{folder}: there is no such folder", DEVICE)
+    paths = sorted(path for path in folder.rglob("*") if path.suffix in (".yaml", ".yml", ".json") and path.is_file())
+    case_files = [path for path in paths if cases.is_case_file(path)]
+    named: set[Path] = set()
+    for path in case_files:
+        files = files_of(path)
+        named.update(files)
+        root = Path(os.path.commonpath([one.parent for one in files]))
+        yield Job(path.relative_to(folder).as_posix(), "case",
+                  tuple((one.relative_to(root).as_posix(), one.read_bytes()) for one in files), slots)
+    for path in paths:
+        if path.suffix == ".json" and path.resolve() not in named:
+            yield Job(path.relative_to(folder).as_posix(), "scenario", (("scenario.json", path.read_bytes()),), slots)
+
+
+def files_of(path: Path) -> list[Path]:
+    """A file and all files that it names, and that these name."""
+    found = [path.resolve()]
+    for one in found:
+        for name in NAMED_FILE.findall(one.read_text(encoding="utf-8", errors="replace")):
+            other = (one.parent / name).resolve()
+            if other.is_file() and other not in found:
+                found.append(other)
+    return found
+
+
+def at_random(count: int, seed: int, slots: int) -> Iterator[Job]:
+    """Random lives: the same ones for the same seed."""
+    for number in range(count):
+        yield Job(f"random/{seed}/{number:07}", "scenario",
+                  (("scenario.json", random_lives.scenario(random.Random(f"{seed}/{number}"))),), slots)
+
+
+# ---- a job
+
+def play(job: Job) -> Row:
+    """Plays a job, and answers its row. Whatever goes wrong is told in the row."""
+    begun = time.perf_counter()
+    row: Row = {**dict.fromkeys(COLUMNS), "name": job.name, "job_sha256": job.sha256, "kind": job.kind, "ended": "carried out", "sound": 0}
+    try:
+        with tempfile.TemporaryDirectory(prefix="gaknifur-") as room:
+            for name, data in job.files:
+                path = Path(room) / name
+                path.parent.mkdir(parents=True, exist_ok=True)
+                path.write_bytes(data)
+            first = Path(room) / job.files[0][0]
+            row |= play_case(first) if job.kind == "case" else play_scenario(first, Path(room) / "image", job.slots)
+    except Failed as failed:
+        row |= {"ended": f"failed: {failed}", "sound": 0}
+    except Exception as error:  # a row tells of it, and the campaign goes on
+        row |= {"ended": f"failed: {type(error).__name__}: {error}", "sound": 0}
+    return row | {"seconds": round(time.perf_counter() - begun, 4), "worker": f"{socket.gethostname()}/{os.getpid()}"}
+
+
+def play_scenario(scenario: Path, image: Path, slots: int) -> Row:
+    """Plays one life on a fresh image."""
+    status, printed = program.etcs("format", "--", str(image), str(slots))
+    if status:
+        raise Failed(f"etcs format: {' '.join(printed)}", REFUSED)
+    status, printed = program.etcs("run", "--", str(scenario), str(image))
+    ended = "carried out" if status == 0 else printed[-1] if printed else f"status {status}"
+    journal = read(image, replay=True)
+    row: Row = {"ended": ended, "image_sha256": journal.sha256, "sound": 1}
+    try:
+        playing.check_image(journal)
+        playing.check_released([line for line in printed if playing.RELEASED.fullmatch(line)], journal.records)
+    except playing.Missed as missed:
+        row |= {"first_missed": str(missed), "sound": 0}
+    return row | told_of(journal.records)
+
+
+def told_of(records: list[Json]) -> Row:
+    """What the records come to."""
+    if not records:
+        return {"events": 0, "lives": 0}
+    last = records[-1]
+    begun = sum(now["brake"] == "emergency" != before["brake"] for before, now in zip(records, records[1:]))
+    trips = sum(now["mode"] == "TR" != before["mode"] for before, now in zip(records, records[1:]))
+    return {"events": len(records), "lives": len({record["life"] for record in records}), "mode": last["mode"], "brake": last["brake"],
+            "limit_m_per_h": last["limit_m_per_h"], "place_cm": last["place_cm"], "emergencies": begun, "trips": trips}
+
+
+def play_case(path: Path) -> Row:
+    """Plays the cases of a file, and judges what they expect."""
+    tests = missed = 0
+    first, sums = None, hashlib.sha256()
+    records: list[Json] = []
+    for case in cases.read(path):
+        try:
+            played = playing.play(case)
+        except playing.Missed as told:
+            tests, missed, first = tests + 1, missed + 1, first or f"{case.name}: {told}"
+            continue
+        records += played.records
+        sums.update(repr(played.records).encode())
+        tests += not case.expected
+        for expected in case.expected:
+            tests += 1
+            try:
+                playing.judge(expected, played, coverage.mode_table())
+            except playing.Missed as told:
+                missed, first = missed + 1, first or f"{case.name}, line {expected.at.line}: {told}"
+    return {"image_sha256": None, "tests": tests, "missed": missed, "first_missed": first, "sound": int(not missed)} | told_of(records)
+
+
+# ---- who plays them
+
+def lost(job: Job) -> Row:
+    """The row of a job whose workers were lost again and again."""
+    return {**dict.fromkeys(COLUMNS), "name": job.name, "job_sha256": job.sha256, "kind": job.kind, "sound": 0,
+            "ended": f"failed: its worker was lost {MOST_LOSSES} times"}
+
+
+def here(jobs: Iterable[Job], workers: int, take: Take) -> None:
+    """Plays the jobs by processes of this machine."""
+    left, running = iter(jobs), dict[Future[Row], tuple[Job, int]]()
+    pool = ProcessPoolExecutor(workers)
+    try:
+        while True:
+            while len(running) < 4 * workers and (job := next(left, None)):
+                running[pool.submit(play, job)] = job, 0
+            if not running:
+                return
+            again = []
+            for done in wait(running, return_when=FIRST_COMPLETED).done:
+                job, losses = running.pop(done)
+                try:
+                    take(done.result())
+                except BrokenProcessPool:
+                    again.append((job, losses + 1))
+            if again:
+                again += [(job, losses + 1) for job, losses in running.values()]
+                running.clear()
+                pool.shutdown(wait=False)
+                pool = ProcessPoolExecutor(workers)
+                for job, losses in again:
+                    if losses >= MOST_LOSSES:
+                        take(lost(job))
+                    else:
+                        running[pool.submit(play, job)] = job, losses
+    finally:
+        pool.shutdown(wait=False, cancel_futures=True)
+
+
+def by_scheduler(jobs: Iterable[Job], scheduler: str, take: Take) -> None:
+    """Plays the jobs by the workers of a scheduler of Dask. One that is lost hands its jobs on to the others."""
+    try:
+        from distributed import Client, as_completed
+    except ImportError as error:
+        raise Failed("python3-distributed is missing; tools/python --campaigns installs it by Debian's packages", DEVICE) from error
+    try:
+        client = Client(scheduler, set_as_default=False, timeout="10s")
+    except OSError as error:
+        raise Failed(f"{scheduler}: no scheduler answers there", DEVICE) from error
+    with client:
+        left, known = iter(jobs), dict[str, Job]()
+        running = as_completed(loop=client.loop)
+
+        def hand_out() -> None:
+            window = max(8, 4 * sum(client.nthreads().values()))
+            while len(known) < window and (job := next(left, None)):
+                future = client.submit(play, job, key=f"{job.name}-{job.sha256}", pure=False)
+                known[future.key] = job
+                running.add(future)
+
+        hand_out()
+        for future in running:
+            job = known.pop(future.key)
+            take(future.result() if future.status == "finished" else lost(job))
+            future.release()
+            hand_out()
+
+
+# ---- the table
+
+class Table:
+    """The results, in SQLite. A table is of one pair of programs."""
+
+    def __init__(self, path: Path, settings: dict[str, str]) -> None:
+        is_new = not path.exists() or path.stat().st_size == 0
+        self.path, self.connection, self.written = path, sqlite3.connect(path), time.monotonic()
+        try:
+            if is_new:
+                self.connection.executescript(SCHEMA)
+                self.connection.executemany("INSERT INTO campaign VALUES (?, ?)", settings.items())
+                self.connection.commit()
+            found = dict(self.connection.execute("SELECT name, value FROM campaign"))
+        except sqlite3.DatabaseError as error:
+            raise Failed(f"{path}: is no table of a campaign", REFUSED) from error
+        for name, value in settings.items():
+            if found.get(name) != value:
+                raise Failed(f"{path}: was made with {name} {found.get(name)}, and this is {value}; take another file", REFUSED)
+
+    def is_there(self, job: Job) -> bool:
+        """Whether the table has the row of just this job."""
+        found = self.connection.execute("SELECT job_sha256, ended FROM result WHERE name = ?", (job.name,)).fetchone()
+        return found is not None and found[0] == job.sha256 and not found[1].startswith("failed")
+
+    def take(self, row: Row) -> None:
+        """Adds a row, or puts it in the place of the one with its name. It is on the disk within a second."""
+        marks = ", ".join("?" * len(COLUMNS))
+        self.connection.execute(f"INSERT OR REPLACE INTO result ({', '.join(COLUMNS)}) VALUES ({marks})",
+                                [row[name] for name in COLUMNS])
+        if time.monotonic() - self.written > SECOND:
+            self.connection.commit()
+            self.written = time.monotonic()
+
+    def close(self) -> None:
+        """All rows are on the disk."""
+        self.connection.commit()
+        self.connection.close()
+
+
+def settings_of() -> dict[str, str]:
+    """The programs, by their SHA-256. A script that would compile the sources for each call is refused."""
+    found = {}
+    for name in ("etcs", "etcs_lab"):
+        path = program.built(name)
+        found[f"{name}_sha256"] = digest(path)
+    return found
+
+
+def rows_of(path: Path) -> dict[str, Row]:
+    """The rows of a table by their names, as they are compared."""
+    if not path.exists():
+        raise Failed(f"{path}: there is no such file", DEVICE)
+    connection = sqlite3.connect(f"file:{path}?mode=ro", uri=True)
+    try:
+        kept = [name for name in COLUMNS if name not in NOT_COMPARED]
+        return {row[0]: dict(zip(kept, row)) for row in connection.execute(f"SELECT {', '.join(kept)} FROM result ORDER BY name")}
+    except sqlite3.DatabaseError as error:
+        raise Failed(f"{path}: is no table of a campaign", REFUSED) from error
+    finally:
+        connection.close()
+
+
+def write_csv(path: Path, out: Path) -> None:
+    """Writes the whole table as CSV, in the order of the names."""
+    connection = sqlite3.connect(f"file:{path}?mode=ro", uri=True)
+    try:
+        with out.open("w", encoding="utf-8", newline="") as file:
+            writer = csv.writer(file, lineterminator="\n")
+            writer.writerow(COLUMNS)
+            writer.writerows(connection.execute(f"SELECT {', '.join(COLUMNS)} FROM result ORDER BY name"))
+    except OSError as error:
+        raise Failed(f"{out}: {error.strerror}", DEVICE) from error
+    finally:
+        connection.close()
+
+
+def differences(one: Path, other: Path) -> Iterator[str]:
+    """What two campaigns tell otherwise, a line for each row."""
+    first, second = rows_of(one), rows_of(other)
+    for name in sorted(first.keys() | second.keys()):
+        if name not in second or name not in first:
+            yield f"{name}: only in {one if name in first else other}"
+            continue
+        told = [f"{column} {first[name][column]} and {second[name][column]}" for column in first[name]
+                if first[name][column] != second[name][column]]
+        if told:
+            yield f"{name}: {'; '.join(told)}"

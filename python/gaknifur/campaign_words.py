@@ -1,0 +1,85 @@
+"""The words `campaign` and `compare` of `./lab`."""
+import argparse
+import itertools
+import os
+import re
+from collections.abc import Callable
+from pathlib import Path
+
+from . import campaign
+from .program import NOT_WHOLE, REFUSED, WRONG_WORDS, Failed
+from .reading import Progress
+
+Word = Callable[[str, str, str], argparse.ArgumentParser]
+
+
+def add_words(word: Word) -> None:
+    """Adds both words."""
+    many = word("campaign", "plays many scenarios, case files or random lives",
+                "Each is a row of a table in SQLite. What is in the table already isn't played again, so a campaign that was "
+                "interrupted goes on. Status 4: a row isn't sound.")
+    many.add_argument("folder", metavar="FOLDER", nargs="?", type=Path, help="case files and scenarios below it")
+    many.add_argument("out", metavar="OUT.db", type=Path)
+    many.add_argument("--random", metavar="N", type=natural, default=0, help="also so many random lives")
+    many.add_argument("--seed", metavar="N", type=natural, default=1, help="other numbers, other lives; 1")
+    many.add_argument("--slots", metavar="N", type=natural, default=64, help="slots of each fresh image; 64")
+    many.add_argument("--workers", metavar="N", type=natural, default=os.cpu_count() or 1, help="processes of this machine")
+    many.add_argument("--scheduler", metavar="tcp://HOST:PORT", help="a scheduler of Dask, in place of processes here")
+    many.add_argument("--csv", metavar="OUT.csv", type=Path, help="the whole table, at the end")
+    two = word("compare", "tells which rows of two campaigns differ", "Seconds and workers aren't compared. Status 4: some differ.")
+    two.add_argument("first", metavar="ONE.db", type=Path)
+    two.add_argument("second", metavar="OTHER.db", type=Path)
+
+
+def natural(text: str) -> int:
+    """A number of an option."""
+    if not re.fullmatch("[0-9]{1,9}", text):
+        raise argparse.ArgumentTypeError(f"{text} is no number")
+    return int(text)
+
+
+def play_campaign(told: argparse.Namespace, progress: Progress) -> int:
+    """The word `campaign`."""
+    if told.folder is None and not told.random:
+        raise Failed("a campaign needs a folder or --random", WRONG_WORDS)
+    jobs: list[campaign.Job] = list(campaign.of_folder(told.folder, told.slots)) if told.folder else []
+    table = campaign.Table(told.out, campaign.settings_of())
+    played = 0
+
+    def take(row: campaign.Row) -> None:
+        nonlocal played
+        table.take(row)
+        played += 1
+        progress("campaign", played, len(left) + told.random)
+
+    left = [job for job in jobs if not table.is_there(job)]
+    lives = (job for job in campaign.at_random(told.random, told.seed, told.slots) if not table.is_there(job))
+    try:
+        if told.scheduler:
+            campaign.by_scheduler(itertools.chain(left, lives), told.scheduler, take)
+        else:
+            campaign.here(itertools.chain(left, lives), max(1, told.workers), take)
+    except KeyboardInterrupt:
+        table.close()
+        raise Failed(f"{played} played; the same command goes on", REFUSED) from None
+    table.close()
+    rows = campaign.rows_of(told.out)
+    if told.csv:
+        campaign.write_csv(told.out, told.csv)
+    unsound = [row for row in rows.values() if not row["sound"]]
+    print(f"{len(rows)} rows, {played} of them played now; {len(unsound)} not sound")
+    for row in unsound[:10]:
+        print(f"  {row['name']}: {row['ended']}{'; ' + row['first_missed'].splitlines()[0] if row['first_missed'] else ''}")
+    return NOT_WHOLE if unsound else 0
+
+
+def compare_campaigns(told: argparse.Namespace, progress: Progress) -> int:
+    """The word `compare`."""
+    found = list(campaign.differences(told.first, told.second))
+    for line in found:
+        print(line)
+    print(f"{len(found)} rows differ")
+    return NOT_WHOLE if found else 0
+
+
+WORDS = {"campaign": play_campaign, "compare": compare_campaigns}

@@ -1,0 +1,238 @@
+"""Plays a test case on the programs, and judges its expected results by the records that `etcs_lab events` tells.
+
+A journal is judged only where each life ended as told, each output that was released is that of its record, the image
+is whole, and a replay by the kernel agrees with all of it.
+"""
+import re
+import tempfile
+from dataclasses import dataclass
+from pathlib import Path
+
+from . import program
+from .cases import WITHIN, Case, Condition, Expected, Life, Row, derived
+from .program import REFUSED, Failed
+from .reading import Journal, Json, read
+
+RELEASED = re.compile(r"event (\d+) mode (\w\w) level (\d|-) brake (\w+) limit (\d+) ind (\d+)")
+BITS = {"on_sight": 1, "shunting": 2, "level_0": 4, "trip": 8, "overridden": 16, "not_revalidated": 32, "overspeed": 64}
+
+
+Table = dict[int, tuple[list[str], str]]
+"""The rows of the mode table: from which modes each leads, and where to."""
+
+
+class Missed(Exception):
+    """An expected result that didn't come: what was wanted, what was found, and the record where that is seen."""
+
+    def __init__(self, wanted: str, found: str, record: Json | None = None) -> None:
+        super().__init__(f"expected: {wanted}\nfound:    {found}" + (f"\nrecord:   {record_text(record)}" if record else ""))
+
+
+@dataclass
+class Played:
+    """The records of a case, with the speeds that hold and the marks."""
+
+    records: list[Json]
+    marks: dict[str, int]
+    """Of each mark the index of its record."""
+
+
+def record_text(record: Json) -> str:
+    """A record, for people."""
+    speed = f", speed {record['speed_kmh']:f} km/h" if record["speed_kmh"] is not None else ""
+    return (f"event {record['event']} of life {record['life']} ({record['kind']}): {record['mode']}, level "
+            f"{'unknown' if record['level'] is None else record['level']}, brake {record['brake']}, at {record['place_m']:f} m, "
+            f"{record['time_ms']} ms{speed}, limit {record['limit_kmh']:f} km/h, shows {' '.join(record['indications']) or 'nothing'}")
+
+
+# ---- playing
+
+def run_life(case: Case, life: Life, image: Path, folder: Path) -> list[str]:
+    """Runs a life, and answers the lines that it printed. It has to end as told."""
+    scenario = life.path
+    if life.scenario:
+        scenario = folder / "scenario.json"
+        scenario.write_text(life.scenario.text(), encoding="utf-8")
+    status, printed = program.etcs("run", "--", str(scenario), str(image))
+    last = printed[-1] if printed else ""
+    ended = last if status and not RELEASED.fullmatch(last) else "carried out"
+    if status and ended == "carried out":
+        ended = f"status {status}"
+    wanted = life.ends or "carried out"
+    if ended != wanted:
+        raise Missed(f"the life of line {life.at.line} ends: {wanted}", f"{ended}{place_of(life, ended)}")
+    return [line for line in printed if RELEASED.fullmatch(line)]
+
+
+def place_of(life: Life, ended: str) -> str:
+    """Where the steps of a life stand that was refused."""
+    if life.scenario and life.scenario.places and ended.startswith(("refused", "stopped")):
+        first, last = life.scenario.places[0].line, life.scenario.places[-1].line
+        return f" (steps of lines {first} to {last})"
+    return ""
+
+
+def play(case: Case) -> Played:
+    """Plays the lives of a case in turn on one image, and reads what was recorded."""
+    with tempfile.TemporaryDirectory(prefix="gaknifur-") as room:
+        folder, image = Path(room), Path(room) / "image"
+        status, printed = program.etcs("format", "--", str(image), str(case.slots))
+        if status:
+            raise Failed(f"etcs format: {' '.join(printed)}", REFUSED)
+        released = [line for life in case.lives for line in run_life(case, life, image, folder)]
+        journal = read(image, replay=True)
+    check_image(journal)
+    records = with_speeds(journal.records)
+    check_released(released, records)
+    return Played(records, marked(case, records))
+
+
+def check_image(journal: Journal) -> None:
+    """The image is whole, and the kernel answers as the journal tells."""
+    if journal.refusal is not None:
+        raise Missed("a journal that can be read", journal.refusal)
+    if not journal.is_whole:
+        raise Missed("a whole image", "etcs_lab examine says that something is lost, damaged or contradicts")
+    if not journal.records:
+        return
+    if not journal.replay:
+        raise Missed("a replay of the journal", "etcs_lab replay refused it")
+    for line in journal.replay:
+        if line.get("replay", "agrees") not in ("agrees", "not_replayed"):
+            raise Missed("a replay that agrees with the journal", f"etcs_lab replay says: {line}")
+        if line.get("replay") == "not_replayed" and line.get("reason") != "before_oldest_block":
+            raise Missed("a replay of all records", f"etcs_lab replay says: {line}")
+    if journal.replay[-1].get("end") != "nothing_differs":
+        raise Missed("a replay in which nothing differs", str(journal.replay[-1]))
+
+
+def check_released(released: list[str], records: list[Json]) -> None:
+    """Each output that was released is that of its record."""
+    told = {record["event"]: record for record in records}
+    for line in released:
+        found = RELEASED.fullmatch(line)
+        assert found is not None
+        record = told.get(int(found[1]))
+        if record is None:
+            continue  # an older block, which was written over
+        level = "-" if record["level"] is None else str(record["level"])
+        shown = sum(BITS[name] for name in record["indications"])
+        wanted = f"event {record['event']} mode {record['mode']} level {level} brake {record['brake']} " \
+                 f"limit {record['limit_m_per_h']} ind {shown}"
+        if line != wanted:
+            raise Missed(f"the output of its record: {wanted}", f"this output was released: {line}", record)
+
+
+def with_speeds(records: list[Json]) -> list[Json]:
+    """The records with the speed that holds behind each: that of the life's last reading, 0 before the first one; unknown
+    where the beginning of the life was written over."""
+    found: list[Json] = []
+    speed: int | None = None
+    for record in records:
+        if record["kind"] == "powerup":
+            speed = 0
+        speed = record.get("speed_m_per_h", speed)
+        found.append(derived(record | {"speed_m_per_h": speed}))
+    return found
+
+
+def marked(case: Case, records: list[Json]) -> dict[str, int]:
+    """The index of the record of each mark. Each life has just the events that its scenario comes to."""
+    begins = {record["life"]: index for index, record in enumerate(records) if record["kind"] == "powerup"}
+    lives = [life for life in case.lives if not (life.ends or "").startswith("refused")]
+    found: dict[str, int] = {}
+    for number, life in enumerate(lives, 1):
+        if life.scenario is None or number not in begins:
+            continue
+        first = begins[number]
+        count = sum(record["life"] == number for record in records) - 1
+        if life.ends is None and count != life.scenario.events:
+            raise Missed(f"{life.scenario.events} events in life {number}", f"{count} events")
+        for name, events in life.scenario.marks.items():
+            if events <= count:
+                found[name] = first + events
+    return found
+
+
+# ---- judging
+
+def is_met(condition: Condition, played: Played, index: int) -> bool:
+    """Whether a record is as a condition asks."""
+    if condition.is_end:
+        return index == len(played.records) - 1
+    if condition.mark is not None and played.marks.get(condition.mark) != index:
+        return False
+    record = played.records[index]
+    return all(test.holds(record.get(name)) for name, test in condition.tests.items())
+
+
+def first_met(condition: Condition, played: Played, start: int = 0) -> int:
+    """The index of the first record from one on that is as a condition asks."""
+    for index in range(start, len(played.records)):
+        if is_met(condition, played, index):
+            return index
+    raise Missed(f"a record with {condition.text}", f"none of {len(played.records)} records is so")
+
+
+def check(condition: Condition, record: Json) -> None:
+    """The record is as the condition asks; else the first name that isn't is told."""
+    for name, test in condition.tests.items():
+        found = record.get(name)
+        if not test.holds(found):
+            shown = "unknown" if found is None else " and ".join(sorted(found)) or "none" if isinstance(found, list) else found
+            raise Missed(f"{name} {test.text}", f"{name} {shown}", record)
+
+
+def check_row(row: Row, table: Table, played: Played, index: int) -> None:
+    """The record changes the mode as a row of the mode table does."""
+    sources, target = table[row.number]
+    record, before = played.records[index], played.records[index - 1] if index else None
+    sources = [row.source] if row.source else sources
+    if before is None or before["life"] != record["life"] or before["mode"] not in sources or record["mode"] != target:
+        was = before["mode"] if before else "nothing"
+        raise Missed(f"row {row.text} of the mode table: from {' or '.join(sources)} to {target}",
+                     f"from {was} to {record['mode']}", record)
+
+
+def judge_stretch(expected: Expected, played: Played) -> None:
+    """`always` or `never`, over the records of a stretch. Where no record is there to be judged, neither holds."""
+    told = expected.conditions
+    first = first_met(told["from"], played) if "from" in told else 0
+    last = first_met(told["until"], played, first) if "until" in told else len(played.records) - 1
+    judged = [index for index in range(first, last + 1) if "where" not in told or is_met(told["where"], played, index)]
+    if not judged:
+        raise Missed("records to be judged", "there is none" + (f" with {told['where'].text}" if "where" in told else ""))
+    for index in judged:
+        if "always" in told:
+            check(told["always"], played.records[index])
+        elif is_met(told["never"], played, index):
+            raise Missed(f"never {told['never'].text}", "it is so", played.records[index])
+
+
+def judge_within(expected: Expected, played: Played) -> None:
+    """`after`: the condition is met within so many events, ms or cm, in the same life."""
+    told, ((word, most),) = expected.conditions, expected.within.items()
+    start = first_met(told["after"], played)
+    first, name = played.records[start], WITHIN[word]
+    for index in range(start, len(played.records)):
+        record = played.records[index]
+        if record["life"] != first["life"] or abs(record[name] - first[name]) > most:
+            break
+        if is_met(told["expect"], played, index):
+            return
+    raise Missed(f"{told['expect'].text} within {most} {word.removeprefix('within_')}", "it didn't come", first)
+
+
+def judge(expected: Expected, played: Played, table: Table) -> None:
+    """Raises where an expected result didn't come."""
+    told = expected.conditions
+    if "at" in told:
+        index = first_met(told["at"], played)
+        if expected.row:
+            check_row(expected.row, table, played, index)
+        if "expect" in told:
+            check(told["expect"], played.records[index])
+    elif "after" in told:
+        judge_within(expected, played)
+    else:
+        judge_stretch(expected, played)

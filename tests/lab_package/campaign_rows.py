@@ -1,0 +1,158 @@
+#!/usr/bin/env python3
+"""Campaigns on the programs: the same lives by processes of this machine, by a scheduler with two workers of which one is
+killed in the middle, and by a campaign that is interrupted and goes on, give the same table; a case file gives its row.
+
+    tests/lab_package/campaign_rows.py ETCS ETCS_LAB [LIVES]
+"""
+import os
+import signal
+import sqlite3
+import subprocess
+import sys
+import tempfile
+import time
+from pathlib import Path
+
+TOP = Path(__file__).resolve().parents[2]
+PYTHON = sys.executable
+WAIT = 60
+failed = 0
+
+
+def unless(holds, text):
+    """Counts what doesn't hold."""
+    global failed
+    if not holds:
+        failed += 1
+        print(f"campaign_rows: {text}", file=sys.stderr)
+
+
+def lab(*words, **named):
+    return subprocess.run([TOP / "lab", *map(str, words)], stdin=subprocess.DEVNULL, capture_output=True, text=True, **named)
+
+
+def rows(path):
+    """How many rows a table has, by its own connection."""
+    try:
+        with sqlite3.connect(f"file:{path}?mode=ro", uri=True) as connection:
+            return connection.execute("SELECT count(*) FROM result").fetchone()[0]
+    except sqlite3.Error:
+        return 0
+
+
+def until(holds, what):
+    """Waits until something is so."""
+    begun = time.monotonic()
+    while not holds():
+        if time.monotonic() - begun > WAIT:
+            raise SystemExit(f"campaign_rows: waited {WAIT} s for {what}")
+        time.sleep(0.05)
+
+
+def by_two_workers(room, lives):
+    """The lives by a scheduler and two workers; one is killed once some rows are there."""
+    told = room / "scheduler.json"
+    quiet = {"stdout": subprocess.DEVNULL, "stderr": subprocess.DEVNULL, "cwd": room,
+             "env": os.environ | {"PYTHONPATH": str(TOP / "python")}}
+    start = lambda module, *words: subprocess.Popen([PYTHON, "-m", f"distributed.cli.{module}", *words], **quiet)
+    scheduler = start("dask_scheduler", "--host", "127.0.0.1", "--port", "0", "--no-dashboard", "--no-show", "--scheduler-file", str(told))
+    workers = []
+    try:
+        until(told.exists, "the scheduler")
+        workers = [start("dask_worker", "--scheduler-file", str(told), "--nthreads", "1", "--no-nanny", "--no-dashboard", "--host",
+                         "127.0.0.1") for _ in range(2)]
+        address = __import__("json").loads(told.read_text())["address"]
+        out = room / "dask.db"
+        playing = subprocess.Popen([TOP / "lab", "campaign", str(out), "--random", str(lives), "--seed", "7", "--scheduler", address],
+                                   stdin=subprocess.DEVNULL, stdout=subprocess.PIPE, stderr=subprocess.PIPE, text=True)
+        until(lambda: rows(out) >= 5 or playing.poll() is not None, "rows of both workers")
+        unless(playing.poll() is None, "the campaign ended before a worker could be killed; take more lives")
+        workers[0].send_signal(signal.SIGKILL)
+        printed, said = playing.communicate(timeout=20 * WAIT)
+        unless(playing.returncode == 0 and printed.startswith(f"{lives} rows, {lives} of them"), f"by a scheduler: {printed}{said}")
+        with sqlite3.connect(out) as connection:
+            names = connection.execute("SELECT count(DISTINCT worker) FROM result").fetchone()[0]
+        unless(names == 2, f"{names} workers played; two are wanted")
+        return out
+    finally:
+        for process in (*workers, scheduler):
+            process.kill()
+            process.wait()
+
+
+def interrupted(room, lives):
+    """The lives by processes here, interrupted once some rows are there, and then gone on with."""
+    out = room / "interrupted.db"
+    words = [TOP / "lab", "campaign", str(out), "--random", str(lives), "--seed", "7", "--workers", "2"]
+    playing = subprocess.Popen(words, stdin=subprocess.DEVNULL, stdout=subprocess.PIPE, stderr=subprocess.PIPE, text=True,
+                               start_new_session=True)
+    until(lambda: rows(out) >= 5 or playing.poll() is not None, "rows")
+    unless(playing.poll() is None, "the campaign ended before it could be interrupted; take more lives")
+    os.killpg(playing.pid, signal.SIGINT)
+    said = playing.communicate(timeout=WAIT)[1]
+    before = rows(out)
+    unless(playing.returncode == 1 and said.splitlines()[-1:] and "the same command goes on" in said.splitlines()[-1], f"interrupted: {said}")
+    unless(5 <= before < lives, f"{before} rows where it was interrupted")
+    again = lab(*words[1:])
+    unless(again.returncode == 0 and again.stdout.startswith(f"{lives} rows, {lives - before} of them"), f"gone on: {again.stdout}{again.stderr}")
+    return out
+
+
+def faults(room, whole):
+    """What has to be told: a row that differs, a table of other programs, a case that fails, words that are none."""
+    other = room / "other.db"
+    other.write_bytes(whole.read_bytes())
+    with sqlite3.connect(other) as connection:
+        name = connection.execute("SELECT name FROM result ORDER BY name LIMIT 1").fetchone()[0]
+        connection.execute("UPDATE result SET image_sha256 = 'other' WHERE name = ?", (name,))
+        connection.execute("UPDATE result SET seconds = 99, worker = 'other'")
+    connection.close()
+    told = lab("compare", whole, other)
+    unless(told.returncode == 4 and told.stdout.splitlines()[-1] == "1 rows differ" and told.stdout.startswith(f"{name}: image_sha256"),
+           f"a row that differs: {told.stdout}")
+    with sqlite3.connect(other) as connection:
+        connection.execute("UPDATE campaign SET value = 'other' WHERE name = 'etcs_sha256'")
+    connection.close()
+    told = lab("campaign", other, "--random", "1")
+    unless(told.returncode == 1 and "was made with etcs_sha256 other" in told.stderr, f"other programs: {told.stderr}")
+    told = lab("campaign", room / "none.db")
+    unless(told.returncode == 2, f"neither a folder nor lives: {told.returncode}")
+    folder = room / "cases"
+    (folder / "inner").mkdir(parents=True)
+    scenario = (TOP / "examples" / "trip" / "scenario.json").read_bytes()
+    (folder / "lives.json").write_bytes(scenario)
+    (folder / "alone.json").write_bytes(scenario)
+    (folder / "bad.json").write_bytes(b"{}")
+    case = ("test_case: {}\nfeature: Trip\nsections: [3.8.1]\nrule: the train trips\nstarting_conditions: level 1\n"
+            "lives: [{{scenario: ../lives.json}}]\nexpected:\n  - {{note: as the example tells it, at: {{mode: TR}}, expect: {{brake: {}}}}}\n")
+    (folder / "inner" / "good.case.yaml").write_text(case.format("good", "emergency"))
+    (folder / "inner" / "wrong.case.yaml").write_text(case.format("wrong", "none"))
+    out = room / "cases.db"
+    told = lab("campaign", folder, out, "--workers", "2")
+    with sqlite3.connect(out) as connection:
+        found = {name: rest for name, *rest in connection.execute("SELECT name, kind, ended, tests, missed, sound FROM result")}
+    wanted = {"inner/good.case.yaml": ["case", "carried out", 1, 0, 1], "inner/wrong.case.yaml": ["case", "carried out", 1, 1, 0],
+              "alone.json": ["scenario", "carried out", None, None, 1], "bad.json": ["scenario", "refused 2 Shape", None, None, 1]}
+    unless(told.returncode == 4 and found == wanted, f"the folder: {told.stdout}{told.stderr}{found}")
+
+
+def main():
+    os.environ |= {"GAKNIFUR_ETCS": str(Path(sys.argv[1]).resolve()), "GAKNIFUR_ETCS_LAB": str(Path(sys.argv[2]).resolve())}
+    lives = int(sys.argv[3]) if len(sys.argv) > 3 else 200
+    with tempfile.TemporaryDirectory(prefix="campaign-") as folder:
+        room = Path(folder)
+        whole = room / "whole.db"
+        begun = time.monotonic()
+        told = lab("campaign", whole, "--random", lives, "--seed", "7", "--workers", "2")
+        unless(told.returncode == 0 and told.stdout.startswith(f"{lives} rows, {lives} of them"), f"here: {told.stdout}{told.stderr}")
+        seconds = time.monotonic() - begun
+        for made in (by_two_workers(room, lives), interrupted(room, lives)):
+            told = lab("compare", whole, made)
+            unless(told.returncode == 0 and told.stdout == "0 rows differ\n", f"{made.name}: {told.stdout}{told.stderr}")
+        faults(room, whole)
+    print(f"campaign_rows: {lives} lives here, by two workers of which one was killed, and interrupted: the same table; "
+          f"{1000 * seconds / lives:.0f} ms a life by two processes; {failed} failed")
+    sys.exit(failed > 0)
+
+
+main()

@@ -1,0 +1,197 @@
+#!/usr/bin/env python3
+"""Tries the safety laws on the plain program: each is looked at behind each event of the kernel's rows, and may fail nowhere. The
+last lines say of each law how often its premise held.
+
+    tests/plain/law_rows.py [LAW ..]
+
+Speeds are metres per hour, places centimetres, moments milliseconds. A law is a function of the life behind an event, of what was
+remembered before it (`Before`), and of the line that the row has. It answers None where its premise doesn't hold, else whether it
+is kept. The exit status is 1 where one isn't, or where no event met its premise.
+"""
+import sys
+from collections import Counter, namedtuple
+from dataclasses import dataclass
+
+import rows
+from check_rows import ROWS
+from output import moments_of, rolled, since, stood
+from speed import Situation
+from track import pieces
+
+Before = namedtuple("Before", "mode speed end trip")
+
+DATA_MODES = ("FS", "OS", "SR", "UN", "TR", "PT")
+AUTHORITY_MODES = ("FS", "OS")
+
+
+@dataclass
+class Course:
+    """A train that brakes at its greatest front from a speed: behind the way of its reaction each centimetre takes off what its
+    brakes are known to, or all."""
+
+    situation: Situation
+    speed: int
+
+    def square_at(self, place):
+        acts = self.situation.stretch.max_front + -(-self.speed * self.situation.train.reaction_ms // 36000)
+        taken_off = self.situation.taken_off(acts, place) if acts < place else 0
+        return max(0, self.speed * self.speed - taken_off)
+
+
+# ---- the laws
+
+def runs_by_valid_data(life, before, line):
+    return life.train() is not None if life.mode() in DATA_MODES else None
+
+
+def has_an_authority(life, before, line):
+    return life.authority() is not None if life.mode() in AUTHORITY_MODES else None
+
+
+def outstanding_trip_brakes(life, before, line):
+    return life.now.output.brake == "emergency" if before.trip else None
+
+
+def halts_at_location(life, before, line):
+    end = life.end()
+    if life.mode() not in AUTHORITY_MODES or life.train() is None or end is None or end.speed:
+        return None
+    return Course(life.situation(), life.now.output.limit).square_at(end.location) == 0
+
+
+def passes_each_target(life, before, line):
+    if life.mode() not in AUTHORITY_MODES or life.train() is None:
+        return None
+    situation = life.situation()
+    targets = list(situation.targets())
+    course = Course(situation, life.now.output.limit)
+    return all(course.square_at(target.place) <= target.speed ** 2 for target in targets) if targets else None
+
+
+def trip_is_left(life, before, line):
+    if before.mode != "TR" or life.mode() == "TR":
+        return None
+    acknowledged = life.mode() == "PT" and (line.word, line.value) == ("acknowledge", "trip") and before.speed == 0
+    return acknowledged or (life.mode() == "SF" and life.now.overrun)
+
+
+def failure_stays(life, before, line):
+    return life.mode() == "SF" if before.mode == "SF" else None
+
+
+def stand_by_is_left(life, before, line):
+    if before.mode != "SB" or life.mode() == "SB":
+        return None
+    chosen = {"start": ("FS", "SR", "UN"), "choose-shunting": ("SH",)}
+    done = life.now.accepted and life.mode() in chosen.get(life.now.accepted[0], ()) and before.speed == 0
+    return bool(done) or (life.mode() == "SF" and life.now.overrun)
+
+
+def no_brake_only_where(life, before, line):
+    if life.now.output.brake != "none":
+        return None
+    limit, mode, values = life.now.output.limit, life.mode(), life.national.in_force.values
+    moments = moments_of(life, limit)
+    behind = since(stood, moments)
+    return (life.is_revalidated() and mode not in ("TR", "SF") and not before.trip and life.speed() <= limit + 5_000
+            and (life.speed() == 0 or mode not in ("SB", "PT")) and rolled(moments) <= values.roll
+            and all(life.moment() < owed.since + 5_000 for owed in map(life.acknowledgement, ("on-sight", "shunting", "level-0"))
+                    if owed.state == "owed")
+            and not any(entry.asks_service() for entry, *_ in behind)
+            and all(speed <= at + 10_000 for _, speed, at in behind))
+
+
+def end_never_moves_forward(life, before, line):
+    told = any(fact.packet.kind == 12 and fact.entry == len(life.entries) - 1 for fact in life.facts)
+    if line.word == "power-up" or life.end() is None or told:
+        return None
+    return before.end is not None and life.end().place <= before.end.place
+
+
+def more_restrictions_lower(life, before, line):
+    """Each restriction in turn is left out."""
+    situation = life.situation()
+    if life.mode() not in AUTHORITY_MODES or life.train() is None or not situation.restrictions:
+        return None
+    whole = situation.permitted()
+    for left_out in range(len(situation.restrictions)):
+        fewer = life.situation()
+        fewer.restrictions = [r for at, r in enumerate(fewer.restrictions) if at != left_out]
+        if fewer.permitted() < whole:
+            return False
+    return True
+
+
+def nearer_fits_no_more(life, before, line):
+    """The train is put 1 m farther ahead, and a speed that fits there has to fit here."""
+    if life.mode() not in AUTHORITY_MODES or life.train() is None or not life.end():
+        return None
+    here, ahead = life.situation(), life.situation()
+    ahead.stretch = ahead.stretch.__class__(ahead.stretch.min_rear, ahead.stretch.min_front, ahead.stretch.max_front + 100)
+    targets = list(here.targets())
+    speeds = [life.now.output.limit + step for step in (-5_000, 0, 1, 5_000)]
+    return all(here.fits(speed, target) for target in targets for speed in speeds if ahead.fits(speed, target))
+
+
+def passes_by_at_most(life, before, line):
+    """From 5,000 above the limit: by the way that the reaction takes longer, and as many centimetres beyond as take off the rest."""
+    end, limit, margin = life.end(), life.now.output.limit, 5_000
+    if life.mode() not in AUTHORITY_MODES or life.train() is None or end is None or end.speed:
+        return None
+    situation = life.situation()
+    front, reaction = situation.stretch.max_front, situation.train.reaction_ms
+    later = -(-(limit + margin) * reaction // 36000) + (-limit * reaction // 36000)
+    distance, beyond = max(0, end.location - front), 0
+    while True:
+        behind = front + distance + later + beyond
+        slowing = [situation.deceleration_at(place) for place in pieces(situation.gradients.starts(), front, behind - 1)]
+        if not slowing or not min(slowing):
+            return None
+        rest = 2 * limit * margin + margin * margin + 2592 * max(slowing) * later
+        if rest <= 2592 * min(slowing) * (later + beyond):
+            return Course(situation, limit + margin).square_at(behind) == 0
+        beyond = -(-rest // (2592 * min(slowing))) - later
+
+
+LAWS = (runs_by_valid_data, has_an_authority, outstanding_trip_brakes, halts_at_location, passes_each_target, passes_by_at_most,
+        trip_is_left, failure_stays, stand_by_is_left, no_brake_only_where, end_never_moves_forward, more_restrictions_lower,
+        nearer_fits_no_more)
+# No row comes to an overrun, and so none to System Failure.
+NEVER_MET = ("failure_stays",)
+
+
+def tried(row, laws):
+    """Each law behind each event of a row, with what came of it."""
+    before, trips = Before("SB", 0, None, False), False
+    for line, life in row.lives():
+        if line.word in rows.ASKED:
+            continue
+        if life.now.accepted == ("acknowledge", "trip"):
+            trips = False
+        if life.now.entered == "TR":
+            trips = True
+        now = before._replace(trip=trips)
+        if line.word == "power-up":
+            now = now._replace(mode="SB", speed=0, end=None)
+        for law in laws:
+            yield law, line, law(life, now, line)
+        before = Before(life.mode(), life.speed(), life.end(), trips)
+
+
+def main(names):
+    laws = [law for law in LAWS if not names or law.__name__ in names]
+    held, broken = Counter(), 0
+    for row in rows.read(ROWS.read_text()):
+        for law, line, kept in tried(row, laws):
+            held[law] += kept is not None
+            if kept is False:
+                broken += 1
+                print(f"{row.name}, line {line.number}: {law.__name__} fails")
+    for law in laws:
+        print(f"{law.__name__}: its premise held behind {held[law]} events")
+        broken += not held[law] and law.__name__ not in NEVER_MET
+    return 1 if broken else 0
+
+
+if __name__ == "__main__":
+    sys.exit(main(sys.argv[1:]))

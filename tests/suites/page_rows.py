@@ -1,0 +1,44 @@
+#!/usr/bin/env python3
+"""Runs the commands of docs/TESTING_A_TRAIN.md, in one folder and in their order, and compares what they print with the page.
+
+    tests/suites/page_rows.py ETCS ETCS_LAB             by these programs
+    tests/suites/page_rows.py --write ETCS ETCS_LAB     writes what they print into the page
+"""
+import os
+import sys
+import tempfile
+from pathlib import Path
+
+TOP = Path(__file__).resolve().parents[2]
+PAGE = TOP / "docs/TESTING_A_TRAIN.md"
+LEAST = 18
+sys.path.insert(0, str(TOP / "tests/lab_package"))
+from page_rows import parts, run  # noqa: E402
+
+
+def main(words):
+    is_write = words[:1] == ["--write"]
+    etcs, lab = (str(Path(word).resolve()) for word in words[is_write:])
+    env = {**os.environ, "GAKNIFUR_ETCS": etcs, "GAKNIFUR_ETCS_LAB": lab}
+    compared = differ = 0
+    told = parts(PAGE.read_text())
+    with tempfile.TemporaryDirectory() as room:
+        for part in told:
+            if isinstance(part, str):
+                continue
+            printed = run(part[0].replace(" suites/", f" {TOP}/suites/"), etcs, room, env).replace(f"{room}/", "")
+            compared += 1
+            if printed != part[1]:
+                differ += 1
+                if not is_write:
+                    print(f"{PAGE.name}: {part[0]}  prints\n{printed}  wanted\n{part[1]}")
+                part[1] = printed
+    if is_write:
+        PAGE.write_text("".join(part if isinstance(part, str) else part[0] + part[1] for part in told))
+        return 0
+    print(f"docs/{PAGE.name}: {compared} comparisons, {differ} differ")
+    return 0 if differ == 0 and compared >= LEAST else 1
+
+
+if __name__ == "__main__":
+    sys.exit(main(sys.argv[1:]))

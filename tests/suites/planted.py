@@ -1,0 +1,167 @@
+#!/usr/bin/env python3
+"""How many planted changes the corpus tells: each is made in a copy of the plain kernel (tests/plain), and the cases of suites/ are
+judged by the records that the copy answers. A change of which no case tells is named.
+
+    tests/suites/planted.py ETCS ETCS_LAB
+"""
+import json
+import os
+import re
+import shutil
+import sys
+import tempfile
+from pathlib import Path
+
+TOP = Path(__file__).resolve().parents[2]
+sys.path.insert(0, str(TOP / "python"))
+from gaknifur import cases, coverage, playing  # noqa: E402
+
+BITS = playing.BITS
+PLANTED = [
+    ("modes.py", "10  TR                       PT  trip_acknowledged", "10  TR                       SB  trip_acknowledged"),
+    ("modes.py", "11  PT                       SR  override_accepted\n", ""),
+    ("modes.py", "12  PT                       SH  shunting_chosen\n", ""),
+    ("modes.py", "14  PT                       UN  started level_0", "14  PT                       SR  started level_0"),
+    ("modes.py", "16  SB                       FS  started level_1 full\n", ""),
+    ("modes.py", "18  SB                       UN  started level_0\n", ""),
+    ("modes.py", "27  OS                       UN  level_0\n", ""),
+    ("modes.py", "30  OS                       SH  shunting_area\n", ""),
+    ("modes.py", "34  OS                       FS  full not_on_sight_area", "34  OS                       FS  full"),
+    ("modes.py", "train-data             I  I  I  I", "train-data             I  I  K  I"),
+    ("modes.py", "level                  I  K", "level                  I  I"),
+    ("modes.py", "linking                D  D  D  D  D", "linking                D  D  D  D  K"),
+    ("modes.py", "authority              D  D  D  D  D", "authority              D  D  D  D  K"),
+    ("modes.py", "acknowledgements       D  D  D", "acknowledgements       D  D  K"),
+    ("modes.py", '"PT": (3, 41, 65, 66)', '"PT": (3, 65, 66)'),
+    ("modes.py", '"SH": (3, 65, 66)', '"SH": (3, 41, 65, 66)'),
+    ("modes.py", '"TR": (3, 65, 66)', '"TR": (3, 66)'),
+    ("acknowledgements.py", "BRAKES_AFTER_MS = 5000", "BRAKES_AFTER_MS = 5001"),
+    ("acknowledgements.py", "entered       owed     owed     nothing  owed", "entered       owed     owed     owed     owed"),
+    ("driver.py", 'return mode == "SH" and stands', 'return mode == "SH"'),
+    ("driver.py", "return mode in (\"TR\", \"SB\") and stands and", "return mode in (\"TR\", \"SB\") and"),
+    ("driver.py", 'mode in ("SB", "PT") and stands and len(valid) == 3 and not life.is_tripped()', 'mode in ("SB", "PT") and stands and len(valid) == 3'),
+    ("driver.py", "life.speed() <= life.national", "life.speed() < 1000 + life.national"),
+    ("groups.py", "NEAR_CM = 1300", "NEAR_CM = 1299"),
+    ("groups.py", "{255}", "{254}"),
+    ("groups.py", "duplicates.get(place - 1) == 1", "duplicates.get(place - 1) == 2"),
+    ("groups.py", "return int(self.readings[0].telegram.place < self.readings[1].telegram.place)", "return 1"),
+    ("groups.py", "return packets[: kinds.index(136)] if 136 in kinds else packets", "return packets"),
+    ("links.py", "min_front > e.last_place()]", "min_front >= e.last_place()]"),
+    ("links.py", "if max_front < entry.first_place():", "if max_front <= entry.first_place():"),
+    ("links.py", "verdict.service |= entry.reaction == SERVICE or self.has_missed", "verdict.service |= entry.reaction == SERVICE"),
+    ("links.py", "return Verdict(REACTION, entry, True)", "return Verdict(REACTION, entry, entry.reaction == TRIP)"),
+    ("links.py", "return Verdict(REACTION, None, False, not closed.linked)", "return Verdict(REACTION, None, False, False)"),
+    ("links.py", "if not closed.linked or not self.left:", "if not self.left:"),
+    ("links.py", "place += link.distance * packet.scale_cm", "place = place + link.distance * 100 if not entries else link.distance * 100"),
+    ("place.py", "-(-path // 20)", "path // 20"),
+    ("place.py", "1200 if self.missed", "1000 if self.missed"),
+    ("authority.py", "now - start >= 1000 * time_s", "now - start > 1000 * time_s"),
+    ("authority.py", "seen.min_front >= entry", "seen.min_front > entry"),
+    ("authority.py", "seen.max_front >= self.told_end", "seen.max_front > self.told_end"),
+    ("authority.py", "if overlap and not", "if False and not"),
+    ("authority.py", "return self.sections[-1][0]", "return self.told_end"),
+    ("areas.py", "or place < area.end", "or place <= area.end"),
+    ("areas.py", "place += element.distance * scale", "place = fact.place + element.distance * scale"),
+    ("areas.py", "if element.level in (0, 2):", "if element.level in (0, 2, 3):"),
+    ("national.py", "roll: int = 200", "roll: int = 199"),
+    ("national.py", "unfitted: int = 100_000", "unfitted: int = 120_000"),
+    ("national.py", "override_distance: int = 20_000", "override_distance: int = 20_001"),
+    ("national.py", "max_front >= place + packet.start", "max_front > place + packet.start"),
+    ("national.py", "if self.in_force.countries and country not in", "if False and country not in"),
+    ("track.py", "packet.number == 255 or packet.number not in later", "packet.number not in later"),
+    ("track.py", "restriction.start <= place < restriction.end", "restriction.start <= place <= restriction.end"),
+    ("track.py", "e.steepness if e.uphill else -e.steepness", "e.steepness"),
+    ("track.py", "if number == category != 15:", "if False:"),
+    ("speed.py", "way = -(-speed * self.train.reaction_ms // 36000)", "way = speed * self.train.reaction_ms // 36000"),
+    ("speed.py", "981 * gradient // 1000", "981 * -gradient // 1000"),
+    ("speed.py", "return self.stretch.min_front if front else self.stretch.min_rear", "return self.stretch.min_front"),
+    ("speed.py", "max(to_end, min(self.end.release, to_location))", "to_end"),
+    ("output.py", "above the limit by 5000   until  within the limit", "above the limit by 5000   until  speed 0 read    "),
+    ("output.py", "moment[1] > moment[2] + 10_000", "moment[1] > moment[2] + 10_001"),
+    ("output.py", "moment[1] > moment[2] + 5_000", "moment[1] >= moment[2] + 5_000"),
+    ("output.py", 'mode in ("SB", "PT") and life.speed() > 0', 'mode == "SB" and life.speed() > 0'),
+    ("output.py", "service    while  owed too long\n", ""),
+    ("output.py", 'return values.shunting if mode == "SH" else 0', "return values.shunting"),
+    ("history.py", "self.stretch().min_front > end.place", "self.stretch().min_front >= end.place"),
+    ("history.py", "self.sums.path - entered[-1] > farthest", "self.sums.path - entered[-1] >= farthest"),
+    ("history.py", "return not self.is_overridden() and (", "return ("),
+    ("history.py", "self.moment() - since.moment < time)", "self.moment() - since.moment <= time)"),
+    ("history.py", 'if told[-1].packet.kind == 80 else []', "if True else []"),
+    ("history.py", "for profile in (self.gradients(), self.speeds())", "for profile in (self.speeds(),)"),
+]
+
+
+def records_of(lives, plain):
+    """The records of some lives, as `etcs_lab events` would tell them."""
+    image, found = plain.Image(64), []
+    for life, scenario in enumerate(lives, 1):
+        first = len(image.blocks)
+        image.run(scenario)
+        moment, speed = 0, 0
+        for number, block in enumerate(image.blocks[first:], first + 1):
+            for event, kind, output, payload, (place, uncertainty) in block:
+                moment = int.from_bytes(payload, "big") if kind == "clock" else moment
+                more = {}
+                if kind == "odometer":
+                    speed = int.from_bytes(payload[4:], "big")
+                    more = {"movement_cm": int.from_bytes(payload[:4], "big", signed=True)}
+                found.append(cases.derived({
+                    "block": number, "event": event, "life": life, "kind": kind, "time_ms": moment, "mode": output.mode,
+                    "level": None if output.level == "-" else int(output.level), "brake": output.brake,
+                    "indications": [name for name, bit in BITS.items() if output.indications & bit], "place_cm": place,
+                    "uncertainty_cm": uncertainty, "min_safe_front_cm": place - uncertainty, "max_safe_front_cm": place + uncertainty,
+                    "limit_m_per_h": output.limit, "speed_m_per_h": speed, **more}))
+    return found
+
+
+def missed(found, table, folder):
+    """The cases of which a result doesn't come, by the plain kernel of a folder."""
+    sys.path.insert(0, folder)
+    import program as plain
+    told = []
+    for case in found:
+        try:
+            records = records_of([json.loads(life.scenario.text()) for life in case.lives], plain)
+            played = playing.Played(records, playing.marked(case, records))
+            for expected in case.expected:
+                playing.judge(expected, played, table)
+        except Exception as error:  # a change may break the kernel anywhere: then it is told too
+            told.append(f"{case.name}: {re.sub(chr(10), ' ', str(error))[:150]}")
+    return told
+
+
+def in_copy(found, table, plant):
+    """What is missed in a copy with a planted change, looked for in a process of its own."""
+    with tempfile.TemporaryDirectory() as room:
+        copy = shutil.copytree(TOP / "tests/plain", Path(room) / "plain")
+        if plant:
+            path, old, new = copy / plant[0], plant[1], plant[2]
+            text = path.read_text()
+            if text.count(old) != 1:
+                return [f"the text stands {text.count(old)} times"], False
+            path.write_text(text.replace(old, new))
+        answer = Path(room) / "answer"
+        if (child := os.fork()) == 0:
+            answer.write_text(json.dumps(missed(found, table, str(copy))))
+            os._exit(0)
+        os.waitpid(child, 0)
+        return (json.loads(answer.read_text()), True) if answer.exists() else (["it ended"], True)
+
+
+def main(etcs, lab):
+    os.environ |= {"GAKNIFUR_ETCS": str(Path(etcs).resolve()), "GAKNIFUR_ETCS_LAB": str(Path(lab).resolve())}
+    found, table = [case for case in coverage.all_cases(TOP / "suites") if not any(life.ends for life in case.lives)], coverage.mode_table()
+    wrong, left = in_copy(found, table, None)[0], []
+    for one in wrong:
+        print(f"tests/suites/planted.py: without a change: {one}")
+    for plant in PLANTED:
+        told, was_made = in_copy(found, table, plant)
+        if not was_made or not told:
+            left.append(plant)
+            print(f"tests/suites/planted.py: not told: {plant[0]}: {plant[1].strip()} {told}")
+    print(f"tests/suites/planted.py: {len(PLANTED)} planted changes, {len(left)} not told; {len(found)} cases")
+    return 1 if wrong or left else 0
+
+
+if __name__ == "__main__":
+    sys.exit(main(*sys.argv[1:]))

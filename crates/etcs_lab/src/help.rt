@@ -10,12 +10,15 @@ Tells an investigator what an image of a journal holds, and what of it is lost.
                                      with --all also those of other readable blocks, each with its source
   etcs_lab replay [--json] IMAGE     runs each life through the kernel again, and tells whether the journal is what
                                      this kernel answers, or the first record that differs
+  etcs_lab why [--json] IMAGE [EVENT]
+                                     tells of each event whose brake or limit is another one than before, or of this
+                                     one, which causes of its brake hold, since which event, and how each ends
   etcs_lab --help                    prints this
 
   0 all is whole   1 refused: not formatted, damaged first sector; or nothing can be written   2 wrong words
   3 a file or the device   4 something is lost, damaged, contradicts or differs; all that can be read was told
 
-examine and replay print lines, or with --json JSON: examine one object, replay one a line. Errors go to standard
+examine, replay and why print lines, or with --json JSON: examine one object, the others one a line. Errors go to standard
 error. Behind -- a word may begin with -.
 The image is opened for reading alone, and may be a file that can't be written.
 

@@ -8,6 +8,7 @@ mod listed;
 mod program;
 mod replayed;
 mod running;
+mod why;
 
 use std::process::ExitCode;
 

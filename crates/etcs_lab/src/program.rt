@@ -4,6 +4,7 @@ use crate::digest::facts_of;
 use crate::help::HELP;
 use crate::listed::{events_told, events_words};
 use crate::replayed::replayed;
+use crate::why::{why_told, why_words};
 use clap::{Arg, ArgAction, ArgMatches, Command, Error};
 use file_disk::FileDisk;
 use lab_lines::{ExamineError, FileFacts, Form, Verdict, examine};
@@ -50,7 +51,8 @@ fn command<'a>(alloc: Global) -> Result<Command<'a>, AllocError> {
         .arg(help)?
         .subcommand(image_words(alloc, "examine")?)?
         .subcommand(events_words(alloc)?)?
-        .subcommand(image_words(alloc, "replay")?)
+        .subcommand(image_words(alloc, "replay")?)?
+        .subcommand(why_words(alloc)?)
 }
 
 fn parsed<'a>(alloc: Global, words: &'a [&'a str]) -> Result<ArgMatches<'a>, Error> {
@@ -120,6 +122,23 @@ fn helped<R: Eprint, W: Write>(rt: &R, out: &mut W) -> Status {
     }
 }
 
+// Tells why, of the event that is named, or of each change.
+fn why<R: Files<File = File> + AllocGlobal + Eprint, W: Write>(
+    rt: &R,
+    inner: &ArgMatches<'_>,
+    out: &mut W,
+) -> Status {
+    let path = inner.get_str("IMAGE").unwrap_or("");
+    let only = match inner.get_str("EVENT") {
+        None => None,
+        Some(word) => match word.parse::<u64>() {
+            Ok(event) => Some(event),
+            Err(_) => return usage(rt),
+        },
+    };
+    why_told(rt, path, only, form_of(inner), out)
+}
+
 /// Does what the words behind the program's name ask, and answers the status.
 pub(crate) fn lab_main<R: Files<File = File> + AllocGlobal + Eprint, W: Write>(
     rt: &R,
@@ -155,6 +174,7 @@ pub(crate) fn lab_main<R: Files<File = File> + AllocGlobal + Eprint, W: Write>(
                 out,
             )
         }
+        Some(("why", inner)) => why(rt, inner, out),
         _ if matches.get_flag("help") => helped(rt, out),
         _ => usage(rt),
     }

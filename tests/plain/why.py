@@ -1,0 +1,126 @@
+#!/usr/bin/env python3
+"""Tells why the plain unit brakes: each life of an image is run again from its power-up on, behind what the head before it tells, and each
+event whose brake or limit is another one than before in its life has a line with the causes.
+
+    tests/plain/why.py [--json] IMAGE [EVENT]     prints what `etcs_lab why` prints, and ends with its status
+"""
+import json
+import sys
+from pathlib import Path
+
+import output
+from disk import SECTOR_BYTES
+from items import Kept
+from journal import COLD, SLOT_SECTORS, kept_in, read_block, slots_in
+from life import Life
+from replay import input_of, run_of
+
+WHOLE, REFUSED, UNKNOWN = 0, 1, 4
+
+# Of each row of the plain table, in its order: the word, what it says, and how it ends.
+WORDS = {
+    "not revalidated": ("not_revalidated", "the driver has not revalidated since the power-up", "ends when the driver has revalidated"),
+    "mode TR": ("in_trip", "the mode is Trip", "ends when the driver acknowledges the trip at standstill"),
+    "mode SF": ("in_system_failure", "the mode is System Failure", "ends at a power-up alone"),
+    "trip outstanding": ("owes_trip", "a trip is not acknowledged", "ends when the driver acknowledges the trip at standstill"),
+    "above the limit by 10000": (
+        "far_too_fast", "the speed was above the limit by more than 10000 m/h, and the train has not stood since", "ends when the train stands"),
+    "rolled back too far": (
+        "rolled_too_far", "the train rolled backward too far since it stood", "ends when the train stands, or a greater D_NVROLL comes into force"),
+    "service asked for": (
+        "asked_for_service", "linking or a balise group asked for the service brake, and the train has not stood since",
+        "ends when the train stands"),
+    "above the limit by 5000": (
+        "too_fast", "the speed was above the limit by more than 5000 m/h, and not within it since", "ends when the speed is within the limit"),
+    "moves in standstill": ("must_stand", "the train moves where it must stand", "ends when the train stands, or in another mode"),
+    "owed too long": (
+        "owes_too_long", "an acknowledgement has been owed for 5000 ms or longer", "ends when the driver acknowledges, or a mode deletes it"),
+}
+
+
+class Reasons:
+    """A life, and since which event each cause holds."""
+
+    def __init__(self, life, number):
+        self.life, self.since, self.shown = life, {}, None
+        self.note(number)
+
+    def take(self, event, number):
+        self.life.take(*input_of(event))
+        self.note(number)
+
+    def note(self, number):
+        answer = self.life.now.output
+        held = output.causes(self.life, self.life.mode(), answer.limit)
+        self.since = {wanted: self.since.get(wanted, number) for (_, wanted), holds in held.items() if holds}
+
+    def is_new(self):
+        """Whether brake or limit is another one than at the event before."""
+        answer = self.life.now.output
+        before, self.shown = self.shown, (answer.brake, answer.limit)
+        return self.shown != before
+
+    def line(self, number, is_json):
+        life, answer = self.life, self.life.now.output
+        backward, allowed = output.rolled(output.moments_of(life, answer.limit)), life.national.in_force.values.roll
+        if is_json:
+            members = {"event": number, "brake": answer.brake, "limit_m_per_h": answer.limit, "speed_m_per_h": life.speed(),
+                       "backward_cm": backward, "allowed_backward_cm": allowed}
+            members |= {word: self.since.get(wanted) for wanted, (word, _, _) in WORDS.items()}
+            return json.dumps(members, separators=(",", ":"))
+        causes = [f"; {says} (since event {self.since[wanted]}, {ends})" for wanted, (_, says, ends) in WORDS.items() if wanted in self.since]
+        return (f"event {number}: brake {answer.brake}, limit {answer.limit} m/h, speed {life.speed()} m/h, "
+                f"rolled backward {backward} cm of {allowed} cm" + "".join(causes))
+
+
+class Walk:
+    def __init__(self, is_json, only):
+        self.is_json, self.only, self.lines, self.told, self.kept = is_json, only, [], None, None
+
+    def record(self, block, at):
+        record = block["records"][at]
+        number, event = record["number"], record["event"]
+        if event[0] == "powerup":
+            if at:
+                kept = self.told and self.told.life.kept()
+            else:
+                kept = self.kept or (Kept() if number == 0 else None)
+            self.told = Reasons(Life(kept, COLD[event[1]]), number) if kept else None
+        elif self.told:
+            self.told.take(event, number)
+        if self.told and (self.told.is_new() if self.only is None else number == self.only):
+            self.lines.append(self.told.line(number, self.is_json))
+
+    def block(self, number, data):
+        block = read_block(data)
+        if block is None or block["number"] != number:
+            self.told = self.kept = None
+            return
+        if self.kept and self.kept.events != block["records"][0]["number"]:
+            self.told = self.kept = None
+        for at in range(len(block["records"])):
+            self.record(block, at)
+        self.kept = kept_in(block)
+
+
+def reasoned(data, is_json=False, only=None):
+    """Status and text."""
+    slots = slots_in(data[:SECTOR_BYTES]) if len(data) >= SECTOR_BYTES else None
+    if slots is None or len(data) // SECTOR_BYTES != 1 + SLOT_SECTORS * slots:
+        return REFUSED, ""
+    walk = Walk(is_json, only)
+    for number in run_of(data, slots):
+        at = SECTOR_BYTES * (1 + SLOT_SECTORS * (number % slots))
+        walk.block(number, data[at:at + SECTOR_BYTES * SLOT_SECTORS])
+    return (WHOLE if walk.lines or only is None else UNKNOWN), "".join(line + "\n" for line in walk.lines)
+
+
+def main(words):
+    is_json, words = "--json" in words, [word for word in words if word != "--json"]
+    status, said = reasoned(Path(words[0]).read_bytes(), is_json, int(words[1]) if words[1:] else None)
+    print(said, end="")
+    return status
+
+
+if __name__ == "__main__":
+    sys.exit(main(sys.argv[1:]))

@@ -3,3 +3,4 @@ pub mod Naming
 pub mod Hindering
 pub mod Deciding
 pub mod Releasing
+pub mod ByMode

@@ -1,3 +1,4 @@
 pub mod Over
 pub mod Targets
 pub mod Supervised
+pub mod Causes

@@ -58,3 +58,29 @@ pub enum SpeedCause {
     /// The release speed: of the authority, or the national value. The end of authority alone would allow less.
     Release(Release),
 }
+
+/// A national value that limits a train (SUBSET-026, 3.18.2).
+#[derive(Clone, Copy)]
+pub enum NationalValue {
+    /// That of Staff Responsible, V_NVSTFF.
+    StaffResponsible,
+    /// That of an override, V_NVSUPOVTRP, while one is active.
+    Override,
+    /// That of Shunting, V_NVSHUNT.
+    Shunting,
+    /// That of Unfitted, V_NVUNFIT.
+    Unfitted,
+}
+
+/// What decides the limit of a train.
+#[derive(Clone, Copy)]
+pub enum LimitCause {
+    /// The mode lets no train run: Stand By, Trip, Post Trip or System Failure.
+    NoSpeed,
+    /// The train data aren't valid, in a mode that supervises by them.
+    NoTrainData,
+    /// A national value.
+    National(NationalValue),
+    /// The train, its authority, or what lies along the track.
+    Speed(SpeedCause),
+}

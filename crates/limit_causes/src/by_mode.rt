@@ -1,0 +1,142 @@
+//! What decides the limit, by the mode.
+ghost use Rattle.std.specs.Prelude.{◌≡◌, ◌==◌, ◌&&◌, ℕ, MatchOption, MatchBool};
+ghost use Rattle.track_store.specs.Restrictions.{in_force};
+ghost use Rattle.track_picture.specs.History.{restrictions};
+ghost use Rattle.mode_control.specs.Conditions.{is_overridden};
+ghost use Rattle.mode_control.specs.History.{tracks};
+ghost use Rattle.mode_control.specs.Life.{Life, driver_of};
+ghost use Rattle.mode_control.specs.Sentences.{values_of, standing_in};
+ghost use Rattle.mode_control.specs.StandsFor.{StandsForLife};
+ghost use Rattle.speed_supervision.specs.Limit.{within_maximum, restricted, responsible_limit, unfitted_limit, permitted_speed, permitted_for, limit as limit_of};
+ghost use Rattle.limit_causes.specs.Over.{IsRestrictionOver};
+ghost use Rattle.limit_causes.specs.Supervised.{IsCause};
+ghost use Rattle.limit_causes.specs.Causes.{journey_of, IsMaximum, IsResponsibleCause, IsUnfittedCause, IsPermittedCause, IsLimitCause};
+
+use crate::life::{along, bounds, values};
+use crate::{LimitCause, NationalValue, OverTrain, SpeedCause, restriction_over, supervised_cause};
+use driver::{Datum, TrainData};
+use mode_control::SupervisionOver;
+use mode_table::Mode;
+use speed_profile::{Ahead, CategorySpeeds};
+use speed_supervision::limit;
+use track_store::{ProfileStore, Restriction};
+use units::{Mph, Permille};
+
+/// What decides the limit that `speed_supervision::limit` answers (SUBSET-026, 3.11 to 3.13 and 4.4; which of those of
+/// equal force is named: this project's profile). It is worked out where it is asked, and takes no memory. Which packet
+/// and which balise group brought it isn't known.
+pub fn limit_cause<G: ProfileStore<Permille> + Drop, S: ProfileStore<CategorySpeeds> + Drop>(
+    supervision: &SupervisionOver<G, S>,
+) -> LimitCause
+    ensures { (life : Life) → StandsForLife G.profile S.profile supervision.now life → IsLimitCause life (limit_of life) result }
+{
+    match supervision.mode() {
+        Mode::FullSupervision | Mode::OnSight => permitted_cause(supervision),
+        Mode::StaffResponsible => responsible_cause(supervision, limit(supervision)),
+        Mode::Unfitted => unfitted_cause(supervision, limit(supervision)),
+        Mode::Shunting => LimitCause::National(NationalValue::Shunting),
+        Mode::StandBy | Mode::Trip | Mode::PostTrip | Mode::SystemFailure => LimitCause::NoSpeed,
+    }
+}
+
+fn permitted_cause<G: ProfileStore<Permille> + Drop, S: ProfileStore<CategorySpeeds> + Drop>(
+    supervision: &SupervisionOver<G, S>,
+) -> LimitCause
+    ensures { (life : Life) → StandsForLife G.profile S.profile supervision.now life
+        → IsPermittedCause life (permitted_for life (driver_of life).train_data) result (driver_of life).train_data }
+{
+    match supervision.driver().train_data() {
+        Datum::Valid(train) => LimitCause::Speed(train_cause(supervision, &train)),
+        Datum::Unknown | Datum::Invalid(_) => LimitCause::NoTrainData,
+    }
+}
+
+fn train_cause<G: ProfileStore<Permille> + Drop, S: ProfileStore<CategorySpeeds> + Drop>(
+    supervision: &SupervisionOver<G, S>,
+    train: &TrainData,
+) -> SpeedCause
+    ensures { (life : Life) → StandsForLife G.profile S.profile supervision.now life
+        → IsCause (standing_in life) (journey_of life train.now) (values_of life).release (permitted_speed life train.now) result }
+{
+    let stretch = supervision.standing();
+    let bounds = bounds(supervision, train);
+    let track = along(supervision);
+    let brakes = train.brakes();
+    let ahead = Ahead {
+        front: stretch.max_front(),
+        bounds: &bounds,
+        track: &track,
+        gradient: supervision.track().gradients(),
+        brakes: &brakes,
+    };
+    supervised_cause(&stretch, &ahead, values(supervision).release)
+}
+
+fn responsible_cause<G: ProfileStore<Permille> + Drop, S: ProfileStore<CategorySpeeds> + Drop>(
+    supervision: &SupervisionOver<G, S>,
+    limit: Mph,
+) -> LimitCause
+    requires { (life : Life) → StandsForLife G.profile S.profile supervision.now life → limit ≡ responsible_limit life }
+    ensures { (life : Life) → StandsForLife G.profile S.profile supervision.now life → IsResponsibleCause life limit result }
+{
+    if let Some(restriction) = restriction_in(supervision, limit) {
+        return LimitCause::Speed(SpeedCause::OverTrain(OverTrain::Restriction(restriction)));
+    }
+    if is_override(supervision, limit) {
+        return LimitCause::National(NationalValue::Override);
+    }
+    if is_maximum(&supervision.driver().train_data(), limit) {
+        return LimitCause::Speed(SpeedCause::OverTrain(OverTrain::Maximum));
+    }
+    LimitCause::National(NationalValue::StaffResponsible)
+}
+
+fn unfitted_cause<G: ProfileStore<Permille> + Drop, S: ProfileStore<CategorySpeeds> + Drop>(
+    supervision: &SupervisionOver<G, S>,
+    limit: Mph,
+) -> LimitCause
+    requires { (life : Life) → StandsForLife G.profile S.profile supervision.now life → limit ≡ unfitted_limit life }
+    ensures { (life : Life) → StandsForLife G.profile S.profile supervision.now life → IsUnfittedCause life limit result }
+{
+    if let Some(restriction) = restriction_in(supervision, limit) {
+        return LimitCause::Speed(SpeedCause::OverTrain(OverTrain::Restriction(restriction)));
+    }
+    if is_maximum(&supervision.driver().train_data(), limit) {
+        return LimitCause::Speed(SpeedCause::OverTrain(OverTrain::Maximum));
+    }
+    LimitCause::National(NationalValue::Unfitted)
+}
+
+// The first restriction in force over the train that has this speed.
+fn restriction_in<G: ProfileStore<Permille> + Drop, S: ProfileStore<CategorySpeeds> + Drop>(
+    supervision: &SupervisionOver<G, S>,
+    limit: Mph,
+) -> Option<Restriction>
+    ensures { (life : Life) → StandsForLife G.profile S.profile supervision.now life
+        → MatchOption result ((speed : ℕ) → restricted life speed ≡ limit → speed ≡ limit)
+        (IsRestrictionOver (in_force (restrictions (tracks life.entries))) (standing_in life) limit) }
+{
+    let stretch = supervision.standing();
+    restriction_over(supervision.track().restrictions(), &stretch, limit)
+}
+
+// Whether this is the speed of an override that is active.
+fn is_override<G: ProfileStore<Permille> + Drop, S: ProfileStore<CategorySpeeds> + Drop>(
+    supervision: &SupervisionOver<G, S>,
+    limit: Mph,
+) -> bool
+    ensures { (life : Life) → StandsForLife G.profile S.profile supervision.now life
+        → result ≡ (is_overridden life && ((values_of life).override_speed == limit)) }
+{
+    supervision.is_overridden() && values(supervision).override_speed == limit
+}
+
+// Whether this is the greatest speed of a train whose data are valid.
+fn is_maximum(train: &Datum<TrainData>, limit: Mph) -> bool
+    ensures { MatchBool result (IsMaximum limit train.now) ((speed : ℕ) → within_maximum train.now speed ≡ limit → speed ≡ limit) }
+{
+    match train {
+        Datum::Valid(train) => train.maximum() == limit,
+        Datum::Unknown | Datum::Invalid(_) => false,
+    }
+}

@@ -51,8 +51,8 @@ IN_EXAMPLES = (
      "trip is not acknowledged (since event 10, ends when the driver acknowledges the trip at standstill)\n"),
     ("linking_fault", 11, "; linking or a balise group asked for the service brake, and the train has not stood since (since event 11, ends when "
      "the train stands)\n"),
-    ("on_sight", 12, "; an acknowledgement has been owed for 5000 ms or longer (since event 12, ends when the driver acknowledges, or a mode "
-     "deletes it)\n"),
+    ("on_sight", 12, "; an acknowledgement has been owed for 5000 ms or longer (since event 12, ends when the driver acknowledges, a mode "
+     "deletes it, or a further transition begins it anew)\n"),
 )
 
 

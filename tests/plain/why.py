@@ -34,7 +34,8 @@ WORDS = {
         "too_fast", "the speed was above the limit by more than 5000 m/h, and not within it since", "ends when the speed is within the limit"),
     "moves in standstill": ("must_stand", "the train moves where it must stand", "ends when the train stands, or in another mode"),
     "owed too long": (
-        "owes_too_long", "an acknowledgement has been owed for 5000 ms or longer", "ends when the driver acknowledges, or a mode deletes it"),
+        "owes_too_long", "an acknowledgement has been owed for 5000 ms or longer",
+        "ends when the driver acknowledges, a mode deletes it, or a further transition begins it anew"),
 }
 
 

@@ -84,8 +84,9 @@ def interrupted(room, lives):
     """The lives by processes here, interrupted once some rows are there, and then gone on with."""
     out = room / "interrupted.db"
     words = [TOP / "lab", "campaign", str(out), "--random", str(lives), "--seed", "7", "--workers", "2"]
+    # (a shell without job control has what it starts in the background ignore interrupts)
     playing = subprocess.Popen(words, stdin=subprocess.DEVNULL, stdout=subprocess.PIPE, stderr=subprocess.PIPE, text=True,
-                               start_new_session=True)
+                               start_new_session=True, preexec_fn=lambda: signal.signal(signal.SIGINT, signal.SIG_DFL))
     until(lambda: rows(out) >= 5 or playing.poll() is not None, "rows")
     unless(playing.poll() is None, "the campaign ended before it could be interrupted; take more lives")
     os.killpg(playing.pid, signal.SIGINT)

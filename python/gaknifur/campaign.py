@@ -232,8 +232,15 @@ def by_scheduler(jobs: Iterable[Job], scheduler: str, take: Take) -> None:
 
         hand_out()
         for future in running:
+            if future.status in ("pending", "lost"):
+                running.add(future)  # its worker was lost before the row was handed over: it is played again
+                continue
             job = known.pop(future.key)
-            take(future.result() if future.status == "finished" else lost(job))
+            try:
+                row: Row = future.result()
+            except Exception:  # the scheduler gave the job up
+                row = lost(job)
+            take(row)
             future.release()
             hand_out()
 

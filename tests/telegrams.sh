@@ -1,14 +1,17 @@
 #!/bin/bash
-# Telegrams in JSON, on the program etcs_lab that the gate leaves behind: what it writes of an object beside what the plain writer writes, what it
-# tells of bytes beside what the plain reader finds, each message once, and the schema.
+# Telegrams in JSON, and what is told of scenarios, on the programs that the gate leaves behind: what the program etcs_lab writes of an object and
+# tells of bytes beside what plain readers and writers do, each message once, the schema; what is wrong in a scenario, and where.
 #
-#     tests/telegrams.sh [PROGRAM..]    on another program, with its words
-lab=$(dirname "$0")/../crates/etcs_lab/out/etcs_lab
-if [ $# -eq 0 ]; then
-    lab=$(realpath "$lab") || exit 1
-    [ -x "$lab" ] || { echo "there is no program $lab: rt ci makes it"; exit 1; }
-    set -- "$lab"
-fi
+#     tests/telegrams.sh [ETCS_LAB ETCS]    on other programs
+lab=${1:-$(dirname "$0")/../crates/etcs_lab/out/etcs_lab}
+etcs=${2:-$(dirname "$0")/../crates/etcs/out/etcs}
+lab=$(realpath "$lab") && etcs=$(realpath "$etcs") || exit 1
 cd "$(dirname "$0")" || exit 1
 export PYTHONDONTWRITEBYTECODE=1
-exec python3 telegrams/telegram_rows.py "$@"
+for program in "$lab" "$etcs"; do
+    [ -x "$program" ] || { echo "there is no program $program: rt ci makes it"; exit 1; }
+done
+status=0
+python3 telegrams/telegram_rows.py "$lab" || status=1
+python3 telegrams/lint_rows.py "$etcs" "$lab" || status=1
+exit $status

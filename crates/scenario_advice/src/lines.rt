@@ -2,6 +2,7 @@
 
 use crate::advice::{LocatedAdvice, advice_on};
 use crate::locating::{Faults, LocatedFault, faults_of};
+use crate::places::Place;
 use serde_json::Value;
 use simulator::Scenario;
 use std::alloc::Global;
@@ -36,7 +37,13 @@ fn write_fault<W: Write>(found: &LocatedFault, form: Form, out: &mut W) -> io::R
     let number = found.fault.number();
     let place = found.place;
     match form {
-        Form::People => write!(out, "{place}: refused {number} {}", found.fault),
+        Form::People => {
+            let whole = match place {
+                Place::Whole => "scenario",
+                _ => "",
+            };
+            write!(out, "{whole}{place}: refused {number} {}", found.fault)
+        }
         Form::Json => write!(
             out,
             "{{\"pointer\":\"{place}\",\"fault\":{number},\"name\":\"{}\"",

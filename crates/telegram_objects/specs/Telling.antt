@@ -1,6 +1,7 @@
 -- Which JSON value tells a telegram: its header by the names of the variables, and its packets as lists of pairs of a
 -- name and a number (SUBSET-026, 7.5.1 and 8.4.2; the object: this project's profile).
-use Rattle.std.specs.Prelude.{◌≡◌, ◌⊎◌, ℕ, ◌-◌, ◌*◌, List, [], ◌∷◌, ◌++◌, Bool, false, length, map, take, drop, replicate, codes, All, Some, Ok}
+use Rattle.std.specs.Prelude.{◌≡◌, ◌⊎◌, ℕ, ◌-◌, ◌*◌, List, [], ◌∷◌, ◌++◌, Bool, false, length, map, take, drop, replicate, codes, Some, Ok}
+use Rattle.std.specs.List.{AllByRecursion}
 use Rattle.bits.specs.Bits.{bits_of}
 use Rattle.bits.specs.Names.{name_text}
 use Rattle.hex.specs.Hex.{decode_of}
@@ -54,9 +55,12 @@ TellPackets [] (p ∷ ps) = ⊥
 TellPackets (d ∷ ds) [] = ⊥
 TellPackets (d ∷ ds) (p ∷ ps) = TellsPacket d p × TellPackets ds ps
 
--- each variable of the header has its number under its name
+-- each field has its number under its name
+abbrev pub HasMembers : Data → List FieldValue → Type 0
+HasMembers d fields = AllByRecursion (λ f. get (name_text f.name) d ≡ Some (number (unsigned f.number))) fields
+
 abbrev pub TellsHeader : Data → Header → Type 0
-TellsHeader d h = All (λ f. get (name_text f.name) d ≡ Some (number (unsigned f.number))) (header_fields h)
+TellsHeader d h = HasMembers d (header_fields h)
 
 -- The value tells the telegram.
 pub record TellsTelegram (d : Data) (t : Telegram) : Type 0 where

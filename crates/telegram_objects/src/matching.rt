@@ -1,13 +1,12 @@
 //! Whether a JSON value tells a telegram.
-ghost use Rattle.std.specs.Prelude.{◌≡◌, ◌≤◌, ◌-◌, ◌*◌, ◌++◌, false, length, map, replicate, All};
+ghost use Rattle.std.specs.Prelude.{◌≡◌, ◌-◌, ◌*◌, ◌++◌, false, length, map, replicate};
 ghost use Rattle.bits.specs.Bits.{bits_of};
 ghost use Rattle.std.specs.Bool.{OnTrue};
-ghost use Rattle.packets.specs.Packets.{length_of};
 ghost use Rattle.serde_json.specs.Data.{array};
 ghost use Rattle.serde_json.specs.View.{view, items_of};
 ghost use Rattle.telegram.specs.Telegrams.{Carries};
 ghost use Rattle.telegram.specs.declared.message.Telegram.{Telegram};
-ghost use Rattle.telegram_objects.specs.Telling.{pair_of, pairs_of, without_length, TellsFields, TellsBits, TellsBody, TellsPacket, TellPackets, TellsHeader, TellsTelegram};
+ghost use Rattle.telegram_objects.specs.Telling.{pair_of, pairs_of, without_length, TellsFields, TellsBits, TellsBody, TellsPacket, TellPackets, HasMembers, TellsHeader, TellsTelegram};
 
 use crate::fields::{FieldValue, fields_of_header, fields_of_packet};
 use crate::values::{has_number_at, is_number, is_text, items_of, list_at, text_at};
@@ -107,15 +106,16 @@ fn tells_body(alloc: Global, value: &Value, packet: &Packet<'_>) -> bool
 }
 
 fn tells_packet(alloc: Global, value: &Value, packet: &Packet<'_>) -> bool
-    requires { length_of packet.now ≤ 832 }
     ensures { OnTrue result (TellsPacket (view value.now) packet.now) }
 {
+    if packet.length() > 832 {
+        return false;
+    }
     let list = fields_of_packet(packet);
     tells_fields(value, list.fields.as_slice()) && tells_body(alloc, value, packet)
 }
 
 fn tell_packets(alloc: Global, values: &[Value], packets: &[Packet<'_>]) -> bool
-    requires { All (λ p. length_of p ≤ 832) packets.now }
     ensures { OnTrue result (TellPackets (map view values.now) packets.now) }
 {
     match (values.split_first(), packets.split_first()) {
@@ -127,21 +127,26 @@ fn tell_packets(alloc: Global, values: &[Value], packets: &[Packet<'_>]) -> bool
     }
 }
 
+// Whether each field has its number under its name.
+fn has_members(value: &Value, fields: &[FieldValue]) -> bool
+    ensures { OnTrue result (HasMembers (view value.now) fields.now) }
+{
+    match fields.split_first() {
+        None => true,
+        Some((field, fields)) => {
+            has_number_at(value, field.name.text(), field.number) && has_members(value, fields)
+        }
+    }
+}
+
 fn tells_header(value: &Value, header: &Header) -> bool
     ensures { OnTrue result (TellsHeader (view value.now) header.now) }
 {
-    let list = fields_of_header(header);
-    for field in list.fields.as_slice() {
-        if !has_number_at(value, field.name.text(), field.number) {
-            return false;
-        }
-    }
-    true
+    has_members(value, fields_of_header(header).fields.as_slice())
 }
 
 /// Whether a value tells a telegram. False also where memory is refused.
 pub(crate) fn tells(alloc: Global, value: &Value, telegram: &Telegram<'_>) -> bool
-    requires { All (λ p. length_of p ≤ 832) telegram.now.packets.items }
     ensures { OnTrue result (TellsTelegram (view value.now) telegram.now) }
 {
     let Some(head) = value.get("header") else {

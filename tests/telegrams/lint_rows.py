@@ -151,10 +151,10 @@ def main(words):
         for told, found in FAULTS + ADVICE:
             compared.lint(told, found)
         file = compared.room / "none.json"
-        file.write_text('{\n  "groups": [}\n')
-        compared.same("no JSON", compared.run(["lint", str(file)]), ("scenario: refused 1 NotJson at line 2, column 14\n", "", 4))
+        file.write_text('{\n  "groups": groups\n}\n')
+        compared.same("no JSON", compared.run(["lint", str(file)]), ("scenario: refused 1 NotJson at line 2, column 13\n", "", 4))
         compared.same("no JSON, as JSON", compared.run(["lint", "--json", str(file)]),
-                      ('{"pointer":"","fault":1,"name":"NotJson","line":2,"column":14}\n', "", 4))
+                      ('{"pointer":"","fault":1,"name":"NotJson","line":2,"column":13}\n', "", 4))
         compared.same("no file", compared.run(["lint", str(compared.room / "nothing")])[::2], ("", 3))
         for more in ([], [str(file), "x"], ["--jso", str(file)]):
             compared.same(f"words {more}", compared.run(["lint", *more])[::2], ("", 2))

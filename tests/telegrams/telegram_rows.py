@@ -83,7 +83,7 @@ def without_lengths(value):
 
 
 def one(program, room, number, data):
-    """What the program makes of bytes, and of the object that it tells; and what is wanted."""
+    """What the program makes of bytes, and of the object that it tells, of each tenth also without the lengths; and what is wanted."""
     wanted = told_of(data)
     printed, said, status = run(program, ["decode", "--json", data.hex()])
     found = [(json.loads(printed), printed.count("\n"), said, status)]
@@ -93,10 +93,11 @@ def one(program, room, number, data):
     file = room / f"{number}.json"
     file.write_text(printed)
     found.append(run(program, ["telegram", str(file)]))
-    file.write_text(json.dumps(without_lengths(wanted), indent=1))
-    found.append(run(program, ["telegram", str(file)]))
+    if number % 10 == 0:
+        file.write_text(json.dumps(without_lengths(wanted), indent=1))
+        found.append(run(program, ["telegram", str(file)]))
     file.unlink()
-    return found, [(wanted, 1, "", 0), (digits + "\n", "", 0), (digits + "\n", "", 0)]
+    return found, [(wanted, 1, "", 0)] + [(digits + "\n", "", 0)] * (len(found) - 1)
 
 
 def compare_telegrams(program, room, compared):
@@ -106,7 +107,7 @@ def compare_telegrams(program, room, compared):
         results = pool.map(lambda item: one(program, room, *item), enumerate(all_data))
         carried = 0
         for data, (found, wanted) in zip(all_data, results):
-            carried += len(wanted) == 3
+            carried += len(wanted) > 1
             compared.same(data.hex(), found, wanted)
     return carried, len(all_data) - carried
 

@@ -79,6 +79,14 @@ def objects(found):
     return [{"pointer": place} | ({"advice": what} if isinstance(what, str) else {"fault": what[0], "name": what[1]}) for place, what in found]
 
 
+def loaded(text):
+    """The value of a text, or that it is none."""
+    try:
+        return json.loads(text)
+    except ValueError:
+        return "no JSON: " + text
+
+
 def of_telegram(place, digits):
     data = bytes.fromhex(digits)
     try:
@@ -128,7 +136,7 @@ class Compared:
         status = 4 if found else 0
         self.same(f"lint {told}", self.run(["lint", str(file)]), (people(found), "", status))
         printed, said, ended = self.run(["lint", "--json", str(file)])
-        self.same(f"lint --json {told}", ([json.loads(line) for line in printed.splitlines()], said, ended), (objects(found), "", status))
+        self.same(f"lint --json {told}", ([loaded(line) for line in printed.splitlines()], said, ended), (objects(found), "", status))
 
     def changed(self, text):
         """The first fault is that for which the program `etcs run` refuses the scenario."""

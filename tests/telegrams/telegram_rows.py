@@ -48,6 +48,14 @@ def run(program, words, text=None):
     return done.stdout, done.stderr, done.returncode
 
 
+def loaded(text):
+    """The value of a text, or that it is none."""
+    try:
+        return json.loads(text)
+    except ValueError:
+        return "no JSON: " + text
+
+
 def body_of(data, packet, at):
     """The body of a packet that is skipped, which begins behind so many bits: its bits in digits, padded with zero bits to whole bytes."""
     bits = "".join(f"{byte:08b}" for byte in data)[at + 23:at + dict(packet["fields"])["L_PACKET"]]
@@ -86,7 +94,7 @@ def one(program, room, number, data):
     """What the program makes of bytes, and of the object that it tells, of each tenth also without the lengths; and what is wanted."""
     wanted = told_of(data)
     printed, said, status = run(program, ["decode", "--json", data.hex()])
-    found = [(json.loads(printed), printed.count("\n"), said, status)]
+    found = [(loaded(printed), printed.count("\n"), said, status)]
     if "refused" in wanted:
         return found, [(wanted, 1, "", 1)]
     digits = spelled(data, wanted["bits"])

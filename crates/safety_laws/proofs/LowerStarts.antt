@@ -69,15 +69,14 @@ attained (t ∷ targets) speed is =
 
 no_lower_one : (targets : List Target) (t : Target) → IsIn t targets → (speed : ℕ) × (least_asked targets ≡ Some speed) × (speed ≤ t.speed)
 no_lower_one [] t there = absurd there
-no_lower_one (x ∷ targets) t there =
-    (
-      least x.speed (speeds targets),
-      refl,
-      elim there [
-        | inl first ↦ (let same : t.speed ≡ x.speed = ap (λ (y : Target). y.speed) first in omega (arith, same, least_within x.speed (speeds targets)))
-        | inr later ↦ least_of x.speed (speeds targets) t.speed (in_speeds t targets later)
-      ],
-    )
+no_lower_one (x ∷ targets) t there = (
+  least x.speed (speeds targets),
+  refl,
+  elim there [
+    | inl first ↦ (let same : t.speed ≡ x.speed = ap (λ (y : Target). y.speed) first in omega (arith, same, least_within x.speed (speeds targets)))
+    | inr later ↦ least_of x.speed (speeds targets) t.speed (in_speeds t targets later)
+  ],
+)
 
 one_listed : {A : Type 0} (b : Bool) (x t : A) → IsIn t (listed (cond b (Some x) None)) → t ≡ x
 one_listed true x t there = elim there [ inl is ↦ is | inr never ↦ absurd never ]

@@ -89,8 +89,11 @@ module _ (life : Life) (train : Train) where
           | inr less ↦ record {
             here = omega (arith, less.1, within (at_location end));
             ahead = λ t there. fits_up_to (at_location end) t speed less.1 (in_left t starts (at_location end ∷ []) (to_in t starts there));
-            to_end = inr (less.0, fits_up_to (at_location end) (at_location end) speed less.1
-                (in_right (at_location end) starts (at_location end ∷ []) (inl refl)));
+            to_end = inr (
+              less.0,
+              fits_up_to (at_location end) (at_location end) speed less.1
+                  (in_right (at_location end) starts (at_location end ∷ []) (inl refl)),
+            );
           }
         ]
 

@@ -134,8 +134,8 @@ def nearer_fits_no_more(life, before, line):
 
 
 def lower_starts(targets_at, places, front):
-    """Of some centimetres ahead those whose least target is lower than that of the centimetre before, if that lies ahead too and has
-    any."""
+    """Of some centimetres ahead those whose least target is lower than that of the centimetre before, if that lies ahead
+    too and has any."""
     for place in places:
         here = [target.speed for target in targets_at(place)]
         before = [target.speed for target in targets_at(place - 1)] if place - 1 > front else []
@@ -170,7 +170,7 @@ def starts_by_kind_decide(life, before, line):
 
 
 def release_rule(life, before, line):
-    """A speed is up to the limit where the train may run at it: for each of some, below and above the speeds that count."""
+    """A speed is up to the limit where the train may run at it: tried at the speeds that count, and beside them."""
     if life.mode() not in AUTHORITY_MODES or life.train() is None or life.end() is None:
         return None
     situation, end, limit = life.situation(), life.situation().end, life.now.output.limit
@@ -186,8 +186,8 @@ def release_rule(life, before, line):
 
 
 def release_by_case(life, before, line):
-    """The greater of the limit to the end and of the release speed, while the train can stop from it at the supervised location;
-    nearer, of the limits to both."""
+    """The greater of the limit to the end and of the release speed, while the train can stop from it at the supervised
+    location; nearer, of the limits to both."""
     if life.mode() not in AUTHORITY_MODES or life.train() is None or life.end() is None:
         return None
     situation, end, limit = life.situation(), life.situation().end, life.now.output.limit

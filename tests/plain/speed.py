@@ -80,8 +80,8 @@ class Situation:
         return pieces(starts, first, max(starts | {first}))
 
     def targets_at(self, place):
-        """A centimetre ahead with a static speed, restriction or area is a target of that speed, one before the end without a
-        static speed is one of speed 0."""
+        """A centimetre ahead with a static speed, restriction or area is a target of that speed, one before the end
+        without a static speed is one of speed 0."""
         static = self.speeds.at(place)
         if static:
             yield Target(place, speed_for(static, self.category))

@@ -1,6 +1,6 @@
 -- The starts of lower speeds ask what each centimetre does.
 use Rattle.std.proofs.Common.{◌≡◌, ℕ, zero, suc, ◌≤◌, ℤ, pos, ◌+ℤ◌, ◌-ℤ◌, ◌≤ℤ◌, ◌<ℤ◌, List, [], ◌∷◌, ◌++◌, ◌⊎◌, inl, inr, Bool, true, false, cond, min, refl, ap, sym, ◌∙◌, subst, arith, append_assoc}
-use Rattle.std.specs.Prelude.{Option, None, Some, int_lt, nat_lt, map, filter}
+use Rattle.std.specs.Prelude.{Option, None, Some, int_lt, nat_lt, map}
 use Rattle.std.specs.List.{filter_map, cons_option}
 use Rattle.std.proofs.lemmas.Bool.Decides.{nat_tests}
 use Rattle.std.proofs.lemmas.Int.{ints}
@@ -9,11 +9,11 @@ use Rattle.areas.specs.Areas.{speed_in}
 use Rattle.authority.specs.declared.answers.End.{End}
 use Rattle.brakes.specs.declared.brakes.Brakes.{Brakes}
 use Rattle.braking.specs.declared.target.Target.{Target}
-use Rattle.braking.specs.Braking.{fits_all, greatest}
+use Rattle.braking.specs.Braking.{greatest}
 use Rattle.braking.proofs.Naturals.{natural_is}
 use Rattle.restriction.specs.declared.restriction.Restriction.{Restriction}
 use Rattle.restriction.specs.Covering.{covers}
-use Rattle.speed_profile.proofs.Asking.{AreCovered, covered_ask, nothing_more, through, joined, back, equal, same}
+use Rattle.speed_profile.proofs.Asking.{covered_ask, nothing_more, through, joined, back, equal, same}
 use Rattle.speed_profile.proofs.Farther.{IsNoNearer}
 use Rattle.speed_profile.proofs.Members.{in_either, one_passed}
 use Rattle.speed_profile.proofs.Reaching.{restriction_asks, no_restriction_asks, area_asks, no_area_asks}

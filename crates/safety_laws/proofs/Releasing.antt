@@ -1,21 +1,19 @@
 -- The release rule, by the starts of lower speeds.
-use Rattle.std.proofs.Common.{◌≡◌, ℕ, ℤ, ◌≤◌, List, [], ◌∷◌, ◌++◌, ◌⊎◌, inl, inr, Bool, true, min, max, refl, ap, sym, ◌∙◌, subst, arith}
-use Rattle.std.specs.Prelude.{Option, Some, None, ◌↔◌}
+use Rattle.std.proofs.Common.{◌≡◌, ℕ, ◌≤◌, List, [], ◌∷◌, ◌++◌, ◌⊎◌, inl, inr, true, min, max, refl, ap, sym, ◌∙◌, subst, arith}
+use Rattle.std.specs.Prelude.{Option, Some, ◌↔◌}
 use Rattle.authority.specs.declared.answers.End.{End}
 use Rattle.authority.specs.Laws.{IsAmong}
-use Rattle.brakes.specs.declared.brakes.Brakes.{Brakes}
 use Rattle.braking.specs.declared.target.Target.{Target}
-use Rattle.braking.specs.Braking.{fits, fits_all, greatest}
+use Rattle.braking.specs.Braking.{fits_all}
 use Rattle.braking.proofs.Greatest.{greatest_within}
 use Rattle.braking.proofs.Slower.{slower_fits}
 use Rattle.driver.specs.Limits.{Train}
 use Rattle.speed_profile.proofs.Asking.{fit_all}
 use Rattle.speed_profile.proofs.Members.{in_left, in_right, in_either}
-use Rattle.track_store.specs.Profiles.{listed}
 use Rattle.units.proofs.Gathering.{IsIn}
 use Rattle.mode_control.specs.Life.{Life}
 use Rattle.mode_control.specs.Sentences.{values_of}
-use Rattle.speed_supervision.specs.Limit.{limit, bounds_of, along, supervised_limit, permitted_to, release_speed, released}
+use Rattle.speed_supervision.specs.Limit.{limit, bounds_of, along, supervised_limit, permitted_to, released}
 use Rattle.safety_laws.specs.Release.{can_meet, at_end, at_location, release_of, MayRun, limit_to_end, limit_to_location, IsReleased}
 use Rattle.safety_laws.specs.Starts.{starts_of, braking_limit}
 use Rattle.safety_laws.specs.Stopping.{front_of, gradient_along, IsSupervised}

@@ -1,8 +1,9 @@
 -- The release rule, speed by speed and case by case (SUBSET-026, 3.8 and 3.13; which speed holds where: this project's
 -- profile). Places are centimetres, speeds metres per hour.
 --
--- They don't say that a train may pass the end: at a release speed it may, up to the supervised location. Nor which of
--- overlap and danger point is the supervised location, and whose release speed holds: that is `end_of` of `authority`.
+-- They don't say where the train trips: at a release speed its maximum safe front may be beyond the end, up to the
+-- supervised location, and it trips once its minimum safe front is. Nor which of overlap and danger point is that
+-- location, and whose release speed holds: that is `end_of` of `authority`.
 use Rattle.std.specs.Prelude.{ℕ, ◌≡◌, ◌≤◌, ◌⊎◌, ◌↔◌, max, Bool, Some, IsTrue}
 use Rattle.authority.specs.declared.answers.End.{End}
 use Rattle.authority.specs.Laws.{IsAmong}
@@ -32,8 +33,8 @@ release_of life end = release_speed end.release (values_of life).release
 
 -- ---- speed by speed
 
--- a train may run at a speed: the track under it allows that; the train can brake for each lower speed ahead; and it can
--- brake for the end of the authority, or the speed is at most the release speed and it can stop at the supervised
+-- a train may run at a speed: the track under it allows that; it can brake for each start of a lower speed ahead; and
+-- it can brake for the end of the authority, or the speed is at most the release speed and it can stop at the supervised
 -- location
 pub record MayRun (life : Life) (train : Train) (end : End) (speed : ℕ) : Type 0 where
   pub here : speed ≤ supervised_limit life train
@@ -54,11 +55,12 @@ limit_to_end life train end = braking_limit life train (Some (at_end end))
 abbrev pub limit_to_location : Life → Train → End → ℕ
 limit_to_location life train end = braking_limit life train (Some (at_location end))
 
--- while the train can stop at the supervised location from the release speed, the limit is the greater of that speed and
--- of the braking limit to the end; nearer, the greater of the braking limits to the end and to the supervised location.
--- It is never above what the track under the train allows
+-- while the train can stop at the supervised location from the release speed, the limit is the greater of that speed
+-- and of the braking limit to the end; nearer, the greater of the braking limits to the end and to the supervised
+-- location. It is never above what the track under the train allows
 pub record IsReleased (life : Life) (train : Train) (end : End) : Type 0 where
-  pub released : release_of life end ≤ limit_to_location life train end → limit life ≡ max (limit_to_end life train end) (release_of life end)
+  pub released : release_of life end ≤ limit_to_location life train end →
+      limit life ≡ max (limit_to_end life train end) (release_of life end)
   pub nearer : limit_to_location life train end ≤ release_of life end →
       limit life ≡ max (limit_to_end life train end) (limit_to_location life train end)
   pub here : limit life ≤ supervised_limit life train

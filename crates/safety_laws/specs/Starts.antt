@@ -1,5 +1,5 @@
--- Which targets ahead decide the permitted speed: the starts of lower speeds (SUBSET-026, 3.11 and 3.13; what is a target,
--- and the braking formula: this project's profile). Places are centimetres, speeds metres per hour.
+-- Which targets ahead decide the permitted speed: the starts of lower speeds (SUBSET-026, 3.11 and 3.13; what a target
+-- is, and the braking formula: this project's profile). Places are centimetres, speeds metres per hour.
 --
 -- The definition of the limit asks for a speed at each centimetre ahead; who knows the standard looks for the starts of
 -- lower speeds. Both permit the same speed, on every track and for every train. They don't say which start decides, and
@@ -31,7 +31,8 @@ least_asked (target ∷ targets) = Some (least target.speed (map (λ other. othe
 
 -- .. those of the centimetre before a place, where that one lies ahead of the front too
 abbrev pub asked_before : ℤ → (ℤ → List Target) → ℤ → Option ℕ
-asked_before front asked place = if int_lt front (place -ℤ pos 1) then least_asked (asked (place -ℤ pos 1)) else None
+asked_before front asked place =
+    if int_lt front (place -ℤ pos 1) then least_asked (asked (place -ℤ pos 1)) else None
 
 -- a speed is lower than the one before it; where none was asked for, each is
 abbrev pub is_lower : Option ℕ → ℕ → Bool
@@ -41,17 +42,20 @@ is_lower (Some before) speed = nat_lt speed before
 -- a target at a place, where its speed is lower than the one before
 abbrev pub lower_start : ℤ → Option ℕ → Option ℕ → Option Target
 lower_start place before None = None
-lower_start place before (Some speed) = if is_lower before speed then Some (record { place = place; speed = speed }) else None
+lower_start place before (Some speed) =
+    if is_lower before speed then Some (record { place = place; speed = speed }) else None
 
 -- the starts of lower speeds ahead of a front, of what each centimetre asks for
 abbrev pub lower_starts : ℤ → (ℤ → List Target) → List Target
-lower_starts front asked = over_ahead front (λ place. listed (lower_start place (asked_before front asked place) (least_asked (asked place))))
+lower_starts front asked =
+    over_ahead front (λ place. listed (lower_start place (asked_before front asked place) (least_asked (asked place))))
 
 -- ---- they decide, with the last target
 
 -- of all kinds together: a place where the speed isn't lower than just before never decides
 abbrev pub StartsDecide : Type 0
-StartsDecide = (front : ℤ) (bound : ℕ) (last : Option Target) (bounds : Bounds) (track : TrackSpeeds) (gradient : ℤ → Option ℤ) (brakes : Brakes) →
+StartsDecide =
+    (front : ℤ) (bound : ℕ) (last : Option Target) (bounds : Bounds) (track : TrackSpeeds) (gradient : ℤ → Option ℤ) (brakes : Brakes) →
     permitted_ahead front bound last bounds track gradient brakes
     ≡ permitted_by front gradient brakes (lower_starts front (targets_at bounds track) ++ listed last) bound
 
@@ -63,7 +67,8 @@ starts_by_kind front bounds track =
     ++ filter_map (first_in_area front track.national) track.areas
 
 abbrev pub StartsByKindDecide : Type 0
-StartsByKindDecide = (front : ℤ) (bound : ℕ) (last : Option Target) (bounds : Bounds) (track : TrackSpeeds) (gradient : ℤ → Option ℤ) (brakes : Brakes) →
+StartsByKindDecide =
+    (front : ℤ) (bound : ℕ) (last : Option Target) (bounds : Bounds) (track : TrackSpeeds) (gradient : ℤ → Option ℤ) (brakes : Brakes) →
     permitted_ahead front bound last bounds track gradient brakes
     ≡ permitted_by front gradient brakes (starts_by_kind front bounds track ++ listed last) bound
 
@@ -76,7 +81,8 @@ starts_of life train = lower_starts (front_of life) (targets_at (bounds_of life 
 -- last target
 abbrev pub braking_limit : Life → Train → Option Target → ℕ
 braking_limit life train last =
-    permitted_by (front_of life) (gradient_along life) train.brakes (starts_of life train ++ listed last) (supervised_limit life train)
+    permitted_by (front_of life) (gradient_along life) train.brakes (starts_of life train ++ listed last)
+    (supervised_limit life train)
 
 -- the limit in Full Supervision and On Sight
 abbrev pub LimitByStarts : Type 0

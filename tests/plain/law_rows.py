@@ -133,48 +133,52 @@ def nearer_fits_no_more(life, before, line):
     return all(here.fits(speed, target) for target in targets for speed in speeds if ahead.fits(speed, target))
 
 
-def lower_starts(targets_at, places, front):
-    """Of some centimetres ahead those whose least target is lower than that of the centimetre before, if that lies ahead
-    too and has any."""
-    for place in places:
-        here = [target.speed for target in targets_at(place)]
-        before = [target.speed for target in targets_at(place - 1)] if place - 1 > front else []
+def lower_starts(situation):
+    """The centimetres ahead whose least target is lower than that of the centimetre before, if that lies ahead too and has
+    any."""
+    for place in situation.places_ahead():
+        here = [target.speed for target in situation.targets_at(place)]
+        is_ahead = place - 1 > situation.stretch.max_front
+        before = [target.speed for target in situation.targets_at(place - 1)] if is_ahead else []
         if here and (not before or min(here) < min(before)):
             yield Target(place, min(here))
 
 
-def starts_decide(life, before, line):
-    """The starts of lower speeds, and no other target ahead, permit what was answered."""
-    if life.mode() not in AUTHORITY_MODES or life.train() is None or not life.situation().targets():
-        return None
+def is_supervised(life):
+    return life.mode() in AUTHORITY_MODES and life.train() is not None and life.end() is not None
+
+
+def permits(life, starts):
+    """These targets ahead, and no others, permit what was answered."""
     situation = life.situation()
-    starts = list(lower_starts(situation.targets_at, situation.places_ahead(), situation.stretch.max_front))
     situation.targets = lambda: starts
     return situation.permitted() == life.now.output.limit
+
+
+def starts_decide(life, before, line):
+    """The starts of lower speeds do for all that lies ahead."""
+    return permits(life, list(lower_starts(life.situation()))) if is_supervised(life) else None
 
 
 def starts_by_kind_decide(life, before, line):
     """So do those of lower static speeds, and the first centimetre ahead of each restriction and of each area."""
-    if life.mode() not in AUTHORITY_MODES or life.train() is None or not life.situation().targets():
+    if not is_supervised(life):
         return None
     situation, alone = life.situation(), life.situation()
     alone.restrictions, alone.areas = [], []
     ahead = situation.stretch.max_front + 1
-    starts = list(lower_starts(alone.targets_at, alone.places_ahead(), situation.stretch.max_front))
-    starts += [Target(first, r.speed) for r in situation.restrictions
-               for first in [max(ahead, situation.mark, r.start)] if first < r.end]
-    starts += [Target(first, situation.area_speed(a)) for a in situation.areas
-               for first in [max(ahead, a.start)] if a.end is None or first < a.end]
-    situation.targets = lambda: starts
-    return situation.permitted() == life.now.output.limit
+    first = [(max(ahead, situation.mark, r.start), r.end, r.speed) for r in situation.restrictions]
+    first += [(max(ahead, a.start), a.end, situation.area_speed(a)) for a in situation.areas]
+    begins = [Target(place, speed) for place, end, speed in first if end is None or place < end]
+    return permits(life, list(lower_starts(alone)) + begins)
 
 
 def release_rule(life, before, line):
     """A speed is up to the limit where the train may run at it: tried at the speeds that count, and beside them."""
-    if life.mode() not in AUTHORITY_MODES or life.train() is None or life.end() is None:
+    if not is_supervised(life):
         return None
     situation, end, limit = life.situation(), life.situation().end, life.now.output.limit
-    starts = list(lower_starts(situation.targets_at, situation.places_ahead(), situation.stretch.max_front))
+    starts = list(lower_starts(situation))
 
     def may_run(speed):
         return (speed <= situation.limit() and all(situation.fits(speed, start) for start in starts)
@@ -188,7 +192,7 @@ def release_rule(life, before, line):
 def release_by_case(life, before, line):
     """The greater of the limit to the end and of the release speed, while the train can stop from it at the supervised
     location; nearer, of the limits to both."""
-    if life.mode() not in AUTHORITY_MODES or life.train() is None or life.end() is None:
+    if not is_supervised(life):
         return None
     situation, end, limit = life.situation(), life.situation().end, life.now.output.limit
     to_end = situation.greatest(situation.limit(), situation.targets() + [Target(end.place, end.speed)])

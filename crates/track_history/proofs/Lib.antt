@@ -1,0 +1,2 @@
+pub mod OneKind
+pub mod Profile

@@ -1,0 +1,4 @@
+pub mod Live
+pub mod Counting
+pub mod Happenings
+pub mod Equal

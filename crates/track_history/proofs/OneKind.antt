@@ -15,15 +15,14 @@ use Rattle.vars.specs.declared.group.GroupIdentity.{GroupIdentity}
 use Rattle.track_picture.specs.Announcing.{announcements_of}
 use Rattle.linking.specs.Linking as linking
 use Rattle.linking.specs.Linking.{LinkEntry}
-use Rattle.linking.specs.Judging.{meant}
 use Rattle.mode_table.specs.declared.mode.Mode.{Mode}
 use Rattle.mode_table.specs.declared.statuses.Item.{Item}
 use Rattle.track_picture.specs.Entry.{Fact, Outcome}
-use Rattle.track_picture.specs.History.{after_facts, after_column}
-use Rattle.track_picture.specs.Told.{comes_later}
+use Rattle.track_picture.specs.History.{after_column}
 use Rattle.track_history.specs.Live.{Happening, TrackFact, brought, missed_by, level_told, ends, live, deleting}
-use Rattle.track_history.specs.Counting.{links_in, moment_in}
-use Rattle.track_history.specs.Happenings.{and_ticked, and_missed, and_judged, and_told, and_used, and_seen, and_entered, and_marked}
+use Rattle.track_history.specs.Counting.{moment_in}
+use Rattle.track_history.specs.Happenings.{and_ticked, and_missed, and_judged, and_seen, and_entered, and_marked}
+use Rattle.track_history.proofs.Growing.{past_missed, past_judged}
 
 -- ---- filters that keep all or nothing
 
@@ -128,25 +127,14 @@ module _ {X : Type 0} (kind : Kind X) where
 
   pub missed : kind.read TrackFact.Miss ≡ None → ((entry : LinkEntry) (x : X) → ended (Happening.Linked entry) x ≡ false) →
       (announcements : List Announcement) (hs : List Happening) → value (and_missed announcements hs) ≡ value hs
-  missed n keeps [] hs = refl
-  missed n keeps (a ∷ announcements) hs =
-      let entry = linking.LinkEntry.Missed a.number in
-      missed n keeps announcements (Happening.Linked entry ∷ hs) ∙ past_linked n keeps entry hs
-
-  taken : kind.read TrackFact.Miss ≡ None → ((entry : LinkEntry) (x : X) → ended (Happening.Linked entry) x ≡ false) →
-      (as_entry : ℕ → LinkEntry) (a : Option Announcement) (hs : List Happening) →
-      value (option_map_or (λ b. Happening.Linked (as_entry b.number) ∷ hs) a hs) ≡ value hs
-  taken n keeps as_entry None hs = refl
-  taken n keeps as_entry (Some a) hs = past_linked n keeps (as_entry a.number) hs
+  missed n keeps announcements hs =
+      past_missed {E = Happening} (λ gs us. value gs ≡ value us) (λ entry gs us r. past_linked n keeps entry gs ∙ r) announcements hs hs refl
 
   pub judged : kind.read TrackFact.Miss ≡ None → ((entry : LinkEntry) (x : X) → ended (Happening.Linked entry) x ≡ false) →
       (outcome : Outcome) (hs : List Happening) → value (and_judged outcome hs) ≡ value hs
-  judged n keeps (Outcome.Broken b) hs = taken n keeps linking.LinkEntry.Reacted (meant (links_in hs) b.group b.linked) hs
-  judged n keeps (Outcome.Ignored message) hs = refl
-  judged n keeps (Outcome.Rejected message a) hs = past_linked n keeps (linking.LinkEntry.Reacted a.number) hs
-  judged n keeps (Outcome.Accepted message announced fix facts) hs =
-      past_accepted message.group (option_map_or (λ a. Happening.Linked (linking.LinkEntry.Accepted a.number) ∷ hs) announced hs)
-      ∙ taken n keeps linking.LinkEntry.Accepted announced hs
+  judged n keeps outcome hs =
+      past_judged {E = Happening} (λ gs us. value gs ≡ value us) (λ entry gs us r. past_linked n keeps entry gs ∙ r)
+      (λ group gs us r. past_accepted group gs ∙ r) outcome hs hs refl
 
   -- ---- packets that a kind isn't told by
 
@@ -200,42 +188,7 @@ module _ {X : Type 0} (kind : Kind X) where
       ∙ (kept_alike (λ x. not (ended (Happening.Entered mode) x)) (λ x. not (deleting it mode)) (λ x. ap not (by_mode mode x)) (inner es)
       ∙ column_one inner clear cleared (deleting it mode) es)
 
--- ---- the packets of a group, for what is so of the happenings and of another list
-
-module _ {E : Type 0} (R : List Happening → List E → Type 0) where
-  walk_one : (k : Bool) (fact : Fact) (facts : List Fact) (hs : List Happening) (es : List E) →
-      R (and_told facts (cond k (Happening.Told fact ∷ hs) hs)) es → R (and_told (cond k (fact ∷ facts) facts) hs) es
-  walk_one true fact facts hs es r = r
-  walk_one false fact facts hs es r = r
-
-  pub walk : (keep : Fact → Bool) (tell : Fact → List E → List E) →
-      ((fact : Fact) (hs : List Happening) (es : List E) → R hs es → R (cond (keep fact) (Happening.Told fact ∷ hs) hs) (tell fact es)) →
-      (facts : List Fact) (hs : List Happening) (es : List E) → R hs es → R (and_told (filter keep facts) hs) (after_facts tell facts es)
-  walk keep tell one [] hs es r = r
-  walk keep tell one (fact ∷ facts) hs es r =
-      walk_one (keep fact) fact (filter keep facts) hs (after_facts tell facts (tell fact es))
-      (walk keep tell one facts (cond (keep fact) (Happening.Told fact ∷ hs) hs) (tell fact es) (one fact hs es r))
-
-  pub pass : (keep : Fact → Bool) →
-      ((fact : Fact) (hs : List Happening) (es : List E) → R hs es → R (cond (keep fact) (Happening.Told fact ∷ hs) hs) es) →
-      (facts : List Fact) (hs : List Happening) (es : List E) → R hs es → R (and_told (filter keep facts) hs) es
-  pass keep one [] hs es r = r
-  pass keep one (fact ∷ facts) hs es r =
-      walk_one (keep fact) fact (filter keep facts) hs es
-      (pass keep one facts (cond (keep fact) (Happening.Told fact ∷ hs) hs) es (one fact hs es r))
-
-  pub in_one : (tell : Fact → List E → List E) →
-      ((fact : Fact) (hs : List Happening) (es : List E) → R hs es → R (cond (not (comes_later fact.packet)) (Happening.Told fact ∷ hs) hs) (tell fact es)) →
-      ((fact : Fact) (hs : List Happening) (es : List E) → R hs es → R (cond (comes_later fact.packet) (Happening.Told fact ∷ hs) hs) es) →
-      (facts : List Fact) (hs : List Happening) (es : List E) → R hs es → R (and_used facts hs) (after_facts tell facts es)
-  in_one tell one later facts hs es r =
-      pass (λ f. comes_later f.packet) later facts (and_told (filter (λ f. not (comes_later f.packet)) facts) hs) (after_facts tell facts es)
-      (walk (λ f. not (comes_later f.packet)) tell one facts hs es r)
-
-  pub in_two : (first second : Fact → List E → List E) →
-      ((fact : Fact) (hs : List Happening) (es : List E) → R hs es → R (cond (not (comes_later fact.packet)) (Happening.Told fact ∷ hs) hs) (first fact es)) →
-      ((fact : Fact) (hs : List Happening) (es : List E) → R hs es → R (cond (comes_later fact.packet) (Happening.Told fact ∷ hs) hs) (second fact es)) →
-      (facts : List Fact) (hs : List Happening) (es : List E) → R hs es → R (and_used facts hs) (after_facts second facts (after_facts first facts es))
-  in_two first second one two facts hs es r =
-      walk (λ f. comes_later f.packet) second two facts (and_told (filter (λ f. not (comes_later f.packet)) facts) hs) (after_facts first facts es)
-      (walk (λ f. not (comes_later f.packet)) first one facts hs es r)
+  pub stays : (it : Item) → ((mode : Mode) → deleting it mode ≡ false) → ((mode : Mode) (x : X) → ended (Happening.Entered mode) x ≡ deleting it mode) →
+      (mode : Option Mode) (hs : List Happening) → value (and_entered mode hs) ≡ value hs
+  stays it none by_mode None hs = refl
+  stays it none by_mode (Some mode) hs = unmoved (Happening.Entered mode) hs refl (λ x. by_mode mode x ∙ none mode)

@@ -1,5 +1,5 @@
 -- The announced level that counts is that of the track picture.
-use Rattle.std.proofs.Common.{◌≡◌, ℕ, ℤ, List, [], ◌∷◌, ◌++◌, Bool, true, false, cond, refl, ap, sym, ◌∙◌, ◌⊎◌, inl, inr}
+use Rattle.std.proofs.Common.{◌≡◌, ℕ, ℤ, List, [], ◌∷◌, ◌++◌, Bool, true, false, cond, refl, ap, sym, ◌∙◌}
 use Rattle.std.specs.Prelude.{Option, Some, None, not}
 use Rattle.vars.specs.declared.group.GroupIdentity.{GroupIdentity}
 use Rattle.packets.specs.declared.packet.Packet.{Packet}
@@ -21,7 +21,8 @@ use Rattle.track_history.specs.Live.{Happening, TrackFact, level_told}
 use Rattle.track_history.specs.Counting.{as_level, moment_in, newest}
 use Rattle.track_history.specs.Happenings.{and_ticked, and_missed, and_closed, and_seen, and_entered, happenings}
 use Rattle.track_history.specs.Equal.{LevelIsLive}
-use Rattle.track_history.proofs.OneKind.{Kind, value, fact_with, kept_all, lost_all, step_to, past_links, past_level, judged, missed, ticked, marked, seen, column}
+use Rattle.track_history.proofs.EachKind.{level}
+use Rattle.track_history.proofs.OneKind.{value, fact_with, kept_all, lost_all, step_to, past_links, past_level, judged, missed, ticked, marked, seen, column}
 use Rattle.track_history.proofs.Growing.{closed_in_one}
 use Rattle.track_history.proofs.Granted.{newest_listed}
 
@@ -40,13 +41,6 @@ reached_one : (max_front : ℤ) (waits : Option AnnouncedLevel) →
     filter (λ x. not (is_reached max_front x)) (listed waits) ≡ listed (unless_reached max_front waits)
 reached_one max_front None = refl
 reached_one max_front (Some level) = reached_by (is_reached max_front level) level
-
-level_view : (f : TrackFact) → (as_level f ≡ None) ⊎ ((x : AnnouncedLevel) × (as_level f ≡ Some x) × (f ≡ TrackFact.Level x))
-level_view (TrackFact.Level x) = inr (x, refl, refl)
-level_view other = inl refl
-
-abbrev level : Kind (AnnouncedLevel)
-level = record { wrap = TrackFact.Level; read = as_level; view = level_view }
 
 abbrev level_as : List Happening → List (LevelEntry) → Type 0
 level_as hs es = value level hs ≡ listed (waiting es)

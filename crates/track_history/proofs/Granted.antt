@@ -1,5 +1,5 @@
 -- The authority that counts, with what its timers have seen, is that of the track picture.
-use Rattle.std.proofs.Common.{◌≡◌, ℕ, ℤ, List, [], ◌∷◌, ◌++◌, Bool, true, false, cond, refl, ap, sym, ◌∙◌, ◌⊎◌, inl, inr}
+use Rattle.std.proofs.Common.{◌≡◌, ℕ, ℤ, List, [], ◌∷◌, ◌++◌, Bool, true, false, cond, refl, ap, sym, ◌∙◌}
 use Rattle.std.specs.Prelude.{Option, Some, None, not}
 use Rattle.vars.specs.declared.group.GroupIdentity.{GroupIdentity}
 use Rattle.packets.specs.declared.packet.Packet.{Packet}
@@ -23,19 +23,13 @@ use Rattle.track_history.specs.Live.{Happening, TrackFact}
 use Rattle.track_history.specs.Counting.{as_authority, as_look, newest, moment_in, authority_in}
 use Rattle.track_history.specs.Happenings.{and_ticked, and_missed, and_closed, and_seen, and_entered, and_marked, happenings}
 use Rattle.track_history.specs.Equal.{AuthorityIsLive}
-use Rattle.track_history.proofs.OneKind.{Kind, value, fact_with, kept_all, lost_all, step_to, past_links, past_level, judged, missed, ticked, marked, seen, column}
+use Rattle.track_history.proofs.EachKind.{grant, look}
+use Rattle.track_history.proofs.OneKind.{value, fact_with, kept_all, lost_all, step_to, past_links, past_level, judged, missed, ticked, marked, seen, column}
 use Rattle.track_history.proofs.Growing.{closed_in_one, past_missed, past_judged}
 
 pub newest_listed : {X : Type 0} (x : Option X) → newest (listed x) ≡ x
 newest_listed None = refl
 newest_listed (Some x) = refl
-
-grant_view : (f : TrackFact) → (as_authority f ≡ None) ⊎ ((x : authority.Fact) × (as_authority f ≡ Some x) × (f ≡ TrackFact.Authority x))
-grant_view (TrackFact.Authority x) = inr (x, refl, refl)
-grant_view other = inl refl
-
-abbrev grant : Kind (authority.Fact)
-grant = record { wrap = TrackFact.Authority; read = as_authority; view = grant_view }
 
 abbrev granted : List AuthorityEntry → List authority.Fact
 granted es = listed (accepted es)
@@ -68,13 +62,6 @@ grant_closed =
     (λ fact hs es r. grant_first fact.group fact.place fact.moment fact.packet hs es r)
     (λ fact hs es r. grant_later fact.group fact.place fact.moment fact.packet hs es r)
     (λ outcome hs es r. judged grant refl (λ entry x. refl) outcome hs ∙ r)
-
-look_view : (f : TrackFact) → (as_look f ≡ None) ⊎ ((x : Sight) × (as_look f ≡ Some x) × (f ≡ TrackFact.Look x))
-look_view (TrackFact.Look x) = inr (x, refl, refl)
-look_view other = inl refl
-
-abbrev look : Kind (Sight)
-look = record { wrap = TrackFact.Look; read = as_look; view = look_view }
 
 abbrev look_as : List Happening → List (AuthorityEntry) → Type 0
 look_as hs es = value look hs ≡ sights es

@@ -1,5 +1,5 @@
 -- The packet 3 that waits and the national values in force are those of the track picture.
-use Rattle.std.proofs.Common.{◌≡◌, ℕ, ℤ, List, [], ◌∷◌, ◌++◌, Bool, true, false, cond, refl, ap, sym, ◌∙◌, ◌⊎◌, inl, inr}
+use Rattle.std.proofs.Common.{◌≡◌, ℕ, ℤ, List, [], ◌∷◌, ◌++◌, Bool, true, false, cond, refl, ap, sym, ◌∙◌}
 use Rattle.std.specs.Prelude.{Option, Some, None, not}
 use Rattle.vars.specs.declared.group.GroupIdentity.{GroupIdentity}
 use Rattle.packets.specs.declared.packet.Packet.{Packet}
@@ -26,7 +26,8 @@ use Rattle.track_history.specs.Live.{Happening, TrackFact, deleting}
 use Rattle.track_history.specs.Counting.{as_values, newest, moment_in, links_in, values_in, in_force_in}
 use Rattle.track_history.specs.Happenings.{and_ticked, and_missed, and_judged, and_closed, and_seen, and_entered, and_marked, happenings}
 use Rattle.track_history.specs.Equal.{ValuesAreLive, ValuesInForce}
-use Rattle.track_history.proofs.OneKind.{Kind, value, fact_with, kept_all, lost_all, step_to, past_linked, past_links, past_level, judged, missed, ticked, marked, seen, stays}
+use Rattle.track_history.proofs.EachKind.{values}
+use Rattle.track_history.proofs.OneKind.{value, fact_with, kept_all, lost_all, step_to, past_linked, past_links, past_level, judged, missed, ticked, marked, seen, stays}
 use Rattle.track_history.proofs.Growing.{in_one, past_missed}
 use Rattle.track_history.proofs.Granted.{newest_listed}
 
@@ -53,7 +54,7 @@ country_waits (Outcome.Rejected message a) es = refl
 country_waits (Outcome.Accepted message announced fix facts) es = unless_entered message.group.country (waiting es)
 
 -- no mode ends it
-none_deletes : (m : Mode) → deleting item.AnnouncedValues m ≡ false
+pub none_deletes : (m : Mode) → deleting item.AnnouncedValues m ≡ false
 none_deletes mode.StandBy = refl
 none_deletes mode.Shunting = refl
 none_deletes mode.StaffResponsible = refl
@@ -63,13 +64,6 @@ none_deletes mode.OnSight = refl
 none_deletes mode.Trip = refl
 none_deletes mode.PostTrip = refl
 none_deletes mode.SystemFailure = refl
-
-values_view : (f : TrackFact) → (as_values f ≡ None) ⊎ ((x : national.Fact) × (as_values f ≡ Some x) × (f ≡ TrackFact.Values x))
-values_view (TrackFact.Values x) = inr (x, refl, refl)
-values_view other = inl refl
-
-abbrev values : Kind (national.Fact)
-values = record { wrap = TrackFact.Values; read = as_values; view = values_view }
 
 abbrev values_as : List Happening → List (NationalEntry) → Type 0
 values_as hs es = value values hs ≡ listed (waiting es)

@@ -1,6 +1,6 @@
 -- One kind of fact among those that count: what it takes to follow its own list over the happenings of an event.
 use Rattle.std.proofs.Common.{◌≡◌, ℕ, ℤ, List, [], ◌∷◌, ◌++◌, Bool, true, false, cond, refl, ap, sym, ◌∙◌, ◌⊎◌, inl, inr}
-use Rattle.std.specs.Prelude.{Option, Some, None, not, map, filter, filter_map}
+use Rattle.std.specs.Prelude.{◌||◌, Option, Some, None, not, map, filter, filter_map}
 use Rattle.std.specs.Option.{option_map_or}
 use Rattle.std.proofs.lemmas.List.Elements.{filter_map-append}
 use Rattle.units.specs.Stretches.{Span}
@@ -43,6 +43,18 @@ pub kept_alike : {X : Type 0} (p q : X → Bool) → ((x : X) → p x ≡ q x) �
 kept_alike p q same [] = refl
 kept_alike p q same (x ∷ xs) =
     ap (λ b. cond b (x ∷ filter p xs) (filter p xs)) (same x) ∙ ap (λ ys. cond (q x) (x ∷ ys) ys) (kept_alike p q same xs)
+
+-- what one test and then another leave
+both_one : {X : Type 0} (p : X → Bool) (a : Bool) (x : X) (ys : List X) →
+    filter (λ y. not (p y)) (cond (not a) (x ∷ ys) ys) ≡ cond (not (a || p x)) (x ∷ filter (λ y. not (p y)) ys) (filter (λ y. not (p y)) ys)
+both_one p true x ys = refl
+both_one p false x ys = refl
+
+pub filter_both : {X : Type 0} (p q : X → Bool) (xs : List X) →
+    filter (λ x. not (p x)) (filter (λ x. not (q x)) xs) ≡ filter (λ x. not (q x || p x)) xs
+filter_both p q [] = refl
+filter_both p q (x ∷ xs) =
+    both_one p (q x) x (filter (λ y. not (q y)) xs) ∙ ap (λ ys. cond (not (q x || p x)) (x ∷ ys) ys) (filter_both p q xs)
 
 -- a used packet
 abbrev pub fact_with : GroupIdentity → ℤ → ℕ → Packet → Fact
@@ -192,3 +204,14 @@ module _ {X : Type 0} (kind : Kind X) where
       (mode : Option Mode) (hs : List Happening) → value (and_entered mode hs) ≡ value hs
   stays it none by_mode None hs = refl
   stays it none by_mode (Some mode) hs = unmoved (Happening.Entered mode) hs refl (λ x. by_mode mode x ∙ none mode)
+
+  lost_if : (b : Bool) (xs : List X) → b ≡ true → filter (λ x. not b) xs ≡ []
+  lost_if true xs e = lost_all xs
+  lost_if false xs e = absurd cc
+
+  pub deleted : (it : Item) → ((mode : Mode) (x : X) → ended (Happening.Entered mode) x ≡ deleting it mode) →
+      (mode : Mode) (hs : List Happening) → deleting it mode ≡ true → value (Happening.Entered mode ∷ hs) ≡ []
+  deleted it by_mode mode hs e =
+      step (Happening.Entered mode) hs
+      ∙ (kept_alike (λ x. not (ended (Happening.Entered mode) x)) (λ x. not (deleting it mode)) (λ x. ap not (by_mode mode x)) (value hs)
+      ∙ lost_if (deleting it mode) (value hs) e)

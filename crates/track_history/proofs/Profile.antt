@@ -1,5 +1,5 @@
 -- The gradients and the static speeds that count are those of the track picture.
-use Rattle.std.proofs.Common.{◌≡◌, ℕ, ℤ, List, [], ◌∷◌, ◌++◌, Bool, true, false, cond, refl, ap, sym, ◌∙◌, ◌⊎◌, inl, inr}
+use Rattle.std.proofs.Common.{◌≡◌, ℕ, ℤ, List, [], ◌∷◌, ◌++◌, Bool, true, false, cond, refl, ap, sym, ◌∙◌}
 use Rattle.std.specs.Prelude.{Option, Some, None, not}
 use Rattle.vars.specs.declared.group.GroupIdentity.{GroupIdentity}
 use Rattle.packets.specs.declared.packet.Packet.{Packet}
@@ -16,15 +16,9 @@ use Rattle.track_history.specs.Live.{Happening, TrackFact}
 use Rattle.track_history.specs.Counting.{as_gradients, as_speeds}
 use Rattle.track_history.specs.Happenings.{and_ticked, and_missed, and_closed, and_seen, and_entered, happenings}
 use Rattle.track_history.specs.Equal.{GradientsAreLive, SpeedsAreLive}
-use Rattle.track_history.proofs.OneKind.{Kind, value, fact_with, kept_all, step_to, past_links, past_level, judged, missed, ticked, marked, seen, column}
+use Rattle.track_history.proofs.EachKind.{gradients, speeds}
+use Rattle.track_history.proofs.OneKind.{value, fact_with, kept_all, step_to, past_links, past_level, judged, missed, ticked, marked, seen, column}
 use Rattle.track_history.proofs.Growing.{closed_in_one}
-
-gradients_view : (f : TrackFact) → (as_gradients f ≡ None) ⊎ ((x : profiles.Fact ℤ) × (as_gradients f ≡ Some x) × (f ≡ TrackFact.Gradients x))
-gradients_view (TrackFact.Gradients x) = inr (x, refl, refl)
-gradients_view other = inl refl
-
-abbrev gradients : Kind (profiles.Fact ℤ)
-gradients = record { wrap = TrackFact.Gradients; read = as_gradients; view = gradients_view }
 
 abbrev gradients_as : List Happening → List (profiles.Fact ℤ) → Type 0
 gradients_as hs es = value gradients hs ≡ es
@@ -67,13 +61,6 @@ gradients_are_live (e ∷ es) =
       ∙ gradients_closed e.used.groups begun (picture.gradients es)
         (missed gradients refl (λ entry x. refl) e.begun.missed (and_ticked e.begun.clock (happenings es))
         ∙ (ticked gradients e.begun.clock (happenings es) ∙ gradients_are_live es)))
-
-speeds_view : (f : TrackFact) → (as_speeds f ≡ None) ⊎ ((x : profiles.Fact CategorySpeeds) × (as_speeds f ≡ Some x) × (f ≡ TrackFact.Speeds x))
-speeds_view (TrackFact.Speeds x) = inr (x, refl, refl)
-speeds_view other = inl refl
-
-abbrev speeds : Kind (profiles.Fact CategorySpeeds)
-speeds = record { wrap = TrackFact.Speeds; read = as_speeds; view = speeds_view }
 
 abbrev speeds_as : List Happening → List (profiles.Fact CategorySpeeds) → Type 0
 speeds_as hs es = value speeds hs ≡ es

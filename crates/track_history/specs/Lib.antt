@@ -2,3 +2,4 @@ pub mod Live
 pub mod Counting
 pub mod Happenings
 pub mod Equal
+pub mod Ending

@@ -1,28 +1,25 @@
 -- The announced level that counts is that of the track picture.
-use Rattle.std.proofs.Common.{◌≡◌, ℕ, ℤ, List, [], ◌∷◌, ◌++◌, Bool, true, false, cond, refl, ap, sym, ◌∙◌}
+use Rattle.std.proofs.Common.{◌≡◌, ℕ, ℤ, List, [], ◌∷◌, ◌++◌, Bool, true, false, cond, refl, ap, ◌∙◌}
 use Rattle.std.specs.Prelude.{Option, Some, None, not}
 use Rattle.vars.specs.declared.group.GroupIdentity.{GroupIdentity}
 use Rattle.packets.specs.declared.packet.Packet.{Packet}
 use Rattle.packets.specs.declared.packet.Packet.TheVariants as packets
-use Rattle.track_picture.specs.Entry.{TrackEntry, Fact, Outcome}
-use Rattle.track_picture.specs.History as picture
+use Rattle.track_picture.specs.Entry.{TrackEntry, Outcome}
 use Rattle.track_picture.specs.Told.{comes_later}
 use Rattle.std.specs.Prelude.{◌++◌, is_some, filter, filter_map}
 use Rattle.std.specs.Option.{option_map_or, option_or}
 use Rattle.units.specs.Stretches.{Span}
 use Rattle.mode_table.specs.declared.statuses.Item.TheVariants as item
 use Rattle.areas.specs.declared.announcement.Announcement.{Announcement as AnnouncedLevel}
-use Rattle.areas.specs.Levels as levels
 use Rattle.areas.specs.Levels.{LevelEntry, waiting, is_reached, unless_reached}
-use Rattle.authority.specs.Entries.{Sight}
 use Rattle.track_store.specs.Profiles.{listed}
 use Rattle.track_picture.specs.History.{after_told, after_level, after_reach, level_deleted, announced_levels}
 use Rattle.track_history.specs.Live.{Happening, TrackFact, level_told}
-use Rattle.track_history.specs.Counting.{as_level, moment_in, newest}
+use Rattle.track_history.specs.Parts.{as_level, moment_in, newest}
 use Rattle.track_history.specs.Happenings.{and_ticked, and_missed, and_closed, and_seen, and_entered, happenings}
-use Rattle.track_history.specs.Equal.{LevelIsLive}
+use Rattle.track_history.specs.Picture.{LevelIsLive}
 use Rattle.track_history.proofs.EachKind.{level}
-use Rattle.track_history.proofs.OneKind.{value, fact_with, kept_all, lost_all, step_to, past_links, past_level, judged, missed, ticked, marked, seen, column}
+use Rattle.track_history.proofs.OneKind.{value, fact_with, kept_all, lost_all, step_to, past_links, judged, missed, ticked, marked, column}
 use Rattle.track_history.proofs.Growing.{closed_in_one}
 use Rattle.track_history.proofs.Granted.{newest_listed}
 
@@ -31,16 +28,16 @@ told_one : (told waits : Option AnnouncedLevel) →
     filter_map as_level (option_map_or (λ level. TrackFact.Level level ∷ []) told []) ++ filter (λ x. not (is_some told)) (listed waits)
     ≡ listed (option_or told waits)
 told_one None waits = kept_all (listed waits)
-told_one (Some level) waits = ap (λ xs. level ∷ xs) (lost_all (listed waits))
+told_one (Some a) waits = ap (λ xs. a ∷ xs) (lost_all (listed waits))
 
-reached_by : (b : Bool) (level : AnnouncedLevel) → cond (not b) (level ∷ []) [] ≡ listed (cond b None (Some level))
-reached_by true level = refl
-reached_by false level = refl
+reached_by : (b : Bool) (a : AnnouncedLevel) → cond (not b) (a ∷ []) [] ≡ listed (cond b None (Some a))
+reached_by true a = refl
+reached_by false a = refl
 
 reached_one : (max_front : ℤ) (waits : Option AnnouncedLevel) →
     filter (λ x. not (is_reached max_front x)) (listed waits) ≡ listed (unless_reached max_front waits)
 reached_one max_front None = refl
-reached_one max_front (Some level) = reached_by (is_reached max_front level) level
+reached_one max_front (Some a) = reached_by (is_reached max_front a) a
 
 abbrev level_as : List Happening → List (LevelEntry) → Type 0
 level_as hs es = value level hs ≡ listed (waiting es)
@@ -84,10 +81,10 @@ waits_all (e ∷ es) =
     let told_now = after_told after_level e.used.groups (announced_levels es) in
     marked level e.mark (and_entered e.entered (and_seen e.train closed))
     ∙ column level (λ xs. listed (waiting xs)) level_deleted (λ xs. refl) item.LevelAnnouncement (λ mode x. refl) e.entered (and_seen e.train closed) (after_reach e.train told_now)
-      (level_seen e.train closed told_now
-        (level_closed e.used.groups begun (announced_levels es)
-        (missed level refl (λ entry x. refl) e.begun.missed (and_ticked e.begun.clock (happenings es))
-        ∙ (ticked level e.begun.clock (happenings es) ∙ waits_all es))))
+    (level_seen e.train closed told_now
+    (level_closed e.used.groups begun (announced_levels es)
+    (missed level refl (λ entry x. refl) e.begun.missed (and_ticked e.begun.clock (happenings es))
+    ∙ (ticked level e.begun.clock (happenings es) ∙ waits_all es))))
 
 pub level_is_live : LevelIsLive
 level_is_live events = ap newest (waits_all events) ∙ newest_listed (waiting (announced_levels events))

@@ -5,7 +5,6 @@ use Rattle.vars.specs.declared.group.GroupIdentity.{GroupIdentity}
 use Rattle.packets.specs.declared.packet.Packet.{Packet}
 use Rattle.packets.specs.declared.packet.Packet.TheVariants as packets
 use Rattle.track_picture.specs.Entry.{TrackEntry, Fact, Outcome}
-use Rattle.track_picture.specs.History as picture
 use Rattle.track_picture.specs.Told.{comes_later}
 use Rattle.std.specs.Prelude.{◌||◌, filter, filter_map, map}
 use Rattle.std.specs.List.{list_any}
@@ -23,9 +22,9 @@ use Rattle.linking.specs.Judging.{meant, after_verdict}
 use Rattle.track_picture.specs.Announcing.{announcements_of}
 use Rattle.track_picture.specs.History.{facts_in, is_deleted, after_column, after_links, after_ruling, after_groups, links_deleted, links}
 use Rattle.track_history.specs.Live.{Happening, TrackFact}
-use Rattle.track_history.specs.Counting.{as_link, as_miss, is_any, links_in}
+use Rattle.track_history.specs.Parts.{as_link, is_any, links_in}
 use Rattle.track_history.specs.Happenings.{and_ticked, and_missed, and_judged, and_closed, and_seen, and_entered, and_marked, happenings}
-use Rattle.track_history.specs.Equal.{LinksAreLive}
+use Rattle.track_history.specs.Picture.{LinksAreLive}
 use Rattle.track_history.proofs.EachKind.{link, miss}
 use Rattle.track_history.proofs.OneKind.{value, fact_with, kept_all, lost_all, step_to, past_links, past_level, ticked, marked, seen, column, step, unmoved, past_accepted, kept_alike, filter_both}
 use Rattle.track_history.proofs.Growing.{in_one}
@@ -48,8 +47,8 @@ left_less : (entry : LinkEntry) (es : List LinkEntry) →
 left_less entry es =
     filter_both (λ (a : Announcement). takes entry a.number) (λ a. list_any (λ e. takes e a.number) (since_announced es)) (announced es)
     ∙ kept_alike (λ a. not (list_any (λ e. takes e a.number) (since_announced es) || takes entry a.number))
-      (λ a. not (takes entry a.number || list_any (λ e. takes e a.number) (since_announced es)))
-      (λ a. swapped (list_any (λ e. takes e a.number) (since_announced es)) (takes entry a.number)) (announced es)
+    (λ a. not (takes entry a.number || list_any (λ e. takes e a.number) (since_announced es)))
+    (λ a. swapped (list_any (λ e. takes e a.number) (since_announced es)) (takes entry a.number)) (announced es)
 
 links_read : (announcements : List Announcement) → filter_map as_link (map TrackFact.Link announcements) ≡ announcements
 links_read [] = refl
@@ -110,8 +109,8 @@ known_first : (fact : Fact) (hs : List Happening) (es : List LinkEntry) → IsKn
 known_first fact hs es k = record {
   left_is = link_first fact.group fact.place fact.moment fact.packet hs es k.left_is;
   missed_is =
-    miss_if (not (comes_later fact.packet)) fact hs
-    ∙ (k.missed_is ∙ sym (miss_list fact.group fact.place fact.moment fact.packet es));
+      miss_if (not (comes_later fact.packet)) fact hs
+      ∙ (k.missed_is ∙ sym (miss_list fact.group fact.place fact.moment fact.packet es));
 }
 
 known_later : (fact : Fact) (hs : List Happening) (es : List LinkEntry) → IsKnown hs es →
@@ -181,7 +180,7 @@ same_links hs es k = rw (k.left_is, k.missed_is) refl
 known_judged : (outcome : Outcome) (hs : List Happening) (es : List LinkEntry) → IsKnown hs es → IsKnown (and_judged outcome hs) (after_ruling outcome es)
 known_judged (Outcome.Broken b) hs es k =
     subst (λ (them : KnownLinks). IsKnown (option_map_or (λ a. Happening.Linked (linking.LinkEntry.Reacted a.number) ∷ hs) (meant them b.group b.linked) hs)
-        (option_map_or (λ a. linking.LinkEntry.Reacted a.number ∷ es) (meant (known es) b.group b.linked) es))
+    (option_map_or (λ a. linking.LinkEntry.Reacted a.number ∷ es) (meant (known es) b.group b.linked) es))
     (same_links hs es k) (broken_one (meant (known es) b.group b.linked) hs es k)
 known_judged (Outcome.Ignored message) hs es k = k
 known_judged (Outcome.Rejected message a) hs es k = known_reacted a.number hs es k

@@ -1,6 +1,6 @@
 -- The facts that count are those that came and that nothing later has ended.
-use Rattle.std.proofs.Common.{◌≡◌, ℕ, List, [], ◌∷◌, ◌++◌, Bool, true, false, cond, refl, ap, sym, subst, ◌∙◌, ◌⊎◌, inl, inr}
-use Rattle.std.specs.Prelude.{◌↔◌, not, filter}
+use Rattle.std.proofs.Common.{◌≡◌, List, [], ◌∷◌, ◌++◌, Bool, true, false, cond, refl, ap, sym, subst, ◌∙◌, ◌⊎◌, inl, inr}
+use Rattle.std.specs.Prelude.{not, filter}
 use Rattle.authority.specs.Laws.{IsAmong}
 use Rattle.track_history.specs.Live.{Happening, TrackFact, brought, ends, live}
 use Rattle.track_history.specs.Ending.{CameAndStays, CountsWhileNotEnded, CameAnew, EndedCountsNoMore}
@@ -81,10 +81,10 @@ came : (all : List Happening) (fact : TrackFact) → IsAmong fact (live all) →
 came [] fact h = absurd h
 came (happening ∷ earlier) fact h =
     elim (split fact (brought happening) (filter (λ f. not (ends happening f)) (live earlier)) h) [
-      inl new ↦ record { later = []; cause = happening; earlier = earlier; in_turn = refl; came = new; not_ended = λ g among. absurd among }
-    | inr old ↦
-        (let kept = passes (λ f. not (ends happening f)) fact (live earlier) old in
-        one_more happening earlier fact (not_true (ends happening fact) kept.1) (came earlier fact kept.0))
+      | inl new ↦ record { later = []; cause = happening; earlier = earlier; in_turn = refl; came = new; not_ended = λ g among. absurd among }
+      | inr old ↦
+          (let kept = passes (λ f. not (ends happening f)) fact (live earlier) old in
+          one_more happening earlier fact (not_true (ends happening fact) kept.1) (came earlier fact kept.0))
     ]
 
 counts_behind : (later : List Happening) (cause : Happening) (earlier : List Happening) (fact : TrackFact) → IsAmong fact (brought cause) →
@@ -95,7 +95,7 @@ counts_behind (happening ∷ later) cause earlier fact new rest =
     let before = live (later ++ (cause ∷ earlier)) in
     right_among fact (brought happening) (filter (λ f. not (ends happening f)) before)
     (stays (λ f. not (ends happening f)) fact before (ap not (rest happening (inl refl)))
-      (counts_behind later cause earlier fact new (λ h among. rest h (inr among))))
+    (counts_behind later cause earlier fact new (λ h among. rest h (inr among))))
 
 counts : (all : List Happening) (fact : TrackFact) → CameAndStays fact all → IsAmong fact (live all)
 counts all fact s =
@@ -116,14 +116,14 @@ ended_is_kept false e k = absurd cc
 pub ended_counts_no_more : EndedCountsNoMore
 ended_counts_no_more [] happening earlier fact e h =
     elim (split fact (brought happening) (filter (λ f. not (ends happening f)) (live earlier)) h) [
-      inl new ↦ record { cause = happening; among = inl refl; came = new }
-    | inr old ↦ absurd (ended_is_kept (ends happening fact) e (passes (λ f. not (ends happening f)) fact (live earlier) old).1)
+      | inl new ↦ record { cause = happening; among = inl refl; came = new }
+      | inr old ↦ absurd (ended_is_kept (ends happening fact) e (passes (λ f. not (ends happening f)) fact (live earlier) old).1)
     ]
 ended_counts_no_more (g ∷ later) happening earlier fact e h =
     let before = live (later ++ (happening ∷ earlier)) in
     elim (split fact (brought g) (filter (λ f. not (ends g f)) before) h) [
-      inl new ↦ record { cause = g; among = inl refl; came = new }
-    | inr old ↦
-        came_later g (later ++ (happening ∷ [])) fact
-        (ended_counts_no_more later happening earlier fact e (passes (λ f. not (ends g f)) fact before old).0)
+      | inl new ↦ record { cause = g; among = inl refl; came = new }
+      | inr old ↦
+          came_later g (later ++ (happening ∷ [])) fact
+          (ended_counts_no_more later happening earlier fact e (passes (λ f. not (ends g f)) fact before old).0)
     ]

@@ -1,6 +1,6 @@
 -- Each kind of fact.
 use Rattle.std.proofs.Common.{◌≡◌, ℤ, List, refl, ◌⊎◌, inl, inr}
-use Rattle.std.specs.Prelude.{Option, Some, None}
+use Rattle.std.specs.Prelude.{Some, None}
 use Rattle.areas.specs.declared.announcement.Announcement.{Announcement as AnnouncedLevel}
 use Rattle.areas.specs.declared.area.Area.{Area}
 use Rattle.authority.specs.Entries as authority
@@ -11,7 +11,7 @@ use Rattle.restriction.specs.declared.restriction.Restriction.{Restriction}
 use Rattle.speed_profile.specs.declared.told.CategorySpeeds.{CategorySpeeds}
 use Rattle.track_store.specs.Facts as profiles
 use Rattle.track_history.specs.Live.{TrackFact}
-use Rattle.track_history.specs.Counting.{as_values, as_link, as_miss, as_authority, as_look, as_gradients, as_speeds, as_level, as_restriction, as_areas}
+use Rattle.track_history.specs.Parts.{as_values, as_link, as_miss, as_authority, as_look, as_gradients, as_speeds, as_level, as_restriction, as_areas}
 use Rattle.track_history.proofs.OneKind.{Kind}
 
 pub values_view : (f : TrackFact) → (as_values f ≡ None) ⊎ ((x : national.Fact) × (as_values f ≡ Some x) × (f ≡ TrackFact.Values x))

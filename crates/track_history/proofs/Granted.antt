@@ -1,17 +1,14 @@
 -- The authority that counts, with what its timers have seen, is that of the track picture.
-use Rattle.std.proofs.Common.{◌≡◌, ℕ, ℤ, List, [], ◌∷◌, ◌++◌, Bool, true, false, cond, refl, ap, sym, ◌∙◌}
+use Rattle.std.proofs.Common.{◌≡◌, ℕ, ℤ, List, [], ◌∷◌, Bool, true, false, cond, refl, ap, sym, ◌∙◌}
 use Rattle.std.specs.Prelude.{Option, Some, None, not}
 use Rattle.vars.specs.declared.group.GroupIdentity.{GroupIdentity}
 use Rattle.packets.specs.declared.packet.Packet.{Packet}
 use Rattle.packets.specs.declared.packet.Packet.TheVariants as packets
-use Rattle.track_picture.specs.Entry.{TrackEntry, Fact, Outcome}
-use Rattle.track_picture.specs.History as picture
+use Rattle.track_picture.specs.Entry.{TrackEntry, Outcome}
 use Rattle.track_picture.specs.Told.{comes_later}
-use Rattle.std.specs.Option.{option_map}
 use Rattle.units.specs.Stretches.{Span}
 use Rattle.authority.specs.Entries as authority
 use Rattle.authority.specs.Entries.{AuthorityEntry, Sight, accepted, sights, now_of}
-use Rattle.authority.specs.Known.{KnownAuthority, stored_of}
 use Rattle.linking.specs.declared.announcement.Announcement.{Announcement}
 use Rattle.linking.specs.Linking.{LinkEntry}
 use Rattle.mode_table.specs.declared.mode.Mode.{Mode}
@@ -19,10 +16,10 @@ use Rattle.mode_table.specs.declared.statuses.Item.TheVariants as item
 use Rattle.mode_table.specs.Statuses.{status_on}
 use Rattle.track_store.specs.Profiles.{listed}
 use Rattle.track_picture.specs.History.{after_told, after_clock, after_authority, after_train, after_column, authority_deleted, is_deleted, authorities}
-use Rattle.track_history.specs.Live.{Happening, TrackFact}
-use Rattle.track_history.specs.Counting.{as_authority, as_look, newest, moment_in, authority_in}
+use Rattle.track_history.specs.Live.{Happening}
+use Rattle.track_history.specs.Parts.{newest, moment_in}
 use Rattle.track_history.specs.Happenings.{and_ticked, and_missed, and_closed, and_seen, and_entered, and_marked, happenings}
-use Rattle.track_history.specs.Equal.{AuthorityIsLive}
+use Rattle.track_history.specs.Picture.{AuthorityIsLive}
 use Rattle.track_history.proofs.EachKind.{grant, look}
 use Rattle.track_history.proofs.OneKind.{value, fact_with, kept_all, lost_all, step_to, past_links, past_level, judged, missed, ticked, marked, seen, column}
 use Rattle.track_history.proofs.Growing.{closed_in_one, past_missed, past_judged}
@@ -156,9 +153,9 @@ seen_all (Some train) hs es k =
     record {
       granted_is = seen grant (λ s. refl) (λ s x. refl) (Some train) hs ∙ k.granted_is;
       looks_are =
-        step_to look (Happening.Seen sight) hs (sights es) k.looks_are
-        ∙ (ap (λ xs. sight ∷ xs) (kept_all (sights es))
-        ∙ ap (λ (at : ℕ). (let s : Sight = record { moment = at; train = train } in s) ∷ sights es) k.moment_is);
+          step_to look (Happening.Seen sight) hs (sights es) k.looks_are
+          ∙ (ap (λ xs. sight ∷ xs) (kept_all (sights es))
+          ∙ ap (λ (at : ℕ). (let s : Sight = record { moment = at; train = train } in s) ∷ sights es) k.moment_is);
       moment_is = k.moment_is;
     }
 

@@ -11,7 +11,7 @@ use Rattle.track_picture.specs.Entry.{Fact, Outcome}
 use Rattle.track_picture.specs.History.{facts_in, after_facts, after_told}
 use Rattle.track_picture.specs.Told.{comes_later}
 use Rattle.track_history.specs.Live.{Happening}
-use Rattle.track_history.specs.Counting.{links_in}
+use Rattle.track_history.specs.Parts.{links_in}
 use Rattle.track_history.specs.Happenings.{and_missed, and_judged, and_told, and_used, and_closed}
 
 module _ {E : Type 0} (R : List Happening → List E → Type 0) where

@@ -4,10 +4,9 @@ use Rattle.std.specs.Prelude.{Option, Some, None, not}
 use Rattle.vars.specs.declared.group.GroupIdentity.{GroupIdentity}
 use Rattle.packets.specs.declared.packet.Packet.{Packet}
 use Rattle.packets.specs.declared.packet.Packet.TheVariants as packets
-use Rattle.track_picture.specs.Entry.{TrackEntry, Fact, Outcome}
-use Rattle.track_picture.specs.History as picture
+use Rattle.track_picture.specs.Entry.{TrackEntry, Outcome}
 use Rattle.track_picture.specs.Told.{comes_later}
-use Rattle.std.specs.Prelude.{◌||◌, filter, reverse}
+use Rattle.std.specs.Prelude.{filter, reverse}
 use Rattle.std.specs.List.{list_any}
 use Rattle.std.proofs.lemmas.Grind.{reverse_onto}
 use Rattle.std.proofs.lemmas.List.{append-nil}
@@ -18,12 +17,11 @@ use Rattle.restriction.specs.declared.restriction.Restriction.{Restriction}
 use Rattle.restriction.specs.Covering.{is_ended_by, reaches_past}
 use Rattle.track_store.specs.Restrictions as track
 use Rattle.track_store.specs.Restrictions.{RestrictionEntry, InForce, ends, standing_but_for, standing}
-use Rattle.track_picture.specs.History.{facts_in, restriction_of, after_restriction, after_revocation, after_messages, after_mark, restrictions}
+use Rattle.track_picture.specs.History.{facts_in, after_restriction, after_revocation, after_messages, after_mark, restrictions}
 use Rattle.track_picture.proofs.Marking.{one_mark}
-use Rattle.track_history.specs.Live.{Happening, TrackFact, deleting}
-use Rattle.track_history.specs.Counting.{as_restriction, mark_in}
-use Rattle.track_history.specs.Happenings.{and_ticked, and_missed, and_judged, and_closed, and_seen, and_entered, and_marked, happenings}
-use Rattle.track_history.specs.Equal.{RestrictionsAreLive}
+use Rattle.track_history.specs.Live.{Happening, deleting}
+use Rattle.track_history.specs.Happenings.{and_ticked, and_missed, and_judged, and_closed, and_seen, and_entered, happenings}
+use Rattle.track_history.specs.Picture.{RestrictionsAreLive}
 use Rattle.track_history.proofs.EachKind.{restricted}
 use Rattle.track_history.proofs.OneKind.{value, fact_with, kept_all, step_to, past_links, past_level, judged, missed, ticked, marked, seen, stays, filter_both}
 use Rattle.track_history.proofs.Growing.{in_two}
@@ -117,8 +115,8 @@ alive_all (e ∷ es) =
     ∙ (stays restricted item.Restrictions none_deletes (λ mode x. refl) e.entered seen_now
     ∙ (seen restricted (λ sight. refl) (λ sight x. refl) e.train closed
     ∙ (restricted_closed e.used.groups begun (restrictions es)
-        (missed restricted refl (λ entry x. refl) e.begun.missed (and_ticked e.begun.clock (happenings es))
-        ∙ (ticked restricted e.begun.clock (happenings es) ∙ alive_all es))
+    (missed restricted refl (λ entry x. refl) e.begun.missed (and_ticked e.begun.clock (happenings es))
+    ∙ (ticked restricted e.begun.clock (happenings es) ∙ alive_all es))
     ∙ sym (mark_alive e.mark (after_messages e.used.groups (restrictions es))))))
 
 abbrev pub held : ℤ → List Restriction → InForce

@@ -9,9 +9,9 @@ use Rattle.mode_table.specs.declared.mode.Mode.{Mode}
 use Rattle.track_picture.specs.Entry.{TrackEntry, Outcome}
 use Rattle.track_picture.specs.History.{facts_in, mark_of}
 use Rattle.track_history.specs.Live.{Happening}
-use Rattle.track_history.specs.Counting.{mark_in}
+use Rattle.track_history.specs.Parts.{mark_in}
 use Rattle.track_history.specs.Happenings.{and_ticked, and_missed, and_judged, and_closed, and_seen, and_entered, and_marked, happenings}
-use Rattle.track_history.specs.Equal.{MarkIsRead}
+use Rattle.track_history.specs.Picture.{MarkIsRead}
 use Rattle.track_history.proofs.Growing.{past_missed, past_judged, past_used}
 
 abbrev mark_as : List Happening → List TrackEntry → Type 0

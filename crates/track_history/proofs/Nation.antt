@@ -1,11 +1,10 @@
 -- The packet 3 that waits and the national values in force are those of the track picture.
-use Rattle.std.proofs.Common.{◌≡◌, ℕ, ℤ, List, [], ◌∷◌, ◌++◌, Bool, true, false, cond, refl, ap, sym, ◌∙◌}
+use Rattle.std.proofs.Common.{◌≡◌, ℕ, ℤ, List, [], ◌∷◌, Bool, true, false, cond, refl, ap, sym, ◌∙◌}
 use Rattle.std.specs.Prelude.{Option, Some, None, not}
 use Rattle.vars.specs.declared.group.GroupIdentity.{GroupIdentity}
 use Rattle.packets.specs.declared.packet.Packet.{Packet}
 use Rattle.packets.specs.declared.packet.Packet.TheVariants as packets
 use Rattle.track_picture.specs.Entry.{TrackEntry, Fact, Outcome}
-use Rattle.track_picture.specs.History as picture
 use Rattle.track_picture.specs.Told.{comes_later}
 use Rattle.std.specs.Prelude.{filter}
 use Rattle.std.specs.Option.{option_map_or}
@@ -21,13 +20,13 @@ use Rattle.national.specs.InForce as national
 use Rattle.national.specs.InForce.{NationalEntry, waiting, is_reached, start_of, unless_ended_by, in_force, in_force_behind}
 use Rattle.national.specs.Values.{ValuesFor}
 use Rattle.track_store.specs.Profiles.{listed}
-use Rattle.track_picture.specs.History.{facts_in, after_facts, after_country, after_values, after_countries, after_front, national_entries}
-use Rattle.track_history.specs.Live.{Happening, TrackFact, deleting}
-use Rattle.track_history.specs.Counting.{as_values, newest, moment_in, links_in, values_in, in_force_in}
+use Rattle.track_picture.specs.History.{facts_in, after_country, after_values, after_countries, after_front, national_entries}
+use Rattle.track_history.specs.Live.{Happening, deleting}
+use Rattle.track_history.specs.Parts.{newest, moment_in, links_in, values_in, in_force_in}
 use Rattle.track_history.specs.Happenings.{and_ticked, and_missed, and_judged, and_closed, and_seen, and_entered, and_marked, happenings}
-use Rattle.track_history.specs.Equal.{ValuesAreLive, ValuesInForce}
+use Rattle.track_history.specs.Picture.{ValuesAreLive, ValuesInForce}
 use Rattle.track_history.proofs.EachKind.{values}
-use Rattle.track_history.proofs.OneKind.{value, fact_with, kept_all, lost_all, step_to, past_linked, past_links, past_level, judged, missed, ticked, marked, seen, stays}
+use Rattle.track_history.proofs.OneKind.{value, fact_with, kept_all, lost_all, step_to, past_linked, past_links, past_level, judged, ticked, marked, stays}
 use Rattle.track_history.proofs.Growing.{in_one, past_missed}
 use Rattle.track_history.proofs.Granted.{newest_listed}
 
@@ -125,8 +124,8 @@ module _ (kept : ValuesFor) where
   known_first fact hs es k = record {
     waits = values_first fact.group fact.place fact.moment fact.packet hs es k.waits;
     holds =
-      cond_holds (not (comes_later fact.packet)) fact hs
-      ∙ (k.holds ∙ sym (first_holds fact.group fact.place fact.moment fact.packet es));
+        cond_holds (not (comes_later fact.packet)) fact hs
+        ∙ (k.holds ∙ sym (first_holds fact.group fact.place fact.moment fact.packet es));
   }
 
   known_later : (fact : Fact) (hs : List Happening) (es : List NationalEntry) → IsKnown hs es →
@@ -154,7 +153,7 @@ module _ (kept : ValuesFor) where
   judged_holds (Outcome.Accepted message announced fix facts) hs es k =
       let entered = national.NationalEntry.Entered message.group.country in
       ap (λ w. in_force_behind entered w (in_force_in kept (option_map_or (λ a. Happening.Linked (linking.LinkEntry.Accepted a.number) ∷ hs) announced hs)))
-        (taken_waits linking.LinkEntry.Accepted announced hs ∙ same_waiting hs es k.waits)
+      (taken_waits linking.LinkEntry.Accepted announced hs ∙ same_waiting hs es k.waits)
       ∙ ap (λ v. in_force_behind entered (waiting es) v) (taken_holds linking.LinkEntry.Accepted announced hs ∙ k.holds)
 
   known_judged : (outcome : Outcome) (hs : List Happening) (es : List NationalEntry) → IsKnown hs es → IsKnown (and_judged outcome hs) (after_country outcome es)
@@ -173,8 +172,8 @@ module _ (kept : ValuesFor) where
       record {
         waits = values_seen (Some train) hs es k.waits;
         holds =
-          ap (λ w. in_force_behind reached w (in_force_in kept hs)) (same_waiting hs es k.waits)
-          ∙ ap (λ v. in_force_behind reached (waiting es) v) k.holds;
+            ap (λ w. in_force_behind reached w (in_force_in kept hs)) (same_waiting hs es k.waits)
+            ∙ ap (λ v. in_force_behind reached (waiting es) v) k.holds;
       }
 
   known_linked : (entry : LinkEntry) (hs : List Happening) (es : List NationalEntry) → IsKnown hs es → IsKnown (Happening.Linked entry ∷ hs) es

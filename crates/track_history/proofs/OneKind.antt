@@ -20,7 +20,7 @@ use Rattle.mode_table.specs.declared.statuses.Item.{Item}
 use Rattle.track_picture.specs.Entry.{Fact, Outcome}
 use Rattle.track_picture.specs.History.{after_column}
 use Rattle.track_history.specs.Live.{Happening, TrackFact, brought, missed_by, level_told, ends, live, deleting}
-use Rattle.track_history.specs.Counting.{moment_in}
+use Rattle.track_history.specs.Parts.{moment_in}
 use Rattle.track_history.specs.Happenings.{and_ticked, and_missed, and_judged, and_seen, and_entered, and_marked}
 use Rattle.track_history.proofs.Growing.{past_missed, past_judged}
 
@@ -92,10 +92,10 @@ module _ {X : Type 0} (kind : Kind X) where
   filtered h (f ∷ fs) =
       let rest = filter (λ g. not (ends h g)) fs in
       elim (kind.view f) [
-        inl n ↦ skip (not (ends h f)) f rest n ∙ rw n (filtered h fs)
-      | inr (x, r, e) ↦
-          take (not (ends h f)) (not (ended h x)) f x rest (ap (λ g. not (ends h g)) e) r
-          ∙ rw (r, filtered h fs) refl
+        | inl n ↦ skip (not (ends h f)) f rest n ∙ rw n (filtered h fs)
+        | inr (x, r, e) ↦
+            take (not (ends h f)) (not (ended h x)) f x rest (ap (λ g. not (ends h g)) e) r
+            ∙ rw (r, filtered h fs) refl
       ]
 
   pub step : (h : Happening) (hs : List Happening) → value (h ∷ hs) ≡ filter_map kind.read (brought h) ++ filter (λ x. not (ended h x)) (value hs)

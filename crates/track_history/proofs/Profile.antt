@@ -1,10 +1,10 @@
 -- The gradients and the static speeds that count are those of the track picture.
-use Rattle.std.proofs.Common.{◌≡◌, ℕ, ℤ, List, [], ◌∷◌, ◌++◌, Bool, true, false, cond, refl, ap, sym, ◌∙◌}
-use Rattle.std.specs.Prelude.{Option, Some, None, not}
+use Rattle.std.proofs.Common.{◌≡◌, ℕ, ℤ, List, [], ◌∷◌, cond, refl, ap, ◌∙◌}
+use Rattle.std.specs.Prelude.{not}
 use Rattle.vars.specs.declared.group.GroupIdentity.{GroupIdentity}
 use Rattle.packets.specs.declared.packet.Packet.{Packet}
 use Rattle.packets.specs.declared.packet.Packet.TheVariants as packets
-use Rattle.track_picture.specs.Entry.{TrackEntry, Fact, Outcome}
+use Rattle.track_picture.specs.Entry.{Outcome}
 use Rattle.track_picture.specs.History as picture
 use Rattle.track_picture.specs.Told.{comes_later}
 use Rattle.mode_table.specs.declared.statuses.Item.TheVariants as item
@@ -12,10 +12,9 @@ use Rattle.speed_profile.specs.declared.told.CategorySpeeds.{CategorySpeeds}
 use Rattle.speed_profile.specs.Told.{gradient_fact, speed_fact}
 use Rattle.track_store.specs.Facts as profiles
 use Rattle.track_picture.specs.History.{after_told, after_gradients, after_speeds}
-use Rattle.track_history.specs.Live.{Happening, TrackFact}
-use Rattle.track_history.specs.Counting.{as_gradients, as_speeds}
+use Rattle.track_history.specs.Live.{Happening}
 use Rattle.track_history.specs.Happenings.{and_ticked, and_missed, and_closed, and_seen, and_entered, happenings}
-use Rattle.track_history.specs.Equal.{GradientsAreLive, SpeedsAreLive}
+use Rattle.track_history.specs.Picture.{GradientsAreLive, SpeedsAreLive}
 use Rattle.track_history.proofs.EachKind.{gradients, speeds}
 use Rattle.track_history.proofs.OneKind.{value, fact_with, kept_all, step_to, past_links, past_level, judged, missed, ticked, marked, seen, column}
 use Rattle.track_history.proofs.Growing.{closed_in_one}
@@ -57,10 +56,10 @@ gradients_are_live (e ∷ es) =
     let old = after_told after_gradients e.used.groups (picture.gradients es) in
     marked gradients e.mark (and_entered e.entered (and_seen e.train closed))
     ∙ column gradients (λ xs. xs) picture.none_told (λ xs. refl) item.Profiles (λ mode x. refl) e.entered (and_seen e.train closed) old
-      (seen gradients (λ sight. refl) (λ sight x. refl) e.train closed
-      ∙ gradients_closed e.used.groups begun (picture.gradients es)
-        (missed gradients refl (λ entry x. refl) e.begun.missed (and_ticked e.begun.clock (happenings es))
-        ∙ (ticked gradients e.begun.clock (happenings es) ∙ gradients_are_live es)))
+    (seen gradients (λ sight. refl) (λ sight x. refl) e.train closed
+    ∙ gradients_closed e.used.groups begun (picture.gradients es)
+    (missed gradients refl (λ entry x. refl) e.begun.missed (and_ticked e.begun.clock (happenings es))
+    ∙ (ticked gradients e.begun.clock (happenings es) ∙ gradients_are_live es)))
 
 abbrev speeds_as : List Happening → List (profiles.Fact CategorySpeeds) → Type 0
 speeds_as hs es = value speeds hs ≡ es
@@ -99,7 +98,7 @@ speeds_are_live (e ∷ es) =
     let old = after_told after_speeds e.used.groups (picture.speeds es) in
     marked speeds e.mark (and_entered e.entered (and_seen e.train closed))
     ∙ column speeds (λ xs. xs) picture.none_told (λ xs. refl) item.Profiles (λ mode x. refl) e.entered (and_seen e.train closed) old
-      (seen speeds (λ sight. refl) (λ sight x. refl) e.train closed
-      ∙ speeds_closed e.used.groups begun (picture.speeds es)
-        (missed speeds refl (λ entry x. refl) e.begun.missed (and_ticked e.begun.clock (happenings es))
-        ∙ (ticked speeds e.begun.clock (happenings es) ∙ speeds_are_live es)))
+    (seen speeds (λ sight. refl) (λ sight x. refl) e.train closed
+    ∙ speeds_closed e.used.groups begun (picture.speeds es)
+    (missed speeds refl (λ entry x. refl) e.begun.missed (and_ticked e.begun.clock (happenings es))
+    ∙ (ticked speeds e.begun.clock (happenings es) ∙ speeds_are_live es)))

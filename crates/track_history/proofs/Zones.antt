@@ -1,11 +1,10 @@
 -- The mode areas that count are those of the track picture.
-use Rattle.std.proofs.Common.{◌≡◌, ℕ, ℤ, List, [], ◌∷◌, ◌++◌, Bool, true, false, cond, refl, ap, sym, ◌∙◌}
-use Rattle.std.specs.Prelude.{Option, Some, None, not}
+use Rattle.std.proofs.Common.{◌≡◌, ℕ, ℤ, List, [], ◌∷◌, cond, refl, ap, ◌∙◌}
+use Rattle.std.specs.Prelude.{not}
 use Rattle.vars.specs.declared.group.GroupIdentity.{GroupIdentity}
 use Rattle.packets.specs.declared.packet.Packet.{Packet}
 use Rattle.packets.specs.declared.packet.Packet.TheVariants as packets
-use Rattle.track_picture.specs.Entry.{TrackEntry, Fact, Outcome}
-use Rattle.track_picture.specs.History as picture
+use Rattle.track_picture.specs.Entry.{TrackEntry, Outcome}
 use Rattle.track_picture.specs.Told.{comes_later}
 use Rattle.mode_table.specs.declared.statuses.Item.TheVariants as item
 use Rattle.areas.specs.declared.area.Area.{Area}
@@ -14,10 +13,10 @@ use Rattle.areas.specs.Entries as areas
 use Rattle.areas.specs.Entries.{AreaEntry}
 use Rattle.areas.specs.Telling.{areas_of}
 use Rattle.track_picture.specs.History.{facts_in, after_grant, after_areas, after_area_groups, areas_deleted, all_areas}
-use Rattle.track_history.specs.Live.{Happening, TrackFact}
-use Rattle.track_history.specs.Counting.{as_areas, areas_or_none, newest}
+use Rattle.track_history.specs.Live.{Happening}
+use Rattle.track_history.specs.Parts.{areas_or_none, newest}
 use Rattle.track_history.specs.Happenings.{and_ticked, and_missed, and_judged, and_closed, and_seen, and_entered, happenings}
-use Rattle.track_history.specs.Equal.{AreasAreLive}
+use Rattle.track_history.specs.Picture.{AreasAreLive}
 use Rattle.track_history.proofs.EachKind.{zones}
 use Rattle.track_history.proofs.OneKind.{value, fact_with, kept_all, lost_all, step_to, past_links, past_level, judged, missed, ticked, marked, seen, column}
 use Rattle.track_history.proofs.Growing.{in_two}
@@ -72,10 +71,10 @@ told_all (e ∷ es) =
     let old = after_area_groups e.used.groups (all_areas es) in
     marked zones e.mark (and_entered e.entered (and_seen e.train closed))
     ∙ column zones told_areas areas_deleted (λ xs. refl) item.ModeAreas (λ mode x. refl) e.entered (and_seen e.train closed) old
-      (seen zones (λ sight. refl) (λ sight x. refl) e.train closed
-      ∙ zones_closed e.used.groups begun (all_areas es)
-        (missed zones refl (λ entry x. refl) e.begun.missed (and_ticked e.begun.clock (happenings es))
-        ∙ (ticked zones e.begun.clock (happenings es) ∙ told_all es)))
+    (seen zones (λ sight. refl) (λ sight x. refl) e.train closed
+    ∙ zones_closed e.used.groups begun (all_areas es)
+    (missed zones refl (λ entry x. refl) e.begun.missed (and_ticked e.begun.clock (happenings es))
+    ∙ (ticked zones e.begun.clock (happenings es) ∙ told_all es)))
 
 pub areas_are_live : AreasAreLive
 areas_are_live events = ap (λ xs. areas_or_none (newest xs)) (told_all events) ∙ told_stored (all_areas events)

@@ -2,13 +2,13 @@
 -- profile). Lists of happenings have the newest first; a life begins with none.
 --
 -- They don't say that the track tells a fact in time, nor that what ends a fact in the table is all that ought to.
-use Rattle.std.specs.Prelude.{◌≡◌, ◌↔◌, ℕ, Bool, true, false, not, Option, None, List, [], ◌∷◌, ◌++◌, filter, filter_map}
+use Rattle.std.specs.Prelude.{◌≡◌, ◌↔◌, ℕ, true, false, not, Option, None, List, [], ◌∷◌, ◌++◌, filter, filter_map}
 use Rattle.authority.specs.Laws.{IsAmong}
 use Rattle.mode_table.specs.declared.mode.Mode.{Mode}
 use Rattle.mode_table.specs.declared.statuses.Item.TheVariants as item
 use Rattle.track_picture.specs.Sentences.{powered_up}
-use Rattle.track_history.specs.Live.{Happening, TrackFact, brought, table, deleting, is_ended_in, ends, live}
-use Rattle.track_history.specs.Counting.{as_values, as_link, as_miss, as_authority, as_look, as_gradients, as_speeds, as_level, as_restriction, as_areas, gradients_in, speeds_in, areas_in, level_in, links_in, authority_in, values_in, restrictions_in}
+use Rattle.track_history.specs.Live.{Happening, TrackFact, brought, table, deleting, names, ends, live}
+use Rattle.track_history.specs.Parts.{as_values, as_link, as_miss, as_authority, as_look, as_gradients, as_speeds, as_level, as_restriction, as_areas, gradients_in, speeds_in, areas_in, level_in, links_in, authority_in, values_in, restrictions_in}
 use Rattle.track_history.specs.Happenings.{happenings}
 
 -- a fact came, and nothing later has ended it
@@ -46,7 +46,7 @@ NoneAtPowerUp = (length : ℕ) → live (happenings (powered_up length ∷ [])) 
 abbrev pub ByItsLine : {X : Type 0} → (X → TrackFact) → (TrackFact → Option X) → Type 0
 ByItsLine of read = (happening : Happening) (earlier : List Happening) →
     filter_map read (live (happening ∷ earlier))
-    ≡ filter_map read (brought happening) ++ filter (λ x. not (is_ended_in (table (of x)) happening)) (filter_map read (live earlier))
+    ≡ filter_map read (brought happening) ++ filter (λ x. not (names (table (of x)) happening)) (filter_map read (live earlier))
 
 pub record EachByItsLine : Type 0 where
   pub values : ByItsLine TrackFact.Values as_values

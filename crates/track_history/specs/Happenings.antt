@@ -1,7 +1,7 @@
 -- The happenings of a life, in the order of one event (this project's profile): the clock; the announced groups that the
 -- train has passed; the groups that closed, each with its verdict and then its packets in rising number, as far as that
 -- matters; where the train is; the mode that is entered; the forgetting mark. Lists have the newest first; the packets of
--- a message stand in its order.
+-- a message stand in its order. A reader may take for granted that an entry holds all that its event brought.
 use Rattle.std.specs.Prelude.{ℕ, ℤ, not, Option, Some, None, List, [], ◌∷◌, filter}
 use Rattle.std.specs.Option.{option_map_or}
 use Rattle.units.specs.Stretches.{Span}
@@ -13,7 +13,7 @@ use Rattle.track_picture.specs.Entry.{TrackEntry, Fact, Outcome}
 use Rattle.track_picture.specs.History.{facts_in}
 use Rattle.track_picture.specs.Told.{comes_later}
 use Rattle.track_history.specs.Live.{Happening}
-use Rattle.track_history.specs.Counting.{links_in, moment_in}
+use Rattle.track_history.specs.Parts.{links_in, moment_in}
 
 abbrev pub and_ticked : Option ℕ → List Happening → List Happening
 and_ticked None before = before

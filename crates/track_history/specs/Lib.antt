@@ -1,5 +1,5 @@
 pub mod Live
-pub mod Counting
+pub mod Parts
 pub mod Happenings
-pub mod Equal
+pub mod Picture
 pub mod Ending

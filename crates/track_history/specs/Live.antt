@@ -1,7 +1,8 @@
 -- What counts of all that the track has told in a life (SUBSET-026, 3.4.4, 3.7, 3.8, 3.11, 3.12.4, 3.16.2, 3.18.2, 4.10
--- and 5.10; which packet, place or group ends what: this project's profile). A fact counts from the happening that
--- brings it until a later one ends it. Lists have the newest first. Places are centimetres, moments milliseconds.
-use Rattle.std.specs.Prelude.{ℕ, ℤ, Bool, true, false, not, ◌||◌, is_some, Option, Some, None, List, [], ◌∷◌, ◌++◌, map, filter}
+-- and 5.10; the lines of the table: this project's profile). A fact counts from the happening that brings it until a
+-- later one ends it. A power-up begins with no happening, and so with no fact. Lists have the newest first. Places are
+-- centimetres, moments milliseconds.
+use Rattle.std.specs.Prelude.{ℕ, ℤ, Bool, true, false, not, ◌||◌, is_some, Option, None, List, [], ◌∷◌, ◌++◌, map, filter}
 use Rattle.std.specs.Option.{option_map, option_map_or, option_or}
 use Rattle.units.specs.Stretches.{Span}
 use Rattle.vars.specs.declared.group.GroupIdentity.{GroupIdentity}
@@ -165,36 +166,37 @@ accepted_group (linking.LinkEntry.Missed number) = false
 
 -- the table. In each line: the modes, the packets, the places, and the groups that end the fact
 abbrev pub table : TrackFact → Line
--- 3: the values wait for their place, and are in force from there on (3.18.2)
+-- 3: the values wait until their place is reached, and are in force from there on (3.18.2); the latest packet waits
 table (TrackFact.Values values) = line (deleting item.AnnouncedValues) new_values (values_reached values) no_group
 -- 5: one link of the latest list (3.4.4)
 table (TrackFact.Link a) = line (deleting item.Linking) new_links no_place (its_group a)
--- a missed group, until one is accepted as announced (3.16.2)
+-- a group was missed, until one is accepted as announced (3.16.2)
 table TrackFact.Miss = line no_mode no_packet no_place accepted_group
--- 12: the latest authority (3.8), and what its timers have seen (3.8.4)
+-- 12: the latest authority, and what its timers have seen (3.8)
 table (TrackFact.Authority granted) = line (deleting item.Authority) new_authority no_place no_group
 table (TrackFact.Look sight) = line (deleting item.Authority) new_authority no_place no_group
--- 21 and 27: a later profile covers it from its first place on, and doesn't end it (3.7.1.1, 3.11)
+-- 21 and 27: a later profile covers it from its first place on, and doesn't end it (3.7, 3.11)
 table (TrackFact.Gradients told) = line (deleting item.Profiles) no_packet no_place no_group
 table (TrackFact.Speeds told) = line (deleting item.Profiles) no_packet no_place no_group
--- 41: the level comes into force at its place (5.10)
+-- 41: the latest level, until its place is reached: then it is in force (5.10)
 table (TrackFact.Level level) = line (deleting item.LevelAnnouncement) new_level (level_reached level) no_group
 -- 65: until its number is told again or revoked (3.11.5)
 table (TrackFact.Restricted restriction) = line (deleting item.Restrictions) (same_number restriction) no_place no_group
 -- 80: the latest areas, until a later authority (3.12.4)
 table (TrackFact.Areas told) = line (deleting item.ModeAreas) new_authority_or_areas no_place no_group
 
-abbrev pub is_ended_in : Line → Happening → Bool
-is_ended_in line (Happening.Ticked moment) = false
-is_ended_in line (Happening.Linked entry) = line.groups entry
-is_ended_in line (Happening.Accepted group) = false
-is_ended_in line (Happening.Told fact) = line.packets fact
-is_ended_in line (Happening.Seen sight) = line.places sight.train
-is_ended_in line (Happening.Entered mode) = line.modes mode
-is_ended_in line (Happening.Marked mark) = false
+-- a line names a happening
+abbrev pub names : Line → Happening → Bool
+names line (Happening.Ticked moment) = false
+names line (Happening.Linked entry) = line.groups entry
+names line (Happening.Accepted group) = false
+names line (Happening.Told fact) = line.packets fact
+names line (Happening.Seen sight) = line.places sight.train
+names line (Happening.Entered mode) = line.modes mode
+names line (Happening.Marked mark) = false
 
 abbrev pub ends : Happening → TrackFact → Bool
-ends happening fact = is_ended_in (table fact) happening
+ends happening fact = names (table fact) happening
 
 -- ---- the facts that count
 

@@ -1,5 +1,5 @@
 //! Law: the movement authority.
-ghost use Rattle.track_history.specs.Equal.{AuthorityIsLive};
+ghost use Rattle.track_history.specs.Picture.{AuthorityIsLive};
 
 /// A law: the authority that counts, with what its timers have seen, is that of the track picture.
 pub fn authority_is_live()

@@ -1,5 +1,5 @@
 //! Law: linking.
-ghost use Rattle.track_history.specs.Equal.{LinksAreLive};
+ghost use Rattle.track_history.specs.Picture.{LinksAreLive};
 
 /// A law: the links that count, and whether a group was missed, are those of the track picture.
 pub fn links_are_live()

@@ -1,5 +1,5 @@
 //! Laws: the gradient and the static speeds, and the forgetting mark.
-ghost use Rattle.track_history.specs.Equal.{GradientsAreLive, SpeedsAreLive, MarkIsRead};
+ghost use Rattle.track_history.specs.Picture.{GradientsAreLive, SpeedsAreLive, MarkIsRead};
 
 /// A law: the gradients that count are those of the track picture.
 pub fn gradients_are_live()

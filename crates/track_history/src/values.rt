@@ -1,5 +1,5 @@
 //! Laws: the national values.
-ghost use Rattle.track_history.specs.Equal.{ValuesAreLive, ValuesInForce};
+ghost use Rattle.track_history.specs.Picture.{ValuesAreLive, ValuesInForce};
 
 /// A law: the national values that wait are those of the track picture.
 pub fn values_are_live()

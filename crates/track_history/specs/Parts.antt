@@ -123,8 +123,8 @@ abbrev pub authority_in : List Happening → KnownAuthority
 authority_in happenings = record {
   moment = moment_in happenings;
   stored =
-    option_map (λ granted. stored_of granted (filter_map as_look (live happenings)))
-    (newest (filter_map as_authority (live happenings)));
+      option_map (λ granted. stored_of granted (filter_map as_look (live happenings)))
+      (newest (filter_map as_authority (live happenings)));
 }
 
 -- ---- national values: the packet 3 that waits, and the values in force by their table

@@ -1,5 +1,5 @@
--- What is read off the facts that count is what the track picture says of a life, part by part, for every list of events
--- of a life (this project's profile).
+-- What is read off the facts that count is what the track picture says, part by part, for every list of entries of a life
+-- (this project's profile). So the one table tells what the kernel takes into account.
 use Rattle.std.specs.Prelude.{◌≡◌, List}
 use Rattle.track_store.specs.Restrictions.{in_force}
 use Rattle.national.specs.InForce as national
@@ -7,7 +7,7 @@ use Rattle.national.specs.Values.{ValuesFor}
 use Rattle.track_picture.specs.Entry.{TrackEntry}
 use Rattle.track_picture.specs.History as picture
 use Rattle.track_history.specs.Happenings.{happenings}
-use Rattle.track_history.specs.Counting.{gradients_in, speeds_in, mark_in, restrictions_in, areas_in, level_in, links_in, authority_in, values_in, in_force_in}
+use Rattle.track_history.specs.Parts.{gradients_in, speeds_in, mark_in, restrictions_in, areas_in, level_in, links_in, authority_in, values_in, in_force_in}
 
 abbrev pub GradientsAreLive : Type 0
 GradientsAreLive = (events : List TrackEntry) → gradients_in (happenings events) ≡ picture.gradients events

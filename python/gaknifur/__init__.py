@@ -24,7 +24,6 @@ def journal(path: str | Path, other_blocks: bool = False) -> pd.DataFrame:
 
 
 def brake_causes(path: str | Path) -> pd.DataFrame:
-    """A row for each cause that holds behind an event of which `etcs_lab why` tells, the oldest first: since which event,
-    what it says and how it ends."""
-    told = reading.read(path, replay=True, why=True)
-    return pd.DataFrame(causes.rows(told, causes.lines_of(told)[0]), columns=causes.ROW)
+    """A row for each cause that holds behind an event of which causes are told, the oldest first: since which event, what it
+    says and how it ends."""
+    return pd.DataFrame(causes.rows(reading.read(path, replay=True, why=True)), columns=causes.ROW)

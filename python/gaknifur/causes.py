@@ -1,12 +1,14 @@
-"""Why a brake was commanded, as `etcs_lab why` tells it. Nothing here guesses a cause from what a record shows.
+"""Why a brake was commanded, and what decided the limit, as `etcs_lab why` tells it. Nothing here guesses a cause from
+what a record shows.
 
-`etcs_lab why` has a line of each event whose brake or limit is another one than before in its life; of the last event
-of an intervention it is asked beside (module `reading`). What is told is what the kernel answers. So it counts only
+`etcs_lab why` has a line of each event at which brake, limit, a cause or the kind of what decides the limit is another
+one than before in its life, so between two lines the causes are those of the first. (Before it told what decides the
+limit, it had no line where a cause alone changed. Then causes are known of the events that have a line, and of the last
+event of each intervention, of which module `reading` asks.) What is told is what the kernel answers. So it counts only
 where the replay says that the journal tells the same; elsewhere the causes aren't known, and the reason is told.
 """
-from collections.abc import Iterable, Sequence
+from collections.abc import Iterable
 from dataclasses import dataclass
-from typing import Any
 
 from .reading import Journal, Json
 
@@ -27,6 +29,8 @@ CAUSES = {
     "owes_too_long": ("an acknowledgement has been owed for 5000 ms or longer",
                       "ends when the driver acknowledges, a mode deletes it, or a further transition begins it anew")}
 """Of each cause, in the order of the brake table, what it says and how it ends, in the words of `etcs_lab why`."""
+LIMIT_CAUSE = "limit_cause"
+"""The member that tells the kind of what decides the limit; others of the same beginning tell more of it."""
 REASONS = {"before_oldest_block": "what was kept before its power-up was overwritten",
            "gap": "blocks or events are missing before",
            "within_block": "no head tells what was kept before its power-up",
@@ -57,18 +61,39 @@ def reasons_of(journal: Journal) -> list[str | None]:
             for record in journal.records]
 
 
-def lines_of(journal: Journal) -> tuple[list[Json | None], list[str | None]]:
-    """Of each record its line of `etcs_lab why`, and why its causes aren't known. Where neither is, nothing is told of
-    the event: its brake and its limit are those of the event before."""
+@dataclass
+class Known:
+    """What is known of a record's causes."""
+
+    reason: str | None
+    """Why they aren't known."""
+    line: Json | None = None
+    """Its line of `etcs_lab why`, if it has one."""
+    held: dict[str, int] | None = None
+    """The causes of its brake that hold; None where they aren't told."""
+    limit: str | None = None
+    """The kind of what decides the limit; None where it isn't told."""
+
+
+def known(journal: Journal) -> list[Known]:
+    """What is known of each record."""
     told = {line["event"]: line for line in journal.why}
-    reasons = reasons_of(journal)
-    lines: list[Json | None] = []
-    for row, record in enumerate(journal.records):
-        line = told.get(record["event"]) if reasons[row] is None else None
-        if line and line["brake"] != record["brake"]:
-            line, reasons[row] = None, DIFFERS
-        lines.append(line)
-    return lines, reasons
+    is_complete = any(LIMIT_CAUSE in line for line in journal.why)
+    found: list[Known] = []
+    before = None
+    for record, reason in zip(journal.records, reasons_of(journal)):
+        one = Known(reason, told.get(record["event"]) if reason is None else None)
+        if one.line and one.line["brake"] != record["brake"]:
+            one.reason, one.line = DIFFERS, None
+        if one.reason is None:
+            latest = one.line or (before if is_complete and record["kind"] != "powerup" else None)
+            if latest:
+                one.held, one.limit = held(latest), latest.get(LIMIT_CAUSE)
+            before = latest
+        else:
+            before = None
+        found.append(one)
+    return found
 
 
 @dataclass
@@ -98,44 +123,45 @@ class Held:
         return f"{self.cause} since {self.since}"
 
 
-def of_run(lines: Iterable[Json | None]) -> list[Held]:
-    """The causes of a run of events, in the order in which they began to hold. One that ends and begins anew comes twice."""
+def of_run(events: Iterable[int], told: Iterable[dict[str, int] | None]) -> list[Held]:
+    """The causes of a run of events, of some of which those that hold are told, in the order in which they began to hold.
+    One that ends and begins anew comes twice."""
     found: list[Held] = []
-    for line in lines:
-        if line is None:
+    for event, now in zip(events, told):
+        if now is None:
             continue
-        now = held(line)
         for one in found:
             if one.gone is None and now.get(one.cause) != one.since:
-                one.gone = line["event"]
+                one.gone = event
         holding = {one.cause: one for one in found if one.gone is None}
         for cause, since in now.items():
             if cause in holding:
-                holding[cause].last = line["event"]
+                holding[cause].last = event
             else:
-                found.append(Held(cause, since, line["event"]))
+                found.append(Held(cause, since, event))
     return sorted(found, key=lambda one: one.since)
 
 
-def text(line: Json | None) -> str | None:
-    """The causes of a line, as a column tells them: none is an empty text."""
-    if line is None:
-        return None
-    return ", ".join(f"{cause} since {since}" for cause, since in held(line).items())
+def text(told: dict[str, int] | None) -> str | None:
+    """Causes as a column tells them: none is an empty text."""
+    return None if told is None else ", ".join(f"{cause} since {since}" for cause, since in told.items())
 
 
-ROW = ("block", "event", "life", "brake", "limit_m_per_h", "speed_m_per_h", "backward_cm", "allowed_backward_cm", "cause",
-       "since_event", "says", "ends")
+def limit_text(line: Json) -> str:
+    """What decides the limit of a line, for people: its kind, its place and number where it has them, and its sections."""
+    kind, place, number = (line.get(f"{LIMIT_CAUSE}{end}") for end in ("", "_place_cm", "_number"))
+    if kind is None:
+        return ""
+    where = "" if place is None else f" at {place / 100:,.2f} m"
+    which = "" if number is None else f" {number}"
+    return f"{str(kind).replace('_', ' ')}{which}{where} ({line.get(f'{LIMIT_CAUSE}_section', 'no section is told')})"
 
 
-def rows(journal: Journal, lines: Sequence[Json | None]) -> list[Json]:
-    """A row for each cause that holds behind an event that is told, with its words."""
-    found: list[Json] = []
-    for record, line in zip(journal.records, lines):
-        if line is None:
-            continue
-        front: dict[str, Any] = {"block": record["block"], "event": record["event"], "life": record["life"]}
-        front |= {name: line[name] for name in ("brake", "limit_m_per_h", "speed_m_per_h", "backward_cm", "allowed_backward_cm")}
-        found += [{**front, "cause": cause, "since_event": since, "says": CAUSES[cause][0], "ends": CAUSES[cause][1]}
-                  for cause, since in held(line).items()]
-    return found
+ROW = ("block", "event", "life", "brake", "cause", "since_event", "says", "ends")
+
+
+def rows(journal: Journal) -> list[Json]:
+    """A row for each cause that holds behind an event of which causes are told, with its words."""
+    return [{"block": record["block"], "event": record["event"], "life": record["life"], "brake": record["brake"], "cause": cause,
+             "since_event": since, "says": CAUSES[cause][0], "ends": CAUSES[cause][1]}
+            for record, one in zip(journal.records, known(journal)) for cause, since in (one.held or {}).items()]

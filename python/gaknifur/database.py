@@ -21,11 +21,12 @@ EVENT = (
     "block event life stretch kind time_ms mode level brake place_cm uncertainty_cm min_safe_front_cm max_safe_front_cm "
     "limit_m_per_h movement_cm reading_m_per_h speed_m_per_h word now_ms action refused identity running_number "
     "chosen_level confirmed acknowledged length_cm maximum_m_per_h category deceleration_cm_per_s2 reaction_ms "
-    "causes_not_known"
+    "causes_not_known limit_cause"
 ).split() + list(tables.SHOWS)
 SLOT = ("slot state block first_sector last_sector format life first_event last_event gate_is_own in_journal field record "
         "byte").split()
-WHY = "brake limit_m_per_h speed_m_per_h backward_cm allowed_backward_cm".split()
+WHY = ("brake limit_m_per_h speed_m_per_h backward_cm allowed_backward_cm limit_cause limit_cause_speed_m_per_h "
+       "limit_cause_place_cm limit_cause_number limit_cause_section").split()
 REPLAY = "replay life first_event last_event block reason field".split()
 HEADER = "Q_UPDOWN M_VERSION Q_MEDIA N_PIG N_TOTAL M_DUP M_MCOUNT NID_C NID_BG Q_LINK".split()
 
@@ -161,10 +162,13 @@ def packets_in(rows: list[tuple[int, int, str, Json]]) -> Iterator[tuple[int, in
 
 
 def add_causes(connection: sqlite3.Connection, image: int, table: pd.DataFrame) -> None:
-    """Adds what is told of events with the causes of their brakes."""
-    told = table[table["why"].notna()]
-    rows = list(zip(plain(told["block"]), plain(told["event"]), told["why"]))
-    insert(connection, "why", ["image", "block", "event", *WHY],
-           ([image, block, event, *(line[name] for name in WHY)] for block, event, line in rows))
-    insert(connection, "cause", ["image", "block", "event", "cause", "since_event"],
-           ([image, block, event, *pair] for block, event, line in rows for pair in causes.held(line).items()))
+    """Adds what is told of events, and the causes of their brakes."""
+    for name in ("why", "held"):
+        told = table[table[name].notna()]
+        rows = zip(plain(told["block"]), plain(told["event"]), told[name])
+        if name == "why":
+            insert(connection, "why", ["image", "block", "event", *WHY],
+                   ([image, block, event, *map(line.get, WHY)] for block, event, line in rows))
+        else:
+            insert(connection, "cause", ["image", "block", "event", "cause", "since_event"],
+                   ([image, block, event, *pair] for block, event, held in rows for pair in held.items()))

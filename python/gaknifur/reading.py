@@ -177,8 +177,9 @@ def last_commanded(records: list[Json]) -> list[int]:
 
 
 def tell_why(journal: Journal, progress: Progress) -> None:
-    """Takes what `etcs_lab why` tells of each event whose brake or limit is another one than before, and of the last event
-    of each run of commands, as long as that isn't too dear: each question runs the lives of the image again."""
+    """Takes what `etcs_lab why` tells of changes. Where it doesn't tell what decides the limit, it has no line where a cause
+    alone changes, and is asked for the last event of each run of commands, as long as that isn't too dear: each question
+    runs the lives of the image again."""
     progress("causes", 0, 0)
     run = objects(["why", "--json"], journal.path, journal.why.append)
     if run.status == REFUSED and not journal.why:
@@ -186,6 +187,8 @@ def tell_why(journal: Journal, progress: Progress) -> None:
         return
     if run.status not in (WHOLE, NOT_WHOLE):
         raise run.failed(journal.path)
+    if any("limit_cause" in line for line in journal.why):
+        return
     told = {line["event"] for line in journal.why}
     agreed = [(line["first_event"], line["last_event"]) for line in journal.replay if line.get("replay") == "agrees"]
     asked = [event for event in last_commanded(journal.records)

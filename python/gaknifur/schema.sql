@@ -84,7 +84,7 @@ CREATE TABLE block (
 
 -- Each record. Those of one stretch are of one life, and follow one another without a gap. speed_m_per_h is that of the
 -- last reading of the stretch, 0 from a power-up on. An uncertainty beyond 2^62 cm is NULL. causes_not_known tells why
--- the causes of its brake can't be told; NULL where the replay agrees.
+-- the causes of its brake can't be told; NULL where the replay agrees. limit_cause is the kind of what decides the limit.
 CREATE TABLE event (
     image INTEGER NOT NULL,
     block INTEGER NOT NULL,
@@ -126,12 +126,13 @@ CREATE TABLE event (
     deceleration_cm_per_s2 INTEGER,
     reaction_ms INTEGER,
     causes_not_known TEXT,
+    limit_cause TEXT,
     PRIMARY KEY (image, block, event),
     FOREIGN KEY (image, block) REFERENCES block ON DELETE CASCADE
 ) STRICT, WITHOUT ROWID;
 
--- What `etcs_lab why` tells: each event whose brake or limit is another one than before in its life, and the last event
--- of an intervention. Only of events of which the replay agrees.
+-- The lines of `etcs_lab why`, of events of which the replay agrees: those at which brake, limit, a cause or the kind of
+-- what decides the limit is another one than before in their life. limit_cause_section has sections of SUBSET-026.
 CREATE TABLE why (
     image INTEGER NOT NULL,
     block INTEGER NOT NULL,
@@ -141,6 +142,11 @@ CREATE TABLE why (
     speed_m_per_h INTEGER NOT NULL,
     backward_cm INTEGER NOT NULL,
     allowed_backward_cm INTEGER NOT NULL,
+    limit_cause TEXT,
+    limit_cause_speed_m_per_h INTEGER,
+    limit_cause_place_cm INTEGER,
+    limit_cause_number INTEGER,
+    limit_cause_section TEXT,
     PRIMARY KEY (image, block, event),
     FOREIGN KEY (image, block, event) REFERENCES event ON DELETE CASCADE
 ) STRICT, WITHOUT ROWID;
@@ -152,7 +158,7 @@ CREATE TABLE cause_word (
     ends TEXT NOT NULL
 ) STRICT, WITHOUT ROWID;
 
--- the causes of the brake that hold behind an event that is told, and the first event behind which each has held
+-- the causes of the brake that hold behind an event, and the first event behind which each has held
 CREATE TABLE cause (
     image INTEGER NOT NULL,
     block INTEGER NOT NULL,
@@ -160,7 +166,7 @@ CREATE TABLE cause (
     cause TEXT NOT NULL REFERENCES cause_word,
     since_event INTEGER NOT NULL,
     PRIMARY KEY (image, block, event, cause),
-    FOREIGN KEY (image, block, event) REFERENCES why ON DELETE CASCADE
+    FOREIGN KEY (image, block, event) REFERENCES event ON DELETE CASCADE
 ) STRICT, WITHOUT ROWID;
 
 -- each telegram: its header, or the name of its first fault
@@ -254,7 +260,7 @@ SELECT extent.image, intervention, first.life, first_event, extent.last_event, e
     first.brake, CASE WHEN has_emergency THEN 'emergency' ELSE 'service' END AS worst, first.kind,
     first.kind = 'powerup' AS is_power_up, first.time_ms, last.next_ms AS until_ms, first.place_cm,
     last.next_cm AS until_cm, first.mode_before, first.mode, first.speed_m_per_h / 1000.0 AS speed_kmh,
-    first.limit_m_per_h / 1000.0 AS limit_kmh, most_over_kmh, first.causes_not_known,
+    first.limit_m_per_h / 1000.0 AS limit_kmh, most_over_kmh, first.limit_cause, first.causes_not_known,
     COALESCE('not known: ' || first.causes_not_known, (
         SELECT group_concat(cause || ' since ' || since_event, ', ') FROM (
             SELECT DISTINCT cause, since_event FROM cause

@@ -11,9 +11,9 @@ Columns of `frame`, in their order:
   stretch (0 from a power-up on), and by how much it is above the limit behind the event.
 - `word`, `now_ms`, `action` and the driver's entries; `refused`: whether the action can't have been accepted.
 - `nid_c`, `nid_bg`, `n_pig`, `n_total`, `m_dup`, `m_mcount`, `q_link`, `packets`, `fault`, `telegram`, `decoded`.
-- `causes`: of a record that `etcs_lab why` tells, the causes of its brake and the event since which each holds;
-  `causes_not_known`: why they aren't known; `why`: the line itself (module `causes`). All are missing where brake and
-  limit are those of the record before.
+- `causes`: the causes of its brake, and the event since which each holds; `causes_not_known`: why they aren't known;
+  `limit_cause`: the kind of what decides the limit; `held`: the causes as a dictionary; `why`: the line of `etcs_lab why`
+  (module `causes`). They are missing where they aren't told.
 """
 from collections.abc import Callable, Sequence
 from operator import itemgetter
@@ -78,9 +78,10 @@ def decoded_columns(decoded: Sequence[Json | None]) -> dict[str, Any]:
 
 
 def cause_columns(journal: Journal) -> dict[str, list[Any]]:
-    """The causes of each record's brake, why they aren't known, and the line that tells them."""
-    lines, reasons = causes.lines_of(journal)
-    return {"causes": [causes.text(line) for line in lines], "causes_not_known": reasons, "why": lines}
+    """The causes of each record's brake, why they aren't known, what decides its limit, and the line that tells them."""
+    told = causes.known(journal)
+    return {"causes": [causes.text(one.held) for one in told], "causes_not_known": [one.reason for one in told],
+            "limit_cause": [one.limit for one in told], "held": [one.held for one in told], "why": [one.line for one in told]}
 
 
 def by_kind(records: Sequence[Json]) -> dict[str, list[Any]]:
@@ -177,7 +178,7 @@ def intervention(table: pd.DataFrame, brake: Any, first: int, last: int) -> Json
         "most_over_kmh": None if farthest is None else over[farthest],
         "most_over_row": None if farthest is None else first + farthest,
         "goes_on": last + 1 == len(table) or stretch.iat[last + 1] != stretch.iat[last],
-        "causes": causes.of_run(table["why"].iloc[first:last + 1]), "causes_not_known": value("causes_not_known", first)}
+        "causes": causes.of_run(table["event"].iloc[first:last + 1], table["held"].iloc[first:last + 1]), "causes_not_known": value("causes_not_known", first)}
 
 
 def is_notable(table: pd.DataFrame) -> Any:
@@ -191,6 +192,7 @@ def is_notable(table: pd.DataFrame) -> Any:
 
 
 def csv_text(table: pd.DataFrame) -> str:
-    """The table as comma-separated values, without the columns `decoded` and `why`; nothing stands where nothing is known."""
-    text: str = table.drop(columns=["decoded", "why"]).to_csv(index=False, lineterminator="\n")
+    """The table as comma-separated values, without the columns `decoded`, `held` and `why`; nothing stands where nothing is
+    known."""
+    text: str = table.drop(columns=["decoded", "held", "why"]).to_csv(index=False, lineterminator="\n")
     return text

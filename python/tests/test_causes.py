@@ -23,19 +23,19 @@ class Runs(unittest.TestCase):
     """The causes of an intervention."""
 
     def test_in_the_order_in_which_they_began(self) -> None:
-        found = causes.of_run([line(3, "emergency", far_too_fast=3), None, line(6, "emergency", in_trip=5, far_too_fast=3)])
+        found = causes.of_run([3, 4, 6], [{"far_too_fast": 3}, None, {"in_trip": 5, "far_too_fast": 3}])
         self.assertEqual(found, [Held("far_too_fast", 3, 6), Held("in_trip", 5, 6)])
 
     def test_one_that_ends_and_begins_anew_comes_twice(self) -> None:
-        found = causes.of_run([line(1, "service", too_fast=1), line(2, "emergency", far_too_fast=2), line(5, "service", too_fast=4)])
+        found = causes.of_run([1, 2, 5], [{"too_fast": 1}, {"far_too_fast": 2}, {"too_fast": 4}])
         self.assertEqual(found, [Held("too_fast", 1, 1, 2), Held("far_too_fast", 2, 2, 5), Held("too_fast", 4, 5)])
 
     def test_one_that_ended_between_two_lines_comes_twice(self) -> None:
-        found = causes.of_run([line(1, "service", too_fast=1), line(5, "service", too_fast=4)])
+        found = causes.of_run([1, 5], [{"too_fast": 1}, {"too_fast": 4}])
         self.assertEqual(found, [Held("too_fast", 1, 1, 5), Held("too_fast", 4, 5)])
 
 
-class Known(unittest.TestCase):
+class Told(unittest.TestCase):
     """Of which records causes are known, and why not of the others."""
 
     def test_where_the_replay_agrees(self) -> None:
@@ -43,6 +43,16 @@ class Known(unittest.TestCase):
         self.assertEqual(list(table["causes"]), ["not_revalidated since 0", "", "far_too_fast since 2", None, ""])
         self.assertEqual(list(table["causes_not_known"]), [None] * 5)
         self.assertEqual(list(tables.interventions(table)["causes"])[1], [Held("far_too_fast", 2, 2)])
+
+    def test_between_lines_that_tell_each_change(self) -> None:
+        told = replayed({"replay": "agrees", "first_event": 0, "last_event": 4})
+        told.why = [one | {"limit_cause": "staff", "limit_cause_section": "4.4"} for one in TOLD]
+        table = tables.frame(told)
+        self.assertEqual(list(table["causes"]), ["not_revalidated since 0", "", *["far_too_fast since 2"] * 2, ""])
+        self.assertEqual(set(table["limit_cause"]), {"staff"})
+        self.assertEqual(list(tables.interventions(table)["causes"])[1], [Held("far_too_fast", 2, 3)])
+        self.assertEqual(causes.limit_text(told.why[0] | {"limit_cause_place_cm": 150, "limit_cause_number": 7}),
+                         "staff 7 at 1.50 m (4.4)")
 
     def test_where_it_does_not(self) -> None:
         table = tables.frame(replayed({"replay": "agrees", "first_event": 0, "last_event": 1}, {"replay": "record_differs", "event": 2},

@@ -56,8 +56,9 @@ def note_unproved(said: Sequence[str]) -> None:
 class Run:
     """A run of `etcs_lab` on an image: its lines as they come, and behind them its status and what it said."""
 
-    def __init__(self, words: Sequence[str], image: Path) -> None:
-        self.words = [find(), *words, "--", str(image.absolute())]
+    def __init__(self, words: Sequence[str], image: Path, *more: str) -> None:
+        self.image = str(image.absolute())
+        self.words = [find(), *words, "--", self.image, *more]
         self.status = -1
         self.said: list[str] = []
 
@@ -80,7 +81,7 @@ class Run:
         """The last line on standard error, without the program's name and the image."""
         if not self.said:
             return f"etcs_lab ended with status {self.status}"
-        return self.said[-1].removeprefix("etcs_lab: ").removeprefix(f"{self.words[-1]}: ")
+        return self.said[-1].removeprefix("etcs_lab: ").removeprefix(f"{self.image}: ")
 
     def failed(self, image: Path) -> Failed:
         """The error of a run that didn't do what was asked."""

@@ -9,7 +9,7 @@ from pathlib import Path
 from gaknifur.program import Failed
 from gaknifur.reading import Journal, read
 
-from .samples import journal, record
+from .samples import journal, line, record
 
 STAND_IN = """#!/bin/sh
 cat "$0.$1"
@@ -39,6 +39,8 @@ class Reading(unittest.TestCase):
         self.says("events", [{"image": {}}, record(0), {"unreadable": {"block": 4}}, {"end": "done"}])
         self.says("replay", [{"life": 1, "first_event": 0, "last_event": 0, "replay": "agrees"}, {"end": "nothing_differs"}])
 
+        self.says("why", [line(0, "none")])
+
     def says(self, word: str, lines: list[object], status: int = 0, said: str = "") -> None:
         """What the stand-in prints."""
         for end, text in ((f".{word}", "".join(json.dumps(line) + "\n" for line in lines)), (f".{word}.said", said),
@@ -46,7 +48,7 @@ class Reading(unittest.TestCase):
             self.program.with_name(self.program.name + end).write_text(text)
 
     def read(self) -> Journal:
-        return read(self.image, replay=True)
+        return read(self.image, replay=True, why=True)
 
     def test_all(self) -> None:
         found = self.read()
@@ -64,6 +66,16 @@ class Reading(unittest.TestCase):
     def test_events_that_are_refused(self) -> None:
         self.says("events", [], 1, f"etcs_lab: {self.image}: can't be told: nothing can be written\n")
         self.assertEqual(self.read().refusal, "can't be told: nothing can be written")
+
+    def test_causes(self) -> None:
+        self.says("events", [{"image": {}}, record(0, brake="service"), record(1, brake="service"), {"end": "done"}])
+        self.says("replay", [{"life": 1, "first_event": 0, "last_event": 1, "replay": "agrees"}, {"end": "nothing_differs"}])
+        # the stand-in tells the same again where it is asked for the last event of the commands
+        self.assertEqual(self.read().why, [line(0, "none")] * 2)
+
+    def test_causes_that_are_refused(self) -> None:
+        self.says("why", [], 1, f"etcs_lab: {self.image}: there is no memory\n")
+        self.assertEqual((self.read().why, self.read().why_refusal), ([], "there is no memory"))
 
     def test_no_image(self) -> None:
         self.says("examine", [{}], 1, f"etcs_lab: {self.image}: is not a formatted image\n")

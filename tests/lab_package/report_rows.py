@@ -81,7 +81,7 @@ def examples(rows):
                 rows.run("run", TOP / "examples" / name / scenario, name)
         first = rows.page(name, charts=charts, text=["each event agrees with the kernel", "IC 704"])
         rows.wants(f"{name}, the same page twice", rows.page(name, charts=charts), first)
-    rows.page("trip", charts=2, text=["15.0 km/h", "event 8", "the driver starts (not accepted)", "300.00 – 327.00", "end announced by event 1"])
+    rows.page("trip", charts=2, text=["the mode is Trip: since event 10", "not stood since: since event 8, no longer behind event", "15.0 km/h", "event 8", "the driver starts (not accepted)", "300.00 – 327.00", "end announced by event 1"])
     rows.page("trip", "--from", "8", "--to", "11", charts=1, text=["from 8 to 11"])
     rows.page("trip", "--from", "200m", "--to", "315m", charts=1, text=["from 200m to 315m"])
     rows.page("on_sight", "--from", "20s", "--to", "40s", "--life", "1", charts=1, text=["of life 1"])
@@ -93,7 +93,7 @@ def damaged(rows):
     at = 512 * (1 + 6 * 2) + 1024 + 16
     (rows.room / "byte").write_bytes(image[:at] + b"\xff" + image[at + 1:])
     lost = "lab: byte: something is lost, damaged or contradicts"
-    rows.page("byte", charts=1, said=lost, text=["block 2 can't be read", "Lost: block 2, with events 1 to 8", "not told"])
+    rows.page("byte", charts=1, said=lost, text=["block 2 can't be read", "Lost: block 2, with events 1 to 8", "Cause not known: blocks or events are missing before."])
     (rows.room / "newest").write_bytes(image[:512 * (1 + 6 * 3) + 1024 + 16] + b"\xff" + image[512 * (1 + 6 * 3) + 1024 + 17:])
     rows.page("newest", charts=0, said="lab: newest: something is lost, damaged or contradicts", text=["block 3 can't be read"])
     (rows.room / "short").write_bytes(image[:-512])

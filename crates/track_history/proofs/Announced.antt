@@ -73,7 +73,7 @@ level_seen (Some train) hs es r =
     step_to level (Happening.Seen (record { moment = moment_in hs; train = train })) hs (listed (waiting es)) r
     ∙ reached_one train.max_front (waiting es)
 
-waits_all : (events : List TrackEntry) → value level (happenings events) ≡ listed (waiting (announced_levels events))
+pub waits_all : (events : List TrackEntry) → value level (happenings events) ≡ listed (waiting (announced_levels events))
 waits_all [] = refl
 waits_all (e ∷ es) =
     let begun = and_missed e.begun.missed (and_ticked e.begun.clock (happenings es)) in

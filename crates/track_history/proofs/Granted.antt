@@ -203,6 +203,9 @@ known_all (e ∷ es) =
     (missed_all e.begun.missed ticked_now clocked_now
     (clocked e.begun.clock (happenings es) (authorities es) (known_all es))))))
 
+pub granted_all : (events : List TrackEntry) → value grant (happenings events) ≡ listed (accepted (authorities events))
+granted_all events = (known_all events).granted_is
+
 pub authority_is_live : AuthorityIsLive
 authority_is_live events =
     let k = known_all events in

@@ -11,3 +11,4 @@ pub mod Limits
 pub mod Chain
 pub mod Counted
 pub mod ByLine
+pub mod Alone

@@ -206,13 +206,12 @@ module _ (kept : ValuesFor) where
       (past_missed IsKnown known_linked e.begun.missed ticked_now (national_entries es)
       (known_ticked e.begun.clock (happenings es) (national_entries es) (known_all es))))))
 
+pub waits_all : (events : List TrackEntry) → value values (happenings events) ≡ listed (waiting (national_entries events))
+waits_all events = (known_all national.nothing_kept events).waits
+
 pub values_are_live : ValuesAreLive
 values_are_live events =
-    let kept = national.nothing_kept in
-    same_waiting kept (happenings events) (national_entries events) (known_all kept events).waits
+    same_waiting national.nothing_kept (happenings events) (national_entries events) (waits_all events)
 
 pub values_in_force : ValuesInForce
 values_in_force kept events = (known_all kept events).holds
-
-pub values_read : ValuesAreLive × ValuesInForce
-values_read = (values_are_live, values_in_force)

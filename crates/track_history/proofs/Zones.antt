@@ -22,7 +22,7 @@ use Rattle.track_history.proofs.OneKind.{value, fact_with, kept_all, lost_all, s
 use Rattle.track_history.proofs.Growing.{in_two}
 
 -- those of the newest packet 80 as a list of none or one
-abbrev told_areas : List AreaEntry → List (List Area)
+abbrev pub told_areas : List AreaEntry → List (List Area)
 told_areas [] = []
 told_areas (areas.AreaEntry.Told fact ∷ es) = areas_of fact ∷ []
 told_areas (areas.AreaEntry.Cleared ∷ es) = []
@@ -63,7 +63,7 @@ zones_closed (o ∷ os) hs es r =
     (facts_in o) (and_judged o (and_closed os hs)) (after_area_groups os es)
     (judged zones refl (λ entry x. refl) o (and_closed os hs) ∙ zones_closed os hs es r)
 
-told_all : (events : List TrackEntry) → value zones (happenings events) ≡ told_areas (all_areas events)
+pub told_all : (events : List TrackEntry) → value zones (happenings events) ≡ told_areas (all_areas events)
 told_all [] = refl
 told_all (e ∷ es) =
     let begun = and_missed e.begun.missed (and_ticked e.begun.clock (happenings es)) in

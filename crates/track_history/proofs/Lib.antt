@@ -12,3 +12,4 @@ pub mod Chain
 pub mod Counted
 pub mod ByLine
 pub mod Alone
+pub mod Placed

@@ -19,6 +19,6 @@ pub use ending::{
     modes_delete_by_the_table, none_at_power_up,
 };
 pub use linking_told::links_are_live;
-pub use profiles::{gradients_are_live, mark_is_read, speeds_are_live};
+pub use profiles::{gradients_are_live, mark_is_read, place_is_read, speeds_are_live};
 pub use restricting::restrictions_are_live;
 pub use values::{values_are_live, values_in_force};

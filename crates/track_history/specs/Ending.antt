@@ -1,5 +1,5 @@
--- What an assessor asks of the facts that count (SUBSET-026, 4.10 and the sections of the table; the rest: this project's
--- profile). Lists of happenings have the newest first; a life begins with none.
+-- What an assessor asks of the facts that count (SUBSET-026, 4.10 and the sections of the table; the rest: this
+-- project's profile). Lists of happenings and of events have the newest first; a life begins with no happening.
 --
 -- They don't say that the track tells a fact in time, nor that what ends a fact in the table is all that ought to.
 use Rattle.std.specs.Prelude.{◌≡◌, ◌↔◌, ℕ, ◌≤◌, true, false, not, Option, None, List, [], ◌∷◌, ◌++◌, filter, filter_map, length}

@@ -1,7 +1,8 @@
--- The happenings of a life, in the order of one event (this project's profile): the clock or the movement; the announced groups
--- that the train has passed; the groups that closed, each with its verdict and then its packets in rising number, as far as that
--- matters; where the train is; the mode that is entered; the forgetting mark. Lists have the newest first; the packets of
--- a message stand in its order. A reader may take for granted that an entry holds all that its event brought.
+-- The happenings of a life, in the order of one event (this project's profile): the clock or the movement; the
+-- announced groups that the train has passed; the groups that closed, each with its verdict, its fix and then its
+-- packets in rising number, as far as that matters; where the train is; the mode that is entered; the forgetting mark.
+-- Lists have the newest first; the packets of a message stand in its order. A reader may take for granted that an entry
+-- holds all that its event brought.
 use Rattle.std.specs.Prelude.{ℕ, ℤ, not, Option, Some, None, List, [], ◌∷◌, filter}
 use Rattle.std.specs.Option.{option_map_or}
 use Rattle.units.specs.Stretches.{Span}
@@ -34,7 +35,8 @@ abbrev pub and_fixed : GroupIdentity → Option Fix → List Happening → List 
 and_fixed group None before = before
 and_fixed group (Some fix) before = Happening.Fixed group fix ∷ before
 
--- the verdict on a group. A broken one takes the first link of its group that is left then; an accepted one may make a fix
+-- the verdict on a group. A broken one takes the first link of its group that is left then; an accepted one may make a
+-- fix
 abbrev pub and_judged : Outcome → List Happening → List Happening
 and_judged (Outcome.Broken b) before =
     option_map_or (λ a. Happening.Linked (linking.LinkEntry.Reacted a.number) ∷ before) (meant (links_in before) b.group b.linked) before

@@ -1,5 +1,5 @@
--- What is read off the facts that count is what the track picture says, part by part, for every list of entries of a life
--- (this project's profile). So the one table tells what the kernel takes into account.
+-- What is read off the facts that count is what the track picture says, part by part, for every list of entries of a
+-- life (this project's profile). So the one table tells what the kernel takes into account.
 use Rattle.std.specs.Prelude.{◌≡◌, List}
 use Rattle.track_store.specs.Restrictions.{in_force}
 use Rattle.national.specs.InForce as national

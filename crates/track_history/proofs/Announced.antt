@@ -16,10 +16,10 @@ use Rattle.track_store.specs.Profiles.{listed}
 use Rattle.track_picture.specs.History.{after_told, after_level, after_reach, level_deleted, announced_levels}
 use Rattle.track_history.specs.Live.{Happening, TrackFact, level_told}
 use Rattle.track_history.specs.Parts.{as_level, moment_in, newest}
-use Rattle.track_history.specs.Happenings.{and_ticked, and_missed, and_closed, and_seen, and_entered, happenings}
+use Rattle.track_history.specs.Happenings.{and_ticked, and_moved, and_missed, and_closed, and_seen, and_entered, happenings}
 use Rattle.track_history.specs.Picture.{LevelIsLive}
 use Rattle.track_history.proofs.EachKind.{level}
-use Rattle.track_history.proofs.OneKind.{value, fact_with, kept_all, lost_all, step_to, past_links, judged, missed, ticked, marked, column}
+use Rattle.track_history.proofs.OneKind.{value, fact_with, kept_all, lost_all, step_to, past_links, judged, missed, ticked, moved, marked, column}
 use Rattle.track_history.proofs.Growing.{closed_in_one}
 use Rattle.track_history.proofs.Granted.{newest_listed}
 
@@ -73,18 +73,18 @@ level_seen (Some train) hs es r =
     step_to level (Happening.Seen (record { moment = moment_in hs; train = train })) hs (listed (waiting es)) r
     ∙ reached_one train.max_front (waiting es)
 
-waits_all : (events : List TrackEntry) → value level (happenings events) ≡ listed (waiting (announced_levels events))
+pub waits_all : (events : List TrackEntry) → value level (happenings events) ≡ listed (waiting (announced_levels events))
 waits_all [] = refl
 waits_all (e ∷ es) =
-    let begun = and_missed e.begun.missed (and_ticked e.begun.clock (happenings es)) in
+    let begun = and_missed e.begun.missed (and_moved e.begun.reading (and_ticked e.begun.clock (happenings es))) in
     let closed = and_closed e.used.groups begun in
     let told_now = after_told after_level e.used.groups (announced_levels es) in
     marked level e.mark (and_entered e.entered (and_seen e.train closed))
     ∙ column level (λ xs. listed (waiting xs)) level_deleted (λ xs. refl) item.LevelAnnouncement (λ mode x. refl) e.entered (and_seen e.train closed) (after_reach e.train told_now)
     (level_seen e.train closed told_now
     (level_closed e.used.groups begun (announced_levels es)
-    (missed level refl (λ entry x. refl) e.begun.missed (and_ticked e.begun.clock (happenings es))
-    ∙ (ticked level e.begun.clock (happenings es) ∙ waits_all es))))
+    (missed level refl (λ entry x. refl) e.begun.missed (and_moved e.begun.reading (and_ticked e.begun.clock (happenings es)))
+    ∙ (moved level e.begun.reading (and_ticked e.begun.clock (happenings es)) ∙ (ticked level e.begun.clock (happenings es) ∙ waits_all es)))))
 
 pub level_is_live : LevelIsLive
 level_is_live events = ap newest (waits_all events) ∙ newest_listed (waiting (announced_levels events))

@@ -11,6 +11,8 @@ use Rattle.std.specs.List.{list_any}
 use Rattle.std.specs.Option.{option_map_or}
 use Rattle.std.proofs.lemmas.List.{append-nil}
 use Rattle.units.specs.Stretches.{Span}
+use Rattle.events.specs.declared.input.Reading.{Reading}
+use Rattle.odometry.specs.declared.fix.Fix.{Fix}
 use Rattle.mode_table.specs.declared.mode.Mode.{Mode}
 use Rattle.mode_table.specs.declared.statuses.Item.TheVariants as item
 use Rattle.mode_table.specs.Statuses.{status_on}
@@ -23,10 +25,10 @@ use Rattle.track_picture.specs.Announcing.{announcements_of}
 use Rattle.track_picture.specs.History.{facts_in, is_deleted, after_column, after_links, after_ruling, after_groups, links_deleted, links}
 use Rattle.track_history.specs.Live.{Happening, TrackFact}
 use Rattle.track_history.specs.Parts.{as_link, is_any, links_in}
-use Rattle.track_history.specs.Happenings.{and_ticked, and_missed, and_judged, and_closed, and_seen, and_entered, and_marked, happenings}
+use Rattle.track_history.specs.Happenings.{and_ticked, and_moved, and_fixed, and_missed, and_judged, and_closed, and_seen, and_entered, and_marked, happenings}
 use Rattle.track_history.specs.Picture.{LinksAreLive}
 use Rattle.track_history.proofs.EachKind.{link, miss}
-use Rattle.track_history.proofs.OneKind.{value, fact_with, kept_all, lost_all, step_to, past_links, past_level, ticked, marked, seen, column, step, unmoved, past_accepted, kept_alike, filter_both}
+use Rattle.track_history.proofs.OneKind.{value, fact_with, kept_all, lost_all, step_to, past_links, past_level, ticked, moved, past_fix, marked, seen, column, step, unmoved, past_accepted, kept_alike, filter_both}
 use Rattle.track_history.proofs.Growing.{in_one}
 
 -- ---- the links that are left
@@ -174,6 +176,13 @@ group_came group hs es k = record {
   missed_is = ap is_any (past_accepted miss group hs) ∙ k.missed_is;
 }
 
+fix_made : (group : GroupIdentity) (fix : Option Fix) (hs : List Happening) (es : List LinkEntry) → IsKnown hs es → IsKnown (and_fixed group fix hs) es
+fix_made group None hs es k = k
+fix_made group (Some fix) hs es k = record {
+  left_is = past_fix link group fix hs ∙ k.left_is;
+  missed_is = ap is_any (past_fix miss group fix hs) ∙ k.missed_is;
+}
+
 same_links : (hs : List Happening) (es : List LinkEntry) → IsKnown hs es → known es ≡ links_in hs
 same_links hs es k = rw (k.left_is, k.missed_is) refl
 
@@ -185,8 +194,9 @@ known_judged (Outcome.Broken b) hs es k =
 known_judged (Outcome.Ignored message) hs es k = k
 known_judged (Outcome.Rejected message a) hs es k = known_reacted a.number hs es k
 known_judged (Outcome.Accepted message announced fix facts) hs es k =
-    group_came message.group (option_map_or (λ a. Happening.Linked (linking.LinkEntry.Accepted a.number) ∷ hs) announced hs)
-    (after_verdict (Accept announced) es) (accepted_one announced hs es k)
+    (let taken = option_map_or (λ a. Happening.Linked (linking.LinkEntry.Accepted a.number) ∷ hs) announced hs in
+    fix_made message.group fix (Happening.Accepted message.group ∷ taken) (after_verdict (Accept announced) es)
+    (group_came message.group taken (after_verdict (Accept announced) es) (accepted_one announced hs es k)))
 
 known_closed : (outcomes : List Outcome) (hs : List Happening) (es : List LinkEntry) → IsKnown hs es → IsKnown (and_closed outcomes hs) (after_groups outcomes es)
 known_closed [] hs es k = k
@@ -200,6 +210,12 @@ known_ticked : (clock : Option ℕ) (hs : List Happening) (es : List LinkEntry) 
 known_ticked clock hs es k = record {
   left_is = ticked link clock hs ∙ k.left_is;
   missed_is = ap is_any (ticked miss clock hs) ∙ k.missed_is;
+}
+
+known_moved : (reading : Option Reading) (hs : List Happening) (es : List LinkEntry) → IsKnown hs es → IsKnown (and_moved reading hs) es
+known_moved reading hs es k = record {
+  left_is = moved link reading hs ∙ k.left_is;
+  missed_is = ap is_any (moved miss reading hs) ∙ k.missed_is;
 }
 
 known_seen : (train : Option Span) (hs : List Happening) (es : List LinkEntry) → IsKnown hs es → IsKnown (and_seen train hs) es
@@ -233,7 +249,8 @@ known_all : (events : List TrackEntry) → IsKnown (happenings events) (links ev
 known_all [] = record { left_is = refl; missed_is = refl }
 known_all (e ∷ es) =
     let ticked_now = and_ticked e.begun.clock (happenings es) in
-    let begun = and_missed e.begun.missed ticked_now in
+    let moved_now = and_moved e.begun.reading ticked_now in
+    let begun = and_missed e.begun.missed moved_now in
     let closed = and_closed e.used.groups begun in
     let missed_now = after_misses e.begun.missed (links es) in
     let ruled_now = after_groups e.used.groups missed_now in
@@ -241,8 +258,9 @@ known_all (e ∷ es) =
     (known_entered e.entered (and_seen e.train closed) ruled_now
     (known_seen e.train closed ruled_now
     (known_closed e.used.groups begun missed_now
-    (all_missed e.begun.missed ticked_now (links es)
-    (known_ticked e.begun.clock (happenings es) (links es) (known_all es))))))
+    (all_missed e.begun.missed moved_now (links es)
+    (known_moved e.begun.reading ticked_now (links es)
+    (known_ticked e.begun.clock (happenings es) (links es) (known_all es)))))))
 
 pub links_are_live : LinksAreLive
 links_are_live events = sym (same_links (happenings events) (links events) (known_all events))

@@ -10,6 +10,7 @@ use Rattle.units.specs.Stretches.{Span}
 use Rattle.authority.specs.Entries as authority
 use Rattle.authority.specs.Entries.{AuthorityEntry, Sight, accepted, sights, now_of}
 use Rattle.linking.specs.declared.announcement.Announcement.{Announcement}
+use Rattle.events.specs.declared.input.Reading.{Reading}
 use Rattle.linking.specs.Linking.{LinkEntry}
 use Rattle.mode_table.specs.declared.mode.Mode.{Mode}
 use Rattle.mode_table.specs.declared.statuses.Item.TheVariants as item
@@ -18,10 +19,10 @@ use Rattle.track_store.specs.Profiles.{listed}
 use Rattle.track_picture.specs.History.{after_told, after_clock, after_authority, after_train, after_column, authority_deleted, is_deleted, authorities}
 use Rattle.track_history.specs.Live.{Happening}
 use Rattle.track_history.specs.Parts.{newest, moment_in}
-use Rattle.track_history.specs.Happenings.{and_ticked, and_missed, and_closed, and_seen, and_entered, and_marked, happenings}
+use Rattle.track_history.specs.Happenings.{and_ticked, and_moved, and_missed, and_closed, and_seen, and_entered, and_marked, happenings}
 use Rattle.track_history.specs.Picture.{AuthorityIsLive}
 use Rattle.track_history.proofs.EachKind.{grant, look}
-use Rattle.track_history.proofs.OneKind.{value, fact_with, kept_all, lost_all, step_to, past_links, past_level, judged, missed, ticked, marked, seen, column}
+use Rattle.track_history.proofs.OneKind.{value, fact_with, kept_all, lost_all, step_to, past_links, past_level, judged, missed, ticked, moved, marked, seen, column}
 use Rattle.track_history.proofs.Growing.{closed_in_one, past_missed, past_judged}
 
 pub newest_listed : {X : Type 0} (x : Option X) → newest (listed x) ≡ x
@@ -114,7 +115,7 @@ moment_closed =
     closed_in_one moment_as after_authority
     (λ fact hs es r. moment_first fact.group fact.place fact.moment fact.packet hs es r)
     (λ fact hs es r. moment_later fact.group fact.place fact.moment fact.packet hs es r)
-    (past_judged moment_as moment_linked (λ group hs es r. r))
+    (past_judged moment_as moment_linked (λ group hs es r. r) (λ group fix hs es r. r))
 
 -- ---- all three
 
@@ -129,6 +130,14 @@ clocked (Some moment) hs es k = record {
   granted_is = ticked grant (Some moment) hs ∙ k.granted_is;
   looks_are = ticked look (Some moment) hs ∙ k.looks_are;
   moment_is = refl;
+}
+
+moved_all : (reading : Option Reading) (hs : List Happening) (es : List AuthorityEntry) → IsKnown hs es → IsKnown (and_moved reading hs) es
+moved_all None hs es k = k
+moved_all (Some reading) hs es k = record {
+  granted_is = moved grant (Some reading) hs ∙ k.granted_is;
+  looks_are = moved look (Some reading) hs ∙ k.looks_are;
+  moment_is = k.moment_is;
 }
 
 missed_all : (announcements : List Announcement) (hs : List Happening) (es : List AuthorityEntry) → IsKnown hs es → IsKnown (and_missed announcements hs) es
@@ -191,7 +200,8 @@ known_all : (events : List TrackEntry) → IsKnown (happenings events) (authorit
 known_all [] = record { granted_is = refl; looks_are = refl; moment_is = refl }
 known_all (e ∷ es) =
     let ticked_now = and_ticked e.begun.clock (happenings es) in
-    let begun = and_missed e.begun.missed ticked_now in
+    let moved_now = and_moved e.begun.reading ticked_now in
+    let begun = and_missed e.begun.missed moved_now in
     let closed = and_closed e.used.groups begun in
     let clocked_now = after_clock e.begun.clock (authorities es) in
     let told_now = after_told after_authority e.used.groups clocked_now in
@@ -200,8 +210,12 @@ known_all (e ∷ es) =
     (entered_all e.entered (and_seen e.train closed) (after_train e.train told_now)
     (seen_all e.train closed told_now
     (closed_all e.used.groups begun clocked_now
-    (missed_all e.begun.missed ticked_now clocked_now
-    (clocked e.begun.clock (happenings es) (authorities es) (known_all es))))))
+    (missed_all e.begun.missed moved_now clocked_now
+    (moved_all e.begun.reading ticked_now clocked_now
+    (clocked e.begun.clock (happenings es) (authorities es) (known_all es)))))))
+
+pub granted_all : (events : List TrackEntry) → value grant (happenings events) ≡ listed (accepted (authorities events))
+granted_all events = (known_all events).granted_is
 
 pub authority_is_live : AuthorityIsLive
 authority_is_live events =

@@ -7,12 +7,13 @@ use Rattle.linking.specs.declared.announcement.Announcement.{Announcement}
 use Rattle.linking.specs.Linking as linking
 use Rattle.linking.specs.Linking.{LinkEntry}
 use Rattle.linking.specs.Judging.{meant}
+use Rattle.odometry.specs.declared.fix.Fix.{Fix}
 use Rattle.track_picture.specs.Entry.{Fact, Outcome}
 use Rattle.track_picture.specs.History.{facts_in, after_facts, after_told}
 use Rattle.track_picture.specs.Told.{comes_later}
 use Rattle.track_history.specs.Live.{Happening}
 use Rattle.track_history.specs.Parts.{links_in}
-use Rattle.track_history.specs.Happenings.{and_missed, and_judged, and_told, and_used, and_closed}
+use Rattle.track_history.specs.Happenings.{and_fixed, and_missed, and_judged, and_told, and_used, and_closed}
 
 module _ {E : Type 0} (R : List Happening → List E → Type 0) where
   walk_one : (k : Bool) (fact : Fact) (facts : List Fact) (hs : List Happening) (es : List E) →
@@ -79,16 +80,23 @@ module _ {E : Type 0} (R : List Happening → List E → Type 0) where
   past_taken linked as_entry None hs es r = r
   past_taken linked as_entry (Some a) hs es r = linked (as_entry a.number) hs es r
 
+  pub past_fixed : ((group : GroupIdentity) (fix : Fix) (hs : List Happening) (es : List E) → R hs es → R (Happening.Fixed group fix ∷ hs) es) →
+      (group : GroupIdentity) (fix : Option Fix) (hs : List Happening) (es : List E) → R hs es → R (and_fixed group fix hs) es
+  past_fixed fixed group None hs es r = r
+  past_fixed fixed group (Some fix) hs es r = fixed group fix hs es r
+
   pub past_judged : ((entry : LinkEntry) (hs : List Happening) (es : List E) → R hs es → R (Happening.Linked entry ∷ hs) es) →
       ((group : GroupIdentity) (hs : List Happening) (es : List E) → R hs es → R (Happening.Accepted group ∷ hs) es) →
+      ((group : GroupIdentity) (fix : Fix) (hs : List Happening) (es : List E) → R hs es → R (Happening.Fixed group fix ∷ hs) es) →
       (outcome : Outcome) (hs : List Happening) (es : List E) → R hs es → R (and_judged outcome hs) es
-  past_judged linked accepted (Outcome.Broken b) hs es r =
+  past_judged linked accepted fixed (Outcome.Broken b) hs es r =
       past_taken linked linking.LinkEntry.Reacted (meant (links_in hs) b.group b.linked) hs es r
-  past_judged linked accepted (Outcome.Ignored message) hs es r = r
-  past_judged linked accepted (Outcome.Rejected message a) hs es r = linked (linking.LinkEntry.Reacted a.number) hs es r
-  past_judged linked accepted (Outcome.Accepted message announced fix facts) hs es r =
-      accepted message.group (option_map_or (λ a. Happening.Linked (linking.LinkEntry.Accepted a.number) ∷ hs) announced hs) es
-      (past_taken linked linking.LinkEntry.Accepted announced hs es r)
+  past_judged linked accepted fixed (Outcome.Ignored message) hs es r = r
+  past_judged linked accepted fixed (Outcome.Rejected message a) hs es r = linked (linking.LinkEntry.Reacted a.number) hs es r
+  past_judged linked accepted fixed (Outcome.Accepted message announced fix facts) hs es r =
+      (let taken = option_map_or (λ a. Happening.Linked (linking.LinkEntry.Accepted a.number) ∷ hs) announced hs in
+      past_fixed fixed message.group fix (Happening.Accepted message.group ∷ taken) es
+      (accepted message.group taken es (past_taken linked linking.LinkEntry.Accepted announced hs es r)))
 
   -- ---- all groups that closed
 

@@ -11,3 +11,5 @@ pub mod Limits
 pub mod Chain
 pub mod Counted
 pub mod ByLine
+pub mod Alone
+pub mod Placed

@@ -20,10 +20,10 @@ use Rattle.track_store.specs.Restrictions.{RestrictionEntry, InForce, ends, stan
 use Rattle.track_picture.specs.History.{facts_in, after_restriction, after_revocation, after_messages, after_mark, restrictions}
 use Rattle.track_picture.proofs.Marking.{one_mark}
 use Rattle.track_history.specs.Live.{Happening, deleting}
-use Rattle.track_history.specs.Happenings.{and_ticked, and_missed, and_judged, and_closed, and_seen, and_entered, happenings}
+use Rattle.track_history.specs.Happenings.{and_ticked, and_moved, and_missed, and_judged, and_closed, and_seen, and_entered, happenings}
 use Rattle.track_history.specs.Picture.{RestrictionsAreLive}
 use Rattle.track_history.proofs.EachKind.{restricted}
-use Rattle.track_history.proofs.OneKind.{value, fact_with, kept_all, step_to, past_links, past_level, judged, missed, ticked, marked, seen, stays, filter_both}
+use Rattle.track_history.proofs.OneKind.{value, fact_with, kept_all, step_to, past_links, past_level, judged, missed, ticked, moved, marked, seen, stays, filter_both}
 use Rattle.track_history.proofs.Growing.{in_two}
 use Rattle.track_history.proofs.Mark.{mark_is_read}
 
@@ -108,15 +108,15 @@ mark_alive (Some mark) es = refl
 alive_all : (events : List TrackEntry) → value restricted (happenings events) ≡ alive (restrictions events)
 alive_all [] = refl
 alive_all (e ∷ es) =
-    let begun = and_missed e.begun.missed (and_ticked e.begun.clock (happenings es)) in
+    let begun = and_missed e.begun.missed (and_moved e.begun.reading (and_ticked e.begun.clock (happenings es))) in
     let closed = and_closed e.used.groups begun in
     let seen_now = and_seen e.train closed in
     marked restricted e.mark (and_entered e.entered seen_now)
     ∙ (stays restricted item.Restrictions none_deletes (λ mode x. refl) e.entered seen_now
     ∙ (seen restricted (λ sight. refl) (λ sight x. refl) e.train closed
     ∙ (restricted_closed e.used.groups begun (restrictions es)
-    (missed restricted refl (λ entry x. refl) e.begun.missed (and_ticked e.begun.clock (happenings es))
-    ∙ (ticked restricted e.begun.clock (happenings es) ∙ alive_all es))
+    (missed restricted refl (λ entry x. refl) e.begun.missed (and_moved e.begun.reading (and_ticked e.begun.clock (happenings es)))
+    ∙ (moved restricted e.begun.reading (and_ticked e.begun.clock (happenings es)) ∙ (ticked restricted e.begun.clock (happenings es) ∙ alive_all es)))
     ∙ sym (mark_alive e.mark (after_messages e.used.groups (restrictions es))))))
 
 abbrev pub held : ℤ → List Restriction → InForce

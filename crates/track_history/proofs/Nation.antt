@@ -13,6 +13,8 @@ use Rattle.linking.specs.declared.announcement.Announcement.{Announcement}
 use Rattle.linking.specs.Linking as linking
 use Rattle.linking.specs.Linking.{LinkEntry}
 use Rattle.linking.specs.Judging.{meant}
+use Rattle.events.specs.declared.input.Reading.{Reading}
+use Rattle.odometry.specs.declared.fix.Fix.{Fix}
 use Rattle.mode_table.specs.declared.mode.Mode.{Mode}
 use Rattle.mode_table.specs.declared.mode.Mode.TheVariants as mode
 use Rattle.mode_table.specs.declared.statuses.Item.TheVariants as item
@@ -23,10 +25,10 @@ use Rattle.track_store.specs.Profiles.{listed}
 use Rattle.track_picture.specs.History.{facts_in, after_country, after_values, after_countries, after_front, national_entries}
 use Rattle.track_history.specs.Live.{Happening, deleting}
 use Rattle.track_history.specs.Parts.{newest, moment_in, links_in, values_in, in_force_in}
-use Rattle.track_history.specs.Happenings.{and_ticked, and_missed, and_judged, and_closed, and_seen, and_entered, and_marked, happenings}
+use Rattle.track_history.specs.Happenings.{and_ticked, and_moved, and_fixed, and_missed, and_judged, and_closed, and_seen, and_entered, and_marked, happenings}
 use Rattle.track_history.specs.Picture.{ValuesAreLive, ValuesInForce}
 use Rattle.track_history.proofs.EachKind.{values}
-use Rattle.track_history.proofs.OneKind.{value, fact_with, kept_all, lost_all, step_to, past_linked, past_links, past_level, judged, ticked, marked, stays}
+use Rattle.track_history.proofs.OneKind.{value, fact_with, kept_all, lost_all, step_to, past_linked, past_links, past_level, judged, ticked, moved, marked, stays}
 use Rattle.track_history.proofs.Growing.{in_one, past_missed}
 use Rattle.track_history.proofs.Granted.{newest_listed}
 
@@ -145,6 +147,10 @@ module _ (kept : ValuesFor) where
   taken_waits as_entry None hs = refl
   taken_waits as_entry (Some a) hs = ap newest (past_linked values refl (λ entry x. refl) (as_entry a.number) hs)
 
+  fixed_holds : (group : GroupIdentity) (fix : Option Fix) (hs : List Happening) → in_force_in kept (and_fixed group fix hs) ≡ in_force_in kept hs
+  fixed_holds group None hs = refl
+  fixed_holds group (Some fix) hs = refl
+
   judged_holds : (outcome : Outcome) (hs : List Happening) (es : List NationalEntry) → IsKnown hs es →
       in_force_in kept (and_judged outcome hs) ≡ in_force kept (after_country outcome es)
   judged_holds (Outcome.Broken b) hs es k = taken_holds linking.LinkEntry.Reacted (meant (links_in hs) b.group b.linked) hs ∙ k.holds
@@ -152,9 +158,11 @@ module _ (kept : ValuesFor) where
   judged_holds (Outcome.Rejected message a) hs es k = k.holds
   judged_holds (Outcome.Accepted message announced fix facts) hs es k =
       let entered = national.NationalEntry.Entered message.group.country in
-      ap (λ w. in_force_behind entered w (in_force_in kept (option_map_or (λ a. Happening.Linked (linking.LinkEntry.Accepted a.number) ∷ hs) announced hs)))
+      let taken = option_map_or (λ a. Happening.Linked (linking.LinkEntry.Accepted a.number) ∷ hs) announced hs in
+      fixed_holds message.group fix (Happening.Accepted message.group ∷ taken)
+      ∙ (ap (λ w. in_force_behind entered w (in_force_in kept (option_map_or (λ a. Happening.Linked (linking.LinkEntry.Accepted a.number) ∷ hs) announced hs)))
       (taken_waits linking.LinkEntry.Accepted announced hs ∙ same_waiting hs es k.waits)
-      ∙ ap (λ v. in_force_behind entered (waiting es) v) (taken_holds linking.LinkEntry.Accepted announced hs ∙ k.holds)
+      ∙ ap (λ v. in_force_behind entered (waiting es) v) (taken_holds linking.LinkEntry.Accepted announced hs ∙ k.holds))
 
   known_judged : (outcome : Outcome) (hs : List Happening) (es : List NationalEntry) → IsKnown hs es → IsKnown (and_judged outcome hs) (after_country outcome es)
   known_judged outcome hs es k = record { waits = values_judged outcome hs es k.waits; holds = judged_holds outcome hs es k }
@@ -183,6 +191,10 @@ module _ (kept : ValuesFor) where
   known_ticked None hs es k = k
   known_ticked (Some moment) hs es k = record { waits = ticked values (Some moment) hs ∙ k.waits; holds = k.holds }
 
+  known_moved : (reading : Option Reading) (hs : List Happening) (es : List NationalEntry) → IsKnown hs es → IsKnown (and_moved reading hs) es
+  known_moved None hs es k = k
+  known_moved (Some reading) hs es k = record { waits = moved values (Some reading) hs ∙ k.waits; holds = k.holds }
+
   known_entered : (m : Option Mode) (hs : List Happening) (es : List NationalEntry) → IsKnown hs es → IsKnown (and_entered m hs) es
   known_entered None hs es k = k
   known_entered (Some m) hs es k =
@@ -196,23 +208,24 @@ module _ (kept : ValuesFor) where
   known_all [] = record { waits = refl; holds = refl }
   known_all (e ∷ es) =
       let ticked_now = and_ticked e.begun.clock (happenings es) in
-      let begun = and_missed e.begun.missed ticked_now in
+      let moved_now = and_moved e.begun.reading ticked_now in
+      let begun = and_missed e.begun.missed moved_now in
       let closed = and_closed e.used.groups begun in
       let told_now = after_countries e.used.groups (national_entries es) in
       known_marked e.mark (and_entered e.entered (and_seen e.train closed)) (after_front e.train told_now)
       (known_entered e.entered (and_seen e.train closed) (after_front e.train told_now)
       (known_seen e.train closed told_now
       (known_closed e.used.groups begun (national_entries es)
-      (past_missed IsKnown known_linked e.begun.missed ticked_now (national_entries es)
-      (known_ticked e.begun.clock (happenings es) (national_entries es) (known_all es))))))
+      (past_missed IsKnown known_linked e.begun.missed moved_now (national_entries es)
+      (known_moved e.begun.reading ticked_now (national_entries es)
+      (known_ticked e.begun.clock (happenings es) (national_entries es) (known_all es)))))))
+
+pub waits_all : (events : List TrackEntry) → value values (happenings events) ≡ listed (waiting (national_entries events))
+waits_all events = (known_all national.nothing_kept events).waits
 
 pub values_are_live : ValuesAreLive
 values_are_live events =
-    let kept = national.nothing_kept in
-    same_waiting kept (happenings events) (national_entries events) (known_all kept events).waits
+    same_waiting national.nothing_kept (happenings events) (national_entries events) (waits_all events)
 
 pub values_in_force : ValuesInForce
 values_in_force kept events = (known_all kept events).holds
-
-pub values_read : ValuesAreLive × ValuesInForce
-values_read = (values_are_live, values_in_force)

@@ -15,13 +15,15 @@ use Rattle.vars.specs.declared.group.GroupIdentity.{GroupIdentity}
 use Rattle.track_picture.specs.Announcing.{announcements_of}
 use Rattle.linking.specs.Linking as linking
 use Rattle.linking.specs.Linking.{LinkEntry}
+use Rattle.events.specs.declared.input.Reading.{Reading}
+use Rattle.odometry.specs.declared.fix.Fix.{Fix}
 use Rattle.mode_table.specs.declared.mode.Mode.{Mode}
 use Rattle.mode_table.specs.declared.statuses.Item.{Item}
 use Rattle.track_picture.specs.Entry.{Fact, Outcome}
 use Rattle.track_picture.specs.History.{after_column}
 use Rattle.track_history.specs.Live.{Happening, TrackFact, brought, missed_by, level_told, ends, live, deleting}
 use Rattle.track_history.specs.Parts.{moment_in}
-use Rattle.track_history.specs.Happenings.{and_ticked, and_missed, and_judged, and_seen, and_entered, and_marked}
+use Rattle.track_history.specs.Happenings.{and_ticked, and_moved, and_missed, and_judged, and_seen, and_entered, and_marked}
 use Rattle.track_history.proofs.Growing.{past_missed, past_judged}
 
 -- ---- filters that keep all or nothing
@@ -118,6 +120,13 @@ module _ {X : Type 0} (kind : Kind X) where
   ticked None hs = refl
   ticked (Some moment) hs = unmoved (Happening.Ticked moment) hs refl (λ x. refl)
 
+  pub moved : (reading : Option Reading) (hs : List Happening) → value (and_moved reading hs) ≡ value hs
+  moved None hs = refl
+  moved (Some reading) hs = unmoved (Happening.Moved reading.movement) hs refl (λ x. refl)
+
+  pub past_fix : (group : GroupIdentity) (fix : Fix) (hs : List Happening) → value (Happening.Fixed group fix ∷ hs) ≡ value hs
+  past_fix group fix hs = unmoved (Happening.Fixed group fix) hs refl (λ x. refl)
+
   pub marked : (mark : Option ℤ) (hs : List Happening) → value (and_marked mark hs) ≡ value hs
   marked None hs = refl
   marked (Some mark) hs = unmoved (Happening.Marked mark) hs refl (λ x. refl)
@@ -146,7 +155,7 @@ module _ {X : Type 0} (kind : Kind X) where
       (outcome : Outcome) (hs : List Happening) → value (and_judged outcome hs) ≡ value hs
   judged n keeps outcome hs =
       past_judged {E = Happening} (λ gs us. value gs ≡ value us) (λ entry gs us r. past_linked n keeps entry gs ∙ r)
-      (λ group gs us r. past_accepted group gs ∙ r) outcome hs hs refl
+      (λ group gs us r. past_accepted group gs ∙ r) (λ group fix gs us r. past_fix group fix gs ∙ r) outcome hs hs refl
 
   -- ---- packets that a kind isn't told by
 

@@ -13,10 +13,10 @@ use Rattle.speed_profile.specs.Told.{gradient_fact, speed_fact}
 use Rattle.track_store.specs.Facts as profiles
 use Rattle.track_picture.specs.History.{after_told, after_gradients, after_speeds}
 use Rattle.track_history.specs.Live.{Happening}
-use Rattle.track_history.specs.Happenings.{and_ticked, and_missed, and_closed, and_seen, and_entered, happenings}
+use Rattle.track_history.specs.Happenings.{and_ticked, and_moved, and_missed, and_closed, and_seen, and_entered, happenings}
 use Rattle.track_history.specs.Picture.{GradientsAreLive, SpeedsAreLive}
 use Rattle.track_history.proofs.EachKind.{gradients, speeds}
-use Rattle.track_history.proofs.OneKind.{value, fact_with, kept_all, step_to, past_links, past_level, judged, missed, ticked, marked, seen, column}
+use Rattle.track_history.proofs.OneKind.{value, fact_with, kept_all, step_to, past_links, past_level, judged, missed, ticked, moved, marked, seen, column}
 use Rattle.track_history.proofs.Growing.{closed_in_one}
 
 abbrev gradients_as : List Happening → List (profiles.Fact ℤ) → Type 0
@@ -51,15 +51,15 @@ gradients_closed =
 pub gradients_are_live : GradientsAreLive
 gradients_are_live [] = refl
 gradients_are_live (e ∷ es) =
-    let begun = and_missed e.begun.missed (and_ticked e.begun.clock (happenings es)) in
+    let begun = and_missed e.begun.missed (and_moved e.begun.reading (and_ticked e.begun.clock (happenings es))) in
     let closed = and_closed e.used.groups begun in
     let old = after_told after_gradients e.used.groups (picture.gradients es) in
     marked gradients e.mark (and_entered e.entered (and_seen e.train closed))
     ∙ column gradients (λ xs. xs) picture.none_told (λ xs. refl) item.Profiles (λ mode x. refl) e.entered (and_seen e.train closed) old
     (seen gradients (λ sight. refl) (λ sight x. refl) e.train closed
     ∙ gradients_closed e.used.groups begun (picture.gradients es)
-    (missed gradients refl (λ entry x. refl) e.begun.missed (and_ticked e.begun.clock (happenings es))
-    ∙ (ticked gradients e.begun.clock (happenings es) ∙ gradients_are_live es)))
+    (missed gradients refl (λ entry x. refl) e.begun.missed (and_moved e.begun.reading (and_ticked e.begun.clock (happenings es)))
+    ∙ (moved gradients e.begun.reading (and_ticked e.begun.clock (happenings es)) ∙ (ticked gradients e.begun.clock (happenings es) ∙ gradients_are_live es))))
 
 abbrev speeds_as : List Happening → List (profiles.Fact CategorySpeeds) → Type 0
 speeds_as hs es = value speeds hs ≡ es
@@ -93,12 +93,12 @@ speeds_closed =
 pub speeds_are_live : SpeedsAreLive
 speeds_are_live [] = refl
 speeds_are_live (e ∷ es) =
-    let begun = and_missed e.begun.missed (and_ticked e.begun.clock (happenings es)) in
+    let begun = and_missed e.begun.missed (and_moved e.begun.reading (and_ticked e.begun.clock (happenings es))) in
     let closed = and_closed e.used.groups begun in
     let old = after_told after_speeds e.used.groups (picture.speeds es) in
     marked speeds e.mark (and_entered e.entered (and_seen e.train closed))
     ∙ column speeds (λ xs. xs) picture.none_told (λ xs. refl) item.Profiles (λ mode x. refl) e.entered (and_seen e.train closed) old
     (seen speeds (λ sight. refl) (λ sight x. refl) e.train closed
     ∙ speeds_closed e.used.groups begun (picture.speeds es)
-    (missed speeds refl (λ entry x. refl) e.begun.missed (and_ticked e.begun.clock (happenings es))
-    ∙ (ticked speeds e.begun.clock (happenings es) ∙ speeds_are_live es)))
+    (missed speeds refl (λ entry x. refl) e.begun.missed (and_moved e.begun.reading (and_ticked e.begun.clock (happenings es)))
+    ∙ (moved speeds e.begun.reading (and_ticked e.begun.clock (happenings es)) ∙ (ticked speeds e.begun.clock (happenings es) ∙ speeds_are_live es))))

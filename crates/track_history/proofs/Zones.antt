@@ -15,14 +15,14 @@ use Rattle.areas.specs.Telling.{areas_of}
 use Rattle.track_picture.specs.History.{facts_in, after_grant, after_areas, after_area_groups, areas_deleted, all_areas}
 use Rattle.track_history.specs.Live.{Happening}
 use Rattle.track_history.specs.Parts.{areas_or_none, newest}
-use Rattle.track_history.specs.Happenings.{and_ticked, and_missed, and_judged, and_closed, and_seen, and_entered, happenings}
+use Rattle.track_history.specs.Happenings.{and_ticked, and_moved, and_missed, and_judged, and_closed, and_seen, and_entered, happenings}
 use Rattle.track_history.specs.Picture.{AreasAreLive}
 use Rattle.track_history.proofs.EachKind.{zones}
-use Rattle.track_history.proofs.OneKind.{value, fact_with, kept_all, lost_all, step_to, past_links, past_level, judged, missed, ticked, marked, seen, column}
+use Rattle.track_history.proofs.OneKind.{value, fact_with, kept_all, lost_all, step_to, past_links, past_level, judged, missed, ticked, moved, marked, seen, column}
 use Rattle.track_history.proofs.Growing.{in_two}
 
 -- those of the newest packet 80 as a list of none or one
-abbrev told_areas : List AreaEntry → List (List Area)
+abbrev pub told_areas : List AreaEntry → List (List Area)
 told_areas [] = []
 told_areas (areas.AreaEntry.Told fact ∷ es) = areas_of fact ∷ []
 told_areas (areas.AreaEntry.Cleared ∷ es) = []
@@ -63,18 +63,18 @@ zones_closed (o ∷ os) hs es r =
     (facts_in o) (and_judged o (and_closed os hs)) (after_area_groups os es)
     (judged zones refl (λ entry x. refl) o (and_closed os hs) ∙ zones_closed os hs es r)
 
-told_all : (events : List TrackEntry) → value zones (happenings events) ≡ told_areas (all_areas events)
+pub told_all : (events : List TrackEntry) → value zones (happenings events) ≡ told_areas (all_areas events)
 told_all [] = refl
 told_all (e ∷ es) =
-    let begun = and_missed e.begun.missed (and_ticked e.begun.clock (happenings es)) in
+    let begun = and_missed e.begun.missed (and_moved e.begun.reading (and_ticked e.begun.clock (happenings es))) in
     let closed = and_closed e.used.groups begun in
     let old = after_area_groups e.used.groups (all_areas es) in
     marked zones e.mark (and_entered e.entered (and_seen e.train closed))
     ∙ column zones told_areas areas_deleted (λ xs. refl) item.ModeAreas (λ mode x. refl) e.entered (and_seen e.train closed) old
     (seen zones (λ sight. refl) (λ sight x. refl) e.train closed
     ∙ zones_closed e.used.groups begun (all_areas es)
-    (missed zones refl (λ entry x. refl) e.begun.missed (and_ticked e.begun.clock (happenings es))
-    ∙ (ticked zones e.begun.clock (happenings es) ∙ told_all es)))
+    (missed zones refl (λ entry x. refl) e.begun.missed (and_moved e.begun.reading (and_ticked e.begun.clock (happenings es)))
+    ∙ (moved zones e.begun.reading (and_ticked e.begun.clock (happenings es)) ∙ (ticked zones e.begun.clock (happenings es) ∙ told_all es))))
 
 pub areas_are_live : AreasAreLive
 areas_are_live events = ap (λ xs. areas_or_none (newest xs)) (told_all events) ∙ told_stored (all_areas events)

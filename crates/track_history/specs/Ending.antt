@@ -1,11 +1,12 @@
--- What an assessor asks of the facts that count (SUBSET-026, 4.10 and the sections of the table; the rest: this project's
--- profile). Lists of happenings have the newest first; a life begins with none.
+-- What an assessor asks of the facts that count (SUBSET-026, 4.10 and the sections of the table; the rest: this
+-- project's profile). Lists of happenings and of events have the newest first; a life begins with no happening.
 --
 -- They don't say that the track tells a fact in time, nor that what ends a fact in the table is all that ought to.
-use Rattle.std.specs.Prelude.{◌≡◌, ◌↔◌, ℕ, true, false, not, Option, None, List, [], ◌∷◌, ◌++◌, filter, filter_map}
+use Rattle.std.specs.Prelude.{◌≡◌, ◌↔◌, ℕ, ◌≤◌, true, false, not, Option, None, List, [], ◌∷◌, ◌++◌, filter, filter_map, length}
 use Rattle.authority.specs.Laws.{IsAmong}
 use Rattle.mode_table.specs.declared.mode.Mode.{Mode}
 use Rattle.mode_table.specs.declared.statuses.Item.TheVariants as item
+use Rattle.track_picture.specs.Entry.{TrackEntry}
 use Rattle.track_picture.specs.Sentences.{powered_up}
 use Rattle.track_history.specs.Live.{Happening, TrackFact, brought, table, deleting, names, ends, live}
 use Rattle.track_history.specs.Parts.{as_values, as_link, as_miss, as_authority, as_look, as_gradients, as_speeds, as_level, as_restriction, as_areas, gradients_in, speeds_in, areas_in, level_in, links_in, authority_in, values_in, restrictions_in}
@@ -35,9 +36,19 @@ abbrev pub EndedCountsNoMore : Type 0
 EndedCountsNoMore = (later : List Happening) (happening : Happening) (earlier : List Happening) (fact : TrackFact) →
     ends happening fact ≡ true → IsAmong fact (live (later ++ (happening ∷ earlier))) → CameAnew fact (later ++ (happening ∷ []))
 
+-- of authorities, mode areas, announced levels and national values that wait, one counts at most
+pub record OneAtMost (events : List TrackEntry) : Type 0 where
+  pub authorities : length (filter_map as_authority (live (happenings events))) ≤ 1
+  pub areas : length (filter_map as_areas (live (happenings events))) ≤ 1
+  pub levels : length (filter_map as_level (live (happenings events))) ≤ 1
+  pub values : length (filter_map as_values (live (happenings events))) ≤ 1
+
+abbrev pub LatestCountsAlone : Type 0
+LatestCountsAlone = (events : List TrackEntry) → OneAtMost events
+
 -- a power-up leaves none
 abbrev pub NoneAtPowerUp : Type 0
-NoneAtPowerUp = (length : ℕ) → live (happenings (powered_up length ∷ [])) ≡ []
+NoneAtPowerUp = (train_length : ℕ) → live (happenings (powered_up train_length ∷ [])) ≡ []
 
 -- ---- kind by kind
 

@@ -24,6 +24,7 @@ use Rattle.mode_table.specs.declared.statuses.Item.{Item}
 use Rattle.mode_table.specs.declared.statuses.Item.TheVariants as item
 use Rattle.mode_table.specs.Statuses.{status_on}
 use Rattle.national.specs.InForce as national
+use Rattle.odometry.specs.declared.fix.Fix.{Fix}
 use Rattle.restriction.specs.declared.restriction.Restriction.{Restriction}
 use Rattle.restriction.specs.Covering.{is_ended_by}
 use Rattle.speed_profile.specs.declared.told.CategorySpeeds.{CategorySpeeds}
@@ -37,8 +38,10 @@ use Rattle.track_picture.specs.History.{is_deleted, restriction_of}
 
 pub data Happening : Type 0 where
   Ticked : ℕ → Happening  -- the clock told a moment
+  Moved : ℤ → Happening  -- the odometer told a movement
   Linked : LinkEntry → Happening  -- an announced group was accepted, not used or broken, or missed, by the number of its link
   Accepted : GroupIdentity → Happening  -- a group was accepted
+  Fixed : GroupIdentity → Fix → Happening  -- it made a fix of the train's place
   Told : Fact → Happening  -- one of its packets was used
   Seen : Sight → Happening  -- the groups of an event are used, and the train is there
   Entered : Mode → Happening  -- another mode was entered
@@ -84,8 +87,10 @@ missed_by (linking.LinkEntry.Missed number) = TrackFact.Miss ∷ []
 -- the facts that a happening brings
 abbrev pub brought : Happening → List TrackFact
 brought (Happening.Ticked moment) = []
+brought (Happening.Moved by) = []
 brought (Happening.Linked entry) = missed_by entry
 brought (Happening.Accepted group) = []
+brought (Happening.Fixed group fix) = []
 brought (Happening.Told fact) = told_by fact fact.packet
 brought (Happening.Seen sight) = TrackFact.Look sight ∷ []
 brought (Happening.Entered mode) = []
@@ -188,8 +193,10 @@ table (TrackFact.Areas told) = line (deleting item.ModeAreas) new_authority_or_a
 -- a line names a happening
 abbrev pub names : Line → Happening → Bool
 names line (Happening.Ticked moment) = false
+names line (Happening.Moved by) = false
 names line (Happening.Linked entry) = line.groups entry
 names line (Happening.Accepted group) = false
+names line (Happening.Fixed group fix) = false
 names line (Happening.Told fact) = line.packets fact
 names line (Happening.Seen sight) = line.places sight.train
 names line (Happening.Entered mode) = line.modes mode

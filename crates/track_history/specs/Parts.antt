@@ -1,10 +1,12 @@
 -- What each part of the track picture is, read off the facts that count (SUBSET-026, 3.4.4, 3.7, 3.8, 3.11, 3.12.4,
 -- 3.18.2 and 5.10; the forgetting mark: this project's profile). Lists have the newest first. Places are centimetres,
--- moments milliseconds. The place of the train isn't a fact that something ends: it is read off movements and fixes.
+-- moments milliseconds. The place of the train isn't a fact that something ends: it is read off movements and
+-- fixes.
 use Rattle.std.specs.Prelude.{ℕ, ℤ, pos, neg_ℤ, Bool, true, false, Option, Some, None, List, [], ◌∷◌, reverse, filter, filter_map}
 use Rattle.std.specs.Int.{int_max}
 use Rattle.std.specs.Option.{option_map, option_map_or}
 use Rattle.units.specs.Limits.{outermost}
+use Rattle.vars.specs.declared.group.GroupIdentity.{GroupIdentity}
 use Rattle.packets.specs.Packets.{as_movement_authority}
 use Rattle.areas.specs.declared.announcement.Announcement.{Announcement as AnnouncedLevel}
 use Rattle.areas.specs.declared.area.Area.{Area}
@@ -15,6 +17,7 @@ use Rattle.linking.specs.declared.announcement.Announcement.{Announcement}
 use Rattle.linking.specs.Linking.{KnownLinks}
 use Rattle.national.specs.InForce as national
 use Rattle.national.specs.Values.{ValuesFor}
+use Rattle.odometry.specs.Place as odometry
 use Rattle.restriction.specs.declared.restriction.Restriction.{Restriction}
 use Rattle.restriction.specs.Covering.{reaches_past}
 use Rattle.speed_profile.specs.declared.told.CategorySpeeds.{CategorySpeeds}
@@ -126,6 +129,22 @@ authority_in happenings = record {
       option_map (λ granted. stored_of granted (filter_map as_look (live happenings)))
       (newest (filter_map as_authority (live happenings)));
 }
+
+-- ---- the place of the train, by movements and fixes, and the group of the last fix; None before the first
+
+abbrev pub places_in : List Happening → List odometry.PlaceEntry
+places_in [] = []
+places_in (Happening.Moved by ∷ earlier) = odometry.after_movement (places_in earlier) by
+places_in (Happening.Fixed group fix ∷ earlier) = odometry.PlaceEntry.Fixed fix ∷ places_in earlier
+places_in (happening ∷ earlier) = places_in earlier
+
+abbrev pub place_in : List Happening → odometry.KnownPlace
+place_in happenings = odometry.known (places_in happenings)
+
+abbrev pub group_in : List Happening → Option GroupIdentity
+group_in [] = None
+group_in (Happening.Fixed group fix ∷ earlier) = Some group
+group_in (happening ∷ earlier) = group_in earlier
 
 -- ---- national values: the packet 3 that waits, and the values in force by their table
 

@@ -1,5 +1,5 @@
--- What is read off the facts that count is what the track picture says, part by part, for every list of entries of a life
--- (this project's profile). So the one table tells what the kernel takes into account.
+-- What is read off the facts that count is what the track picture says, part by part, for every list of entries of a
+-- life (this project's profile). So the one table tells what the kernel takes into account.
 use Rattle.std.specs.Prelude.{◌≡◌, List}
 use Rattle.track_store.specs.Restrictions.{in_force}
 use Rattle.national.specs.InForce as national
@@ -7,7 +7,7 @@ use Rattle.national.specs.Values.{ValuesFor}
 use Rattle.track_picture.specs.Entry.{TrackEntry}
 use Rattle.track_picture.specs.History as picture
 use Rattle.track_history.specs.Happenings.{happenings}
-use Rattle.track_history.specs.Parts.{gradients_in, speeds_in, mark_in, restrictions_in, areas_in, level_in, links_in, authority_in, values_in, in_force_in}
+use Rattle.track_history.specs.Parts.{place_in, group_in, gradients_in, speeds_in, mark_in, restrictions_in, areas_in, level_in, links_in, authority_in, values_in, in_force_in}
 
 abbrev pub GradientsAreLive : Type 0
 GradientsAreLive = (events : List TrackEntry) → gradients_in (happenings events) ≡ picture.gradients events
@@ -17,6 +17,10 @@ SpeedsAreLive = (events : List TrackEntry) → speeds_in (happenings events) ≡
 
 abbrev pub MarkIsRead : Type 0
 MarkIsRead = (events : List TrackEntry) → mark_in (happenings events) ≡ picture.mark_of events
+
+abbrev pub PlaceIsRead : Type 0
+PlaceIsRead = (events : List TrackEntry) →
+    (place_in (happenings events) ≡ picture.place_of events) × (group_in (happenings events) ≡ picture.group_of_fix events)
 
 abbrev pub AuthorityIsLive : Type 0
 AuthorityIsLive = (events : List TrackEntry) → authority_in (happenings events) ≡ picture.authority_of events

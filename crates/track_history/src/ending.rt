@@ -1,5 +1,5 @@
 //! Laws: when a fact counts, and what ends it.
-ghost use Rattle.track_history.specs.Ending.{CountsWhileNotEnded, EndedCountsNoMore, NoneAtPowerUp, EachByItsLine, ModesDeleteByTheTable};
+ghost use Rattle.track_history.specs.Ending.{CountsWhileNotEnded, EndedCountsNoMore, LatestCountsAlone, NoneAtPowerUp, EachByItsLine, ModesDeleteByTheTable};
 
 /// A law: a fact counts exactly where it came and nothing later has ended it.
 pub fn counts_while_not_ended()
@@ -9,6 +9,11 @@ pub fn counts_while_not_ended()
 /// A law: no fact counts behind what ends it, unless it came anew.
 pub fn ended_counts_no_more()
     ensures { EndedCountsNoMore }
+{}
+
+/// A law: of authorities, mode areas, announced levels and national values that wait, one counts at most.
+pub fn latest_counts_alone()
+    ensures { LatestCountsAlone }
 {}
 
 /// A law: a power-up leaves no fact.

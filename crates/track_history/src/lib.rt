@@ -15,10 +15,10 @@ pub use announcing::level_is_live;
 pub use areas_told::areas_are_live;
 pub use authorities::authority_is_live;
 pub use ending::{
-    counts_while_not_ended, each_by_its_line, ended_counts_no_more, modes_delete_by_the_table,
-    none_at_power_up,
+    counts_while_not_ended, each_by_its_line, ended_counts_no_more, latest_counts_alone,
+    modes_delete_by_the_table, none_at_power_up,
 };
 pub use linking_told::links_are_live;
-pub use profiles::{gradients_are_live, mark_is_read, speeds_are_live};
+pub use profiles::{gradients_are_live, mark_is_read, place_is_read, speeds_are_live};
 pub use restricting::restrictions_are_live;
 pub use values::{values_are_live, values_in_force};

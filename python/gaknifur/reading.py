@@ -6,7 +6,7 @@ from dataclasses import dataclass, field
 from pathlib import Path
 from typing import Any
 
-from .program import DEVICE, NOT_WHOLE, REFUSED, WHOLE, Failed, Run
+from .program import DEVICE, NOT_WHOLE, REFUSED, WHOLE, Failed, Run, prepare
 
 Json = dict[str, Any]
 Progress = Callable[[str, int, int], None]
@@ -177,17 +177,19 @@ def last_commanded(records: list[Json]) -> list[int]:
 
 
 def tell_why(journal: Journal, progress: Progress) -> None:
-    """Takes what `etcs_lab why` tells of changes. Where it doesn't tell what decides the limit, it has no line where a cause
-    alone changes, and is asked for the last event of each run of commands, as long as that isn't too dear: each question
-    runs the lives of the image again."""
+    """Takes what `etcs_lab why` tells of changes."""
     progress("causes", 0, 0)
     run = objects(["why", "--json"], journal.path, journal.why.append)
     if run.status == REFUSED and not journal.why:
         journal.why_refusal = run.last_said()
-        return
-    if run.status not in (WHOLE, NOT_WHOLE):
+    elif run.status not in (WHOLE, NOT_WHOLE):
         raise run.failed(journal.path)
-    if any("limit_cause" in line for line in journal.why):
+
+
+def ask_why(journal: Journal, progress: Progress) -> None:
+    """Where `etcs_lab why` doesn't tell what decides the limit, it has no line where a cause alone changes, and is asked for
+    the last event of each run of commands, as long as that isn't too dear: each question runs the lives again."""
+    if not journal.why or any("limit_cause" in line for line in journal.why):
         return
     told = {line["event"] for line in journal.why}
     agreed = [(line["first_event"], line["last_event"]) for line in journal.replay if line.get("replay") == "agrees"]
@@ -209,12 +211,16 @@ def read(path: str | Path, other_blocks: bool = False, replay: bool = False, why
     if not path.exists():
         raise Failed(f"{path}: there is no such file", DEVICE)
     progress("examination", 0, 0)
+    listing = ["events", *(["--all"] if other_blocks else [])]
+    is_dear = prepare(path, [["examine", "--json"], listing, *([["replay", "--json"]] if replay else []), *([["why", "--json"]] if why else [])])
     journal = Journal(path, examine(path))
     tell_events(journal, other_blocks, progress)
     if replay and journal.refusal is None:
         tell_replay(journal, progress)
     if why and journal.refusal is None:
         tell_why(journal, progress)
+        if not is_dear:
+            ask_why(journal, progress)
     if digest(path) != journal.sha256:
         raise Failed(f"{path}: the file changed while it was read", DEVICE)
     return journal

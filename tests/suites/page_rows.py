@@ -26,7 +26,8 @@ def main(words):
         for part in told:
             if isinstance(part, str):
                 continue
-            printed = run(part[0].replace(" suites/", f" {TOP}/suites/"), etcs, room, env).replace(f"{room}/", "")
+            command = part[0].replace(" suites/", f" {TOP}/suites/").replace("./etcs_lab ", f"{lab} ")
+            printed = run(command, etcs, room, env).replace(f"{room}/", "")
             compared += 1
             if printed != part[1]:
                 differ += 1

@@ -2,7 +2,8 @@
 
 /// What `--help` prints.
 pub(crate) const HELP: &str = "\
-Tells an investigator what an image of a journal holds, and what of it is lost.
+Tells an investigator what an image of a journal holds, and what of it is lost; and a laboratory what a telegram
+carries, how one is written, and what is wrong in a scenario.
 
   etcs_lab examine [--json] IMAGE    reads every slot, and tells what each holds, which blocks and events are lost,
                                      what contradicts, and what a power-up of this image would do
@@ -13,13 +14,21 @@ Tells an investigator what an image of a journal holds, and what of it is lost.
   etcs_lab why [--json] IMAGE [EVENT]
                                      tells of each event whose brake or limit is another one than before, or of this
                                      one, which causes of its brake hold, since which event, and how each ends
+  etcs_lab decode [--json] HEX       tells what the digits of a telegram carry, as etcs decode does, or as JSON
+  etcs_lab telegram FILE             writes the digits of the telegram that a file tells in that JSON; - is standard
+                                     input; packet, bits and each L_PACKET may be left out
+  etcs_lab telegram --schema         prints the JSON Schema of a telegram
+  etcs_lab lint [--json] SCENARIO    tells each fault of a scenario at its place, the first being that of etcs run; of
+                                     a scenario with none, telegrams that are refused, packets that are skipped, and
+                                     balises that no drive reaches
   etcs_lab --help                    prints this
 
-  0 all is whole   1 refused: not formatted, damaged first sector; or nothing can be written   2 wrong words
-  3 a file or the device   4 something is lost, damaged, contradicts or differs; all that can be read was told
+  0 all is whole   1 refused: not formatted, damaged first sector, no telegram; or nothing can be written
+  2 wrong words   3 a file or the device   4 something is lost, damaged, contradicts or differs, or lint has something
+  to tell; all that can be read was told
 
-examine, replay and why print lines, or with --json JSON: examine one object, the others one a line. Errors go to standard
-error. Behind -- a word may begin with -.
+examine, replay, why and lint print lines, or with --json JSON: examine one object, the others one a line. Errors go to
+standard error. Behind -- a word may begin with -.
 The image is opened for reading alone, and may be a file that can't be written.
 
 Take a digest of the image before anything reads it, and work on a copy. The journal has no checksum and no

@@ -1,14 +1,20 @@
-//! The program `etcs_lab`: tells an investigator what an image of a journal holds, what of
-//! it is lost, and whether the kernel answers so.
+//! The program `etcs_lab`: tells an investigator what an image of a journal holds, what of it is lost, and whether the
+//! kernel answers so; and a laboratory what a telegram carries, and how one is written.
 #![tactic(auto)]
 
 mod digest;
+mod examined;
 mod help;
+mod images;
+mod linted;
 mod listed;
 mod program;
 mod replayed;
 mod running;
+mod status;
+mod telegrams;
 mod why;
+mod words;
 
 use std::process::ExitCode;
 

@@ -1,106 +1,19 @@
-//! The words of the program, and what they ask.
+//! What the words ask for is done.
 
-use crate::digest::facts_of;
+use crate::examined::examined;
 use crate::help::HELP;
-use crate::listed::{events_told, events_words};
+use crate::linted::linted;
+use crate::listed::events_told;
 use crate::replayed::replayed;
-use crate::why::{why_told, why_words};
-use clap::{Arg, ArgAction, ArgMatches, Command, Error};
-use file_disk::FileDisk;
-use lab_lines::{ExamineError, FileFacts, Form, Verdict, examine};
-use std::alloc::{AllocError, Global};
+use crate::status::{Status, unwritten, usage};
+use crate::telegrams::{decode_told, schema_told, telegram_told};
+use crate::why::why_told;
+use crate::words::{parsed, word};
+use clap::ArgMatches;
+use lab_lines::Form;
 use std::fs::File;
-use std::io;
 use std::io::Write;
 use std::rt::Files;
-
-/// How the program ends; its number is the exit status of the process (this project's profile).
-#[derive(Clone, Copy)]
-pub(crate) enum Status {
-    /// All is whole.
-    Whole = 0,
-    /// The image is refused, or the answer could not be written.
-    Refused = 1,
-    /// The words are none of the program's.
-    Usage = 2,
-    /// A file could not be opened or read, or the device failed.
-    Device = 3,
-    /// Something is lost, damaged or contradicts.
-    Damaged = 4,
-}
-
-// A command over an image, in lines or as JSON.
-fn image_words<'a>(alloc: Global, name: &'a str) -> Result<Command<'a>, AllocError> {
-    let json = Arg::new(alloc, "json")
-        .long("json")
-        .action(ArgAction::SetTrue);
-    Command::new(alloc, name)
-        .disable_help_flag(true)
-        .arg(json)?
-        .arg(Arg::new(alloc, "IMAGE").required(true))
-}
-
-fn command<'a>(alloc: Global) -> Result<Command<'a>, AllocError> {
-    let help = Arg::new(alloc, "help")
-        .long("help")
-        .action(ArgAction::SetTrue);
-    Command::new(alloc, "etcs_lab")
-        .no_binary_name(true)
-        .disable_help_flag(true)
-        .disable_help_subcommand(true)
-        .arg(help)?
-        .subcommand(image_words(alloc, "examine")?)?
-        .subcommand(events_words(alloc)?)?
-        .subcommand(image_words(alloc, "replay")?)?
-        .subcommand(why_words(alloc)?)
-}
-
-fn parsed<'a>(alloc: Global, words: &'a [&'a str]) -> Result<ArgMatches<'a>, Error> {
-    command(alloc)?.try_get_matches_from(words)
-}
-
-// The size and the digest of a file.
-fn facts_in<R: Files<File = File>>(rt: &R, path: &str) -> io::Result<FileFacts> {
-    let mut file = File::open(rt, path)?;
-    facts_of(&mut file)
-}
-
-/// Says on standard error what failed.
-pub(crate) fn fail<R: Eprint>(rt: &R, what: &str, path: &str, status: Status) -> Status {
-    let _ = eprintln!(rt; "etcs_lab: {path}: {what}");
-    status
-}
-
-fn examined<R: Files<File = File> + Eprint, W: Write>(
-    rt: &R,
-    path: &str,
-    form: Form,
-    out: &mut W,
-) -> Status {
-    let Ok(mut disk) = FileDisk::open_to_read(rt, path) else {
-        return fail(
-            rt,
-            "can't be opened, or another program writes it",
-            path,
-            Status::Device,
-        );
-    };
-    let Ok(file) = facts_in(rt, path) else {
-        return fail(rt, "can't be read", path, Status::Device);
-    };
-    match examine(&mut disk, &file, form, out) {
-        Ok(Verdict::Whole) => Status::Whole,
-        Ok(Verdict::Refused) => fail(rt, "is not a formatted image", path, Status::Refused),
-        Ok(Verdict::NotWhole) => Status::Damaged,
-        Err(ExamineError::Device) => fail(rt, "can't be read", path, Status::Device),
-        Err(ExamineError::Write) => fail(
-            rt,
-            "can't be told: nothing can be written",
-            path,
-            Status::Refused,
-        ),
-    }
-}
 
 fn form_of(matches: &ArgMatches<'_>) -> Form {
     if matches.get_flag("json") {
@@ -113,12 +26,7 @@ fn form_of(matches: &ArgMatches<'_>) -> Form {
 fn helped<R: Eprint, W: Write>(rt: &R, out: &mut W) -> Status {
     match out.write_all(HELP.as_bytes()) {
         Ok(()) => Status::Whole,
-        Err(_) => fail(
-            rt,
-            "can't be told: nothing can be written",
-            "--help",
-            Status::Refused,
-        ),
+        Err(_) => unwritten(rt, "--help"),
     }
 }
 
@@ -128,7 +36,7 @@ fn why<R: Files<File = File> + AllocGlobal + Eprint, W: Write>(
     inner: &ArgMatches<'_>,
     out: &mut W,
 ) -> Status {
-    let path = inner.get_str("IMAGE").unwrap_or("");
+    let path = word(inner, "IMAGE");
     let only = match inner.get_str("EVENT") {
         None => None,
         Some(word) => match word.parse::<u64>() {
@@ -139,8 +47,21 @@ fn why<R: Files<File = File> + AllocGlobal + Eprint, W: Write>(
     why_told(rt, path, only, form_of(inner), out)
 }
 
+// Tells a telegram, or the schema.
+fn telegram<R: Files<File = File> + Input + AllocGlobal + Eprint, W: Write>(
+    rt: &R,
+    inner: &ArgMatches<'_>,
+    out: &mut W,
+) -> Status {
+    match (inner.get_flag("schema"), inner.get_str("FILE")) {
+        (true, None) => schema_told(rt, out),
+        (false, Some(path)) => telegram_told(rt, path, out),
+        _ => usage(rt),
+    }
+}
+
 /// Does what the words behind the program's name ask, and answers the status.
-pub(crate) fn lab_main<R: Files<File = File> + AllocGlobal + Eprint, W: Write>(
+pub(crate) fn lab_main<R: Files<File = File> + Input + AllocGlobal + Eprint, W: Write>(
     rt: &R,
     words: &[&str],
     out: &mut W,
@@ -150,42 +71,20 @@ pub(crate) fn lab_main<R: Files<File = File> + AllocGlobal + Eprint, W: Write>(
         Err(_) => return usage(rt),
     };
     match matches.subcommand() {
-        Some(("examine", inner)) => {
-            examined(
-                rt,
-                inner.get_str("IMAGE").unwrap_or(""),
-                form_of(inner),
-                out,
-            )
-        }
+        Some(("examine", inner)) => examined(rt, word(inner, "IMAGE"), form_of(inner), out),
         Some(("events", inner)) => {
-            events_told(
-                rt,
-                inner.get_str("IMAGE").unwrap_or(""),
-                inner.get_flag("all"),
-                out,
-            )
+            events_told(rt, word(inner, "IMAGE"), inner.get_flag("all"), out)
         }
-        Some(("replay", inner)) => {
-            replayed(
-                rt,
-                inner.get_str("IMAGE").unwrap_or(""),
-                form_of(inner),
-                out,
-            )
-        }
+        Some(("replay", inner)) => replayed(rt, word(inner, "IMAGE"), form_of(inner), out),
         Some(("why", inner)) => why(rt, inner, out),
+        Some(("telegram", inner)) => telegram(rt, inner, out),
+        Some(("decode", inner)) => {
+            decode_told(rt, word(inner, "HEX"), inner.get_flag("json"), out)
+        }
+        Some(("lint", inner)) => {
+            linted(rt, word(inner, "SCENARIO"), inner.get_flag("json"), out)
+        }
         _ if matches.get_flag("help") => helped(rt, out),
         _ => usage(rt),
     }
-}
-
-/// Says that the words are wrong.
-pub(crate) fn usage<R: Eprint>(rt: &R) -> Status {
-    fail(
-        rt,
-        "wrong words; etcs_lab --help tells them",
-        "usage",
-        Status::Usage,
-    )
 }

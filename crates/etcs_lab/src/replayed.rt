@@ -1,7 +1,7 @@
 //! The command `replay`.
 
-use crate::program::{Status, fail};
-use file_disk::FileDisk;
+use crate::images::opened;
+use crate::status::{Status, fail, unwritten};
 use replay_lines::{Form, Outcome, ReplayError, replay};
 use std::fs::File;
 use std::io::Write;
@@ -9,32 +9,17 @@ use std::rt::Files;
 
 // Says why a replay did not come to its end.
 fn stopped<R: Eprint>(rt: &R, path: &str, error: ReplayError) -> Status {
-    match error {
-        ReplayError::DeviceFault => fail(rt, "can't be read", path, Status::Device),
-        ReplayError::NotFormatted => fail(rt, "is not a formatted image", path, Status::Refused),
-        ReplayError::Damaged => {
-            fail(
-                rt,
-                "has not the size that its first sector tells",
-                path,
-                Status::Refused,
-            )
-        }
-        ReplayError::Write => {
-            fail(
-                rt,
-                "can't be told: nothing can be written",
-                path,
-                Status::Refused,
-            )
-        }
-        ReplayError::NoMemory => fail(
-            rt,
-            "can't be replayed: memory is refused",
-            path,
+    let (what, status) = match error {
+        ReplayError::DeviceFault => ("can't be read", Status::Device),
+        ReplayError::NotFormatted => ("is not a formatted image", Status::Refused),
+        ReplayError::Damaged => (
+            "has not the size that its first sector tells",
             Status::Refused,
         ),
-    }
+        ReplayError::NoMemory => ("can't be replayed: memory is refused", Status::Refused),
+        ReplayError::Write => return unwritten(rt, path),
+    };
+    fail(rt, what, path, status)
 }
 
 /// Replays the journal of an image, which is opened for reading alone, and answers the status.
@@ -44,13 +29,9 @@ pub(crate) fn replayed<R: Files<File = File> + AllocGlobal + Eprint, W: Write>(
     form: Form,
     out: &mut W,
 ) -> Status {
-    let Ok(mut disk) = FileDisk::open_to_read(rt, path) else {
-        return fail(
-            rt,
-            "can't be opened, or another program writes it",
-            path,
-            Status::Device,
-        );
+    let mut disk = match opened(rt, path) {
+        Ok(disk) => disk,
+        Err(status) => return status,
     };
     match replay(rt.alloc(), &mut disk, form, out) {
         Ok(Outcome::Whole) => Status::Whole,

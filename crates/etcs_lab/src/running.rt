@@ -1,6 +1,7 @@
 //! The program over the words and the streams of its process.
 
-use crate::program::{Status, lab_main, usage};
+use crate::program::lab_main;
+use crate::status::{Status, usage};
 use standard_streams::take_standard_streams;
 use std::alloc::{AllocError, Global};
 use std::fs::File;
@@ -24,7 +25,7 @@ fn borrowed(alloc: Global, words: &[String]) -> Result<Vec<&str>, AllocError> {
     Ok(all)
 }
 
-fn run_into<R: Env + Files<File = File> + Eprint + AllocGlobal, W: Write>(
+fn run_into<R: Env + Files<File = File> + Input + Eprint + AllocGlobal, W: Write>(
     rt: &R,
     out: &mut W,
 ) -> Status {
@@ -40,7 +41,9 @@ fn run_into<R: Env + Files<File = File> + Eprint + AllocGlobal, W: Write>(
 /// Does what the words of the process behind the program's name ask, over standard output, and answers the exit status.
 /// Before it opens a file it takes the standard streams that are closed. Where it can't, it writes nothing, and opens
 /// no file.
-pub(crate) fn run<R: Env + Files<File = File> + Print + Eprint + AllocGlobal>(rt: &R) -> u8 {
+pub(crate) fn run<R: Env + Files<File = File> + Input + Print + Eprint + AllocGlobal>(
+    rt: &R,
+) -> u8 {
     if take_standard_streams(rt).is_err() {
         return Status::Device as u8;
     }

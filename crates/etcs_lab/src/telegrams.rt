@@ -1,0 +1,98 @@
+//! The commands `telegram` and `decode`.
+
+use crate::status::{Status, fail, unwritten};
+use decoding::decode_text;
+use hex::FromHexError;
+use std::alloc::Global;
+use std::fs::File;
+use std::io::{Read, Write};
+use std::rt::Files;
+use std::{fs, io};
+use telegram_objects::{ObjectFault, SCHEMA, bytes_of_text, write_answer};
+
+// The bytes of a file, or of standard input.
+fn bytes_in<R: Files<File = File> + Input + AllocGlobal>(
+    rt: &R,
+    path: &str,
+) -> io::Result<Vec<u8>> {
+    if path != "-" {
+        return fs::read(rt, path);
+    }
+    let mut bytes = Vec::new(rt.alloc());
+    rt.reader().read_to_end(&mut bytes)?;
+    Ok(bytes)
+}
+
+fn write_hex<W: Write>(bytes: &[u8], out: &mut W) -> io::Result<()> {
+    for byte in bytes {
+        write!(out, "{byte:02X}")?;
+    }
+    writeln!(out)
+}
+
+// Says at which place a telegram has a fault.
+fn refused<R: Eprint>(rt: &R, path: &str, fault: &ObjectFault) -> Status {
+    let _ = eprintln!(rt; "etcs_lab: {path}: {fault}");
+    Status::Refused
+}
+
+/// Writes the digits of the telegram that a file tells, and answers the status.
+pub(crate) fn telegram_told<R: Files<File = File> + Input + AllocGlobal + Eprint, W: Write>(
+    rt: &R,
+    path: &str,
+    out: &mut W,
+) -> Status {
+    let Ok(text) = bytes_in(rt, path) else {
+        return fail(rt, "can't be read", path, Status::Device);
+    };
+    let bytes = match bytes_of_text(rt.alloc(), text.as_slice()) {
+        Ok(bytes) => bytes,
+        Err(fault) => return refused(rt, path, &fault),
+    };
+    match write_hex(bytes.as_slice(), out) {
+        Ok(()) => Status::Whole,
+        Err(_) => unwritten(rt, path),
+    }
+}
+
+/// Writes the schema of a telegram's JSON, and answers the status.
+pub(crate) fn schema_told<R: Eprint, W: Write>(rt: &R, out: &mut W) -> Status {
+    match out.write_all(SCHEMA.as_bytes()) {
+        Ok(()) => Status::Whole,
+        Err(_) => unwritten(rt, "--schema"),
+    }
+}
+
+// Writes what digits carry as an object; whether they carry a telegram.
+fn write_object<W: Write>(alloc: Global, digits: &str, out: &mut W) -> io::Result<bool> {
+    match hex::decode(alloc, digits) {
+        Ok(bytes) => write_answer(bytes.as_slice(), out),
+        Err(FromHexError::OutOfMemory) => {
+            writeln!(out, "{{\"refused\":{{\"name\":\"memory\"}}}}")?;
+            Ok(false)
+        }
+        Err(_) => {
+            writeln!(out, "{{\"refused\":{{\"name\":\"hex\"}}}}")?;
+            Ok(false)
+        }
+    }
+}
+
+/// Writes what digits carry, in lines as `etcs decode` or as JSON, and answers the status.
+pub(crate) fn decode_told<R: AllocGlobal + Eprint, W: Write>(
+    rt: &R,
+    digits: &str,
+    json: bool,
+    out: &mut W,
+) -> Status {
+    let told = if json {
+        write_object(rt.alloc(), digits, out)
+    } else {
+        decode_text(rt.alloc(), digits, out).map(|status| status as u8 == 0)
+    };
+    match told {
+        Ok(true) => Status::Whole,
+        Ok(false) => Status::Refused,
+        Err(_) => unwritten(rt, "HEX"),
+    }
+}

@@ -1,0 +1,145 @@
+//! What is probably not meant in a scenario that is accepted.
+
+use crate::places::Place;
+use hex::FromHexError;
+use packets::Packet;
+use serde_json::Value;
+use std::alloc::Global;
+use std::fmt;
+use std::fmt::{Formatter, Write};
+use telegram::{TelegramFault, decode};
+
+/// What is probably not meant.
+#[derive(Clone, Copy)]
+pub(crate) enum Advice {
+    /// A telegram that the kernel refuses.
+    Refused(TelegramFault),
+    /// A packet of this number is skipped.
+    Skipped(u8),
+    /// No drive leads over the balise.
+    NotReached,
+}
+
+impl fmt::Display for Advice {
+    fn fmt<W: Write>(&self, f: &mut Formatter<W>) -> fmt::Result {
+        match self {
+            Advice::Refused(fault) => {
+                let number = *fault as u8;
+                write!(f, "the kernel refuses the telegram: {number} {fault}")
+            }
+            Advice::Skipped(number) => write!(f, "packet {number} is skipped"),
+            Advice::NotReached => write!(f, "no drive leads over the balise"),
+        }
+    }
+}
+
+/// Advice and its place.
+#[derive(Clone, Copy)]
+pub(crate) struct LocatedAdvice {
+    pub(crate) advice: Advice,
+    pub(crate) place: Place,
+}
+
+// Tells of a telegram that is refused, or of its packets that are skipped.
+fn of_bytes(
+    bytes: &[u8],
+    place: Place,
+    found: &mut Vec<LocatedAdvice>,
+) -> Result<(), FromHexError> {
+    match decode(bytes) {
+        Err(fault) => {
+            let advice = Advice::Refused(fault);
+            push(found, LocatedAdvice { advice, place })
+        }
+        Ok(telegram) => {
+            for packet in telegram.packets.as_slice() {
+                if let Packet::Other(other) = packet {
+                    let advice = Advice::Skipped(other.number.get());
+                    push(found, LocatedAdvice { advice, place })?;
+                }
+            }
+            Ok(())
+        }
+    }
+}
+
+fn push(found: &mut Vec<LocatedAdvice>, advice: LocatedAdvice) -> Result<(), FromHexError> {
+    found.push(advice).map_err(|_| FromHexError::OutOfMemory)
+}
+
+fn of_telegram(
+    alloc: Global,
+    digits: &Value,
+    place: Place,
+    found: &mut Vec<LocatedAdvice>,
+) -> Result<(), FromHexError> {
+    let bytes = hex::decode(alloc, digits.as_str().unwrap_or(""))?;
+    of_bytes(bytes.as_slice(), place, found)
+}
+
+fn whole(value: &Value, key: &str) -> i64 {
+    value.get(key).and_then(Value::as_i64).unwrap_or(0)
+}
+
+// The farthest place that the front of the train comes to.
+fn farthest(steps: &[Value]) -> i64 {
+    let mut front = 0i64;
+    let mut farthest = 0i64;
+    for step in steps {
+        if let Some(drive) = step.get("drive") {
+            let cm = drive.get(0usize).and_then(Value::as_i64).unwrap_or(0);
+            front = front.saturating_add(cm);
+            farthest = farthest.max(front);
+        }
+    }
+    farthest
+}
+
+fn of_group(
+    alloc: Global,
+    place: usize,
+    group: &Value,
+    farthest: i64,
+    found: &mut Vec<LocatedAdvice>,
+) -> Result<(), FromHexError> {
+    let Some(balises) = group.get("balises").and_then(Value::as_array) else {
+        return Ok(());
+    };
+    let mut at = whole(group, "at");
+    for (i, balise) in balises.as_slice().iter().enumerate() {
+        let place = Place::Balise(place, i);
+        of_telegram(alloc, balise, place, found)?;
+        if at > farthest {
+            let advice = Advice::NotReached;
+            push(found, LocatedAdvice { advice, place })?;
+        }
+        at = at.saturating_add(whole(group, "spacing"));
+    }
+    Ok(())
+}
+
+fn items<'a>(value: &'a Value, key: &str) -> &'a [Value] {
+    match value.get(key).and_then(Value::as_array) {
+        Some(items) => items.as_slice(),
+        None => &[],
+    }
+}
+
+/// What is probably not meant in a scenario, in its order. The error is that memory was refused.
+pub(crate) fn advice_on(
+    alloc: Global,
+    scenario: &Value,
+) -> Result<Vec<LocatedAdvice>, FromHexError> {
+    let mut found = Vec::new(alloc);
+    let steps = items(scenario, "steps");
+    let farthest = farthest(steps);
+    for (i, group) in items(scenario, "groups").iter().enumerate() {
+        of_group(alloc, i, group, farthest, &mut found)?;
+    }
+    for (i, step) in steps.iter().enumerate() {
+        if let Some(digits) = step.get("telegram") {
+            of_telegram(alloc, digits, Place::InStep(i, "telegram"), &mut found)?;
+        }
+    }
+    Ok(found)
+}

@@ -1,0 +1,12 @@
+//! What there is to tell of a scenario before it is played: its faults, each at its place, and what is probably not
+//! meant (this project's profile).
+#![tactic(auto)]
+
+mod advice;
+mod lines;
+mod locating;
+mod places;
+
+pub use lines::{Form, LintError, lint};
+pub use locating::{Faults, LocatedFault, faults_of};
+pub use places::Place;

@@ -1,0 +1,96 @@
+//! The fields of a header and of a packet, taken into a list.
+ghost use Rattle.std.specs.Prelude.{◌≡◌, ◌≤◌};
+ghost use Rattle.packets.specs.Packets.{length_of};
+ghost use Rattle.telegram_objects.specs.Fields.{header_fields, packet_fields};
+
+use arrayvec::ArrayVec;
+use bits::{Run, VariableName};
+use packet_coding::hand_packet;
+use packets::{FieldSink, Packet};
+use std::convert::Infallible;
+use telegram::Header;
+
+/// A field: the name of its variable, the number of its bits, and the number that they spell.
+#[derive(Clone, Copy)]
+pub(crate) struct FieldValue {
+    pub(crate) name: VariableName,
+    pub(crate) width: u32,
+    pub(crate) number: u64,
+}
+
+impl Default for FieldValue {
+    fn default() -> FieldValue {
+        FieldValue {
+            name: VariableName::NidPacket,
+            width: 0,
+            number: 0,
+        }
+    }
+}
+
+/// Fields, one after another; no telegram has more than its 832 bits.
+#[derive(Drop)]
+pub(crate) struct FieldList {
+    pub(crate) fields: ArrayVec<FieldValue, 832>,
+}
+
+/// It holds each field that has bits, and none that is skipped.
+impl FieldSink for FieldList {
+    ghost use Rattle.std.specs.Prelude.{List, length};
+    ghost use Rattle.telegram_objects.specs.Fields.{with_field};
+    ghost use Rattle.telegram_objects.specs.declared.fields.FieldValue.{FieldValue as a_field};
+
+    ghost Seen = { List a_field };
+
+    ghost seen = { λ list. list.fields.items };
+
+    ghost took = { with_field };
+
+    ghost held = { λ list. length list.fields.items };
+
+    ghost most = { 832 };
+
+    type Error = Infallible;
+
+    fn field(&mut self, name: VariableName, width: u32, number: u64) -> Result<(), Infallible> {
+        if width != 0 {
+            self.fields.push(FieldValue {
+                name,
+                width,
+                number,
+            });
+        }
+        Ok(())
+    }
+
+    fn run(&mut self, _bits: &Run<'_>) -> Result<(), Infallible> {
+        Ok(())
+    }
+}
+
+/// The fields of a header.
+pub(crate) fn fields_of_header(header: &Header) -> FieldList
+    ensures { result.fields.items ≡ header_fields header.now }
+{
+    let mut list = FieldList {
+        fields: ArrayVec::new(),
+    };
+    match header.fields(&mut list) {
+        Ok(()) => {}
+    }
+    list
+}
+
+/// The fields of a packet, NID_PACKET first.
+pub(crate) fn fields_of_packet(packet: &Packet<'_>) -> FieldList
+    requires { length_of packet.now ≤ 832 }
+    ensures { result.fields.items ≡ packet_fields packet.now }
+{
+    let mut list = FieldList {
+        fields: ArrayVec::new(),
+    };
+    match hand_packet(packet, packet.length(), &mut list) {
+        Ok(()) => {}
+    }
+    list
+}

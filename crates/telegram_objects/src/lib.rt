@@ -1,0 +1,19 @@
+//! A telegram as a JSON object, and the bytes that an object tells: header and packets by the variables of SUBSET-026,
+//! 7.5.1, in the order of their layouts.
+#![tactic(auto)]
+
+mod drafts;
+mod faults;
+mod fields;
+mod headers;
+mod matching;
+mod packets_told;
+mod schema;
+mod spelling;
+mod text;
+mod values;
+
+pub use faults::{ObjectFault, Place, Ranges, Reason};
+pub use schema::SCHEMA;
+pub use spelling::{TelegramBytes, bytes_of, bytes_of_text};
+pub use text::write_answer;

@@ -1,0 +1,17 @@
+#!/bin/bash
+# Telegrams in JSON, and what is told of scenarios, on the programs that the gate leaves behind: what the program etcs_lab writes of an object and
+# tells of bytes beside what plain readers and writers do, each message once, the schema; what is wrong in a scenario, and where.
+#
+#     tests/telegrams.sh [ETCS_LAB ETCS]    on other programs
+lab=${1:-$(dirname "$0")/../crates/etcs_lab/out/etcs_lab}
+etcs=${2:-$(dirname "$0")/../crates/etcs/out/etcs}
+lab=$(realpath "$lab") && etcs=$(realpath "$etcs") || exit 1
+cd "$(dirname "$0")" || exit 1
+export PYTHONDONTWRITEBYTECODE=1
+for program in "$lab" "$etcs"; do
+    [ -x "$program" ] || { echo "there is no program $program: rt ci makes it"; exit 1; }
+done
+status=0
+python3 telegrams/telegram_rows.py "$lab" || status=1
+python3 telegrams/lint_rows.py "$etcs" "$lab" || status=1
+exit $status

@@ -1,0 +1,180 @@
+#!/usr/bin/env python3
+"""Telegrams in JSON: `etcs_lab decode --json` and `etcs_lab telegram` beside the plain reader, and one as the inverse of the other.
+
+    tests/telegrams/telegram_rows.py PROGRAM [WORD..]    by this program, with these words before its own
+
+The telegrams are those of the scenarios and rows that come with the product, and random ones. What bytes carry is what tests/plain/decoded.py
+finds. The bytes of an object are those that it was told of, up to and with the end mark.
+"""
+import json
+import random
+import subprocess
+import sys
+import tempfile
+from concurrent.futures import ThreadPoolExecutor
+from pathlib import Path
+
+TOP = Path(__file__).resolve().parents[2]
+sys.path[:0] = [str(TOP / "tests" / part) for part in ("plain", "events", "hostile")]
+
+import jsonschema
+
+import decoded
+import faults
+import images
+import told
+from named import WIDTH
+from random_inputs import headed, mutated
+
+RANDOM, SEED = 10_000, 2026
+LEAST = {"telegrams": 2_500, "refused": 2_500}
+
+
+class Compared:
+    """How many comparisons were made, and which differ."""
+
+    def __init__(self):
+        self.count = self.differ = 0
+
+    def same(self, name, found, wanted):
+        self.count += 1
+        if found != wanted:
+            self.differ += 1
+            print(f"{name}:\n  found  {found!r}\n  wanted {wanted!r}")
+
+
+def run(program, words, text=None):
+    done = subprocess.run([*program, *words], input=text, capture_output=True, text=True, stdin=None if text is not None else subprocess.DEVNULL)
+    return done.stdout, done.stderr, done.returncode
+
+
+def body_of(data, packet, at):
+    """The body of a packet that is skipped, which begins behind so many bits: its bits in digits, padded with zero bits to whole bytes."""
+    bits = "".join(f"{byte:08b}" for byte in data)[at + 23:at + dict(packet["fields"])["L_PACKET"]]
+    padded = bits + "0" * (-len(bits) % 8)
+    return "".join(f"{int(padded[i:i + 8], 2):02X}" for i in range(0, len(padded), 8))
+
+
+def told_of(data):
+    """What is to be told of bytes: the object of the events of an image, with the bodies of the packets that are skipped."""
+    pairs = told.telegram_told(data)
+    if pairs[0][0] == "refused":
+        return {"refused": dict(pairs[0][1])}
+    value = dict(pairs)
+    value["header"] = dict(value["header"])
+    packets, at = [], 50
+    for packet in map(dict, value["packets"]):
+        if "skipped_bits" in packet:
+            packet["body"] = body_of(data, packet, at)
+        at += dict(packet["fields"])["L_PACKET"]
+        packets.append(packet)
+    return value | {"packets": packets}
+
+
+def spelled(data, bits):
+    """The bytes up to and with the end mark, and zero bits behind it."""
+    number = int.from_bytes(data, "big") >> (8 * len(data) - bits)
+    return (number << -bits % 8).to_bytes(-(-bits // 8), "big").hex().upper()
+
+
+def without_lengths(value):
+    packets = [packet | {"fields": [pair for pair in packet["fields"] if pair[0] != "L_PACKET"]} for packet in value["packets"]]
+    return {"header": value["header"], "packets": packets}
+
+
+def one(program, room, number, data):
+    """What the program makes of bytes, and of the object that it tells; and what is wanted."""
+    wanted = told_of(data)
+    printed, said, status = run(program, ["decode", "--json", data.hex()])
+    found = [(json.loads(printed), printed.count("\n"), said, status)]
+    if "refused" in wanted:
+        return found, [(wanted, 1, "", 1)]
+    digits = spelled(data, wanted["bits"])
+    file = room / f"{number}.json"
+    file.write_text(printed)
+    found.append(run(program, ["telegram", str(file)]))
+    file.write_text(json.dumps(without_lengths(wanted), indent=1))
+    found.append(run(program, ["telegram", str(file)]))
+    file.unlink()
+    return found, [(wanted, 1, "", 0), (digits + "\n", "", 0), (digits + "\n", "", 0)]
+
+
+def compare_telegrams(program, room, compared):
+    numbers = random.Random(SEED)
+    all_data = images.known_telegrams() + [(headed if numbers.randrange(2) else mutated)(numbers) for _ in range(RANDOM)]
+    with ThreadPoolExecutor(4) as pool:
+        results = pool.map(lambda item: one(program, room, *item), enumerate(all_data))
+        carried = 0
+        for data, (found, wanted) in zip(all_data, results):
+            carried += len(wanted) == 3
+            compared.same(data.hex(), found, wanted)
+    return carried, len(all_data) - carried
+
+
+def compare_faults(program, room, compared):
+    """Each message, at its place."""
+    for name, text, wanted, status in faults.rows():
+        file = room / "fault.json"
+        file.write_bytes(text if isinstance(text, bytes) else text.encode())
+        printed, said, found = run(program, ["telegram", str(file)])
+        compared.same(name, (printed, said, found), ("", f"etcs_lab: {file}: {wanted}\n", status))
+
+
+def compare_words(program, room, compared):
+    file = room / "good.json"
+    file.write_text(json.dumps(faults.GOOD))
+    digits = run(program, ["telegram", str(file)])
+    compared.same("standard input", run(program, ["telegram", "-"], file.read_text()), digits)
+    compared.same("a good one", (digits[0].strip(), digits[1:]), (faults.GOOD_DIGITS, ("", 0)))
+    for words in (["telegram"], ["telegram", "--schema", str(file)], ["telegram", str(file), "x"], ["decode"], ["decode", "--jso", "90"]):
+        printed, said, status = run(program, words)
+        compared.same(f"words {words}", (printed, said.count("\n"), status), ("", 1, 2))
+    printed, said, status = run(program, ["telegram", str(room / "none")])
+    compared.same("no file", (printed, said.count("\n"), "none" in said, status), ("", 1, True, 3))
+    compared.same("no digits", run(program, ["decode", "--json", "9"]), ('{"refused":{"name":"hex"}}\n', "", 1))
+    compared.same("lines", run(program, ["decode", faults.GOOD_DIGITS]), (decoded.answer(bytes.fromhex(faults.GOOD_DIGITS)), "", 0))
+    for words in (["telegram", str(file)], ["telegram", "--schema"], ["decode", "--json", faults.GOOD_DIGITS]):
+        line = " ".join(["exec", '"$@"', ">/dev/full"])
+        done = subprocess.run(["sh", "-c", line, "sh", *program, *words], capture_output=True, text=True, stdin=subprocess.DEVNULL)
+        compared.same(f"a full device {words}", done.returncode, 1)
+
+
+def names_in(schema):
+    """The greatest number of each name, as the schema has it."""
+    header = {name: value.get("maximum", value.get("const")) for name, value in schema["properties"]["header"]["properties"].items()}
+    pairs = {name: group["prefixItems"][1]["maximum"] for group in schema["$defs"]["pair"]["anyOf"] for name in group["prefixItems"][0]["enum"]}
+    return header, pairs
+
+
+def compare_schema(program, compared):
+    printed, said, status = run(program, ["telegram", "--schema"])
+    schema = json.loads(printed)
+    compared.same("schema", (said, status), ("", 0))
+    validator = jsonschema.Draft202012Validator(schema)
+    jsonschema.Draft202012Validator.check_schema(schema)
+    header, pairs = names_in(schema)
+    compared.same("the schema's header", list(header), decoded.HEADER.split())
+    compared.same("the schema's variables", pairs, {name: (1 << WIDTH[name]) - 1 for name in WIDTH if name in pairs})
+    compared.same("all variables", set(header) | set(pairs), set(WIDTH))
+    for data in images.known_telegrams():
+        value = told_of(data)
+        if "refused" not in value:
+            compared.same(f"the schema on {data.hex()}", (validator.is_valid(value), validator.is_valid(without_lengths(value))), (True, True))
+    for name, text in faults.outside_schema():
+        compared.same(f"the schema on {name}", validator.is_valid(text), False)
+
+
+def main(program):
+    compared = Compared()
+    with tempfile.TemporaryDirectory() as folder:
+        room = Path(folder)
+        carried, refused = compare_telegrams(program, room, compared)
+        compare_faults(program, room, compared)
+        compare_words(program, room, compared)
+        compare_schema(program, compared)
+    print(f"telegrams in JSON: {carried} told and written again, {refused} refused, {compared.count} comparisons, {compared.differ} differ")
+    return 0 if compared.differ == 0 and carried >= LEAST["telegrams"] and refused >= LEAST["refused"] else 1
+
+
+if __name__ == "__main__":
+    sys.exit(main(sys.argv[1:]))

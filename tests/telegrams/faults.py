@@ -96,7 +96,7 @@ CHANGES = [
 def rows():
     """A name, a text, the message, and the status."""
     yield "no JSON", '{\n  "header": header\n}\n', "telegram: no JSON value, at line 2, column 13", 1
-    yield "no UTF-8", b'{"header": "\xff"}', "telegram: no JSON value, at line 1, column 12", 1
+    yield "no UTF-8", b'{"header": "\xff"}', "telegram: no JSON value, at line 1, column 13", 1
     yield "a list", "[]", f"telegram: {KEYS}", 1
     for name, value, wanted in CHANGES:
         yield name, json.dumps(value), wanted, 1

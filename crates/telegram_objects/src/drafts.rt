@@ -7,6 +7,7 @@ use arrayvec::ArrayVec;
 use bits::{BitReader, BitWriter, Full, VariableName};
 use packet_coding::read_packet;
 use packets::{Packet, TELEGRAM_BYTES};
+use vars::{PacketLength, PacketNumber, ValidityDirection, Variable};
 
 // The bits of a telegram.
 const MOST_BITS: u64 = 832;
@@ -42,10 +43,25 @@ pub(crate) fn put_fields(
     Ok(())
 }
 
+// Writes what is missing of NID_PACKET, Q_DIR and L_PACKET behind so many fields.
+fn put_head(writer: &mut BitWriter<TELEGRAM_BYTES>, count: usize, length: u64) -> Result<(), Full> {
+    if count < 1 {
+        put(writer, PacketNumber::WIDTH, 0)?;
+    }
+    if count < 2 {
+        put(writer, ValidityDirection::WIDTH, 0)?;
+    }
+    if count < 3 {
+        put(writer, PacketLength::WIDTH, length)?;
+    }
+    Ok(())
+}
+
 // The bytes of fields with zero bits behind them.
 fn filled(fields: &[FieldValue], length: u64) -> Option<[u8; TELEGRAM_BYTES]> {
     let mut writer: BitWriter<TELEGRAM_BYTES> = BitWriter::new();
     put_fields(&mut writer, fields, length).ok()?;
+    put_head(&mut writer, fields.len(), length).ok()?;
     let mut bytes = [0u8; TELEGRAM_BYTES];
     let _ = writer.copy_to(&mut bytes);
     Some(bytes)

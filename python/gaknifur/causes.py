@@ -148,13 +148,16 @@ def text(told: dict[str, int] | None) -> str | None:
 
 
 def limit_text(line: Json) -> str:
-    """What decides the limit of a line, for people: its kind, its place and number where it has them, and its sections."""
-    kind, place, number = (line.get(f"{LIMIT_CAUSE}{end}") for end in ("", "_place_cm", "_number"))
+    """What decides the limit of a line, for people: its kind, its speed, its place and number where it has them, and its
+    sections."""
+    kind, speed, place, number, section = (
+        line.get(f"{LIMIT_CAUSE}{end}") for end in ("", "_speed_m_per_h", "_place_cm", "_number", "_section"))
     if kind is None:
         return ""
-    where = "" if place is None else f" at {place / 100:,.2f} m"
     which = "" if number is None else f" {number}"
-    return f"{str(kind).replace('_', ' ')}{which}{where} ({line.get(f'{LIMIT_CAUSE}_section', 'no section is told')})"
+    fast = "" if speed is None else f", {speed / 1000:g} km/h"
+    where = "" if place is None else f" at {place / 100:,.2f} m"
+    return f"{str(kind).replace('_', ' ')}{which}{fast}{where} ({section})"
 
 
 ROW = ("block", "event", "life", "brake", "cause", "since_event", "says", "ends")

@@ -51,8 +51,8 @@ class Told(unittest.TestCase):
         self.assertEqual(list(table["causes"]), ["not_revalidated since 0", "", *["far_too_fast since 2"] * 2, ""])
         self.assertEqual(set(table["limit_cause"]), {"staff"})
         self.assertEqual(list(tables.interventions(table)["causes"])[1], [Held("far_too_fast", 2, 3)])
-        self.assertEqual(causes.limit_text(told.why[0] | {"limit_cause_place_cm": 150, "limit_cause_number": 7}),
-                         "staff 7 at 1.50 m (4.4)")
+        self.assertEqual(causes.limit_text(told.why[0] | {"limit_cause_place_cm": 150, "limit_cause_number": 7,
+                                                                "limit_cause_speed_m_per_h": 20_000}), "staff 7, 20 km/h at 1.50 m (4.4)")
 
     def test_where_it_does_not(self) -> None:
         table = tables.frame(replayed({"replay": "agrees", "first_event": 0, "last_event": 1}, {"replay": "record_differs", "event": 2},

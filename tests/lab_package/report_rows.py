@@ -5,6 +5,7 @@
 """
 import contextlib
 import io
+import json
 import os
 import resource
 import subprocess
@@ -145,6 +146,23 @@ def long_image(events):
     return slots_of(data, len(parts) + 1)
 
 
+def braked(rows):
+    """A life of some 3,000 events that the unit recorded, which brakes 100 times: each cause is known."""
+    cycle = [[100_000, 30_000]] + [[1_000, 30_000]] * 17 + [[1_000, 46_000], [100, 52_000], [0, 0]]
+    steps = [{"driver": one} for one in ([1, "IC 704"], [4, 1], [3, 20_000, 160_000, 70, 0, 15], [6])]
+    steps += [{"drive": one} for one in 100 * cycle]
+    (rows.room / "braked.json").write_text(json.dumps({"groups": [], "steps": steps}))
+    rows.run("format", "braked", 1_000)
+    rows.run("run", "braked.json", "braked")
+    begun = processor_seconds()
+    told = rows.page("braked", charts=12, text=[f"events 0 to {4 + 100 * 30:,}", "each event agrees with the kernel"])
+    took = processor_seconds() - begun
+    # 101 interventions, of which the power-up's has one cause and each other one both speeds
+    rows.wants("a page of 3,000 events has each cause", (told.count("the train has not stood since: since"), told.count("not within it since: since"),
+                                                       "not known" in told), (100, 100, False))
+    rows.wants(f"a report of 3,000 events takes less than {MOST_SECONDS} s of processor time", took < MOST_SECONDS, True)
+
+
 def long(rows):
     (rows.room / "long").write_bytes(long_image(LONG))
     begun = processor_seconds()
@@ -163,6 +181,7 @@ def main(words):
         rows = Rows(str(Path(words[0]).resolve()), room)
         examples(rows)
         damaged(rows)
+        braked(rows)
         long(rows)
     print(f"lab: {rows.compared} comparisons of ./lab, {rows.differ} differ")
     return 1 if rows.differ else 0

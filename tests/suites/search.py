@@ -22,12 +22,12 @@ sys.path.insert(0, str(TOP / "python"))
 from gaknifur import causes, playing, program, random_lives  # noqa: E402
 from gaknifur.reading import read  # noqa: E402
 
-EXAMPLES, LEAST_TRIPS, LEAST_RECORDS = 80, 5, 2_000
+EXAMPLES, LEAST_TRIPS, LEAST_RECORDS = 80, 3, 1_200
 EMERGENCY = ("not_revalidated", "in_trip", "in_system_failure", "owes_trip", "far_too_fast", "rolled_too_far")
 SLOTS = 64
 
 AUTHORITIES = [random_lives.digits(f"NID_BG 2; 12: V_MAIN {speed}, L_ENDSECTION {way}; 21: D_GRADIENT 0, Q_GDIR 1, G_A 0; "
-                                   "27: D_STATIC 0, V_STATIC 24, Q_FRONT 1") for speed in (8, 24) for way in (50, 200, 1_000)]
+                                   "27: D_STATIC 0, V_STATIC 24, Q_FRONT 1") for way in (50, 100, 200, 1_000) for speed in (24, 8)]
 OTHERS = [random_lives.digits(text) for text in (
     "NID_BG 7", "NID_BG 8, Q_LINK 0, N_TOTAL 1", "NID_BG 9; 41: D_LEVELTR 32767, M_LEVELTR 0, L_ACKLEVELTR 0",
     "NID_BG 10; 65: NID_TSR 1, D_TSR 0, L_TSR 300, Q_FRONT 1, V_TSR 4", "NID_BG 11; 12: V_MAIN 0, L_ENDSECTION 100")]
@@ -48,8 +48,8 @@ def lives(draw):
     """The scenarios of one or two lives. The moments of the clock are 3 s apart."""
     found = []
     for _ in range(draw(st.integers(1, 2))):
-        steps = [{"telegram": draw(st.sampled_from(AUTHORITIES))}, *READY] if draw(st.integers(0, 4)) else []
-        steps += draw(st.lists(STEP, min_size=3, max_size=25))
+        steps = [{"telegram": draw(st.sampled_from(AUTHORITIES))}, *READY] if draw(st.sampled_from([True, True, True, True, False])) else []
+        steps += draw(st.lists(STEP, min_size=8, max_size=30))
         steps = [{"clock": 3_000 * (at + 1)} if "clock" in step else step for at, step in enumerate(steps)]
         found.append(json.dumps({"groups": [], "steps": steps, "cold": draw(st.integers(0, 2))}))
     return tuple(found)

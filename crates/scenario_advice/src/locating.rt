@@ -31,7 +31,9 @@ pub struct Faults {
     pub others: Vec<LocatedFault>,
 }
 
-fn at(fault: ScenarioFault, place: Place) -> LocatedFault {
+fn at(fault: ScenarioFault, place: Place) -> LocatedFault
+    ensures { result.fault ≡ fault }
+{
     LocatedFault {
         fault,
         place,

@@ -7,7 +7,7 @@ from gaknifur.campaign import BATCH, Job, batches
 class Batches(unittest.TestCase):
     """Jobs for a scheduler."""
 
-    def test_each_job_once_and_in_its_order(self) -> None:
+    def test_each_job_once(self) -> None:
         jobs = [Job(str(number), "case" if number % 10 == 9 else "scenario", (), 64) for number in range(100)]
         found = list(batches(jobs, 8))
         self.assertEqual(sorted((job.name for batch in found for job in batch), key=int), [job.name for job in jobs])

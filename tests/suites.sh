@@ -1,6 +1,6 @@
 #!/bin/bash
 # The corpus of test cases in suites/, on the programs that the gate leaves behind: each result comes, each section and transition has
-# a case or a reason, what is untrue fails, and docs/TESTING_A_TRAIN.md prints what it says.
+# a case or a reason, what is untrue fails, and docs/TESTING_A_TRAIN.md prints what it says; and a search over random lives.
 #
 #     tests/suites.sh [ETCS_LAB ETCS]    on other programs
 lab=${1:-$(dirname "$0")/../crates/etcs_lab/out/etcs_lab}
@@ -8,7 +8,7 @@ etcs=${2:-$(dirname "$0")/../crates/etcs/out/etcs}
 lab=$(realpath "$lab") && etcs=$(realpath "$etcs") || exit 1
 cd "$(dirname "$0")/.." || exit 1
 export PYTHONDONTWRITEBYTECODE=1 GAKNIFUR_ETCS_LAB=$lab GAKNIFUR_ETCS=$etcs
-least=310 # results
+least=480 # results
 for program in "$lab" "$etcs"; do
     [ -x "$program" ] || { echo "there is no program $program: rt ci makes it"; exit 1; }
 done
@@ -26,4 +26,5 @@ tail -n 1 <<< "$covered"
 /usr/bin/python3 tests/suites/limits.py "$etcs" "$lab" || status=1
 /usr/bin/python3 tests/suites/control.py "$etcs" "$lab" || status=1
 /usr/bin/python3 tests/suites/page_rows.py "$etcs" "$lab" || status=1
+/usr/bin/python3 tests/suites/search.py "$etcs" "$lab" || status=1
 exit $status

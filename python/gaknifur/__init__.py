@@ -10,9 +10,9 @@ from pathlib import Path
 
 import pandas as pd
 
-from . import reading, tables
+from . import causes, reading, tables
 
-__all__ = ["journal"]
+__all__ = ["brake_causes", "journal"]
 
 
 def journal(path: str | Path, other_blocks: bool = False) -> pd.DataFrame:
@@ -20,4 +20,10 @@ def journal(path: str | Path, other_blocks: bool = False) -> pd.DataFrame:
 
     With `other_blocks` also the records that aren't of the journal, which column `source` tells.
     """
-    return tables.frame(reading.read(path, other_blocks=other_blocks))
+    return tables.frame(reading.read(path, other_blocks=other_blocks, replay=True, why=True))
+
+
+def brake_causes(path: str | Path) -> pd.DataFrame:
+    """A row for each cause that holds behind an event of which causes are told, the oldest first: since which event, what it
+    says and how it ends."""
+    return pd.DataFrame(causes.rows(reading.read(path, replay=True, why=True)), columns=causes.ROW)

@@ -96,7 +96,7 @@ def write(path: Path, text: str) -> None:
 
 def write_table(told: argparse.Namespace, progress: Progress) -> None:
     """The word `table`."""
-    journal = read(told.image, other_blocks=told.other_blocks, progress=progress)
+    journal = read(told.image, other_blocks=told.other_blocks, replay=True, why=True, progress=progress)
     text = tables.csv_text(tables.frame(journal))
     if told.out is None:
         sys.stdout.write(text)
@@ -111,7 +111,7 @@ def write_database(told: argparse.Namespace, progress: Progress) -> None:
     connection = database.open_database(told.out)
     try:
         for image in told.images:
-            journal = read(image, other_blocks=told.other_blocks, replay=True, progress=progress)
+            journal = read(image, other_blocks=told.other_blocks, replay=True, why=True, progress=progress)
             progress("database", 0, 0)
             if not database.add(connection, journal, tables.frame(journal)):
                 print(f"lab: {image}: is in the database already", file=sys.stderr)
@@ -123,7 +123,7 @@ def write_database(told: argparse.Namespace, progress: Progress) -> None:
 def write_report(told: argparse.Namespace, progress: Progress) -> None:
     """The word `report`."""
     extent = Extent(bound(told.first) if told.first else None, bound(told.last) if told.last else None, told.life)
-    journal = read(told.image, replay=True, progress=progress)
+    journal = read(told.image, replay=True, why=True, progress=progress)
     write(told.out, report.page(journal, extent, progress))
     note(journal)
 

@@ -32,6 +32,7 @@ COLUMNS = ("name", "job_sha256", "kind", "ended", "image_sha256", "events", "liv
 NOT_COMPARED = ("seconds", "worker")
 NAMED_FILE = re.compile(r"[\w.+/-]+\.(?:yaml|yml|json)")
 MOST_LOSSES = 3
+BATCH = 16
 COMMIT_SECONDS = 0.25
 SCHEMA = """
 CREATE TABLE campaign (name TEXT PRIMARY KEY, value TEXT NOT NULL) STRICT;
@@ -170,6 +171,27 @@ def play_case(path: Path) -> Row:
     return {"image_sha256": None, "tests": tests, "missed": missed, "first_missed": first, "sound": int(not missed)} | told_of(records)
 
 
+def play_all(jobs: list[Job]) -> list[Row]:
+    """Plays jobs in turn."""
+    return [play(job) for job in jobs]
+
+
+def batches(jobs: Iterable[Job], alone: int) -> Iterator[list[Job]]:
+    """The jobs as they are handed out to a scheduler, to which each costs as much as some programs do: the first ones alone,
+    so that each worker has one soon, and then scenarios by the batch. A case file is by itself."""
+    batch: list[Job] = []
+    for number, job in enumerate(jobs):
+        if number < alone or job.kind == "case":
+            yield [job]
+            continue
+        batch.append(job)
+        if len(batch) == BATCH:
+            yield batch
+            batch = []
+    if batch:
+        yield batch
+
+
 # ---- who plays them
 
 def lost(job: Job) -> Row:
@@ -220,27 +242,28 @@ def by_scheduler(jobs: Iterable[Job], scheduler: str, take: Take) -> None:
     except OSError as error:
         raise Failed(f"{scheduler}: no scheduler answers there", DEVICE) from error
     with client:
-        left, known = iter(jobs), dict[str, Job]()
-        running = as_completed(loop=client.loop)
+        known, running = dict[str, list[Job]](), as_completed(loop=client.loop)
+        window = max(8, 4 * sum(client.nthreads().values()))
+        left = batches(jobs, window)
 
         def hand_out() -> None:
-            window = max(8, 4 * sum(client.nthreads().values()))
-            while len(known) < window and (job := next(left, None)):
-                future = client.submit(play, job, key=f"{job.name}-{job.sha256}", pure=False)
-                known[future.key] = job
+            while len(known) < window and (batch := next(left, None)):
+                future = client.submit(play_all, batch, key=f"{batch[0].name}-{len(batch)}-{batch[0].sha256}", pure=False)
+                known[future.key] = batch
                 running.add(future)
 
         hand_out()
         for future in running:
             if future.status in ("pending", "lost"):
-                running.add(future)  # its worker was lost before the row was handed over: it is played again
+                running.add(future)  # its worker was lost before the rows were handed over: they are played again
                 continue
-            job = known.pop(future.key)
+            batch = known.pop(future.key)
             try:
-                row: Row = future.result()
-            except Exception:  # the scheduler gave the job up
-                row = lost(job)
-            take(row)
+                rows: list[Row] = future.result()
+            except Exception:  # the scheduler gave the jobs up
+                rows = [lost(job) for job in batch]
+            for row in rows:
+                take(row)
             future.release()
             hand_out()
 

@@ -1,14 +1,170 @@
-"""Why a brake was commanded: the one place where causes come in.
+"""Why a brake was commanded, and what decided the limit, as `etcs_lab why` tells it. Nothing here guesses a cause from
+what a record shows.
 
-`etcs_lab` has no word yet that tells causes. Nothing here guesses them from what a record shows: until they are told
-by the proved program, no cause is known.
+`etcs_lab why` has a line of each event at which brake, limit, a cause or the kind of what decides the limit is another
+one than before in its life, so between two lines the causes are those of the first. (Before it told what decides the
+limit, it had no line where a cause alone changed. Then causes are known of the events that have a line, and of the last
+event of each intervention, of which module `reading` asks.) What is told is what the kernel answers. So it counts only
+where the replay says that the journal tells the same; elsewhere the causes aren't known, and the reason is told.
 """
-from .reading import Journal
+from collections.abc import Iterable
+from dataclasses import dataclass
 
-Causes = dict[tuple[int, int], list[str]]
-"""Of a block and an event of it, the causes of the brake that its record commands, in the order of docs/BRAKES.md."""
+from .reading import Journal, Json
+
+CAUSES = {
+    "not_revalidated": ("the driver has not revalidated since the power-up", "ends when the driver has revalidated"),
+    "in_trip": ("the mode is Trip", "ends when the driver acknowledges the trip at standstill"),
+    "in_system_failure": ("the mode is System Failure", "ends at a power-up alone"),
+    "owes_trip": ("a trip is not acknowledged", "ends when the driver acknowledges the trip at standstill"),
+    "far_too_fast": ("the speed was above the limit by more than 10000 m/h, and the train has not stood since",
+                     "ends when the train stands"),
+    "rolled_too_far": ("the train rolled backward too far since it stood",
+                       "ends when the train stands, or a greater D_NVROLL comes into force"),
+    "asked_for_service": ("linking or a balise group asked for the service brake, and the train has not stood since",
+                          "ends when the train stands"),
+    "too_fast": ("the speed was above the limit by more than 5000 m/h, and not within it since",
+                 "ends when the speed is within the limit"),
+    "must_stand": ("the train moves where it must stand", "ends when the train stands, or in another mode"),
+    "owes_too_long": ("an acknowledgement has been owed for 5000 ms or longer",
+                      "ends when the driver acknowledges, a mode deletes it, or a further transition begins it anew")}
+"""Of each cause, in the order of the brake table, what it says and how it ends, in the words of `etcs_lab why`."""
+LIMIT_CAUSE = "limit_cause"
+"""The member that tells the kind of what decides the limit; others of the same beginning tell more of it."""
+REASONS = {"before_oldest_block": "what was kept before its power-up was overwritten",
+           "gap": "blocks or events are missing before",
+           "within_block": "no head tells what was kept before its power-up",
+           "behind_difference": "they follow a record that differs"}
+"""Why events can't be replayed."""
+OTHER_BLOCK = "its block isn't of the journal"
+DIFFERS = "the record differs from what the kernel answers"
+NO_REPLAY = "no replay was made"
 
 
-def causes_of(journal: Journal) -> Causes | None:
-    """The causes of each record that commands a brake; None where they aren't told."""
-    return None
+def held(line: Json) -> dict[str, int]:
+    """The causes of a line of `etcs_lab why` that hold, each with the first event behind which it has held."""
+    return {cause: line[cause] for cause in CAUSES if line.get(cause) is not None}
+
+
+def reasons_of(journal: Journal) -> list[str | None]:
+    """Of each record why its causes aren't known; None where the replay agrees."""
+    agreed: dict[int, str | None] = {}
+    for line in journal.replay:
+        verdict = line.get("replay")
+        if verdict in ("agrees", "not_replayed"):
+            reason = None if verdict == "agrees" else REASONS.get(line["reason"], line["reason"])
+            agreed.update(dict.fromkeys(range(line["first_event"], line["last_event"] + 1), reason))
+        elif verdict == "record_differs":
+            agreed[line["event"]] = DIFFERS
+    without = journal.why_refusal or NO_REPLAY
+    return [OTHER_BLOCK if record.get("source", "journal") != "journal" else agreed.get(record["event"], without)
+            for record in journal.records]
+
+
+@dataclass
+class Known:
+    """What is known of a record's causes."""
+
+    reason: str | None
+    """Why they aren't known."""
+    line: Json | None = None
+    """Its line of `etcs_lab why`, if it has one."""
+    held: dict[str, int] | None = None
+    """The causes of its brake that hold; None where they aren't told."""
+    limit: str | None = None
+    """The kind of what decides the limit; None where it isn't told."""
+
+
+def known(journal: Journal) -> list[Known]:
+    """What is known of each record."""
+    told = {line["event"]: line for line in journal.why}
+    is_complete = any(LIMIT_CAUSE in line for line in journal.why)
+    found: list[Known] = []
+    before = None
+    for record, reason in zip(journal.records, reasons_of(journal)):
+        one = Known(reason, told.get(record["event"]) if reason is None else None)
+        if one.line and one.line["brake"] != record["brake"]:
+            one.reason, one.line = DIFFERS, None
+        if one.reason is None:
+            latest = one.line or (before if is_complete and record["kind"] != "powerup" else None)
+            if latest:
+                one.held, one.limit = held(latest), latest.get(LIMIT_CAUSE)
+            before = latest
+        else:
+            before = None
+        found.append(one)
+    return found
+
+
+@dataclass
+class Held:
+    """A cause of a brake intervention."""
+
+    cause: str
+    since: int
+    """The first event behind which it has held."""
+    last: int
+    """The last event of which it is told that it holds."""
+    gone: int | None = None
+    """The first event behind that of which it is told that it doesn't hold."""
+
+    @property
+    def says(self) -> str:
+        """What it says."""
+        return CAUSES[self.cause][0]
+
+    @property
+    def ends(self) -> str:
+        """How it ends."""
+        return CAUSES[self.cause][1]
+
+    def text(self) -> str:
+        """Its name and the event since which it holds."""
+        return f"{self.cause} since {self.since}"
+
+
+def of_run(events: Iterable[int], told: Iterable[dict[str, int] | None]) -> list[Held]:
+    """The causes of a run of events, of some of which those that hold are told, in the order in which they began to hold.
+    One that ends and begins anew comes twice."""
+    found: list[Held] = []
+    for event, now in zip(events, told):
+        if now is None:
+            continue
+        for one in found:
+            if one.gone is None and now.get(one.cause) != one.since:
+                one.gone = event
+        holding = {one.cause: one for one in found if one.gone is None}
+        for cause, since in now.items():
+            if cause in holding:
+                holding[cause].last = event
+            else:
+                found.append(Held(cause, since, event))
+    return sorted(found, key=lambda one: one.since)
+
+
+def text(told: dict[str, int] | None) -> str | None:
+    """Causes as a column tells them: none is an empty text."""
+    return None if told is None else ", ".join(f"{cause} since {since}" for cause, since in told.items())
+
+
+def limit_text(line: Json) -> str:
+    """What decides the limit of a line, for people: its kind, its speed, its place and number where it has them, and its
+    sections."""
+    kind, speed, place, number, section = (
+        line.get(f"{LIMIT_CAUSE}{end}") for end in ("", "_speed_m_per_h", "_place_cm", "_number", "_section"))
+    if kind is None:
+        return ""
+    which = "" if number is None else f" {number}"
+    fast = "" if speed is None else f", {speed / 1000:g} km/h"
+    where = "" if place is None else f" at {place / 100:,.2f} m"
+    return f"{str(kind).replace('_', ' ')}{which}{fast}{where} ({section})"
+
+
+ROW = ("block", "event", "life", "brake", "cause", "since_event", "says", "ends")
+
+
+def rows(journal: Journal) -> list[Json]:
+    """A row for each cause that holds behind an event of which causes are told, with its words."""
+    return [{"block": record["block"], "event": record["event"], "life": record["life"], "brake": record["brake"], "cause": cause,
+             "since_event": since, "says": CAUSES[cause][0], "ends": CAUSES[cause][1]}
+            for record, one in zip(journal.records, known(journal)) for cause, since in (one.held or {}).items()]

@@ -14,16 +14,19 @@ from . import causes, tables
 from .program import DEVICE, REFUSED, Failed
 from .reading import Journal, Json
 
-VERSION = 1
+VERSION = 2
 """The `user_version` of the schema."""
 GREATEST = 2**62
 EVENT = (
     "block event life stretch kind time_ms mode level brake place_cm uncertainty_cm min_safe_front_cm max_safe_front_cm "
     "limit_m_per_h movement_cm reading_m_per_h speed_m_per_h word now_ms action refused identity running_number "
-    "chosen_level confirmed acknowledged length_cm maximum_m_per_h category deceleration_cm_per_s2 reaction_ms"
+    "chosen_level confirmed acknowledged length_cm maximum_m_per_h category deceleration_cm_per_s2 reaction_ms "
+    "causes_not_known limit_cause"
 ).split() + list(tables.SHOWS)
 SLOT = ("slot state block first_sector last_sector format life first_event last_event gate_is_own in_journal field record "
         "byte").split()
+WHY = ("brake limit_m_per_h speed_m_per_h backward_cm allowed_backward_cm limit_cause limit_cause_speed_m_per_h "
+       "limit_cause_place_cm limit_cause_number limit_cause_section").split()
 REPLAY = "replay life first_event last_event block reason field".split()
 HEADER = "Q_UPDOWN M_VERSION Q_MEDIA N_PIG N_TOTAL M_DUP M_MCOUNT NID_C NID_BG Q_LINK".split()
 
@@ -41,7 +44,9 @@ def open_database(path: str | Path) -> sqlite3.Connection:
         version = connection.execute("PRAGMA user_version").fetchone()[0]
         is_empty = connection.execute("SELECT COUNT(*) FROM sqlite_schema").fetchone()[0] == 0
         if is_empty:
-            connection.executescript("BEGIN;" + schema() + "COMMIT;")
+            connection.executescript("BEGIN;" + schema())
+            insert(connection, "cause_word", ["cause", "says", "ends"], ([name, *told] for name, told in causes.CAUSES.items()))
+            connection.execute("COMMIT")
         elif version != VERSION:
             raise Failed(f"{path}: is no database of journals of version {VERSION}", REFUSED)
     except sqlite3.Error as error:
@@ -93,7 +98,7 @@ def add_all(connection: sqlite3.Connection, journal: Journal, table: pd.DataFram
     insert(connection, "replay", ["image", "line", "verdict", *REPLAY[1:], "journal", "kernel"],
            ([image, number, *row] for number, row in enumerate(replay_rows(journal.replay))))
     add_events(connection, image, table)
-    add_causes(connection, image, journal)
+    add_causes(connection, image, table)
 
 
 def add_image(connection: sqlite3.Connection, journal: Journal) -> int:
@@ -113,6 +118,7 @@ def replay_rows(lines: list[Json]) -> Iterator[list[Any]]:
     for line in lines:
         verdict = line.get("replay", line.get("end"))
         told = [json.dumps(line[name]) if name in line else None for name in ("journal", "kernel")]
+        line = {"first_event": line.get("event"), "last_event": line.get("event"), **line}
         yield [verdict, *(line.get(name) for name in REPLAY[1:]), *told]
 
 
@@ -155,8 +161,14 @@ def packets_in(rows: list[tuple[int, int, str, Json]]) -> Iterator[tuple[int, in
             yield block, event, place, packet
 
 
-def add_causes(connection: sqlite3.Connection, image: int, journal: Journal) -> None:
-    """Adds the causes of brakes, where they are told."""
-    told = causes.causes_of(journal) or {}
-    insert(connection, "cause", ["image", "block", "event", "cause"],
-           ([image, block, event, cause] for (block, event), all_ in told.items() for cause in all_))
+def add_causes(connection: sqlite3.Connection, image: int, table: pd.DataFrame) -> None:
+    """Adds what is told of events, and the causes of their brakes."""
+    for name in ("why", "held"):
+        told = table[table[name].notna()]
+        rows = zip(plain(told["block"]), plain(told["event"]), told[name])
+        if name == "why":
+            insert(connection, "why", ["image", "block", "event", *WHY],
+                   ([image, block, event, *map(line.get, WHY)] for block, event, line in rows))
+        else:
+            insert(connection, "cause", ["image", "block", "event", "cause", "since_event"],
+                   ([image, block, event, *pair] for block, event, held in rows for pair in held.items()))

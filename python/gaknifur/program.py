@@ -5,6 +5,8 @@ which run the proved program or say that a run isn't of the proved build.
 """
 import functools
 import os
+import re
+import shutil
 import subprocess
 import sys
 import tempfile
@@ -35,14 +37,20 @@ def find(name: str = "etcs_lab") -> str:
     raise Failed(f"there is no {name} beside this package; {variable} may name it", DEVICE)
 
 
+def is_built(name: str) -> bool:
+    """Whether a program is there already. Where it isn't, its script compiles the sources at each call."""
+    if os.environ.get(f"GAKNIFUR_{name.upper()}"):
+        return True
+    return not subprocess.run([find(name), "--is-proved"], stdin=subprocess.DEVNULL, capture_output=True).returncode
+
+
 def built(name: str) -> Path:
     """The file of a program that is there already. A script that would compile the sources at each call is refused."""
+    if not is_built(name):
+        raise Failed(f"there is no proved {name} of these sources; ./{name} --prove makes it", REFUSED)
     if told := os.environ.get(f"GAKNIFUR_{name.upper()}"):
         return Path(told)
-    script = Path(find(name))
-    if subprocess.run([script, "--is-proved"], stdin=subprocess.DEVNULL, capture_output=True).returncode:
-        raise Failed(f"there is no proved {name} of these sources; ./{name} --prove makes it", REFUSED)
-    return script.parent / "crates" / name / "out" / name
+    return Path(find(name)).parent / "crates" / name / "out" / name
 
 
 def note_unproved(said: Sequence[str]) -> None:
@@ -53,16 +61,57 @@ def note_unproved(said: Sequence[str]) -> None:
             print(line, file=sys.stderr)
 
 
+prepared: dict[tuple[str, ...], tuple[int, list[str], list[str]]] = {}
+"""Of words of `etcs_lab` that it was run on beforehand, the status, the lines that it printed, and what it said."""
+CASE = re.compile(r"case=(\d+) run=ended status=(\d+) .*")
+
+
+def prepare(image: Path, runs: Sequence[Sequence[str]]) -> bool:
+    """Where `etcs_lab` would be compiled at each call, compiles it once and runs it on all these words; answers whether it
+    was so. A run that doesn't come to its end is left to a call of its own."""
+    if is_built("etcs_lab") or shutil.which("rt") is None:
+        return False
+    words = [(*one, "--", str(image.absolute())) for one in runs]
+    with tempfile.TemporaryDirectory() as room:
+        for number, one in enumerate(words, 1):
+            Path(room, f"{number}.args").write_text("".join(f"{word}\n" for word in one), encoding="utf-8")
+            Path(room, str(number)).touch()
+        done = subprocess.run(["rt", "try", "--cases", room], cwd=Path(find()).parent / "crates" / "etcs_lab", stdin=subprocess.DEVNULL,
+                              capture_output=True, text=True, encoding="utf-8", errors="replace")
+    printed: dict[str, list[str]] = {}
+    lines: list[str] = []
+    for line in done.stdout.splitlines():
+        if line.startswith("== "):
+            lines = printed.setdefault(line.removeprefix("== "), [])
+        else:
+            lines.append(line)
+    said: list[str] = []
+    for line in done.stderr.splitlines():
+        if line.startswith("etcs_lab: "):
+            said.append(line)
+        elif found := CASE.fullmatch(line):
+            prepared[words[int(found[1]) - 1]] = int(found[2]), printed.get(found[1], []), said
+        if line.startswith("case="):
+            said = []
+    note_unproved([f"etcs_lab: {UNPROVED}, which ./etcs_lab --prove makes"])
+    return True
+
+
 class Run:
     """A run of `etcs_lab` on an image: its lines as they come, and behind them its status and what it said."""
 
-    def __init__(self, words: Sequence[str], image: Path) -> None:
-        self.words = [find(), *words, "--", str(image.absolute())]
+    def __init__(self, words: Sequence[str], image: Path, *more: str) -> None:
+        self.image = str(image.absolute())
+        self.words = [find(), *words, "--", self.image, *more]
         self.status = -1
         self.said: list[str] = []
 
     def lines(self) -> Iterator[str]:
         """The lines of standard output."""
+        if found := prepared.pop(tuple(self.words[1:]), None):
+            self.status, printed, self.said = found
+            yield from printed
+            return
         with tempfile.TemporaryFile() as errors:
             try:
                 with subprocess.Popen(self.words, stdin=subprocess.DEVNULL, stdout=subprocess.PIPE, stderr=errors,
@@ -80,7 +129,7 @@ class Run:
         """The last line on standard error, without the program's name and the image."""
         if not self.said:
             return f"etcs_lab ended with status {self.status}"
-        return self.said[-1].removeprefix("etcs_lab: ").removeprefix(f"{self.words[-1]}: ")
+        return self.said[-1].removeprefix("etcs_lab: ").removeprefix(f"{self.image}: ")
 
     def failed(self, image: Path) -> Failed:
         """The error of a run that didn't do what was asked."""

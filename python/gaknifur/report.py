@@ -7,7 +7,7 @@ import jinja2
 import numpy as np
 import pandas as pd
 
-from . import chart, tables, words
+from . import causes, chart, tables, words
 from .chart import Picture
 from .extent import Extent
 from .reading import Journal, Json, Progress, silent
@@ -142,6 +142,12 @@ def top_of(table: pd.DataFrame, name: str) -> Json | None:
     return {"value": float(values[at]), "row": int(table.index[at]), "event": int(table["event"].iat[at])}
 
 
+def limit_text(table: pd.DataFrame, row: Any) -> str:
+    """What decides the limit at a row, where it is told."""
+    line = table["why"].at[row]
+    return causes.limit_text(line) if line else ""
+
+
 def environment() -> jinja2.Environment:
     """Templates that escape each text."""
     return jinja2.Environment(loader=jinja2.PackageLoader("gaknifur"), autoescape=True, trim_blocks=True,
@@ -158,6 +164,9 @@ def page(journal: Journal, extent: Extent = Extent(), progress: Progress = silen
     told = found.head(MOST_TOLD)
     chosen = farthest(found) if len(table) > SHORT else found.head(0)
     linked = {int(row) for row in [*told["first_row"], *chosen["first_row"]]}
+    told = told.assign(limit_text=[limit_text(table, row) for row in told["first_row"]])
+    linked |= {int(one["first_row"]) + number - int(one["first_event"]) for _, one in told.iterrows()
+               for cause in one["causes"] for number in (cause.since, cause.last, cause.gone) if number is not None}
     linked |= {top["row"] for top in (fastest, over) if top}
     shown = listed(table, linked)
     rows, anchors = set(shown.index), set[int]()
@@ -181,4 +190,4 @@ def page(journal: Journal, extent: Extent = Extent(), progress: Progress = silen
         fastest=fastest, over=over if over and over["value"] > 0 else None,
         way_m=float(table["movement_cm"].fillna(0).abs().sum()) / 100, modes=list(dict.fromkeys(table["mode"])),
         service=int((found["worst"] == "service").sum()), emergency=int((found["worst"] == "emergency").sum()),
-        causes_told=bool(table["causes"].notna().any()), words=words, pd=pd)
+        causes=causes, words=words, pd=pd)

@@ -83,7 +83,8 @@ CREATE TABLE block (
 ) STRICT, WITHOUT ROWID;
 
 -- Each record. Those of one stretch are of one life, and follow one another without a gap. speed_m_per_h is that of the
--- last reading of the stretch, 0 from a power-up on. An uncertainty beyond 2^62 cm is NULL.
+-- last reading of the stretch, 0 from a power-up on. An uncertainty beyond 2^62 cm is NULL. causes_not_known tells why
+-- the causes of its brake can't be told; NULL where the replay agrees. limit_cause is the kind of what decides the limit.
 CREATE TABLE event (
     image INTEGER NOT NULL,
     block INTEGER NOT NULL,
@@ -124,16 +125,46 @@ CREATE TABLE event (
     category INTEGER,
     deceleration_cm_per_s2 INTEGER,
     reaction_ms INTEGER,
+    causes_not_known TEXT,
+    limit_cause TEXT,
     PRIMARY KEY (image, block, event),
     FOREIGN KEY (image, block) REFERENCES block ON DELETE CASCADE
 ) STRICT, WITHOUT ROWID;
 
--- the causes of the brake that a record commands; empty as long as etcs_lab tells none
+-- The lines of `etcs_lab why`, of events of which the replay agrees: those at which brake, limit, a cause or the kind of
+-- what decides the limit is another one than before in their life. limit_cause_section has sections of SUBSET-026.
+CREATE TABLE why (
+    image INTEGER NOT NULL,
+    block INTEGER NOT NULL,
+    event INTEGER NOT NULL,
+    brake TEXT NOT NULL CHECK (brake IN ('none', 'service', 'emergency')),
+    limit_m_per_h INTEGER NOT NULL,
+    speed_m_per_h INTEGER NOT NULL,
+    backward_cm INTEGER NOT NULL,
+    allowed_backward_cm INTEGER NOT NULL,
+    limit_cause TEXT,
+    limit_cause_speed_m_per_h INTEGER,
+    limit_cause_place_cm INTEGER,
+    limit_cause_number INTEGER,
+    limit_cause_section TEXT,
+    PRIMARY KEY (image, block, event),
+    FOREIGN KEY (image, block, event) REFERENCES event ON DELETE CASCADE
+) STRICT, WITHOUT ROWID;
+
+-- what a cause says, and how it ends
+CREATE TABLE cause_word (
+    cause TEXT PRIMARY KEY,
+    says TEXT NOT NULL,
+    ends TEXT NOT NULL
+) STRICT, WITHOUT ROWID;
+
+-- the causes of the brake that hold behind an event, and the first event behind which each has held
 CREATE TABLE cause (
     image INTEGER NOT NULL,
     block INTEGER NOT NULL,
     event INTEGER NOT NULL,
-    cause TEXT NOT NULL,
+    cause TEXT NOT NULL REFERENCES cause_word,
+    since_event INTEGER NOT NULL,
     PRIMARY KEY (image, block, event, cause),
     FOREIGN KEY (image, block, event) REFERENCES event ON DELETE CASCADE
 ) STRICT, WITHOUT ROWID;
@@ -212,7 +243,8 @@ SELECT image, block, event, life, time_ms, place_cm, action, acknowledged, confi
 FROM step WHERE kind = 'driver';
 
 -- Each run of records that commands a brake: its first and its last one, and what the first one shows. `is_power_up`
--- tells that it began with a power-up, as each life does.
+-- tells that it began with a power-up, as each life does. `causes` has all causes that are told within it, each with the
+-- event since which it holds, or why they aren't known.
 CREATE VIEW brake_intervention AS
 WITH
     numbered AS (
@@ -224,15 +256,30 @@ WITH
             MAX(block) AS last_block, MAX(brake = 'emergency') AS has_emergency,
             MAX(speed_m_per_h - limit_m_per_h) / 1000.0 AS most_over_kmh
         FROM numbered GROUP BY image, intervention)
-SELECT extent.image, intervention, first.life, first_event, extent.last_event, extent.first_block, first.brake,
-    CASE WHEN has_emergency THEN 'emergency' ELSE 'service' END AS worst, first.kind, first.kind = 'powerup' AS is_power_up,
-    first.time_ms, last.next_ms AS until_ms, first.place_cm, last.next_cm AS until_cm, first.mode_before, first.mode,
-    first.speed_m_per_h / 1000.0 AS speed_kmh, first.limit_m_per_h / 1000.0 AS limit_kmh, most_over_kmh,
-    (SELECT group_concat(cause, ', ') FROM cause
-        WHERE (cause.image, cause.block, cause.event) = (extent.image, first_block, first_event)) AS causes
+SELECT extent.image, intervention, first.life, first_event, extent.last_event, extent.first_block, extent.last_block,
+    first.brake, CASE WHEN has_emergency THEN 'emergency' ELSE 'service' END AS worst, first.kind,
+    first.kind = 'powerup' AS is_power_up, first.time_ms, last.next_ms AS until_ms, first.place_cm,
+    last.next_cm AS until_cm, first.mode_before, first.mode, first.speed_m_per_h / 1000.0 AS speed_kmh,
+    first.limit_m_per_h / 1000.0 AS limit_kmh, most_over_kmh, first.limit_cause, first.causes_not_known,
+    COALESCE('not known: ' || first.causes_not_known, (
+        SELECT group_concat(cause || ' since ' || since_event, ', ') FROM (
+            SELECT DISTINCT cause, since_event FROM cause
+            WHERE cause.image = extent.image AND cause.block BETWEEN first_block AND extent.last_block
+                AND cause.event BETWEEN first_event AND extent.last_event
+            ORDER BY since_event, cause))) AS causes
 FROM extent
 JOIN step AS first ON (first.image, first.block, first.event) = (extent.image, extent.first_block, extent.first_event)
 JOIN step AS last ON (last.image, last.block, last.event) = (extent.image, extent.last_block, extent.last_event);
+
+-- Each cause of an intervention: since which event it holds, and the last event of which it is told that it holds.
+CREATE VIEW intervention_cause AS
+SELECT run.image, intervention, run.life, first_event, last_event, cause, since_event, MAX(cause.event) AS told_until_event,
+    says, ends
+FROM brake_intervention AS run
+JOIN cause ON cause.image = run.image AND cause.block BETWEEN first_block AND last_block
+    AND cause.event BETWEEN first_event AND last_event
+JOIN cause_word USING (cause)
+GROUP BY run.image, intervention, cause, since_event;
 
 -- Each run of records of a stretch whose speed is above the limit: from the first one to the record behind the last one
 -- (`until`, NULL where there is none).
@@ -253,4 +300,4 @@ FROM extent
 JOIN step AS first ON (first.image, first.block, first.event) = (extent.image, extent.first_block, extent.first_event)
 JOIN step AS last ON (last.image, last.block, last.event) = (extent.image, extent.last_block, extent.last_event);
 
-PRAGMA user_version = 1;
+PRAGMA user_version = 2;

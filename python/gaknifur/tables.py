@@ -11,7 +11,9 @@ Columns of `frame`, in their order:
   stretch (0 from a power-up on), and by how much it is above the limit behind the event.
 - `word`, `now_ms`, `action` and the driver's entries; `refused`: whether the action can't have been accepted.
 - `nid_c`, `nid_bg`, `n_pig`, `n_total`, `m_dup`, `m_mcount`, `q_link`, `packets`, `fault`, `telegram`, `decoded`.
-- `causes`: why the brake was commanded; missing where it isn't told (module `causes`).
+- `causes`: the causes of its brake, and the event since which each holds; `causes_not_known`: why they aren't known;
+  `limit_cause`: the kind of what decides the limit; `held`: the causes as a dictionary; `why`: the line of `etcs_lab why`
+  (module `causes`). They are missing where they aren't told.
 """
 from collections.abc import Callable, Sequence
 from operator import itemgetter
@@ -75,13 +77,11 @@ def decoded_columns(decoded: Sequence[Json | None]) -> dict[str, Any]:
     return columns
 
 
-def cause_column(journal: Journal) -> list[str | None]:
-    """The causes of each record's brake; missing where they aren't told."""
-    told = causes.causes_of(journal)
-    if told is None:
-        return [None] * len(journal.records)
-    return [", ".join(told[key]) if (key := (record["block"], record["event"])) in told else None
-            for record in journal.records]
+def cause_columns(journal: Journal) -> dict[str, list[Any]]:
+    """The causes of each record's brake, why they aren't known, what decides its limit, and the line that tells them."""
+    told = causes.known(journal)
+    return {"causes": [causes.text(one.held) for one in told], "causes_not_known": [one.reason for one in told],
+            "limit_cause": [one.limit for one in told], "held": [one.held for one in told], "why": [one.line for one in told]}
 
 
 def by_kind(records: Sequence[Json]) -> dict[str, list[Any]]:
@@ -124,7 +124,7 @@ def frame(journal: Journal) -> pd.DataFrame:
     columns |= {name: numbers(some[name]) for name in NUMBERS}
     columns |= {name: some[name] for name in TEXTS}
     columns |= decoded_columns(some["decoded"])
-    columns |= {"decoded": some["decoded"], "causes": cause_column(journal)}
+    columns |= {"decoded": some["decoded"], **cause_columns(journal)}
     table = pd.DataFrame(columns)
     table.insert(table.columns.get_loc("action") + 1, "refused", actions.refused(table))
     return table
@@ -139,7 +139,7 @@ def interventions(table: pd.DataFrame) -> pd.DataFrame:
     """One row for each run of records of a stretch that command a brake, in their order.
 
     `first_row` and `last_row` are rows of the table. `steps` are the commands in their order, as "service emergency".
-    `goes_on` tells that the last record told of its stretch still commands it.
+    `goes_on` tells that the last record told of its stretch still commands it. `causes` is a list of `causes.Held`.
     """
     brake, stretch = table["brake"].to_numpy(object), table["stretch"].to_numpy()
     commanded = brake != "none"
@@ -155,7 +155,7 @@ def interventions(table: pd.DataFrame) -> pd.DataFrame:
 
 INTERVENTION = ("first_row", "last_row", "life", "first_block", "first_event", "last_event", "brake", "worst", "steps",
                 "kind", "time_ms", "until_ms", "place_cm", "until_cm", "mode_before", "mode", "speed_kmh", "limit_kmh",
-                "most_over_kmh", "most_over_row", "goes_on", "causes")
+                "most_over_kmh", "most_over_row", "goes_on", "causes", "causes_not_known")
 
 
 def intervention(table: pd.DataFrame, brake: Any, first: int, last: int) -> Json:
@@ -178,7 +178,7 @@ def intervention(table: pd.DataFrame, brake: Any, first: int, last: int) -> Json
         "most_over_kmh": None if farthest is None else over[farthest],
         "most_over_row": None if farthest is None else first + farthest,
         "goes_on": last + 1 == len(table) or stretch.iat[last + 1] != stretch.iat[last],
-        "causes": value("causes", first)}
+        "causes": causes.of_run(table["event"].iloc[first:last + 1], table["held"].iloc[first:last + 1]), "causes_not_known": value("causes_not_known", first)}
 
 
 def is_notable(table: pd.DataFrame) -> Any:
@@ -192,6 +192,7 @@ def is_notable(table: pd.DataFrame) -> Any:
 
 
 def csv_text(table: pd.DataFrame) -> str:
-    """The table as comma-separated values, without the column `decoded`; nothing stands where nothing is known."""
-    text: str = table.drop(columns="decoded").to_csv(index=False, lineterminator="\n")
+    """The table as comma-separated values, without the columns `decoded`, `held` and `why`; nothing stands where nothing is
+    known."""
+    text: str = table.drop(columns=["decoded", "held", "why"]).to_csv(index=False, lineterminator="\n")
     return text

@@ -16,10 +16,6 @@ PLAIN_ACTIONS = {"start": "starts", "choose_shunting": "chooses Shunting", "leav
 NO_CATEGORY = 15
 SCALES_CM = {0: 10, 1: 100, 2: 1000}
 """Q_SCALE of SUBSET-026, 7.5.1: what one unit of a distance is."""
-REASONS = {"before_oldest_block": "what was kept before its power-up was overwritten",
-           "gap": "blocks or events are missing before",
-           "within_block": "no head tells what was kept before its power-up",
-           "behind_difference": "they follow a record that differs"}
 
 
 def kmh(metres_per_hour: float | None) -> str:

@@ -2,6 +2,7 @@
 from pathlib import Path
 from typing import Any
 
+from gaknifur.causes import CAUSES
 from gaknifur.reading import Journal, Json
 
 AUTHORITY: Json = {
@@ -29,6 +30,12 @@ def reading(event: int, speed: int, **told: Any) -> Json:
 def action(event: int, what: str, **told: Any) -> Json:
     """An action of the driver."""
     return record(event, "driver", action=what, **told)
+
+
+def line(event: int, brake: str, **since: int) -> Json:
+    """What `etcs_lab why` tells of an event: the causes, each since an event."""
+    return {"event": event, "brake": brake, "limit_m_per_h": 40_000, "speed_m_per_h": 0, "backward_cm": 0,
+            "allowed_backward_cm": 200, **dict.fromkeys(CAUSES), **since}
 
 
 def journal(*records: Json, **told: Any) -> Journal:

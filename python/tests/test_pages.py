@@ -7,13 +7,23 @@ from pathlib import Path
 
 import gaknifur.tables as tables
 from gaknifur import chart, database, report, words
+from gaknifur.causes import CAUSES
 from gaknifur.extent import Extent, bound
 from gaknifur.program import Failed
+from gaknifur.reading import Journal
 
-from .samples import AUTHORITY, action, journal, reading, record
+from .samples import AUTHORITY, action, journal, line, reading, record
 
 RUN = (record(0, "powerup", mode="SB", brake="emergency"), record(1, "telegram", telegram="90", decoded=AUTHORITY),
        reading(2, 30_000), reading(3, 55_000, brake="emergency", indications=["overspeed"]), reading(4, 0, brake="none"))
+
+
+def told() -> Journal:
+    """The journal of RUN, with the causes of its brakes."""
+    found = journal(*RUN)
+    found.replay = [{"replay": "agrees", "life": 1, "first_event": 0, "last_event": 4}]
+    found.why = [line(0, "emergency", not_revalidated=0), line(1, "none"), line(3, "emergency", far_too_fast=3), line(4, "none")]
+    return found
 
 
 class Pages(unittest.TestCase):
@@ -45,7 +55,13 @@ class Pages(unittest.TestCase):
         self.assertIn("Lost: block 1, with events 0 to 7", page)
 
     def test_causes_are_not_made_up(self) -> None:
-        self.assertIn("<td>not told</td>", report.page(journal(*RUN)))
+        page = report.page(journal(*RUN))
+        self.assertEqual(page.count("<b>Cause not known:</b> no replay was made."), 2)
+
+    def test_causes_are_told(self) -> None:
+        page = report.page(told())
+        self.assertNotIn("not known", page)
+        self.assertIn(f"<li>{CAUSES['far_too_fast'][0]}: since <a href=\"#r3\">event 3</a>; ends when the train stands</li>", page)
 
 
 class Charts(unittest.TestCase):
@@ -116,6 +132,17 @@ class Databases(unittest.TestCase):
         self.assertEqual(found, [(0, 0, 1), (3, 3, 0)])
         found = self.connection.execute("SELECT first_event, until_event, most_over_kmh FROM above_limit").fetchall()
         self.assertEqual(found, [(3, 4, 15.0)])
+
+    def test_causes(self) -> None:
+        journals = told(), journal(*RUN)
+        journals[1].examination["image"]["sha256"] = "cd" * 32
+        for one in journals:
+            database.add(self.connection, one, tables.frame(one))
+        found = self.connection.execute("SELECT image, causes FROM brake_intervention ORDER BY image, first_event").fetchall()
+        self.assertEqual(found, [(1, "not_revalidated since 0"), (1, "far_too_fast since 3"), *[(2, "not known: no replay was made")] * 2])
+        found = self.connection.execute("SELECT cause, since_event, told_until_event, ends FROM intervention_cause").fetchall()
+        self.assertEqual(found, [("not_revalidated", 0, 0, CAUSES["not_revalidated"][1]), ("far_too_fast", 3, 3, "ends when the train stands")])
+        self.assertEqual(self.count("why"), 4)
 
     def test_another_database_is_refused(self) -> None:
         other = self.path.with_name("other.db")

@@ -1,15 +1,18 @@
 """Reading what a stand-in of `etcs_lab` prints."""
 import hashlib
+import io
 import json
 import os
 import tempfile
 import unittest
+from contextlib import redirect_stderr
 from pathlib import Path
+from unittest.mock import patch
 
-from gaknifur.program import Failed
+from gaknifur.program import Failed, Run, prepare
 from gaknifur.reading import Journal, read
 
-from .samples import journal, record
+from .samples import journal, line, record
 
 STAND_IN = """#!/bin/sh
 cat "$0.$1"
@@ -39,6 +42,8 @@ class Reading(unittest.TestCase):
         self.says("events", [{"image": {}}, record(0), {"unreadable": {"block": 4}}, {"end": "done"}])
         self.says("replay", [{"life": 1, "first_event": 0, "last_event": 0, "replay": "agrees"}, {"end": "nothing_differs"}])
 
+        self.says("why", [line(0, "none")])
+
     def says(self, word: str, lines: list[object], status: int = 0, said: str = "") -> None:
         """What the stand-in prints."""
         for end, text in ((f".{word}", "".join(json.dumps(line) + "\n" for line in lines)), (f".{word}.said", said),
@@ -46,7 +51,7 @@ class Reading(unittest.TestCase):
             self.program.with_name(self.program.name + end).write_text(text)
 
     def read(self) -> Journal:
-        return read(self.image, replay=True)
+        return read(self.image, replay=True, why=True)
 
     def test_all(self) -> None:
         found = self.read()
@@ -65,6 +70,16 @@ class Reading(unittest.TestCase):
         self.says("events", [], 1, f"etcs_lab: {self.image}: can't be told: nothing can be written\n")
         self.assertEqual(self.read().refusal, "can't be told: nothing can be written")
 
+    def test_causes(self) -> None:
+        self.says("events", [{"image": {}}, record(0, brake="service"), record(1, brake="service"), {"end": "done"}])
+        self.says("replay", [{"life": 1, "first_event": 0, "last_event": 1, "replay": "agrees"}, {"end": "nothing_differs"}])
+        # the stand-in tells the same again where it is asked for the last event of the commands
+        self.assertEqual(self.read().why, [line(0, "none")] * 2)
+
+    def test_causes_that_are_refused(self) -> None:
+        self.says("why", [], 1, f"etcs_lab: {self.image}: there is no memory\n")
+        self.assertEqual((self.read().why, self.read().why_refusal), ([], "there is no memory"))
+
     def test_no_image(self) -> None:
         self.says("examine", [{}], 1, f"etcs_lab: {self.image}: is not a formatted image\n")
         self.assertRaisesRegex(Failed, "image: is not a formatted image$", self.read)
@@ -76,6 +91,40 @@ class Reading(unittest.TestCase):
     def test_no_json(self) -> None:
         self.program.with_name("etcs_lab.events").write_text("event 1\n")
         self.assertRaisesRegex(Failed, "no JSON", self.read)
+
+
+class Unproved(unittest.TestCase):
+    """A script that would compile the sources at each call."""
+
+    def test_is_compiled_once(self) -> None:
+        with tempfile.TemporaryDirectory() as folder:
+            top = Path(folder)
+            (top / "crates" / "etcs_lab").mkdir(parents=True)
+            for name, text in (("etcs_lab", "#!/bin/sh\nexit 1\n"), ("rt", RT)):
+                (top / name).write_text(text)
+                (top / name).chmod(0o755)
+            image = top / "image"
+            with patch.dict(os.environ, {"PATH": f"{top}:{os.environ['PATH']}"}), patch("gaknifur.program.find", lambda: str(top / "etcs_lab")), \
+                    patch("gaknifur.program.is_built", lambda name: False), redirect_stderr(io.StringIO()):
+                self.assertTrue(prepare(image, [["examine", "--json"], ["events"], ["replay"]]))
+                first, second = Run(["examine", "--json"], image), Run(["events"], image)
+                self.assertEqual((list(first.lines()), first.status), (["{1}"], 0))
+                self.assertEqual((list(second.lines()), second.status, second.last_said()), (["{2}", "{3}"], 4, "lost"))
+                # the third did not come to its end: it is run by itself
+                third = Run(["replay"], image)
+                self.assertEqual((list(third.lines()), third.status), ([], 1))
+
+
+RT = """#!/bin/sh
+[ "$1 $2" = "try --cases" ] && [ "$(sed -n 3p "$3/1.args")" != "" ] || exit 9
+printf '== 1\n{1}\n== 2\n{2}\n{3}\n== 3\n{4}\n'
+cat 1>&2 <<'END'
+case=1 run=ended status=0 runners=1 proved=no
+etcs_lab: lost
+case=2 run=ended status=4 runners=1 proved=no
+case=3 run=no-answer proved=no
+END
+"""
 
 
 if __name__ == "__main__":

@@ -1,6 +1,7 @@
 #!/usr/bin/env python3
-"""Images of journals, and what `etcs_lab why` is to print of them. By hand, for each cause, a life and the words that its line has; and beside
-the plain program (tests/plain/why.py) all lines of the examples, of pseudo-random lives, of all formats, and of damaged journals.
+"""Images of journals, and what `etcs_lab why` is to print of them. By hand, for each cause of a brake and each kind of what decides a limit, a
+life and the words that its line has; beside the plain program (tests/plain/why.py) all lines of the examples, of pseudo-random lives, of all
+formats, and of damaged journals; and tracks from which what decides the limit is taken away: then the limit is a greater one.
 
     tests/lab/why_rows.py PROGRAM..     runs the program on each image, and compares
 """
@@ -14,12 +15,18 @@ from pathlib import Path
 HERE = Path(__file__).resolve().parent
 sys.path[:0] = [str(HERE), str(HERE.parents[1] / "tests/plain"), str(HERE.parents[1] / "tests/hostile")]
 from journal import COLD  # noqa: E402
+from limit_reasons import KINDS  # noqa: E402
+from limit_tracks import BY_HAND as LIMITS_BY_HAND, forces, inputs_of, tracks, unanswered, without  # noqa: E402
 from onboard import Unit  # noqa: E402
-from random_lists import SUPERVISION, Numbers, event  # noqa: E402
+from random_lists import SUPERVISION, TRACK, Numbers, event  # noqa: E402
 from replay_rows import blocks_of, bytes_of, damaged, examples, formats, formatted, image_of, on, parts, random_lives  # noqa: E402
-from why import WORDS, reasoned  # noqa: E402
+from why import WORDS, told_of, walked  # noqa: E402
 
 LEAST = 400  # so many comparisons at least
+LEAST_LINES = 2_000  # so many lines with what decides a limit
+TRACKS, LEAST_RAISED = 560, 500  # so many tracks, and limits that are greater without what decided them
+# 2^40 cm would take more events than an image holds; the two modes that supervise by train data are entered with valid ones, and keep them.
+UNMET = ("in_system_failure", "no_train_data")
 RANDOM = 150  # images of pseudo-random lives, beside those of the replays
 
 SR = ("enter-identity A 1", "choose-level 1", "enter-train-data 20000 160000 70 0 15", "start")
@@ -31,7 +38,8 @@ BY_HAND = (
     ("too fast", (*SR, "move 100 45001", "move 100 40001"), 6,
      "the speed was above the limit by more than 5000 m/h, and not within it since (since event 5, ends when the speed is within the limit)"),
     ("within the limit again", (*SR, "move 100 45001", "move 100 40000"), 6,
-     "event 6: brake none, limit 40000 m/h, speed 40000 m/h, rolled backward 0 cm of 200 cm\n"),
+     "event 6: brake none, limit 40000 m/h, speed 40000 m/h, rolled backward 0 cm of 200 cm; the limit is the national value "
+     "V_NVSTFF: 40000 m/h (3.11.7, 3.18.2)\n"),
     ("rolled backward", (*SR, "move -150 1000", "move 20 1000", "move -51 1000"), 7,
      "rolled backward 201 cm of 200 cm; the train rolled backward too far since it stood (since event 7, ends when the train stands, or a "
      "greater D_NVROLL comes into force)"),
@@ -48,17 +56,20 @@ IN_EXAMPLES = (
      "(since event 10, ends when the driver acknowledges the trip at standstill); the speed was above the limit by more than 10000 m/h, and the "
      "train has not stood since (since event 8, ends when the train stands)"),
     ("trip", 11, "rolled backward 0 cm of 200 cm; the mode is Trip (since event 10, ends when the driver acknowledges the trip at standstill); a "
-     "trip is not acknowledged (since event 10, ends when the driver acknowledges the trip at standstill)\n"),
+     "trip is not acknowledged (since event 10, ends when the driver acknowledges the trip at standstill); no train may run in this mode: 0 m/h "
+     "(4.4)\n"),
     ("linking_fault", 11, "; linking or a balise group asked for the service brake, and the train has not stood since (since event 11, ends when "
-     "the train stands)\n"),
+     "the train stands); the limit is the static speed over the train: 120000 m/h at 42250 cm (3.11.3)\n"),
     ("on_sight", 12, "; an acknowledgement has been owed for 5000 ms or longer (since event 12, ends when the driver acknowledges, a mode "
-     "deletes it, or a further transition begins it anew)\n"),
+     "deletes it, or a further transition begins it anew); the limit is that of a mode area over the train: 30000 m/h at 40000 cm (3.12.4)\n"),
 )
 
 
 def by_hand():
     for name, inputs, asked, says in BY_HAND:
         yield name, image_of(64, blocks_of([("unknown", inputs)], 3)), asked, says
+    for name, inputs, says in LIMITS_BY_HAND:
+        yield name, image_of(64, blocks_of([("unknown", inputs)], 3)), len(inputs), says
     made = dict(examples())
     for name, asked, says in IN_EXAMPLES:
         yield f"{name}, event {asked}", made[f"example {name}"], asked, says
@@ -67,11 +78,12 @@ def by_hand():
 def more_lives():
     numbers = Numbers(9_311)
     for number in range(RANDOM):
+        telegrams = TRACK + SUPERVISION[:2] if number % 3 == 0 else SUPERVISION
         disk = on(bytes_of(formatted(64)))
         for _ in range(1 + numbers.below(3)):
             unit = Unit(disk, numbers.one_of(COLD))
             for _ in range(20 + numbers.below(60)):
-                unit.accept(*parts(event(numbers, SUPERVISION, unit.known.life())))
+                unit.accept(*parts(event(numbers, telegrams, unit.known.life())))
                 if len(unit.pending) == 8 or numbers.below(5) == 0:
                     unit.flush()
             unit.flush()
@@ -83,45 +95,98 @@ def images():
         yield from made()
 
 
-def main(program):
-    tried = differ = 0
-    met = Counter()
-    with tempfile.TemporaryDirectory() as folder:
-        image = Path(folder) / "image"
+class Tried:
+    """The program, an image for it, and what came of its runs."""
 
-        def run(*words):
-            done = subprocess.run([*program, *words], stdin=subprocess.DEVNULL, capture_output=True, timeout=60)
-            return done.returncode, done.stdout.decode()
+    def __init__(self, program, image):
+        self.program, self.image = program, image
+        self.tried = self.differ = self.lines = 0
+        self.met = Counter()
 
+    def run(self, data, *words):
+        """Status and text; `@` stands for the image."""
+        self.image.write_bytes(data)
+        words = [str(self.image) if word == "@" else word for word in words]
+        done = subprocess.run([*self.program, *words], stdin=subprocess.DEVNULL, capture_output=True, timeout=60)
+        return done.returncode, done.stdout.decode()
+
+    def tell(self, text):
+        self.differ += 1
+        if self.differ <= 10:
+            print(text)
+
+    def by_hand(self):
         for name, data, asked, says in by_hand():
-            met.update(word for word, sentence, _ in WORDS.values() if sentence in says)
-            image.write_bytes(data)
-            status, text = run(str(image), str(asked))
-            tried += 1
+            self.met.update(word for word, sentence, _ in WORDS.values() if sentence in says)
+            self.met.update(kind for kind, (sentence, _) in KINDS.items() if f"; {sentence}: " in says)
+            status, text = self.run(data, "@", str(asked))
+            self.tried += 1
             if status or says not in text:
-                differ += 1
-                print(f"by hand: {name}: status {status}, {text}--- wanted in it\n{says}")
+                self.tell(f"by hand: {name}: status {status}, {text}--- wanted in it\n{says}")
+
+    def beside_the_plain(self):
         for number, (name, data) in enumerate(images()):
-            image.write_bytes(data)
+            events = walked(data)
             for is_json, only in ((False, None), (True, None), (True, number % 40)):
-                wanted = reasoned(data, is_json, only)
-                found = run(*(["--json"] if is_json else []), str(image), *([] if only is None else [str(only)]))
-                tried += 1
+                wanted = told_of(events, is_json, only)
+                found = self.run(data, *(["--json"] if is_json else []), "@", *([] if only is None else [str(only)]))
+                self.tried += 1
                 if found != wanted:
-                    differ += 1
-                    if differ <= 10:
-                        print(f"{name}: status {found[0]}, wanted {wanted[0]}\n{found[1]}--- wanted\n{wanted[1]}")
-            for line in reasoned(data, True)[1].splitlines():
-                told = json.loads(line)
-                met.update(word for word, *_ in WORDS.values() if told[word] is not None)
-    print(f"why: {tried} comparisons, {differ} differ")
-    for word, *_ in WORDS.values():
-        if not met[word] and word != "in_system_failure":  # 2^40 cm would take more events than an image holds
-            print(f"no image has the cause {word}")
-            differ += 1
-    if tried < LEAST:
-        print(f"too few comparisons: {LEAST} are wanted")
-    return 1 if differ or tried < LEAST else 0
+                    self.tell(f"{name}: status {found[0]}, wanted {wanted[0]}\n{found[1]}--- wanted\n{wanted[1]}")
+                if is_json and only is None:
+                    self.count(wanted[1])
+
+    def count(self, text):
+        for line in text.splitlines():
+            told = json.loads(line)
+            self.lines += 1
+            self.met.update(word for word, *_ in WORDS.values() if told[word] is not None)
+            self.met[told["limit_cause"]] += 1
+
+    def decided(self, inputs):
+        """What decides the limit behind the last event of a life, or None where the program tells nothing."""
+        status, text = self.run(unanswered(inputs), "--json", "@", str(len(inputs)))
+        return json.loads(text) if status == 0 else None
+
+    def taken_away(self):
+        """How many limits are greater without what decided them. Left out are those at which the plain program says that another thing alone
+        gives no greater speed, and tracks of which what decides isn't one thing."""
+        counted = Counter()
+        for track in tracks(TRACKS):
+            inputs = inputs_of(track)
+            told = self.decided(inputs)
+            other = told and without(track, told)
+            after = other and self.decided(inputs_of(other))
+            if told is None or (other is not None and after is None):
+                self.tell(f"{track}: nothing is told")
+            elif other is None:
+                counted["of more than one thing"] += 1
+            elif after["limit_m_per_h"] > told["limit_m_per_h"]:
+                counted["greater"] += 1
+            elif sum(speed <= told["limit_m_per_h"] for speed in forces(inputs)) > 1:
+                counted["of equal force"] += 1
+            else:
+                self.tell(f"{track}: without {told['limit_cause']} the limit is no greater")
+        return counted
+
+    def judged(self):
+        self.by_hand()
+        self.beside_the_plain()
+        counted = self.taken_away()
+        print(f"why: {self.tried} comparisons, {self.lines} lines with what decides a limit, {self.differ} differ")
+        print(f"tracks without what decides: limit greater {counted['greater']}, another of equal force {counted['of equal force']}, left out "
+              f"{counted['of more than one thing']}")
+        for word in [*(word for word, *_ in WORDS.values()), *KINDS]:
+            if not self.met[word] and word not in UNMET:
+                self.tell(f"no image has the cause {word}")
+        if self.tried < LEAST or self.lines < LEAST_LINES or counted["greater"] < LEAST_RAISED:
+            self.tell(f"too few: {LEAST} comparisons, {LEAST_LINES} lines and {LEAST_RAISED} greater limits are wanted")
+        return 1 if self.differ else 0
+
+
+def main(program):
+    with tempfile.TemporaryDirectory() as folder:
+        return Tried(program, Path(folder) / "image").judged()
 
 
 if __name__ == "__main__":

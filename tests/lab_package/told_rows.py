@@ -5,12 +5,17 @@
 
 - Tables and the database agree, record by record, with the plain reader of tests/events over pseudo-random images in
   all three formats, whole and damaged, with and without other blocks; so do interventions and runs above the limit.
+- Over images of lives that are run, whole, damaged and in all formats, the causes of tables, database and interventions are
+  those of the plain causes (tests/plain/why.py), and they are not known just where the plain replay doesn't agree.
 - Whatever text an image holds stands escaped on the page.
 """
 import csv
 import html.parser
 import io
+import itertools
+import json
 import os
+import re
 import sqlite3
 import sys
 import tempfile
@@ -18,13 +23,21 @@ from collections import Counter
 from pathlib import Path
 
 TOP = Path(__file__).resolve().parents[2]
-sys.path[:0] = [str(TOP / "python"), str(TOP / "tests/events"), str(TOP / "tests/plain")]
+sys.path[:0] = [str(TOP / "python"), str(TOP / "tests/events"), str(TOP / "tests/plain"), str(TOP / "tests/lab")]
 
-from gaknifur import database, program, reading, report, tables  # noqa: E402
+from gaknifur import causes, database, program, reading, report, tables  # noqa: E402
+from gaknifur.program import Run  # noqa: E402
+from replay import replayed  # noqa: E402
+from replay_rows import damaged, examples, formats, random_lives  # noqa: E402
+from why import WORDS, reasoned  # noqa: E402
+from why_rows import more_lives  # noqa: E402
 from images import MARKUP, blocks, random_images, slots_of  # noqa: E402
 from told import SIGNS, Refused, told  # noqa: E402
 
 IMAGES, SEED = 200, 44
+LIVES = 25
+"""Images of each kind of lives."""
+LEAST_KNOWN, LEAST_UNKNOWN = 150, 20
 LEAST_RECORDS, LEAST_INTERVENTIONS, LEAST_TELEGRAMS = 4_000, 500, 300
 PLAIN = ("block event life kind time_ms mode level brake place_cm uncertainty_cm min_safe_front_cm max_safe_front_cm limit_m_per_h movement_cm "
          "now_ms word action identity running_number chosen_level confirmed acknowledged length_cm maximum_m_per_h category "
@@ -196,6 +209,107 @@ def images_agree(room, images, seed):
     return count.end()
 
 
+def lives():
+    """Images of lives that are run, some of them damaged."""
+    for made in (examples, formats, damaged, random_lives, more_lives):
+        yield from itertools.islice(made(), LIVES)
+
+
+def plain_reasons(image):
+    """Of each event that the plain replay can't follow, or to which it answers otherwise, why not."""
+    found = {}
+    for line in map(json.loads, replayed(image, True)[1].splitlines()):
+        if line.get("replay") == "not_replayed":
+            found.update(dict.fromkeys(range(line["first_event"], line["last_event"] + 1), causes.REASONS[line["reason"]]))
+        elif line.get("replay") == "record_differs":
+            found[line["event"]] = causes.DIFFERS
+    return found
+
+
+class Each:
+    """Any event."""
+
+    def __eq__(self, other):
+        return True
+
+
+def plain_causes(image):
+    """Of each event whose life can be run again its causes and the events since which they hold."""
+    told = {line["event"]: line for line in map(json.loads, reasoned(image, True, Each())[1].splitlines())}
+    return {event: {word: line[word] for word, *_ in WORDS.values() if line[word] is not None} for event, line in told.items()}
+
+
+def wanted_causes(records, reasons, found):
+    """First event, causes and reason of each run of commands."""
+    runs = []
+    for first, last in wanted_runs(records, lambda record, _: record["brake"] != "none"):
+        of_run = {pair for event in range(first, last + 1) if event in found and event not in reasons for pair in found[event].items()}
+        runs.append((first, sorted(of_run), reasons.get(first)))
+    return runs
+
+
+def causes_agree(room):
+    """Compares the causes of all images of lives."""
+    count, path = Count(), Path(room) / "image"
+    known = unknown = 0
+    met = set()
+    connection = database.open_database(Path(room) / "causes.db")
+    for name, image in lives():
+        path.write_bytes(image)
+        try:
+            records, _ = plain_records(image, False)
+        except Refused:
+            continue
+        journal = reading.read(path, replay=True, why=True)
+        reasons, found = plain_reasons(image), plain_causes(image)
+        table = tables.frame(journal)
+        count.compare(f"{name}, reasons", dict(table.loc[table["causes_not_known"].notna(), ["event", "causes_not_known"]].values), reasons)
+        got = {event: held for event, held in zip(table["event"], table["held"]) if held is not None}
+        count.compare(f"{name}, causes", got, {event: found[event] for event in got if event not in reasons})
+        # each change is told, and the last event of each command
+        lines = {json.loads(line)["event"] for line in reasoned(image, True)[1].splitlines()} - set(reasons)
+        ends = {last for _, last in wanted_runs(records, lambda record, _: record["brake"] != "none")} - set(reasons)
+        count.compare(f"{name}, events that are told", lines | ends <= set(got), True)
+        runs = tables.interventions(table)
+        wanted = wanted_causes(records, reasons, got)
+        count.compare(f"{name}, causes of interventions", [
+            (first, sorted((one.cause, one.since) for one in held), reason)
+            for first, held, reason in zip(runs["first_event"], runs["causes"], runs["causes_not_known"])], wanted)
+        if database.add(connection, journal, table):
+            in_database(count, name, connection, journal, got, wanted)
+        words_agree(count, name, path)
+        known += sum(reason is None for _, _, reason in wanted)
+        unknown += sum(reason is not None for _, _, reason in wanted)
+        met |= {cause for _, held, _ in wanted for cause, _ in held}
+    connection.close()
+    print(f"lab: causes of {known} interventions, and {unknown} of which they aren't known: {count.compared} comparisons, {count.differ} differ")
+    few = known < LEAST_KNOWN or unknown < LEAST_UNKNOWN or len(met) < len(causes.CAUSES) - 1  # no image leads to System Failure
+    if few:
+        print(f"too little was tried; causes that came: {sorted(met)}")
+    return 1 if count.differ or few else 0
+
+
+def in_database(count, name, connection, journal, got, wanted):
+    """The same in the database."""
+    image = connection.execute("SELECT image FROM image WHERE sha256 = ?", [journal.sha256]).fetchone()[0]
+    rows = {}
+    for event, cause, since in connection.execute(
+            "SELECT event, cause, since_event FROM cause WHERE image = ?", [image]):
+        rows.setdefault(event, {})[cause] = since
+    count.compare(f"{name}, causes in the database", rows, {event: held for event, held in got.items() if held})
+    text = [(first, reason and f"not known: {reason}" or ", ".join(f"{cause} since {since}" for cause, since in sorted(
+        held, key=lambda pair: (pair[1], pair[0])))) for first, held, reason in wanted]
+    count.compare(f"{name}, the view of interventions", connection.execute(
+        "SELECT first_event, causes FROM brake_intervention WHERE image = ? ORDER BY first_event", [image]).fetchall(), text)
+
+
+def words_agree(count, name, path):
+    """What the program says of causes to people is what the package says."""
+    line = re.compile(r"; ([^()]*) \(since event \d+, ([^()]*)\)")
+    said = {pair for text in Run(["why"], path).lines() for pair in line.findall(text)}
+    count.compare(f"{name}, words", said <= set(causes.CAUSES.values()), True)
+
+
 class Page(html.parser.HTMLParser):
     """Which elements and attributes a page has, and its text."""
 
@@ -259,7 +373,7 @@ def main(words):
     images, seed = (*(int(word) for word in words[1:3]), *(IMAGES, SEED)[len(words) - 1:])
     assert program.find() == os.environ["GAKNIFUR_ETCS_LAB"]
     with tempfile.TemporaryDirectory() as room:
-        return 1 if images_agree(room, images, seed) + markup_stays_text(room) else 0
+        return 1 if images_agree(room, images, seed) + causes_agree(room) + markup_stays_text(room) else 0
 
 
 if __name__ == "__main__":

@@ -15,7 +15,7 @@ from dataclasses import dataclass
 import rows
 from check_rows import ROWS
 from output import moments_of, rolled, since, stood
-from speed import Situation
+from speed import Situation, Target
 from track import pieces
 
 Before = namedtuple("Before", "mode speed end trip")
@@ -63,7 +63,7 @@ def passes_each_target(life, before, line):
     if life.mode() not in AUTHORITY_MODES or life.train() is None:
         return None
     situation = life.situation()
-    targets = list(situation.targets())
+    targets = situation.targets()
     course = Course(situation, life.now.output.limit)
     return all(course.square_at(target.place) <= target.speed ** 2 for target in targets) if targets else None
 
@@ -128,9 +128,77 @@ def nearer_fits_no_more(life, before, line):
         return None
     here, ahead = life.situation(), life.situation()
     ahead.stretch = ahead.stretch.__class__(ahead.stretch.min_rear, ahead.stretch.min_front, ahead.stretch.max_front + 100)
-    targets = list(here.targets())
+    targets = here.targets()
     speeds = [life.now.output.limit + step for step in (-5_000, 0, 1, 5_000)]
     return all(here.fits(speed, target) for target in targets for speed in speeds if ahead.fits(speed, target))
+
+
+def lower_starts(situation):
+    """The centimetres ahead whose least target is lower than that of the centimetre before, if that lies ahead too and has
+    any."""
+    for place in situation.places_ahead():
+        here = [target.speed for target in situation.targets_at(place)]
+        is_ahead = place - 1 > situation.stretch.max_front
+        before = [target.speed for target in situation.targets_at(place - 1)] if is_ahead else []
+        if here and (not before or min(here) < min(before)):
+            yield Target(place, min(here))
+
+
+def is_supervised(life):
+    return life.mode() in AUTHORITY_MODES and life.train() is not None and life.end() is not None
+
+
+def permits(life, starts):
+    """These targets ahead, and no others, permit what was answered."""
+    situation = life.situation()
+    situation.targets = lambda: starts
+    return situation.permitted() == life.now.output.limit
+
+
+def starts_decide(life, before, line):
+    """The starts of lower speeds do for all that lies ahead."""
+    return permits(life, list(lower_starts(life.situation()))) if is_supervised(life) else None
+
+
+def starts_by_kind_decide(life, before, line):
+    """So do those of lower static speeds, and the first centimetre ahead of each restriction and of each area."""
+    if not is_supervised(life):
+        return None
+    situation, alone = life.situation(), life.situation()
+    alone.restrictions, alone.areas = [], []
+    ahead = situation.stretch.max_front + 1
+    first = [(max(ahead, situation.mark, r.start), r.end, r.speed) for r in situation.restrictions]
+    first += [(max(ahead, a.start), a.end, situation.area_speed(a)) for a in situation.areas]
+    begins = [Target(place, speed) for place, end, speed in first if end is None or place < end]
+    return permits(life, list(lower_starts(alone)) + begins)
+
+
+def release_rule(life, before, line):
+    """A speed is up to the limit where the train may run at it: tried at the speeds that count, and beside them."""
+    if not is_supervised(life):
+        return None
+    situation, end, limit = life.situation(), life.situation().end, life.now.output.limit
+    starts = list(lower_starts(situation))
+
+    def may_run(speed):
+        return (speed <= situation.limit() and all(situation.fits(speed, start) for start in starts)
+                and (situation.fits(speed, Target(end.place, end.speed))
+                     or (speed <= end.release and situation.fits(speed, Target(end.location, 0)))))
+
+    near = {speed + step for speed in (limit, end.release, end.speed, situation.limit()) for step in (-1, 0, 1)}
+    return all(may_run(speed) == (speed <= limit) for speed in near if speed >= 0)
+
+
+def release_by_case(life, before, line):
+    """The greater of the limit to the end and of the release speed, while the train can stop from it at the supervised
+    location; nearer, of the limits to both."""
+    if not is_supervised(life):
+        return None
+    situation, end, limit = life.situation(), life.situation().end, life.now.output.limit
+    to_end = situation.greatest(situation.limit(), situation.targets() + [Target(end.place, end.speed)])
+    to_location = situation.greatest(situation.limit(), situation.targets() + [Target(end.location, 0)])
+    wanted = max(to_end, end.release) if end.release <= to_location else max(to_end, to_location)
+    return limit == wanted and limit <= situation.limit()
 
 
 def passes_by_at_most(life, before, line):
@@ -155,7 +223,7 @@ def passes_by_at_most(life, before, line):
 
 LAWS = (runs_by_valid_data, has_an_authority, outstanding_trip_brakes, halts_at_location, passes_each_target, passes_by_at_most,
         trip_is_left, failure_stays, stand_by_is_left, no_brake_only_where, end_never_moves_forward, more_restrictions_lower,
-        nearer_fits_no_more)
+        nearer_fits_no_more, starts_decide, starts_by_kind_decide, release_rule, release_by_case)
 # No row comes to an overrun, and so none to System Failure.
 NEVER_MET = ("failure_stays",)
 

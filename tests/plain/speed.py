@@ -72,24 +72,31 @@ class Situation:
 
     # ---- what lies ahead: above the greatest front
 
-    def targets(self):
-        """Each centimetre ahead with a static speed, restriction or area is a target of that speed, each one ahead and before the
-        end without a static speed is one of speed 0. Of equal speeds the first centimetre asks for the most."""
+    def places_ahead(self):
+        """The centimetres ahead at which a target may ask for another speed than just before."""
         first = self.stretch.max_front + 1
         starts = self.speeds.starts() | restriction_starts(self.restrictions) | {self.mark}
         starts |= {place for area in self.areas for place in (area.start, area.end) if place is not None}
-        for place in pieces(starts, first, max(starts | {first})):
-            static = self.speeds.at(place)
-            if static:
-                yield Target(place, speed_for(static, self.category))
-            elif self.end and place < self.end.place:
-                yield Target(place, 0)
-            for restriction in self.restrictions:
-                if covers(restriction, place, self.mark):
-                    yield Target(place, restriction.speed)
-            for area in self.areas:
-                if areas.covers(area, place):
-                    yield Target(place, self.area_speed(area))
+        return pieces(starts, first, max(starts | {first}))
+
+    def targets_at(self, place):
+        """A centimetre ahead with a static speed, restriction or area is a target of that speed, one before the end
+        without a static speed is one of speed 0."""
+        static = self.speeds.at(place)
+        if static:
+            yield Target(place, speed_for(static, self.category))
+        elif self.end and place < self.end.place:
+            yield Target(place, 0)
+        for restriction in self.restrictions:
+            if covers(restriction, place, self.mark):
+                yield Target(place, restriction.speed)
+        for area in self.areas:
+            if areas.covers(area, place):
+                yield Target(place, self.area_speed(area))
+
+    def targets(self):
+        """Of equal speeds the first centimetre asks for the most."""
+        return [target for place in self.places_ahead() for target in self.targets_at(place)]
 
     def deceleration_at(self, place):
         """In cm/s2, on the gradient there and rounded down; 0 where no gradient is stored."""
@@ -128,7 +135,7 @@ class Situation:
     def permitted(self):
         """The release rule: the greater of the speed for the end, and of the lesser of the release speed and the speed for
         a stop at the supervised location."""
-        limit, targets = self.limit(), list(self.targets())
+        limit, targets = self.limit(), self.targets()
         if not self.end:
             return self.greatest(limit, targets)
         to_end = self.greatest(limit, targets + [Target(self.end.place, self.end.speed)])

@@ -1,6 +1,7 @@
 #!/usr/bin/env python3
-"""Tells why the plain unit brakes: each life of an image is run again from its power-up on, behind what the head before it tells, and each
-event whose brake or limit is another one than before in its life has a line with the causes.
+"""Tells why the plain unit brakes, and what decides its limit: each life of an image is run again from its power-up on, behind what the
+head before it tells, and each event has a line at which brake, limit, a cause of the brake or the kind of the limit's cause is another
+one than before in its life.
 
     tests/plain/why.py [--json] IMAGE [EVENT]     prints what `etcs_lab why` prints, and ends with its status
 """
@@ -13,6 +14,7 @@ from disk import SECTOR_BYTES
 from items import Kept
 from journal import COLD, SLOT_SECTORS, kept_in, read_block, slots_in
 from life import Life
+from limit_reasons import KINDS, limit_cause
 from replay import input_of, run_of
 
 WHOLE, REFUSED, UNKNOWN = 0, 1, 4
@@ -54,29 +56,43 @@ class Reasons:
         answer = self.life.now.output
         held = output.causes(self.life, self.life.mode(), answer.limit)
         self.since = {wanted: self.since.get(wanted, number) for (_, wanted), holds in held.items() if holds}
+        self.decides = limit_cause(self.life)
 
     def is_new(self):
-        """Whether brake or limit is another one than at the event before."""
-        answer = self.life.now.output
-        before, self.shown = self.shown, (answer.brake, answer.limit)
+        """Whether brake, limit, the causes or the kind of the limit's is another one than at the event before."""
+        answer, decides = self.life.now.output, self.decides
+        before, self.shown = self.shown, (answer.brake, answer.limit, dict(self.since), decides.kind, decides.number)
         return self.shown != before
 
-    def line(self, number, is_json):
-        life, answer = self.life, self.life.now.output
-        backward, allowed = output.rolled(output.moments_of(life, answer.limit)), life.national.in_force.values.roll
-        if is_json:
-            members = {"event": number, "brake": answer.brake, "limit_m_per_h": answer.limit, "speed_m_per_h": life.speed(),
-                       "backward_cm": backward, "allowed_backward_cm": allowed}
-            members |= {word: self.since.get(wanted) for wanted, (word, _, _) in WORDS.items()}
-            return json.dumps(members, separators=(",", ":"))
-        causes = [f"; {says} (since event {self.since[wanted]}, {ends})" for wanted, (_, says, ends) in WORDS.items() if wanted in self.since]
-        return (f"event {number}: brake {answer.brake}, limit {answer.limit} m/h, speed {life.speed()} m/h, "
-                f"rolled backward {backward} cm of {allowed} cm" + "".join(causes))
+    def numbers(self):
+        life = self.life
+        backward = output.rolled(output.moments_of(life, life.now.output.limit))
+        return life.now.output, life.speed(), backward, life.national.in_force.values.roll
+
+    def members(self, number):
+        (answer, speed, backward, allowed), decides = self.numbers(), self.decides
+        return {
+            "event": number, "brake": answer.brake, "limit_m_per_h": answer.limit, "speed_m_per_h": speed, "backward_cm": backward,
+            "allowed_backward_cm": allowed, **{word: self.since.get(wanted) for wanted, (word, _, _) in WORDS.items()},
+            "limit_cause": decides.kind, "limit_cause_speed_m_per_h": decides.speed, "limit_cause_place_cm": decides.place,
+            "limit_cause_number": decides.number, "limit_cause_section": KINDS[decides.kind][1],
+        }
+
+    def line(self, number):
+        (answer, speed, backward, allowed), decides = self.numbers(), self.decides
+        causes = [f"; {why} (since event {self.since[wanted]}, {ends})" for wanted, (_, why, ends) in WORDS.items() if wanted in self.since]
+        says, sections = KINDS[decides.kind]
+        place = "" if decides.place is None else f" at {decides.place} cm"
+        named = "" if decides.number is None else f", number {decides.number}"
+        return (f"event {number}: brake {answer.brake}, limit {answer.limit} m/h, speed {speed} m/h, rolled backward {backward} cm of "
+                f"{allowed} cm" + "".join(causes) + f"; {says}: {decides.speed} m/h{place}{named} ({sections})")
 
 
 class Walk:
-    def __init__(self, is_json, only):
-        self.is_json, self.only, self.lines, self.told, self.kept = is_json, only, [], None, None
+    """Of each event whose life is known its number, whether it has a line of its own, and what the line says in both forms."""
+
+    def __init__(self):
+        self.events, self.told, self.kept = [], None, None
 
     def record(self, block, at):
         record = block["records"][at]
@@ -89,8 +105,9 @@ class Walk:
             self.told = Reasons(Life(kept, COLD[event[1]]), number) if kept else None
         elif self.told:
             self.told.take(event, number)
-        if self.told and (self.told.is_new() if self.only is None else number == self.only):
-            self.lines.append(self.told.line(number, self.is_json))
+        if self.told:
+            members = json.dumps(self.told.members(number), separators=(",", ":"))
+            self.events.append((number, self.told.is_new(), self.told.line(number), members))
 
     def block(self, number, data):
         block = read_block(data)
@@ -104,21 +121,29 @@ class Walk:
         self.kept = kept_in(block)
 
 
-def reasoned(data, is_json=False, only=None):
-    """Status and text."""
+def walked(data):
+    """The events of an image; None where it is refused."""
     slots = slots_in(data[:SECTOR_BYTES]) if len(data) >= SECTOR_BYTES else None
     if slots is None or len(data) // SECTOR_BYTES != 1 + SLOT_SECTORS * slots:
-        return REFUSED, ""
-    walk = Walk(is_json, only)
+        return None
+    walk = Walk()
     for number in run_of(data, slots):
         at = SECTOR_BYTES * (1 + SLOT_SECTORS * (number % slots))
         walk.block(number, data[at:at + SECTOR_BYTES * SLOT_SECTORS])
-    return (WHOLE if walk.lines or only is None else UNKNOWN), "".join(line + "\n" for line in walk.lines)
+    return walk.events
+
+
+def told_of(events, is_json, only=None):
+    """Status and text."""
+    if events is None:
+        return REFUSED, ""
+    lines = [members if is_json else line for number, is_new, line, members in events if (is_new if only is None else number == only)]
+    return (WHOLE if lines or only is None else UNKNOWN), "".join(line + "\n" for line in lines)
 
 
 def main(words):
     is_json, words = "--json" in words, [word for word in words if word != "--json"]
-    status, said = reasoned(Path(words[0]).read_bytes(), is_json, int(words[1]) if words[1:] else None)
+    status, said = told_of(walked(Path(words[0]).read_bytes()), is_json, int(words[1]) if words[1:] else None)
     print(said, end="")
     return status
 

@@ -10,37 +10,42 @@ use std::io;
 use std::io::Write;
 use std::rt::Files;
 
-fn with_words<'a>(
-    alloc: Global,
-    name: &'a str,
-    words: &[&'a str],
-) -> Result<Command<'a>, AllocError> {
-    let mut command = Command::new(alloc, name).disable_help_flag(true);
-    for word in words {
-        command = command.arg(Arg::new(alloc, *word).required(true))?;
-    }
-    Ok(command)
+fn decode_words<'a>(alloc: Global) -> Result<Command<'a>, AllocError> {
+    Command::new(alloc, "decode")
+        .disable_help_flag(true)
+        .arg(Arg::new(alloc, "HEX").required(true))
 }
 
-fn with_subcommand<'a>(
-    alloc: Global,
-    command: Command<'a>,
-    name: &'a str,
-    words: &[&'a str],
-) -> Result<Command<'a>, AllocError> {
-    command.subcommand(with_words(alloc, name, words)?)
+fn format_words<'a>(alloc: Global) -> Result<Command<'a>, AllocError> {
+    Command::new(alloc, "format")
+        .disable_help_flag(true)
+        .arg(Arg::new(alloc, "IMAGE").required(true))?
+        .arg(Arg::new(alloc, "BLOCKS").required(true))
+}
+
+fn run_words<'a>(alloc: Global) -> Result<Command<'a>, AllocError> {
+    Command::new(alloc, "run")
+        .disable_help_flag(true)
+        .arg(Arg::new(alloc, "SCENARIO").required(true))?
+        .arg(Arg::new(alloc, "IMAGE").required(true))
+}
+
+fn journal_words<'a>(alloc: Global) -> Result<Command<'a>, AllocError> {
+    Command::new(alloc, "journal")
+        .disable_help_flag(true)
+        .arg(Arg::new(alloc, "IMAGE").required(true))
 }
 
 fn command<'a>(alloc: Global) -> Result<Command<'a>, AllocError> {
-    let command = Command::new(alloc, "etcs")
+    Command::new(alloc, "etcs")
         .no_binary_name(true)
         .disable_help_flag(true)
         .disable_help_subcommand(true)
-        .subcommand_required(true);
-    let command = with_subcommand(alloc, command, "decode", &["HEX"])?;
-    let command = with_subcommand(alloc, command, "format", &["IMAGE", "BLOCKS"])?;
-    let command = with_subcommand(alloc, command, "run", &["SCENARIO", "IMAGE"])?;
-    with_subcommand(alloc, command, "journal", &["IMAGE"])
+        .subcommand_required(true)
+        .subcommand(decode_words(alloc)?)?
+        .subcommand(format_words(alloc)?)?
+        .subcommand(run_words(alloc)?)?
+        .subcommand(journal_words(alloc)?)
 }
 
 fn parsed<'a>(alloc: Global, words: &'a [&'a str]) -> Result<ArgMatches<'a>, Error> {

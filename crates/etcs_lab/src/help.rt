@@ -12,8 +12,9 @@ carries, how one is written, and what is wrong in a scenario.
   etcs_lab replay [--json] IMAGE     runs each life through the kernel again, and tells whether the journal is what
                                      this kernel answers, or the first record that differs
   etcs_lab why [--json] IMAGE [EVENT]
-                                     tells of each event whose brake or limit is another one than before, or of this
-                                     one, which causes of its brake hold, since which event, and how each ends
+                                     tells of each event at which brake, limit or a cause is another one than before,
+                                     or of this one, which causes of its brake hold, since which event, how each ends,
+                                     and what decides its limit
   etcs_lab decode [--json] HEX       tells what the digits of a telegram carry, as etcs decode does, or as JSON
   etcs_lab telegram FILE             writes the digits of the telegram that a file tells in that JSON; - is standard
                                      input; packet, bits and each L_PACKET may be left out

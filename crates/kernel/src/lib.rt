@@ -8,6 +8,7 @@ mod commanding;
 mod counts;
 mod keeping;
 mod laws;
+mod limiting;
 mod output;
 mod parts;
 mod position;

@@ -1,6 +1,6 @@
 -- The lines of what a power-up would keep (this project's profile). Lengths and distances are centimetres, speeds metres
 -- per hour, times milliseconds.
-use Rattle.std.specs.Prelude.{ℕ, ◌++◌, ◌==◌, Bool, true, false, if◌then◌else◌, List, [], ◌∷◌, flat_map, codes, decimal, Option, Some, None}
+use Rattle.std.specs.Prelude.{ℕ, ◌++◌, Bool, true, false, List, [], ◌∷◌, flat_map, codes, decimal, Option, Some, None}
 use Rattle.std.specs.Fmt.{signed_decimal}
 use Rattle.driver.specs.Limits.{Train}
 use Rattle.driver.specs.declared.datum.Datum.{Datum}
@@ -10,22 +10,19 @@ use Rattle.events.specs.declared.kept.Kept.{Kept}
 use Rattle.journal.specs.declared.opening.Found.{Found}
 use Rattle.mode_table.specs.declared.level.TrainLevel.{TrainLevel}
 use Rattle.mode_table.specs.declared.level.TrainLevel.TheVariants.{Level0, Level1}
-use Rattle.pieces.specs.Pieces.{text_in, joined}
+use Rattle.pieces.specs.Pieces.{text_in, joined, escaped}
 use Rattle.pieces.specs.declared.piece.Form.{Form}
-use Rattle.pieces.specs.declared.piece.Form.TheVariants.{People, Json}
-use Rattle.lab_lines.specs.NationalLines.{national_text}
+use Rattle.lab_lines.specs.NationalLines.{modes_text, speeds_text, ranges_text, countries_text}
 
--- a printable character; in JSON a quotation mark and a backslash behind a backslash
-unfoldable pub escaped : Form → ℕ → List ℕ
-escaped People byte = byte ∷ []
-escaped Json byte = if byte == 34 then codes "\\\"" else if byte == 92 then codes "\\\\" else byte ∷ []
+-- characters, and the quotation mark behind them
+abbrev pub quoted_text : Form → List ℕ → List ℕ
+quoted_text form text = flat_map (escaped form) text ++ joined (text_in form (codes "\"\n") (codes "\"") ∷ [])
 
 -- an identity between what stands before and behind it
 abbrev pub identity_text : Form → Option (List ℕ) → List ℕ
-identity_text form None = joined (text_in form (codes "kept identity none\n") (codes ",\"kept\":{\"identity\":null") ∷ [])
+identity_text form None = joined (text_in form (codes "kept identity none\n") (codes "\"identity\":null") ∷ [])
 identity_text form (Some text) =
-    joined (text_in form (codes "kept identity \"") (codes ",\"kept\":{\"identity\":\"") ∷ []) ++ flat_map (escaped form) text
-    ++ joined (text_in form (codes "\"\n") (codes "\"") ∷ [])
+    joined (text_in form (codes "kept identity \"") (codes "\"identity\":\"") ∷ []) ++ quoted_text form text
 
 abbrev pub running_text : Form → Option ℕ → List ℕ
 running_text form None = joined (text_in form (codes "kept running number none\n") (codes ",\"running_number\":null") ∷ [])
@@ -75,18 +72,25 @@ abbrev pub trip_text : Form → Bool → List ℕ
 trip_text form true = joined (text_in form (codes "kept trip outstanding\n") (codes ",\"trip_outstanding\":true}") ∷ [])
 trip_text form false = joined (text_in form (codes "kept no trip outstanding\n") (codes ",\"trip_outstanding\":false}") ∷ [])
 
+-- running number, train data, level, position and national values
+unfoldable pub values_text : Form → Kept → List ℕ
+values_text form k =
+    running_text form k.running_number ++ train_text form k.train_data ++ level_text form k.level ++ position_text form k.position
+    ++ modes_text form k.national.values ++ speeds_text form k.national.values ++ ranges_text form k.national.values
+
 abbrev pub entered_text : Form → Kept → List ℕ
-entered_text form k = identity_text form k.identity ++ running_text form k.running_number ++ train_text form k.train_data
+entered_text form k = identity_text form k.identity ++ values_text form k
 
--- the national values, and the outstanding trip, which ends the object
-abbrev pub last_text : Form → Kept → List ℕ
-last_text form k = national_text form k.national ++ trip_text form k.trip_outstanding
+-- the items that are kept: for people a line each, as JSON members of an object
+unfoldable pub items_text : Form → Kept → List ℕ
+items_text form k = entered_text form k ++ countries_text form k.national.countries
 
-abbrev pub known_text : Form → Kept → List ℕ
-known_text form k = level_text form k.level ++ position_text form k.position ++ last_text form k
+abbrev pub begun_text : Form → Kept → List ℕ
+begun_text form k = joined (text_in form (codes "") (codes ",\"kept\":{") ∷ []) ++ items_text form k
 
+-- the items, and the outstanding trip, which ends the object
 abbrev pub kept_text : Form → Kept → List ℕ
-kept_text form k = entered_text form k ++ known_text form k
+kept_text form k = begun_text form k ++ trip_text form k.trip_outstanding
 
 abbrev pub found_text : Form → Option Found → List ℕ
 found_text form None = joined (text_in form (codes "") (codes ",\"kept\":null") ∷ [])

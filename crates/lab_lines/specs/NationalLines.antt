@@ -1,7 +1,6 @@
 -- The lines of the national values that a power-up would keep (this project's profile). Speeds are metres per hour,
 -- distances centimetres, times milliseconds.
 use Rattle.std.specs.Prelude.{ℕ, ◌++◌, List, [], ◌∷◌, flat_map, codes, decimal, Option, Some, None}
-use Rattle.national.specs.Values.{ValuesFor}
 use Rattle.national.specs.declared.values.Values.{Values}
 use Rattle.pieces.specs.Pieces.{text_in, joined}
 use Rattle.pieces.specs.declared.piece.Form.{Form}
@@ -39,14 +38,12 @@ ranges_text form v = joined (
 abbrev pub next_country : Form → ℕ → List ℕ
 next_country form country = joined (text_in form (codes " ") (codes ",") ∷ decimal country ∷ [])
 
+-- further countries, and the end of the list
+abbrev pub last_countries : Form → List ℕ → List ℕ
+last_countries form countries = flat_map (next_country form) countries ++ joined (text_in form (codes "\n") (codes "]") ∷ [])
+
 -- the countries that the values are for
 unfoldable pub countries_text : Form → List ℕ → List ℕ
-countries_text form [] = joined (text_in form (codes " none") (codes "") ∷ [])
-countries_text form (first ∷ rest) = joined (text_in form (codes " ") (codes "") ∷ decimal first ∷ []) ++ flat_map (next_country form) rest
-
-unfoldable pub values_text : Form → Values → List ℕ
-values_text form v = modes_text form v ++ speeds_text form v ++ ranges_text form v
-
-unfoldable pub national_text : Form → ValuesFor → List ℕ
-national_text form national =
-    values_text form national.values ++ countries_text form national.countries ++ joined (text_in form (codes "\n") (codes "]") ∷ [])
+countries_text form [] = joined (text_in form (codes " none\n") (codes "]") ∷ [])
+countries_text form (first ∷ rest) =
+    joined (text_in form (codes " ") (codes "") ∷ decimal first ∷ []) ++ last_countries form rest

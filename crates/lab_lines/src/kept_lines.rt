@@ -1,80 +1,99 @@
 //! The lines of what a power-up would keep.
-ghost use Rattle.std.specs.Prelude.{◌≡◌, flat_map, OnOk};
+ghost use Rattle.std.specs.Prelude.{◌≡◌, Some, OnOk};
 ghost use Rattle.std.specs.Io.KnownBytes.{Appends};
-ghost use Rattle.lab_lines.specs.KeptLines.{escaped, identity_text, entered_text, last_text, known_text, kept_text, found_text};
+ghost use Rattle.lab_lines.specs.KeptLines.{quoted_text, identity_text, values_text, entered_text, items_text, begun_text, kept_text, found_text};
 
 use crate::kept_values::{
     level_pieces, position_pieces, running_pieces, train_pieces, trip_pieces,
 };
-use crate::national_lines::write_national;
+use crate::national_lines::{modes_pieces, ranges_pieces, speeds_pieces, write_countries};
+use driver::DriverIdentity;
 use events::Kept;
 use journal::Found;
-use pieces::{Form, Piece, write_pieces};
+use pieces::{Form, Piece, write_characters, write_parts, write_pieces};
 use std::io;
 use std::io::Write;
 
-// A character of an identity, as JSON wants it.
-#[tactic(auto, unfolding(crate::specs::KeptLines::escaped))]
-fn write_character<W: Write>(form: Form, byte: u8, out: &mut W) -> io::Result<()>
-    ensures { OnOk result (Appends (W.contents out.old) (W.contents out.new) (escaped form byte)) }
+// Characters, and the quotation mark behind them.
+fn write_quoted<W: Write>(form: Form, bytes: &[u8], out: &mut W) -> io::Result<()>
+    ensures { OnOk result (Appends (W.contents out.old) (W.contents out.new) (quoted_text form bytes.now)) }
 {
-    match (form, byte) {
-        (Form::Json, b'"') => out.write_all(b"\\\""),
-        (Form::Json, b'\\') => out.write_all(b"\\\\"),
-        _ => out.write_all(&[byte]),
-    }
-}
-
-fn write_characters<W: Write>(form: Form, bytes: &[u8], out: &mut W) -> io::Result<()>
-    ensures { OnOk result (Appends (W.contents out.old) (W.contents out.new) (flat_map (escaped form) bytes.now)) }
-{
-    for byte in bytes {
-        write_character(form, *byte, out)?;
-    }
-    Ok(())
-}
-
-fn write_identity<W: Write>(form: Form, kept: &Kept, out: &mut W) -> io::Result<()>
-    ensures { OnOk result (Appends (W.contents out.old) (W.contents out.new) (identity_text form kept.now.identity)) }
-{
-    let Some(identity) = &kept.identity else {
-        let none = Piece::Text("kept identity none\n", ",\"kept\":{\"identity\":null");
-        return write_pieces(form, &[none], out);
-    };
-    let front = Piece::Text("kept identity \"", ",\"kept\":{\"identity\":\"");
-    write_pieces(form, &[front], out)?;
-    write_characters(form, identity.bytes(), out)?;
+    write_characters(form, bytes, out)?;
     write_pieces(form, &[Piece::Text("\"\n", "\"")], out)
+}
+
+fn write_known_identity<W: Write>(form: Form, bytes: &[u8], out: &mut W) -> io::Result<()>
+    ensures { OnOk result (Appends (W.contents out.old) (W.contents out.new) (identity_text form (Some bytes.now))) }
+{
+    let front = Piece::Text("kept identity \"", "\"identity\":\"");
+    write_pieces(form, &[front], out)?;
+    write_quoted(form, bytes, out)
+}
+
+fn write_identity<W: Write>(
+    form: Form,
+    identity: &Option<DriverIdentity>,
+    out: &mut W,
+) -> io::Result<()>
+    ensures { OnOk result (Appends (W.contents out.old) (W.contents out.new) (identity_text form identity.now)) }
+{
+    let none = Piece::Text("kept identity none\n", "\"identity\":null");
+    match identity {
+        Some(identity) => write_known_identity(form, identity.bytes(), out),
+        None => write_pieces(form, &[none], out),
+    }
+}
+
+// What stands between the identity and the countries.
+fn write_values<W: Write>(form: Form, kept: &Kept, out: &mut W) -> io::Result<()>
+    ensures { OnOk result (Appends (W.contents out.old) (W.contents out.new) (values_text form kept.now)) }
+{
+    let running = running_pieces(kept.running_number);
+    let train = train_pieces(kept.train_data);
+    let level = level_pieces(kept.level);
+    let position = position_pieces(kept.position);
+    let national = kept.national.values();
+    let modes = modes_pieces(national);
+    let speeds = speeds_pieces(national);
+    let ranges = ranges_pieces(national);
+    write_parts(
+        form,
+        &[
+            &running, &train, &level, &position, &modes, &speeds, &ranges,
+        ],
+        out,
+    )
 }
 
 fn write_entered<W: Write>(form: Form, kept: &Kept, out: &mut W) -> io::Result<()>
     ensures { OnOk result (Appends (W.contents out.old) (W.contents out.new) (entered_text form kept.now)) }
 {
-    write_identity(form, kept, out)?;
-    write_pieces(form, &running_pieces(kept.running_number), out)?;
-    write_pieces(form, &train_pieces(kept.train_data), out)
+    write_identity(form, &kept.identity, out)?;
+    write_values(form, kept, out)
 }
 
-fn write_last<W: Write>(form: Form, kept: &Kept, out: &mut W) -> io::Result<()>
-    ensures { OnOk result (Appends (W.contents out.old) (W.contents out.new) (last_text form kept.now)) }
+/// Writes the items that are kept: a line each for people, members of an object as JSON. The counts and the outstanding
+/// trip are not among them. The error is that of a write.
+#[tactic(auto, unfolding(crate::specs::KeptLines::items_text))]
+pub fn write_kept_items<W: Write>(form: Form, kept: &Kept, out: &mut W) -> io::Result<()>
+    ensures { OnOk result (Appends (W.contents out.old) (W.contents out.new) (items_text form kept.now)) }
 {
-    write_national(form, &kept.national, out)?;
-    write_pieces(form, &trip_pieces(kept.trip_outstanding), out)
+    write_entered(form, kept, out)?;
+    write_countries(form, kept.national.countries(), out)
 }
 
-fn write_known<W: Write>(form: Form, kept: &Kept, out: &mut W) -> io::Result<()>
-    ensures { OnOk result (Appends (W.contents out.old) (W.contents out.new) (known_text form kept.now)) }
+fn write_begun<W: Write>(form: Form, kept: &Kept, out: &mut W) -> io::Result<()>
+    ensures { OnOk result (Appends (W.contents out.old) (W.contents out.new) (begun_text form kept.now)) }
 {
-    write_pieces(form, &level_pieces(kept.level), out)?;
-    write_pieces(form, &position_pieces(kept.position), out)?;
-    write_last(form, kept, out)
+    write_pieces(form, &[Piece::Text("", ",\"kept\":{")], out)?;
+    write_kept_items(form, kept, out)
 }
 
 fn write_kept<W: Write>(form: Form, kept: &Kept, out: &mut W) -> io::Result<()>
     ensures { OnOk result (Appends (W.contents out.old) (W.contents out.new) (kept_text form kept.now)) }
 {
-    write_entered(form, kept, out)?;
-    write_known(form, kept, out)
+    write_begun(form, kept, out)?;
+    write_pieces(form, &trip_pieces(kept.trip_outstanding), out)
 }
 
 /// Writes what a power-up would keep, if there is a block that it finds. The error is that of a write.

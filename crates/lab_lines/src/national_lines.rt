@@ -3,9 +3,9 @@ ghost use Rattle.std.specs.Prelude.{◌≡◌, decimal, flat_map, OnOk};
 ghost use Rattle.std.specs.Io.KnownBytes.{Appends};
 ghost use Rattle.pieces.specs.Pieces.{text_of, texts};
 ghost use Rattle.pieces.specs.declared.piece.Form.{Form as a_form};
-ghost use Rattle.lab_lines.specs.NationalLines.{open_text, modes_text, speeds_text, ranges_text, next_country, countries_text, values_text, national_text};
+ghost use Rattle.lab_lines.specs.NationalLines.{open_text, modes_text, speeds_text, ranges_text, next_country, last_countries, countries_text};
 
-use national::{CountryValues, OverrideDuration, StaffResponsibleDistance, Values};
+use national::{OverrideDuration, StaffResponsibleDistance, Values};
 use pieces::{Form, Piece, write_pieces};
 use std::io;
 use std::io::Write;
@@ -44,7 +44,8 @@ fn distance(distance: Option<StaffResponsibleDistance>) -> Piece
     }
 }
 
-fn modes_pieces(values: &Values) -> [Piece; 9]
+/// The speeds of four modes.
+pub(crate) fn modes_pieces(values: &Values) -> [Piece; 9]
     ensures { (form : a_form) → texts form result ≡ modes_text form values.now }
 {
     [
@@ -66,7 +67,8 @@ fn modes_pieces(values: &Values) -> [Piece; 9]
     ]
 }
 
-fn speeds_pieces(values: &Values) -> [Piece; 9]
+/// The release speed, the distance to roll, and the speeds of an override.
+pub(crate) fn speeds_pieces(values: &Values) -> [Piece; 9]
     ensures { (form : a_form) → texts form result ≡ speeds_text form values.now }
 {
     [
@@ -85,7 +87,8 @@ fn speeds_pieces(values: &Values) -> [Piece; 9]
     ]
 }
 
-fn ranges_pieces(values: &Values) -> [Piece; 7]
+/// How far and how long the trip stays overridden, and how far the train may run in Staff Responsible.
+pub(crate) fn ranges_pieces(values: &Values) -> [Piece; 7]
     ensures { (form : a_form) → texts form result ≡ ranges_text form values.now }
 {
     [
@@ -105,15 +108,6 @@ fn ranges_pieces(values: &Values) -> [Piece; 7]
     ]
 }
 
-#[tactic(auto, unfolding(crate::specs::NationalLines::values_text))]
-fn write_values<W: Write>(form: Form, values: &Values, out: &mut W) -> io::Result<()>
-    ensures { OnOk result (Appends (W.contents out.old) (W.contents out.new) (values_text form values.now)) }
-{
-    write_pieces(form, &modes_pieces(values), out)?;
-    write_pieces(form, &speeds_pieces(values), out)?;
-    write_pieces(form, &ranges_pieces(values), out)
-}
-
 // A country behind another one.
 fn country_pieces(country: Country) -> [Piece; 2]
     ensures { (form : a_form) → texts form result ≡ next_country form country }
@@ -130,28 +124,26 @@ fn write_more_countries<W: Write>(form: Form, countries: &[Country], out: &mut W
     Ok(())
 }
 
+fn write_last_countries<W: Write>(form: Form, countries: &[Country], out: &mut W) -> io::Result<()>
+    ensures { OnOk result (Appends (W.contents out.old) (W.contents out.new) (last_countries form countries.now)) }
+{
+    write_more_countries(form, countries, out)?;
+    write_pieces(form, &[Piece::Text("\n", "]")], out)
+}
+
+/// Writes the countries that the values are for. The error is that of a write.
 #[tactic(auto, unfolding(crate::specs::NationalLines::countries_text))]
-fn write_countries<W: Write>(form: Form, countries: &[Country], out: &mut W) -> io::Result<()>
+pub(crate) fn write_countries<W: Write>(
+    form: Form,
+    countries: &[Country],
+    out: &mut W,
+) -> io::Result<()>
     ensures { OnOk result (Appends (W.contents out.old) (W.contents out.new) (countries_text form countries.now)) }
 {
     let Some((first, rest)) = countries.split_first() else {
-        return write_pieces(form, &[Piece::Text(" none", "")], out);
+        return write_pieces(form, &[Piece::Text(" none\n", "]")], out);
     };
     let one = [Piece::Text(" ", ""), Piece::Number(first.number())];
     write_pieces(form, &one, out)?;
-    write_more_countries(form, rest, out)
-}
-
-/// Writes the national values, and the countries that they are for. The error is that of a write.
-pub(crate) fn write_national<W: Write>(
-    form: Form,
-    national: &CountryValues,
-    out: &mut W,
-) -> io::Result<()>
-    ensures { OnOk result (Appends (W.contents out.old) (W.contents out.new) (national_text form national.now)) }
-{
-    write_values(form, national.values(), out)?;
-    write_countries(form, national.countries(), out)?;
-    write_pieces(form, &[Piece::Text("\n", "]")], out)?;
-    Ok(())
+    write_last_countries(form, rest, out)
 }

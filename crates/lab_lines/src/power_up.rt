@@ -9,7 +9,7 @@ ghost use Rattle.lab_lines.specs.JournalLines.{power_up_text};
 use crate::journal_lines::{journal_pieces, refusal_piece};
 use crate::kept_lines::write_found;
 use crate::opening::Opened;
-use pieces::{Form, Piece, write_pieces};
+use pieces::{Form, Piece, write_parts, write_pieces};
 use std::io;
 use std::io::Write;
 
@@ -17,8 +17,9 @@ use std::io::Write;
 pub(crate) fn write_power_up<W: Write>(form: Form, opened: &Opened, out: &mut W) -> io::Result<()>
     ensures { OnOk result (Appends (W.contents out.old) (W.contents out.new) (power_up_text form opened.now)) }
 {
-    write_pieces(form, &journal_pieces(opened.journal), out)?;
-    write_pieces(form, &[refusal_piece(opened.refusal)], out)?;
+    let journal = journal_pieces(opened.journal);
+    let refusal = [refusal_piece(opened.refusal)];
+    write_parts(form, &[&journal, &refusal], out)?;
     write_found(form, &opened.found, out)
 }
 

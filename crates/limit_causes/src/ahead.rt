@@ -4,10 +4,11 @@ ghost use Rattle.track_store.specs.Profiles.{listed};
 ghost use Rattle.speed_profile.specs.Ahead.{over_ahead, static_targets, restriction_targets, area_targets};
 ghost use Rattle.limit_causes.specs.Targets.{journey_by, along_track, fits_on, fits_all_on, static_kind, IsUnfit};
 
-use crate::starts::{first_in_area, first_target, next_after, static_target};
 use crate::{TargetAhead, TargetKind};
 use braking::{Target, fits};
-use speed_profile::{Ahead, CategorySpeeds};
+use speed_profile::{
+    Ahead, CategorySpeeds, first_in_area, first_target, next_after, static_target,
+};
 use track_store::Profile;
 use units::{Mph, Permille};
 

@@ -12,13 +12,12 @@ ghost use Rattle.limit_causes.specs.Over.{IsRestrictionOver};
 ghost use Rattle.limit_causes.specs.Supervised.{IsCause};
 ghost use Rattle.limit_causes.specs.Causes.{journey_of, IsMaximum, IsResponsibleCause, IsUnfittedCause, IsPermittedCause, IsLimitCause};
 
-use crate::life::{along, bounds, values};
 use crate::{LimitCause, NationalValue, OverTrain, SpeedCause, restriction_over, supervised_cause};
 use driver::{Datum, TrainData};
 use mode_control::SupervisionOver;
 use mode_table::Mode;
 use speed_profile::{Ahead, CategorySpeeds};
-use speed_supervision::limit;
+use speed_supervision::{along, bounds, limit, values};
 use track_store::{ProfileStore, Restriction};
 use units::{Mph, Permille};
 

@@ -6,9 +6,7 @@
 mod ahead;
 mod by_mode;
 mod cause;
-mod life;
 mod over;
-mod starts;
 mod supervised;
 
 pub use by_mode::limit_cause;

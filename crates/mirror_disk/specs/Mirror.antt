@@ -17,6 +17,16 @@ pub record Mirroring : Type 0 where
   pub written : List ℕ
   pub faults : ℕ
 
+-- a new copy of these bytes; those behind the last whole sector are left out
+abbrev pub mirror_of : List ℕ → Mirroring
+mirror_of bytes = record {
+  sectors = length bytes / 512;
+  start = take (512 * (length bytes / 512)) bytes;
+  requests = [];
+  written = [];
+  faults = 0;
+}
+
 -- What contracts see of it as a disk. It is honest, and its moments are its requests: moment k is behind the first k of
 -- them. A read is no moment.
 abbrev pub mirror_state : Mirroring → State

@@ -40,16 +40,14 @@ impl Model for MirrorDisk {
 }
 
 impl MirrorDisk {
-    ghost use Rattle.mirror_disk.specs.Mirror.{mirror_state, IsMirroring, IsRequest, IsNoted, has_room_for, ends_in_sync};
+    ghost use Rattle.mirror_disk.specs.Mirror.{mirror_of, mirror_state, IsMirroring, IsRequest, IsNoted, has_room_for, ends_in_sync};
 
     /// A copy of these sectors; bytes behind the last whole one are left out. NoMemory where there is none for it.
     pub fn of(alloc: Global, bytes: &[u8]) -> Result<MirrorDisk, NoMemory>
-        ensures sectors { IfOk result (λ m. (mirror_state m).sectors ≡ length bytes.now / 512) }
+        ensures exact { IfOk result (λ m. m ≡ mirror_of bytes.now) }
         ensures contents { IfOk result (λ m. (s : ℕ) → s < length bytes.now / 512 →
             contents_of (mirror_state m) s ≡ sector_of bytes.now s) }
         ensures synced { IfOk result (λ m. IsSynced (mirror_state m)) }
-        ensures none { IfOk result (λ m. m.requests ≡ []) }
-        ensures faults { IfOk result (λ m. (mirror_state m).faults ≡ 0) }
     {
         let sectors = bytes.len() / SECTOR_BYTES;
         let mut start = Vec::with_capacity(alloc, SECTOR_BYTES * sectors)?;

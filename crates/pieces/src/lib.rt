@@ -6,4 +6,4 @@ mod piece;
 mod writing;
 
 pub use piece::{Form, Piece, both, known};
-pub use writing::write_pieces;
+pub use writing::{write_characters, write_parts, write_pieces};

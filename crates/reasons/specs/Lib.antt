@@ -1,3 +1,4 @@
 pub mod Runs
 pub mod Told
 pub mod Words
+pub mod LimitWords

@@ -3,10 +3,14 @@
 //! from 0, over all lives.
 #![tactic(auto)]
 
+mod limit_words;
 mod reasoning;
 mod runs;
 mod words;
 
+pub use limit_words::{
+    LimitKind, LimitTold, limit_section, limit_sentence, limit_told, limit_word,
+};
 pub use reasoning::Reasoning;
 pub use runs::Runs;
 pub use words::{ending, sentence, word};

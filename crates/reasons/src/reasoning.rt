@@ -3,13 +3,15 @@ ghost use Rattle.std.specs.Prelude.{◌≡◌, List, ◌∷◌, IfOk, OnOk, OnEr
 ghost use Rattle.events.specs.declared.input.Event.{Event};
 ghost use Rattle.events.specs.declared.input.Event.TheVariants.{PowerUp};
 ghost use Rattle.kernel.specs.Causes.{marked, causes_after};
-ghost use Rattle.kernel.specs.Lives.{left_by, kept_by};
+ghost use Rattle.kernel.specs.Lives.{left_by, kept_by, life_of};
 ghost use Rattle.kernel.specs.Output.{output_after};
+ghost use Rattle.limit_causes.specs.Causes.{IsLimitCause};
 ghost use Rattle.reasons.specs.Runs.{runs_of};
 
 use crate::runs::Runs;
 use events::{Event, Kept, Output};
 use kernel::{BrakeCauses, State};
+use limit_causes::LimitCause;
 use mode_table::Cold;
 use std::alloc::Global;
 use std::marker::Model;
@@ -84,6 +86,14 @@ impl Reasoning {
         ensures { (events : List Event) → Reasons events self.now → result ≡ runs_of events }
     {
         self.runs
+    }
+
+    /// What decides the limit that was answered to the last event.
+    pub fn limit_cause(&self) -> LimitCause
+        ensures { (events : List Event) → Reasons events self.now
+            → IsLimitCause (life_of events) (output_after events).limit result }
+    {
+        self.state.limit_cause()
     }
 
     /// What the kernel knows behind the last event.

@@ -28,6 +28,6 @@ situation_of (Some s) =
     joined (codes "],\"place_cm\":" ∷ signed_decimal s.estimate ∷ codes ",\"uncertainty_cm\":" ∷ decimal s.uncertainty
     ∷ codes ",\"limit_m_per_h\":" ∷ decimal s.limit ∷ codes "}" ∷ [])
 
--- the whole object
-abbrev pub answer_of : BlockRecord → List ℕ
-answer_of r = front_of r ++ signs_of r.indications ++ situation_of r.situation
+-- the whole object, behind a text
+abbrev pub answer_behind : List ℕ → BlockRecord → List ℕ
+answer_behind text r = text ++ front_of r ++ signs_of r.indications ++ situation_of r.situation

@@ -7,8 +7,8 @@ use Rattle.pieces.specs.Pieces.{text_in, joined}
 use Rattle.pieces.specs.declared.piece.Form.{Form}
 use Rattle.replaying.specs.declared.differences.KeptField.{KeptField}
 use Rattle.replaying.specs.declared.differences.RecordField.{RecordField}
-use Rattle.replay_lines.specs.Answers.{answer_of}
-use Rattle.replay_lines.specs.KeptObject.{kept_of}
+use Rattle.replay_lines.specs.Answers.{answer_behind}
+use Rattle.replay_lines.specs.KeptObject.{kept_behind}
 use Rattle.replay_lines.specs.Words.{kept_field_text, record_field_text, reason_in}
 use Rattle.replay_lines.specs.declared.reports.Reason.{Reason}
 use Rattle.replay_lines.specs.declared.reports.Stretch.{Stretch}
@@ -48,14 +48,9 @@ record_front form life block field event =
     ∷ text_in form (codes " differs in ") (codes ",\"replay\":\"record_differs\",\"field\":\"") ∷ record_field_text field
     ∷ journal_text form ∷ [])
 
-abbrev pub told_record : Form → ℕ → ℕ → RecordField → BlockRecord → List ℕ
-told_record form life block field told = record_front form life block field told.number ++ answer_of told
-
-abbrev pub kernel_answer : Form → BlockRecord → List ℕ
-kernel_answer form answer = kernel_text form ++ answer_of answer ++ end_text form
-
 abbrev pub record_text : Form → ℕ → ℕ → RecordField → BlockRecord → BlockRecord → List ℕ
-record_text form life block field told answer = told_record form life block field told ++ kernel_answer form answer
+record_text form life block field told answer =
+    answer_behind (answer_behind (record_front form life block field told.number) told ++ kernel_text form) answer ++ end_text form
 
 -- a head differs
 abbrev pub head_front : Form → ℕ → ℕ → KeptField → List ℕ
@@ -64,14 +59,19 @@ head_front form life block field =
     ∷ decimal block ∷ text_in form (codes " differs in ") (codes ",\"replay\":\"head_differs\",\"field\":\"") ∷ kept_field_text field
     ∷ journal_text form ∷ [])
 
-abbrev pub told_head : Form → ℕ → ℕ → KeptField → Kept → List ℕ
-told_head form life block field told = head_front form life block field ++ kept_of told
+-- .. before what the kernel keeps, and the end, with the brace of the object before each
+abbrev pub kernel_kept_text : Form → List ℕ
+kernel_kept_text form = text_in form (codes "}\n  kernel:  ") (codes "},\"kernel\":")
+
+abbrev pub kept_end_text : Form → List ℕ
+kept_end_text form = text_in form (codes "}\n") (codes "}}\n")
 
 abbrev pub kernel_kept : Form → Kept → List ℕ
-kernel_kept form kept = kernel_text form ++ kept_of kept ++ end_text form
+kernel_kept form kept = kept_behind (kernel_kept_text form) kept ++ kept_end_text form
 
 abbrev pub head_text : Form → ℕ → ℕ → KeptField → Kept → Kept → List ℕ
-head_text form life block field told kept = told_head form life block field told ++ kernel_kept form kept
+head_text form life block field told kept =
+    kept_behind (head_front form life block field) told ++ kernel_kept form kept
 
 -- a block can't be read
 abbrev pub unreadable_text : Form → ℕ → List ℕ

@@ -2,15 +2,12 @@
 ghost use Rattle.std.specs.Prelude.{◌≡◌, OnOk};
 ghost use Rattle.std.specs.Io.KnownBytes.{Appends};
 ghost use Rattle.pieces.specs.Pieces.{texts};
-ghost use Rattle.pieces.specs.declared.piece.Form.TheVariants.{Json};
-ghost use Rattle.replay_lines.specs.KeptObject.{flag_text, counts_of, place_of, entered_of, found_of, kept_of};
-ghost use Rattle.replay_lines.specs.DriverItems.{driven_of};
+ghost use Rattle.pieces.specs.declared.piece.Form.{Form as a_form};
+ghost use Rattle.replay_lines.specs.KeptObject.{flag_text, counts_of, kept_behind};
 
-use crate::driver_items::{driven_pieces, write_identity};
-use crate::national_items::write_national;
-use crate::place_items::place_pieces;
 use events::Kept;
-use pieces::{Form, Piece, write_pieces};
+use lab_lines::write_kept_items;
+use pieces::{Form, Piece, write_parts};
 use std::io;
 use std::io::Write;
 
@@ -25,7 +22,7 @@ fn flag_word(flag: bool) -> &'static str
 
 // The counts, and whether a trip is outstanding.
 fn counts_pieces(kept: &Kept) -> [Piece; 7]
-    ensures { texts Json result ≡ counts_of kept.now }
+    ensures { (form : a_form) → texts form result ≡ counts_of kept.now }
 {
     [
         Piece::Same("{\"events\":"),
@@ -34,53 +31,20 @@ fn counts_pieces(kept: &Kept) -> [Piece; 7]
         Piece::Number(u64::from(kept.lives)),
         Piece::Same(",\"trip_outstanding\":"),
         Piece::Same(flag_word(kept.trip_outstanding)),
-        Piece::Same(",\"identity\":"),
+        Piece::Same(","),
     ]
 }
 
-fn write_counts<W: Write>(kept: &Kept, out: &mut W) -> io::Result<()>
-    ensures { OnOk result (Appends (W.contents out.old) (W.contents out.new) (counts_of kept.now)) }
+/// Writes some pieces, and what is kept as a JSON object, but for the brace that ends it. The error is that of a write.
+pub(crate) fn write_kept_behind<W: Write>(
+    form: Form,
+    before: &[Piece],
+    kept: &Kept,
+    out: &mut W,
+) -> io::Result<()>
+    ensures { OnOk result (Appends (W.contents out.old) (W.contents out.new) (kept_behind (texts form before.now) kept.now)) }
 {
-    write_pieces(Form::Json, &counts_pieces(kept), out)
-}
-
-fn write_driven<W: Write>(kept: &Kept, out: &mut W) -> io::Result<()>
-    ensures { OnOk result (Appends (W.contents out.old) (W.contents out.new) (driven_of kept.now.running_number kept.now.train_data)) }
-{
-    let driven = driven_pieces(kept.running_number, &kept.train_data);
-    write_pieces(Form::Json, &driven, out)
-}
-
-fn write_place<W: Write>(kept: &Kept, out: &mut W) -> io::Result<()>
-    ensures { OnOk result (Appends (W.contents out.old) (W.contents out.new) (place_of kept.now)) }
-{
-    write_pieces(Form::Json, &place_pieces(kept.level, kept.position), out)
-}
-
-// Of driver and train.
-fn write_entered<W: Write>(kept: &Kept, out: &mut W) -> io::Result<()>
-    ensures { OnOk result (Appends (W.contents out.old) (W.contents out.new) (entered_of kept.now)) }
-{
-    write_identity(&kept.identity, out)?;
-    write_driven(kept, out)?;
-    Ok(())
-}
-
-// Of the track, and the end of the object.
-fn write_found<W: Write>(kept: &Kept, out: &mut W) -> io::Result<()>
-    ensures { OnOk result (Appends (W.contents out.old) (W.contents out.new) (found_of kept.now)) }
-{
-    write_place(kept, out)?;
-    write_national(&kept.national, out)?;
-    Ok(())
-}
-
-/// Writes what is kept as a JSON object. The error is that of a write.
-pub(crate) fn write_kept<W: Write>(kept: &Kept, out: &mut W) -> io::Result<()>
-    ensures { OnOk result (Appends (W.contents out.old) (W.contents out.new) (kept_of kept.now)) }
-{
-    write_counts(kept, out)?;
-    write_entered(kept, out)?;
-    write_found(kept, out)?;
-    Ok(())
+    let counts = counts_pieces(kept);
+    write_parts(form, &[before, &counts], out)?;
+    write_kept_items(Form::Json, kept, out)
 }

@@ -5,12 +5,9 @@
 
 mod answers;
 mod course;
-mod driver_items;
 mod errors;
 mod kept;
 mod lines;
-mod national_items;
-mod place_items;
 mod reports;
 mod steps;
 mod walk;

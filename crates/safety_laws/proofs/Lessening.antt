@@ -28,11 +28,11 @@ use Rattle.safety_laws.specs.Limits.{Setting, permitted_on, IsMoreRestricted}
 
 -- ---- the least of more speeds is no greater
 
-least_within : (otherwise : ℕ) (vs : List ℕ) → least otherwise vs ≤ otherwise
+pub least_within : (otherwise : ℕ) (vs : List ℕ) → least otherwise vs ≤ otherwise
 least_within otherwise [] = omega arith
 least_within otherwise (v ∷ vs) = omega (arith, least_within otherwise vs)
 
-least_of : (otherwise : ℕ) (vs : List ℕ) (v : ℕ) → IsIn v vs → least otherwise vs ≤ v
+pub least_of : (otherwise : ℕ) (vs : List ℕ) (v : ℕ) → IsIn v vs → least otherwise vs ≤ v
 least_of otherwise [] v there = absurd there
 least_of otherwise (w ∷ vs) v (inl same) = omega (arith, same)
 least_of otherwise (w ∷ vs) v (inr later) = omega (arith, least_of otherwise vs v later)
@@ -46,7 +46,7 @@ least_of_more less otherwise more (v ∷ vs) h each =
 
 -- ---- the greatest number that passes a test which is harder to pass is no greater
 
-greatest_least : (test : ℕ → Bool) (n k : ℕ) → k ≤ n → test k ≡ true → k ≤ greatest test n
+pub greatest_least : (test : ℕ → Bool) (n k : ℕ) → k ≤ n → test k ≡ true → k ≤ greatest test n
 unfolding greatest
 greatest_least test zero k h e = h
 greatest_least test (suc n) k h e =
@@ -82,11 +82,11 @@ fit_each front gradient brakes (target ∷ targets) v h t there =
 
 -- ---- restrictions
 
-to_in : {A : Type 0} (x : A) (xs : List A) → IsAmong x xs → IsIn x xs
+pub to_in : {A : Type 0} (x : A) (xs : List A) → IsAmong x xs → IsIn x xs
 to_in x [] there = absurd there
 to_in x (y ∷ ys) there = elim there [ inl same ↦ inl same | inr later ↦ inr (to_in x ys later) ]
 
-to_among : {A : Type 0} (x : A) (xs : List A) → IsIn x xs → IsAmong x xs
+pub to_among : {A : Type 0} (x : A) (xs : List A) → IsIn x xs → IsAmong x xs
 to_among x [] there = absurd there
 to_among x (y ∷ ys) there = elim there [ inl same ↦ inl same | inr later ↦ inr (to_among x ys later) ]
 

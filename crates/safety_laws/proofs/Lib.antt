@@ -7,3 +7,5 @@ mod Meeting
 mod AuthorityLater
 mod Lessening
 mod Passing
+mod LowerStarts
+mod Releasing

@@ -90,7 +90,7 @@ end_located entries end h = by_fact (now_of entries) (sights entries) (accepted 
 -- ---- a speed that fits a list with a last target fits that one, and each before it
 
 module _ (front : ℤ) (gradient : ℤ → Option ℤ) (brakes : Brakes) where
-  stopped_fits : (targets : List Target) → fits_all front gradient brakes targets 0 ≡ true
+  pub stopped_fits : (targets : List Target) → fits_all front gradient brakes targets 0 ≡ true
   stopped_fits [] = refl
   stopped_fits (t ∷ targets) =
       and_from (fits front gradient brakes t 0) (fits_all front gradient brakes targets 0) (slow_fits front gradient brakes t 0 (omega arith)) (stopped_fits targets)
@@ -106,14 +106,14 @@ module _ (front : ℤ) (gradient : ℤ → Option ℤ) (brakes : Brakes) where
       ]
 
   -- the greatest speed that fits a list fits each of it
-  permitted_fits : (targets : List Target) (limit : ℕ) (t : Target) → IsIn t targets →
+  pub permitted_fits : (targets : List Target) (limit : ℕ) (t : Target) → IsIn t targets →
       fits front gradient brakes t (greatest (fits_all front gradient brakes targets) limit) ≡ true
   permitted_fits targets limit t there =
       let test : ℕ → Bool = fits_all front gradient brakes targets in
       fit_each targets (greatest test limit) (greatest_fits test limit (stopped_fits targets)) t there
 
   -- the greater of a speed that fits, and of one up to which one fits, fits
-  either_fits : (t : Target) (v w r : ℕ) → fits front gradient brakes t v ≡ true → fits front gradient brakes t w ≡ true →
+  pub either_fits : (t : Target) (v w r : ℕ) → fits front gradient brakes t v ≡ true → fits front gradient brakes t w ≡ true →
       fits front gradient brakes t (max v (min r w)) ≡ true
   either_fits t v w r fit other =
       let order : (max v (min r w) ≤ v) ⊎ (max v (min r w) ≤ w) = grind arith in
@@ -182,7 +182,7 @@ module _ (life : Life) (train : Train) where
     by_mode SystemFailure h = absurd (let no : false ≡ true = h in cc)
 
     module _ (it : IsSupervised life train end) where
-      limit_is : limit life ≡ by_rule
+      pub limit_is : limit life ≡ by_rule
       limit_is =
           by_mode (mode_of life.entries) it.in_mode ∙ ap (permitted_for life) it.by_data
           ∙ ap (λ (e : Option End). released_by (permitted_to life train) e (values_of life).release) it.by_authority

@@ -1,5 +1,5 @@
 -- By how much a train passes a target that it fits at a lower speed.
-use Rattle.std.proofs.Common.{◌≡◌, ℕ, zero, suc, ℤ, pos, ◌+ℤ◌, ◌+◌, ◌-◌, ◌*◌, ◌≤◌, ◌<◌, true, ap, refl, sym, ◌∙◌, arith, ◌⊎◌, inl, inr}
+use Rattle.std.proofs.Common.{◌≡◌, ℕ, zero, suc, ℤ, pos, ◌+ℤ◌, ◌+◌, ◌-◌, ◌*◌, ◌≤◌, ◌<◌, true, ap, refl, sym, ◌∙◌, arith, inl, inr}
 use Rattle.std.specs.Int.{div_ceil}
 use Rattle.std.specs.Prelude.{Option, nat_le, nat_lt, ◌&&◌, ◌||◌}
 use Rattle.std.proofs.lemmas.Bool.{or_cases, and_parts}
@@ -7,7 +7,6 @@ use Rattle.std.proofs.lemmas.Bool.Decides.{nat_tests}
 use Rattle.std.proofs.lemmas.Int.{ints}
 use Rattle.brakes.specs.declared.brakes.Brakes.{Brakes}
 use Rattle.brakes.specs.Brakes.{slowing_on, reaction_way}
-use Rattle.braking.specs.declared.target.Target.{Target}
 use Rattle.braking.specs.Braking.{braked, distance_to, fits}
 use Rattle.braking.proofs.Braked.{braked_parts}
 use Rattle.braking.proofs.Roots.{square_less}

@@ -5,3 +5,5 @@ pub mod Brakes
 pub mod Ends
 pub mod Limits
 pub mod Keeping
+pub mod Starts
+pub mod Release

@@ -3,6 +3,7 @@
 //! hour, moments milliseconds.
 #![tactic(auto)]
 
+mod approaching;
 mod ends;
 mod keeping;
 mod modes;
@@ -11,6 +12,7 @@ mod running;
 mod stopping;
 mod unbraked;
 
+pub use approaching::{release_rule, starts_decide};
 pub use ends::end_never_moves_forward;
 pub use keeping::level_and_position_over_all;
 pub use modes::{failure_stays, stand_by_is_left, trip_is_left};

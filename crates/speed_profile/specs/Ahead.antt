@@ -57,6 +57,13 @@ targets_at bounds track place =
     ++ restriction_targets track.restrictions.mark track.restrictions.restrictions place
     ++ area_targets track.national track.areas place
 
+-- Each centimetre ahead is a target. Only those decide where a value begins: a train that can brake for the first
+-- centimetre of a speed runs at that speed or below it from there on. So `Ahead::targets` goes through the starts of the
+-- static speeds and the first centimetre of each restriction and each area alone, and is proved to ask the same (clause
+-- `told`). Worked, with brakes of 70 cm/s^2 that act at once, on flat track: a stop 100,000 cm ahead lets a train run at
+-- 134,699 m/h, since 134,700 squared is above 2 * 70 * 100,000 * 36^2. With 5 per mille downhill on half of the way, where
+-- 5 cm/s^2 are lost, it is 132,272; on flat track with a reaction time of 1,000 ms, 3,673 cm at that speed, 132,202.
+
 -- what each centimetre ahead of a front gives
 abbrev pub over_ahead : ℤ → (ℤ → List Target) → List Target
 over_ahead front f = over f (front +ℤ pos 1) greatest_place

@@ -12,6 +12,7 @@ mod track;
 
 pub use ahead::Ahead;
 pub use limit::{Bounds, limit_on};
+pub use starts::{first_in_area, first_target, next_after, static_target};
 pub use targets::Targets;
 pub use told::{CategorySpeeds, ProfileTold, gradients, static_speeds};
 pub use track::Track;

@@ -7,5 +7,6 @@ mod laws;
 mod permitted;
 mod release;
 
-pub use by_mode::limit;
+pub use by_mode::{limit, values};
 pub use laws::limit_is_within_maximum;
+pub use permitted::{along, bounds};

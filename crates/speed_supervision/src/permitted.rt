@@ -16,8 +16,8 @@ use speed_profile::{Ahead, Bounds, CategorySpeeds, Track, limit_on};
 use track_store::ProfileStore;
 use units::{Mph, Permille};
 
-// What limits the train wherever it is.
-fn bounds<G: ProfileStore<Permille> + Drop, S: ProfileStore<CategorySpeeds> + Drop>(
+/// What limits the train wherever it is.
+pub fn bounds<G: ProfileStore<Permille> + Drop, S: ProfileStore<CategorySpeeds> + Drop>(
     supervision: &SupervisionOver<G, S>,
     train: &TrainData,
 ) -> Bounds
@@ -42,8 +42,8 @@ fn in_areas(values: &Values) -> NationalSpeeds
     }
 }
 
-// The speeds along the track.
-fn along<G: ProfileStore<Permille> + Drop, S: ProfileStore<CategorySpeeds> + Drop>(
+/// The speeds along the track.
+pub fn along<G: ProfileStore<Permille> + Drop, S: ProfileStore<CategorySpeeds> + Drop>(
     supervision: &SupervisionOver<G, S>,
 ) -> Track<'_, S>
     ensures { (life : Life) → StandsForLife G.profile S.profile supervision.now life → speeds_along S.value result ≡ along life }

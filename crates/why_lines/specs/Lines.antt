@@ -1,6 +1,7 @@
--- The line of an event with the causes of its brake, for people and as a JSON object (this project's profile). Events
--- are numbered from 0; speeds are metres per hour, distances centimetres.
-use Rattle.std.specs.Prelude.{ℕ, Option, Some, None, List, [], ◌∷◌, ◌++◌, codes, decimal, flat_map}
+-- The line of an event with the causes of its brake and of its limit, for people and as a JSON object (this project's
+-- profile). Events are numbered from 0; speeds are metres per hour, distances centimetres.
+use Rattle.std.specs.Prelude.{ℕ, ℤ, Option, Some, None, List, [], ◌∷◌, ◌++◌, codes, decimal, flat_map}
+use Rattle.std.specs.Fmt.{signed_decimal}
 use Rattle.kernel.specs.declared.causes.BrakeCause.{BrakeCause}
 use Rattle.kernel.specs.declared.causes.BrakeCause.TheVariants as a_cause
 use Rattle.output_lines.specs.Words.{brake_text}
@@ -8,6 +9,9 @@ use Rattle.pieces.specs.Pieces.{text_in, joined}
 use Rattle.pieces.specs.declared.piece.Form.{Form}
 use Rattle.reasons.specs.declared.runs.Runs.{Runs}
 use Rattle.reasons.specs.Words.{word_of, sentence_of, ending_of}
+use Rattle.reasons.specs.declared.limit_words.LimitKind.{LimitKind}
+use Rattle.reasons.specs.declared.limit_words.LimitTold.{LimitTold}
+use Rattle.reasons.specs.LimitWords.{limit_word_of, limit_sentence_of, limit_section_of}
 use Rattle.why_lines.specs.declared.lines.Answer.{Answer}
 use Rattle.why_lines.specs.declared.lines.Told.{Told}
 
@@ -56,8 +60,33 @@ told_of runs =
     ∷ cause_told a_cause.OwesTooLong runs.owes_too_long
     ∷ []
 
+-- what decides the limit, its speed, and where it has them its place and its number
+abbrev pub decides_text : Form → LimitKind → ℕ → List ℕ
+decides_text form kind speed =
+    joined (text_in form (codes "; ") (codes ",\"limit_cause\":\"") ∷ text_in form (limit_sentence_of kind) (limit_word_of kind)
+    ∷ text_in form (codes ": ") (codes "\",\"limit_cause_speed_m_per_h\":") ∷ decimal speed ∷ text_in form (codes " m/h") [] ∷ [])
+
+abbrev pub place_text : Form → Option ℤ → List ℕ
+place_text form (Some place) =
+    joined (text_in form (codes " at ") (codes ",\"limit_cause_place_cm\":") ∷ signed_decimal place ∷ text_in form (codes " cm") [] ∷ [])
+place_text form None = joined (text_in form [] (codes ",\"limit_cause_place_cm\":null") ∷ [])
+
+abbrev pub number_text : Form → Option ℕ → List ℕ
+number_text form (Some number) =
+    joined (text_in form (codes ", number ") (codes ",\"limit_cause_number\":") ∷ decimal number ∷ [])
+number_text form None = joined (text_in form [] (codes ",\"limit_cause_number\":null") ∷ [])
+
+abbrev pub section_text : Form → LimitKind → List ℕ
+section_text form kind =
+    joined (text_in form (codes " (") (codes ",\"limit_cause_section\":\"") ∷ limit_section_of kind ∷ text_in form (codes ")") (codes "\"") ∷ [])
+
+abbrev pub limit_text : Form → LimitTold → List ℕ
+limit_text form told =
+    decides_text form told.kind told.speed ++ place_text form told.place ++ number_text form told.number ++ section_text form told.kind
+
 abbrev pub end_text : Form → List ℕ
 end_text form = text_in form (codes "\n") (codes "}\n")
 
-abbrev pub line_of : Form → Answer → List Told → List ℕ
-line_of form answer told = front_text form answer ++ flat_map (cause_text form) told ++ end_text form
+abbrev pub line_of : Form → Answer → List Told → LimitTold → List ℕ
+line_of form answer told decides =
+    front_text form answer ++ flat_map (cause_text form) told ++ limit_text form decides ++ end_text form

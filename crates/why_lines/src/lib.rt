@@ -1,6 +1,6 @@
-//! Why each event of a journal was answered so: lives are run again, and a line of an event has the causes of its brake,
-//! for people or as a JSON object (this project's profile). It writes nothing to the disk. Speeds are metres per hour,
-//! distances centimetres; events are numbered from 0, blocks from 1.
+//! Why each event of a journal was answered so: lives are run again, and a line of an event has the causes of its brake
+//! and what decides its limit, for people or as a JSON object (this project's profile). It writes nothing to the disk.
+//! Speeds are metres per hour, distances centimetres; events are numbered from 0, blocks from 1.
 #![tactic(auto)]
 
 mod course;

@@ -1,15 +1,17 @@
-//! The line of an event with the causes of its brake.
+//! The line of an event with the causes of its brake and of its limit.
 ghost use Rattle.std.specs.Prelude.{◌≡◌, OnOk, flat_map};
 ghost use Rattle.std.specs.Io.KnownBytes.{Appends};
 ghost use Rattle.pieces.specs.Pieces.{texts};
 ghost use Rattle.pieces.specs.declared.piece.Form.{Form as a_form};
-ghost use Rattle.why_lines.specs.Lines.{front_text, held_text, free_text, cause_text, told_of, end_text, line_of};
+ghost use Rattle.why_lines.specs.Lines.{front_text, held_text, free_text, cause_text, told_of, decides_text, place_text, number_text, section_text, limit_text, end_text, line_of};
 
 use events::Brake;
 use kernel::BrakeCause;
 use output_lines::brake_word;
 use pieces::{Form, Piece, both, write_pieces};
-use reasons::{Runs, ending, sentence, word};
+use reasons::{
+    LimitKind, LimitTold, Runs, ending, limit_section, limit_sentence, limit_word, sentence, word,
+};
 use std::io;
 use std::io::Write;
 
@@ -131,6 +133,60 @@ fn free_pieces(cause: BrakeCause) -> [Piece; 3]
     ]
 }
 
+fn decides_pieces(kind: LimitKind, speed: u64) -> [Piece; 5]
+    ensures { (form : a_form) → texts form result ≡ decides_text form kind speed }
+{
+    [
+        Piece::Text("; ", ",\"limit_cause\":\""),
+        Piece::Text(limit_sentence(kind), limit_word(kind)),
+        Piece::Text(": ", "\",\"limit_cause_speed_m_per_h\":"),
+        Piece::Number(speed),
+        Piece::Text(" m/h", ""),
+    ]
+}
+
+fn place_pieces(place: Option<i64>) -> [Piece; 3]
+    ensures { (form : a_form) → texts form result ≡ place_text form place }
+{
+    match place {
+        Some(place) => [
+            Piece::Text(" at ", ",\"limit_cause_place_cm\":"),
+            Piece::Signed(place),
+            Piece::Text(" cm", ""),
+        ],
+        None => [
+            Piece::Text("", ",\"limit_cause_place_cm\":null"),
+            Piece::Nothing,
+            Piece::Nothing,
+        ],
+    }
+}
+
+fn number_pieces(number: Option<u64>) -> [Piece; 2]
+    ensures { (form : a_form) → texts form result ≡ number_text form number }
+{
+    match number {
+        Some(number) => [
+            Piece::Text(", number ", ",\"limit_cause_number\":"),
+            Piece::Number(number),
+        ],
+        None => [
+            Piece::Text("", ",\"limit_cause_number\":null"),
+            Piece::Nothing,
+        ],
+    }
+}
+
+fn section_pieces(kind: LimitKind) -> [Piece; 3]
+    ensures { (form : a_form) → texts form result ≡ section_text form kind }
+{
+    [
+        Piece::Text(" (", ",\"limit_cause_section\":\""),
+        both(limit_section(kind)),
+        Piece::Text(")", "\""),
+    ]
+}
+
 fn end_piece() -> [Piece; 1]
     ensures { (form : a_form) → texts form result ≡ end_text form }
 {
@@ -161,23 +217,61 @@ fn write_front<W: Write>(form: Form, answer: &Answer, out: &mut W) -> io::Result
     write_pieces(form, &front_pieces(answer), out)
 }
 
+fn write_decides<W: Write>(form: Form, told: &LimitTold, out: &mut W) -> io::Result<()>
+    ensures { OnOk result (Appends (W.contents out.old) (W.contents out.new) (decides_text form told.now.kind told.now.speed)) }
+{
+    let speed = u64::from(told.speed.get());
+    write_pieces(form, &decides_pieces(told.kind, speed), out)
+}
+
+fn write_place<W: Write>(form: Form, place: Option<i64>, out: &mut W) -> io::Result<()>
+    ensures { OnOk result (Appends (W.contents out.old) (W.contents out.new) (place_text form place)) }
+{
+    write_pieces(form, &place_pieces(place), out)
+}
+
+fn write_number<W: Write>(form: Form, number: Option<u64>, out: &mut W) -> io::Result<()>
+    ensures { OnOk result (Appends (W.contents out.old) (W.contents out.new) (number_text form number)) }
+{
+    write_pieces(form, &number_pieces(number), out)
+}
+
+fn write_section<W: Write>(form: Form, kind: LimitKind, out: &mut W) -> io::Result<()>
+    ensures { OnOk result (Appends (W.contents out.old) (W.contents out.new) (section_text form kind)) }
+{
+    write_pieces(form, &section_pieces(kind), out)
+}
+
+fn write_limit<W: Write>(form: Form, told: &LimitTold, out: &mut W) -> io::Result<()>
+    ensures { OnOk result (Appends (W.contents out.old) (W.contents out.new) (limit_text form told.now)) }
+{
+    write_decides(form, told, out)?;
+    write_place(form, told.place, out)?;
+    write_number(form, told.number, out)?;
+    write_section(form, told.kind, out)?;
+    Ok(())
+}
+
 fn write_end<W: Write>(form: Form, out: &mut W) -> io::Result<()>
     ensures { OnOk result (Appends (W.contents out.old) (W.contents out.new) (end_text form)) }
 {
     write_pieces(form, &end_piece(), out)
 }
 
-/// Writes the line of an event with these causes. The error is that of a write.
+/// Writes the line of an event with these causes of its brake, and with what decides its limit. The error is that of a
+/// write.
 pub fn write_line<W: Write>(
     form: Form,
     answer: &Answer,
     told: &[Told],
+    decides: &LimitTold,
     out: &mut W,
 ) -> io::Result<()>
-    ensures { OnOk result (Appends (W.contents out.old) (W.contents out.new) (line_of form answer.now told.now)) }
+    ensures { OnOk result (Appends (W.contents out.old) (W.contents out.new) (line_of form answer.now told.now decides.now)) }
 {
     write_front(form, answer, out)?;
     write_causes(form, told, out)?;
+    write_limit(form, decides, out)?;
     write_end(form, out)?;
     Ok(())
 }

@@ -1,13 +1,13 @@
 //! The steps of a walk: block by block, and in a block record by record.
 
-use crate::course::Course;
+use crate::course::{Course, Shown};
 use crate::errors::{LateError, writing_error};
 use crate::lines::{Answer, told_of, write_line};
 use blocks::{Block, BlockRecord};
 use events::{Event, Kept, Output};
 use mode_table::Cold;
 use pieces::Form;
-use reasons::Reasoning;
+use reasons::{Reasoning, limit_told};
 use std::alloc::Global;
 use std::io::Write;
 use units::NoMemory;
@@ -56,25 +56,35 @@ fn answered(
     }
 }
 
-// Writes the line of an event that was answered so.
+// What the last event of a life was answered, and why.
+fn shown_in(life: &Reasoning, output: &Output) -> Shown {
+    Shown {
+        brake: output.brake,
+        limit: u64::from(output.limit.get()),
+        runs: life.runs(),
+        decides: limit_told(output.limit, &life.limit_cause()),
+    }
+}
+
+// Writes the line of the last event of a life.
 fn write_event<W: Write>(
     life: &Reasoning,
     event: u64,
-    output: &Output,
+    shown: &Shown,
     form: Form,
     out: &mut W,
 ) -> Result<(), LateError> {
     let state = life.state();
     let answer = Answer {
         event,
-        brake: output.brake,
-        limit: u64::from(output.limit.get()),
+        brake: shown.brake,
+        limit: shown.limit,
         speed: u64::from(state.speed().get()),
         backward: state.rolled_backward(),
         allowed: state.allowed_backward(),
     };
-    let told = told_of(&life.runs());
-    match write_line(form, &answer, &told, out) {
+    let told = told_of(&shown.runs);
+    match write_line(form, &answer, &told, &shown.decides, out) {
         Ok(()) => Ok(()),
         Err(error) => Err(writing_error(&error)),
     }
@@ -92,13 +102,15 @@ fn tell_record<W: Write>(
     let Some(output) = answered(alloc, course, place, record)? else {
         return Ok(());
     };
-    if course.tells(record.number, &output) {
-        if let Some(life) = &course.life {
-            write_event(life, record.number, &output, form, out)?;
-        }
+    let Some(life) = &course.life else {
+        return Ok(());
+    };
+    let shown = shown_in(life, &output);
+    if course.tells(record.number, &shown) {
+        write_event(life, record.number, &shown, form, out)?;
         course.lines = course.lines.saturating_add(1);
     }
-    course.note(&output);
+    course.shown = Some(shown);
     Ok(())
 }
 

@@ -1,4 +1,3 @@
-use Rattle.mode_control.specs.Life.{Life}
 use Rattle.speed_supervision.specs.Limit.{limit}
 use Rattle.safety_laws.specs.Stopping.{front_of, gradient_along}
 use Rattle.safety_laws.proofs.Meeting.{stops}

@@ -1,0 +1,62 @@
+// A unit that C holds.
+ghost use Rattle.std.specs.Prelude.{◌≡◌, Some, None, IsSome, IfSome, option_map, true, false};
+
+use crate::raw::Raw;
+use held::Held;
+use onboard::Released;
+use relayed_unit::RelayedUnit;
+use std::alloc::Global;
+use std::mem;
+
+/// A unit, and what it released last.
+#[derive(Drop)]
+pub struct Opened {
+    /// The unit.
+    pub unit: RelayedUnit,
+    /// The last output that was released.
+    pub last: Released,
+}
+
+/// A unit, as C holds it. C hands in one that is all zeros, or that an earlier call left.
+#[repr(C)]
+#[derive(Drop)]
+pub struct EtcsUnit {
+    /// Where the unit is.
+    pub raw: Raw,
+    // 1 where a unit is open.
+    is_open: u64,
+    ghost matched: { is_open ≡ 1 → IsSome raw.value },
+    ghost closed: { (is_open ≡ 1 → ⊥) → raw.value ≡ None },
+}
+
+/// A handle with this unit, or none.
+pub fn handle_of(value: Option<Box<Opened>>) -> EtcsUnit
+    ensures { result.raw.value ≡ option_map (λ b. b.value) value }
+{
+    match value {
+        None => {
+            let nowhere = std::ptr::null_mut();
+            let raw = Raw::none(nowhere);
+            EtcsUnit { raw, is_open: 0 }
+        }
+        Some(value) => {
+            let held = Held::of(value);
+            let raw = Raw::of(held);
+            EtcsUnit { raw, is_open: 1 }
+        }
+    }
+}
+
+/// Takes the unit out.
+pub fn taken(alloc: Global, handle: &mut EtcsUnit) -> Option<Box<Opened>>
+    ensures closed { handle.new.raw.value ≡ None }
+    ensures some { IfSome result (λ b. handle.old.raw.value ≡ Some b.value) }
+    ensures none { result ≡ None → handle.old.raw.value ≡ None }
+{
+    let EtcsUnit { raw, is_open } = mem::replace(handle, handle_of(None));
+    if is_open == 1 {
+        Some(raw.into_held(alloc).into_box())
+    } else {
+        None
+    }
+}

@@ -1,0 +1,15 @@
+pub mod Growing
+pub mod OneKind
+pub mod EachKind
+pub mod Profile
+pub mod Mark
+pub mod Granted
+pub mod Zones
+pub mod Announced
+pub mod Nation
+pub mod Limits
+pub mod Chain
+pub mod Counted
+pub mod ByLine
+pub mod Alone
+pub mod Placed

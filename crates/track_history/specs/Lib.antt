@@ -1,0 +1,5 @@
+pub mod Live
+pub mod Parts
+pub mod Happenings
+pub mod Picture
+pub mod Ending

@@ -1,0 +1,85 @@
+"""Causes of brakes: those that are told, and those that aren't known."""
+import unittest
+
+from gaknifur import causes, tables
+from gaknifur.causes import DIFFERS, OTHER_BLOCK, REASONS, Held
+from gaknifur.reading import Journal, last_commanded
+
+from .samples import journal, line, reading, record
+
+BRAKED = (record(0, "powerup", brake="emergency"), record(1), reading(2, 60_000, brake="emergency"), record(3, brake="emergency"),
+          record(4))
+TOLD = (line(0, "emergency", not_revalidated=0), line(1, "none"), line(2, "emergency", far_too_fast=2), line(4, "none"))
+
+
+def replayed(*lines: dict[str, object], **told: object) -> Journal:
+    """The journal of BRAKED with these lines of a replay."""
+    found = journal(*BRAKED)
+    found.why, found.replay = list(TOLD), list(lines)
+    return found
+
+
+class Runs(unittest.TestCase):
+    """The causes of an intervention."""
+
+    def test_in_the_order_in_which_they_began(self) -> None:
+        found = causes.of_run([3, 4, 6], [{"far_too_fast": 3}, None, {"in_trip": 5, "far_too_fast": 3}])
+        self.assertEqual(found, [Held("far_too_fast", 3, 6), Held("in_trip", 5, 6)])
+
+    def test_one_that_ends_and_begins_anew_comes_twice(self) -> None:
+        found = causes.of_run([1, 2, 5], [{"too_fast": 1}, {"far_too_fast": 2}, {"too_fast": 4}])
+        self.assertEqual(found, [Held("too_fast", 1, 1, 2), Held("far_too_fast", 2, 2, 5), Held("too_fast", 4, 5)])
+
+    def test_one_that_ended_between_two_lines_comes_twice(self) -> None:
+        found = causes.of_run([1, 5], [{"too_fast": 1}, {"too_fast": 4}])
+        self.assertEqual(found, [Held("too_fast", 1, 1, 5), Held("too_fast", 4, 5)])
+
+
+class Told(unittest.TestCase):
+    """Of which records causes are known, and why not of the others."""
+
+    def test_where_the_replay_agrees(self) -> None:
+        table = tables.frame(replayed({"replay": "agrees", "first_event": 0, "last_event": 4}))
+        self.assertEqual(list(table["causes"]), ["not_revalidated since 0", "", "far_too_fast since 2", None, ""])
+        self.assertEqual(list(table["causes_not_known"]), [None] * 5)
+        self.assertEqual(list(tables.interventions(table)["causes"])[1], [Held("far_too_fast", 2, 2)])
+
+    def test_between_lines_that_tell_each_change(self) -> None:
+        told = replayed({"replay": "agrees", "first_event": 0, "last_event": 4})
+        told.why = [one | {"limit_cause": "staff", "limit_cause_section": "4.4"} for one in TOLD]
+        table = tables.frame(told)
+        self.assertEqual(list(table["causes"]), ["not_revalidated since 0", "", *["far_too_fast since 2"] * 2, ""])
+        self.assertEqual(set(table["limit_cause"]), {"staff"})
+        self.assertEqual(list(tables.interventions(table)["causes"])[1], [Held("far_too_fast", 2, 3)])
+        self.assertEqual(causes.limit_text(told.why[0] | {"limit_cause_place_cm": 150, "limit_cause_number": 7,
+                                                                "limit_cause_speed_m_per_h": 20_000}), "staff 7, 20 km/h at 1.50 m (4.4)")
+
+    def test_where_it_does_not(self) -> None:
+        table = tables.frame(replayed({"replay": "agrees", "first_event": 0, "last_event": 1}, {"replay": "record_differs", "event": 2},
+                                      {"replay": "not_replayed", "first_event": 3, "last_event": 4, "reason": "behind_difference"}))
+        self.assertEqual(list(table["causes"]), ["not_revalidated since 0", "", None, None, None])
+        self.assertEqual(list(table["causes_not_known"]), [None, None, DIFFERS, *[REASONS["behind_difference"]] * 2])
+
+    def test_of_another_block(self) -> None:
+        told = replayed({"replay": "agrees", "first_event": 0, "last_event": 4})
+        told.records[2]["source"] = "replaced"
+        self.assertEqual(tables.frame(told)["causes_not_known"].iat[2], OTHER_BLOCK)
+        del told.records[2]["source"]
+
+    def test_of_another_answer(self) -> None:
+        told = replayed({"replay": "agrees", "first_event": 0, "last_event": 4})
+        told.why[2] = line(2, "service", too_fast=2)
+        self.assertEqual(tables.frame(told)["causes_not_known"].iat[2], DIFFERS)
+
+    def test_nothing_was_told(self) -> None:
+        told = journal(*BRAKED)
+        told.why_refusal = "no memory"
+        self.assertEqual(set(tables.frame(told)["causes_not_known"]), {"no memory"})
+
+    def test_last_events_of_commands(self) -> None:
+        self.assertEqual(last_commanded(list(BRAKED)), [0, 3])
+        self.assertEqual(last_commanded([record(0, "powerup", brake="emergency"), record(1, "powerup", brake="emergency")]), [0, 1])
+
+
+if __name__ == "__main__":
+    unittest.main()

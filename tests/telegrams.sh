@@ -7,11 +7,12 @@ lab=${1:-$(dirname "$0")/../crates/etcs_lab/out/etcs_lab}
 etcs=${2:-$(dirname "$0")/../crates/etcs/out/etcs}
 lab=$(realpath "$lab") && etcs=$(realpath "$etcs") || exit 1
 cd "$(dirname "$0")" || exit 1
+../tools/python --checks || exit 1
 export PYTHONDONTWRITEBYTECODE=1
 for program in "$lab" "$etcs"; do
     [ -x "$program" ] || { echo "there is no program $program: rt ci makes it"; exit 1; }
 done
 status=0
-python3 telegrams/telegram_rows.py "$lab" || status=1
-python3 telegrams/lint_rows.py "$etcs" "$lab" || status=1
+/usr/bin/python3 telegrams/telegram_rows.py "$lab" || status=1
+/usr/bin/python3 telegrams/lint_rows.py "$etcs" "$lab" || status=1
 exit $status

@@ -1,0 +1,343 @@
+/*
+ * The onboard unit (ERTMS/ETCS level 1, UNISIG SUBSET-026 issue 2.3.0), for C, C++ and whatever calls C.
+ *
+ * Link with libetcs_unit.a or libetcs_unit.so, which `tools/library PREFIX` builds and installs with this header.
+ *
+ * The unit opens no file and calls nothing back. Its journal lies on a medium of the maker's own. The unit holds a copy
+ * of the medium's sectors, and tells what is to be done on the medium: a list of requests, each to write some sectors
+ * or to sync. The maker carries them out in their order, says how many are done, and only then gets outputs:
+ *
+ *     etcs_unit unit = {0};
+ *     etcs_unit_output outputs[ETCS_UNIT_OUTPUTS];
+ *     uint32_t count;
+ *
+ *     if (etcs_unit_open(&unit, image, size, ETCS_COLD_UNKNOWN) != ETCS_UNIT_OK || !carry_out(&unit)
+ *         || etcs_unit_release(&unit, outputs, ETCS_UNIT_OUTPUTS, &count) != ETCS_UNIT_OK) {
+ *         brake();
+ *         return;
+ *     }
+ *     for (;;) {
+ *         if (etcs_unit_odometer(&unit, movement_cm(), speed_m_per_h()) != ETCS_UNIT_OK
+ *             || etcs_unit_prepare(&unit) != ETCS_UNIT_OK || !carry_out(&unit)
+ *             || etcs_unit_release(&unit, outputs, ETCS_UNIT_OUTPUTS, &count) != ETCS_UNIT_OK) {
+ *             brake();
+ *             break;
+ *         }
+ *         for (uint32_t i = 0; i < count; i++)
+ *             obey(&outputs[i]);
+ *     }
+ *     etcs_unit_close(&unit);
+ *
+ * where carry_out takes request after request, 0 and on, until one answers ETCS_UNIT_NO_SUCH_REQUEST, and then calls
+ * etcs_unit_done with their number, or etcs_unit_fail where the medium failed. etcs_file.h has one for a POSIX file.
+ *
+ * ANY ANSWER BUT ETCS_UNIT_OK MEANS THE EMERGENCY BRAKE. An output reaches the train from etcs_unit_release alone.
+ *
+ * Every call returns, whatever numbers it is handed, and answers a number of enum etcs_unit_status. A null pointer is
+ * answered with ETCS_UNIT_NULL_POINTER. What no call can test, the caller owes:
+ *
+ * - an etcs_unit is all zeros before its first call, and from then on holds only what these calls left there; while it
+ *   is open nobody copies it, moves it or writes to it;
+ * - each other pointer is good for what it points to: a buffer for its length, a struct for its size; nobody else
+ *   writes there, and none of them overlap, while the call runs;
+ * - the sectors that are handed to etcs_unit_open are those of the medium, and nobody but this unit writes there while it
+ *   is open;
+ * - requests are carried out in their order, each whole before the next one, and are said to be done only then;
+ * - the word on movements without power is true (ETCS_COLD_UNKNOWN in doubt).
+ *
+ * A unit is for one call at a time, and stays in the thread that opened it. Units share nothing, so different ones may be
+ * called from different threads. Memory is taken by etcs_unit_open, and by the calls that take an input; close gives all
+ * of it back. No call blocks, and none is for a signal handler.
+ */
+#ifndef ETCS_UNIT_H
+#define ETCS_UNIT_H
+
+#include <stddef.h>
+#include <stdint.h>
+
+#include "etcs.h"
+
+#ifdef __cplusplus
+extern "C" {
+#define ETCS_UNIT_ASSERT(what) static_assert(what, #what)
+#elif defined(__STDC_VERSION__) && __STDC_VERSION__ >= 201112L
+#define ETCS_UNIT_ASSERT(what) _Static_assert(what, #what)
+#else
+/* C99 has no assertion of its own: an array of size -1 is refused. */
+#define ETCS_UNIT_JOIN2(a, b) a##b
+#define ETCS_UNIT_JOIN(a, b) ETCS_UNIT_JOIN2(a, b)
+#define ETCS_UNIT_ASSERT(what) extern char ETCS_UNIT_JOIN(etcs_unit_assert_, __LINE__)[(what) ? 1 : -1]
+#endif
+
+/* The number of this interface: counted up with each change that a caller can see. */
+#define ETCS_UNIT_ABI 1
+
+/* The bytes of a sector. */
+#define ETCS_UNIT_SECTOR 512
+
+/* The outputs that one release hands out, at most. */
+#define ETCS_UNIT_OUTPUTS 8
+
+/* The bytes that one request writes, at most. */
+#define ETCS_UNIT_REQUEST_BYTES 8192
+
+/* What calls answer. docs/REFUSALS.md says more of each. */
+enum etcs_unit_status {
+    ETCS_UNIT_OK = 0,
+
+    /* opening: no unit was opened, and the medium is to be left as it is */
+    ETCS_UNIT_OPEN_DEVICE_FAULT = 1,  /* the copy has no room for a request; never on a medium that etcs_unit_format_request made */
+    ETCS_UNIT_OPEN_NOT_FORMATTED = 2, /* the first sector isn't that of a journal, or there is none */
+    ETCS_UNIT_OPEN_DAMAGED = 3,       /* the size isn't that of the slots, or the newest block isn't readable */
+    ETCS_UNIT_OPEN_NO_MEMORY = 4,     /* there is no memory for the copy */
+    ETCS_UNIT_OPEN_WORN_OUT = 6,      /* there is no block number after 2^40: a new medium */
+
+    /* taking an input: nothing changed */
+    ETCS_UNIT_PENDING_FULL = 10, /* eight events are pending: prepare and release first */
+    ETCS_UNIT_CLOCK_BACK = 11,   /* the moment lies before the last one of this life */
+    ETCS_UNIT_NO_MEMORY = 12,    /* memory was refused for the event */
+    ETCS_UNIT_INPUT_FAILED = 13, /* the medium failed before: close, and open again */
+
+    /* preparing and releasing: nothing is released */
+    ETCS_UNIT_FAILED = 21,        /* the medium failed: close, and open again */
+    ETCS_UNIT_REQUESTS_OWED = 22, /* requests aren't done, or not released yet */
+    ETCS_UNIT_WORN_OUT = 23,      /* there is no block number after 2^40: a new medium */
+
+    /* formatting */
+    ETCS_UNIT_BAD_SLOTS = 41, /* the number of slots isn't 2 to 1,048,576 */
+
+    /* the call itself: nothing changed */
+    ETCS_UNIT_WRONG_COUNT = 248,     /* more requests were said to be done than there are, or fewer than before */
+    ETCS_UNIT_NO_SUCH_REQUEST = 249, /* the list ends before it */
+    ETCS_UNIT_NOT_OPEN = 250,        /* the unit is closed, or was never opened */
+    ETCS_UNIT_IS_OPEN = 251,         /* the unit is open already */
+    ETCS_UNIT_NO_ROOM = 252,         /* the buffer is too small */
+    ETCS_UNIT_NULL_POINTER = 253,    /* a pointer is null */
+    ETCS_UNIT_OTHER_ABI = 254,       /* the header is of another interface than the library */
+    ETCS_UNIT_OUT_OF_RANGE = 255     /* a number or a length is outside its limits */
+};
+
+/* Whether the train was moved while the unit was without power. */
+enum etcs_cold { ETCS_COLD_UNKNOWN = 0, ETCS_COLD_MOVED = 1, ETCS_COLD_NOT_MOVED = 2 };
+
+/* What the driver does without further values (SUBSET-026, 5). */
+enum etcs_action {
+    ETCS_CHOOSE_LEVEL_0 = 1,
+    ETCS_CHOOSE_LEVEL_1 = 2,
+    ETCS_CONFIRM_IDENTITY = 3,
+    ETCS_CONFIRM_RUNNING_NUMBER = 4,
+    ETCS_CONFIRM_TRAIN_DATA = 5,
+    ETCS_CONFIRM_LEVEL = 6,
+    ETCS_START = 7,
+    ETCS_CHOOSE_SHUNTING = 8,
+    ETCS_LEAVE_SHUNTING = 9,
+    ETCS_OVERRIDE = 10,
+    ETCS_ACKNOWLEDGE_TRIP = 11,
+    ETCS_ACKNOWLEDGE_ON_SIGHT = 12,
+    ETCS_ACKNOWLEDGE_SHUNTING = 13,
+    ETCS_ACKNOWLEDGE_LEVEL_0 = 14,
+    ETCS_CLOSE_DESK = 15
+};
+
+/* M_MODE (SUBSET-026, 7.5.1). */
+enum etcs_mode {
+    ETCS_FULL_SUPERVISION = 0,
+    ETCS_ON_SIGHT = 1,
+    ETCS_STAFF_RESPONSIBLE = 2,
+    ETCS_SHUNTING = 3,
+    ETCS_UNFITTED = 4,
+    ETCS_STAND_BY = 6,
+    ETCS_TRIP = 7,
+    ETCS_POST_TRIP = 8,
+    ETCS_SYSTEM_FAILURE = 9
+};
+
+enum etcs_level { ETCS_LEVEL_0 = 0, ETCS_LEVEL_1 = 1, ETCS_LEVEL_INVALID = 255 };
+
+enum etcs_brake { ETCS_BRAKE_NONE = 0, ETCS_BRAKE_SERVICE = 1, ETCS_BRAKE_EMERGENCY = 2 };
+
+/* What the driver is shown; etcs_unit_output has the sum. */
+enum etcs_indication {
+    ETCS_SHOWS_ON_SIGHT = 1,
+    ETCS_SHOWS_SHUNTING = 2,
+    ETCS_SHOWS_LEVEL_0 = 4,
+    ETCS_SHOWS_TRIP = 8,
+    ETCS_SHOWS_OVERRIDDEN = 16,
+    ETCS_SHOWS_NOT_REVALIDATED = 32,
+    ETCS_SHOWS_OVERSPEED = 64
+};
+
+enum etcs_request_kind { ETCS_REQUEST_WRITE = 1, ETCS_REQUEST_SYNC = 2 };
+
+/* A unit, in the caller's memory. Its fields are the library's. */
+typedef struct {
+    void *at;
+    uint64_t is_open;
+} etcs_unit;
+
+/* An output that may reach the train. */
+typedef struct {
+    uint64_t event;        /* the number of its event, from 0 on over all lives */
+    uint32_t limit_m_per_h;
+    uint8_t mode;          /* enum etcs_mode */
+    uint8_t level;         /* enum etcs_level */
+    uint8_t brake;         /* enum etcs_brake */
+    uint8_t indications;   /* the sum of enum etcs_indication */
+} etcs_unit_output;
+
+/* Something to be done on the medium. */
+typedef struct {
+    uint64_t sector;  /* of a write: the first sector, from 0 on; else 0 */
+    uint32_t sectors; /* of a write: how many sectors, with ETCS_UNIT_SECTOR bytes each; else 0 */
+    uint32_t kind;    /* enum etcs_request_kind */
+} etcs_unit_request_told;
+
+/* Train data (SUBSET-026, 3.18.3). */
+typedef struct {
+    uint32_t length_m;
+    uint32_t maximum_m_per_h;
+    uint32_t deceleration_cm_per_s2;
+    uint32_t reaction_ms;
+    uint32_t category; /* 0 to 15 */
+} etcs_train_data;
+
+/* How far a unit is. */
+typedef struct {
+    etcs_unit_output last; /* of the last release that had an output; before one: event 0, Stand By, no valid level, emergency brake */
+    uint32_t requests;     /* how many requests the list has */
+    uint32_t done;         /* how many of them are done */
+    uint32_t held;         /* how many outputs are held back */
+    uint32_t has_failed;   /* 1 where etcs_unit_fail was called or a flush failed, else 0 */
+} etcs_unit_state_told;
+
+ETCS_UNIT_ASSERT(sizeof(void *) == 8 && sizeof(size_t) == 8);
+ETCS_UNIT_ASSERT(sizeof(etcs_unit) == 16 && offsetof(etcs_unit, is_open) == 8);
+ETCS_UNIT_ASSERT(sizeof(etcs_unit_output) == 16 && offsetof(etcs_unit_output, limit_m_per_h) == 8 && offsetof(etcs_unit_output, mode) == 12
+                 && offsetof(etcs_unit_output, level) == 13 && offsetof(etcs_unit_output, brake) == 14 && offsetof(etcs_unit_output, indications) == 15);
+ETCS_UNIT_ASSERT(sizeof(etcs_unit_request_told) == 16 && offsetof(etcs_unit_request_told, sectors) == 8 && offsetof(etcs_unit_request_told, kind) == 12);
+ETCS_UNIT_ASSERT(sizeof(etcs_train_data) == 20 && offsetof(etcs_train_data, category) == 16);
+ETCS_UNIT_ASSERT(sizeof(etcs_unit_state_told) == 32 && offsetof(etcs_unit_state_told, requests) == 16 && offsetof(etcs_unit_state_told, has_failed) == 28);
+
+/* ---- the library's own names; the calls below test pointers first, and then call these */
+
+uint32_t etcs_unit_abi(void);
+uint32_t etcs_unit_open_(etcs_unit *unit, const uint8_t *image, size_t len, uint32_t cold, uint32_t abi);
+uint32_t etcs_unit_telegram_(etcs_unit *unit, const uint8_t *bytes, size_t len);
+uint32_t etcs_unit_odometer_(etcs_unit *unit, int64_t movement_cm, uint32_t speed_m_per_h);
+uint32_t etcs_unit_clock_(etcs_unit *unit, uint64_t moment_ms);
+uint32_t etcs_unit_action_(etcs_unit *unit, uint32_t action);
+uint32_t etcs_unit_identity_(etcs_unit *unit, const uint8_t *bytes, size_t len);
+uint32_t etcs_unit_running_number_(etcs_unit *unit, uint32_t number);
+uint32_t etcs_unit_train_data_(etcs_unit *unit, const etcs_train_data *data);
+uint32_t etcs_unit_prepare_(etcs_unit *unit);
+uint32_t etcs_unit_request_(etcs_unit *unit, uint32_t index, etcs_unit_request_told *request, uint8_t *bytes, size_t room);
+uint32_t etcs_unit_done_(etcs_unit *unit, uint32_t count);
+uint32_t etcs_unit_fail_(etcs_unit *unit);
+uint32_t etcs_unit_release_(etcs_unit *unit, etcs_unit_output *outputs, size_t room, uint32_t *count);
+uint32_t etcs_unit_state_(etcs_unit *unit, etcs_unit_state_told *state);
+uint32_t etcs_unit_close_(etcs_unit *unit);
+uint32_t etcs_unit_format_request_(uint32_t slots, uint32_t index, etcs_unit_request_told *request, uint8_t *bytes, size_t room);
+
+/* ---- the calls */
+
+/* Powers up on these sectors: `len` bytes, the whole medium, of which the unit keeps a copy. Behind it the requests of
+ * the power-up are in the list, and no output is held back: carry them out, say that they are done, and release.
+ * Answers OK, IS_OPEN, OTHER_ABI, OUT_OF_RANGE (the word), or one of the statuses of opening; then the unit is as
+ * before. Takes memory: the copy, some 9 kB of room for requests, and the unit. */
+static inline uint32_t etcs_unit_open(etcs_unit *unit, const uint8_t *image, size_t len, uint32_t cold) {
+    return unit && image ? etcs_unit_open_(unit, image, len, cold, ETCS_UNIT_ABI) : (uint32_t)ETCS_UNIT_NULL_POINTER;
+}
+
+/* ---- inputs: each takes one input into memory, also while requests are carried out. Nothing is released. They answer
+ * OK, NOT_OPEN, OUT_OF_RANGE, or a status of taking an input, tested in this order; but for OK nothing changed. */
+
+/* The bytes that a balise sent, from 1 to ETCS_TELEGRAM_BYTES; they need not carry a telegram. */
+static inline uint32_t etcs_unit_telegram(etcs_unit *unit, const uint8_t *bytes, size_t len) {
+    return unit && bytes ? etcs_unit_telegram_(unit, bytes, len) : (uint32_t)ETCS_UNIT_NULL_POINTER;
+}
+
+/* A reading of the odometer: the movement since the last one, forward or backward, and the speed now, 0 only at
+ * standstill. */
+static inline uint32_t etcs_unit_odometer(etcs_unit *unit, int64_t movement_cm, uint32_t speed_m_per_h) {
+    return unit ? etcs_unit_odometer_(unit, movement_cm, speed_m_per_h) : (uint32_t)ETCS_UNIT_NULL_POINTER;
+}
+
+/* A moment of this life. Moments don't fall. */
+static inline uint32_t etcs_unit_clock(etcs_unit *unit, uint64_t moment_ms) {
+    return unit ? etcs_unit_clock_(unit, moment_ms) : (uint32_t)ETCS_UNIT_NULL_POINTER;
+}
+
+/* An action of the driver (enum etcs_action). */
+static inline uint32_t etcs_unit_action(etcs_unit *unit, uint32_t action) {
+    return unit ? etcs_unit_action_(unit, action) : (uint32_t)ETCS_UNIT_NULL_POINTER;
+}
+
+/* The driver enters an identity, of 1 to 16 bytes. */
+static inline uint32_t etcs_unit_identity(etcs_unit *unit, const uint8_t *bytes, size_t len) {
+    return unit && bytes ? etcs_unit_identity_(unit, bytes, len) : (uint32_t)ETCS_UNIT_NULL_POINTER;
+}
+
+/* The driver enters the running number. */
+static inline uint32_t etcs_unit_running_number(etcs_unit *unit, uint32_t number) {
+    return unit ? etcs_unit_running_number_(unit, number) : (uint32_t)ETCS_UNIT_NULL_POINTER;
+}
+
+/* The driver enters train data. */
+static inline uint32_t etcs_unit_train_data(etcs_unit *unit, const etcs_train_data *data) {
+    return unit && data ? etcs_unit_train_data_(unit, data) : (uint32_t)ETCS_UNIT_NULL_POINTER;
+}
+
+/* ---- from inputs to outputs */
+
+/* Puts what is pending onto the copy: its requests are then in the list, and its outputs held back. Where nothing is
+ * pending the list stays empty. Answers OK, NOT_OPEN, or a status of preparing. */
+static inline uint32_t etcs_unit_prepare(etcs_unit *unit) {
+    return unit ? etcs_unit_prepare_(unit) : (uint32_t)ETCS_UNIT_NULL_POINTER;
+}
+
+/* Tells a request of the list, from 0 on, and the bytes that it writes. Answers OK, NOT_OPEN, NO_SUCH_REQUEST, or NO_ROOM
+ * where it writes more than `room` bytes; but for OK nothing is written. ETCS_UNIT_REQUEST_BYTES are always enough. */
+static inline uint32_t etcs_unit_request(etcs_unit *unit, uint32_t index, etcs_unit_request_told *request, uint8_t *bytes, size_t room) {
+    return unit && request && bytes ? etcs_unit_request_(unit, index, request, bytes, room) : (uint32_t)ETCS_UNIT_NULL_POINTER;
+}
+
+/* Says that so many requests, from the first on, are done. Answers OK, NOT_OPEN or WRONG_COUNT. */
+static inline uint32_t etcs_unit_done(etcs_unit *unit, uint32_t count) {
+    return unit ? etcs_unit_done_(unit, count) : (uint32_t)ETCS_UNIT_NULL_POINTER;
+}
+
+/* Says that the medium failed: from then on inputs answer INPUT_FAILED, and prepare and release FAILED. Answers OK or
+ * NOT_OPEN. */
+static inline uint32_t etcs_unit_fail(etcs_unit *unit) {
+    return unit ? etcs_unit_fail_(unit) : (uint32_t)ETCS_UNIT_NULL_POINTER;
+}
+
+/* Releases what was held back, all of it, into room for ETCS_UNIT_OUTPUTS, and empties the list; `count` says how many
+ * there are, the oldest first. Answers OK, NOT_OPEN, NO_ROOM (fewer than ETCS_UNIT_OUTPUTS), FAILED, or REQUESTS_OWED
+ * where not all requests are done; but for OK nothing changes, and no output is written. */
+static inline uint32_t etcs_unit_release(etcs_unit *unit, etcs_unit_output *outputs, size_t room, uint32_t *count) {
+    return unit && outputs && count ? etcs_unit_release_(unit, outputs, room, count) : (uint32_t)ETCS_UNIT_NULL_POINTER;
+}
+
+/* Tells how far the unit is. Answers OK or NOT_OPEN; then `state` isn't written. */
+static inline uint32_t etcs_unit_state(etcs_unit *unit, etcs_unit_state_told *state) {
+    return unit && state ? etcs_unit_state_(unit, state) : (uint32_t)ETCS_UNIT_NULL_POINTER;
+}
+
+/* Closes it, and gives its memory back. What is pending, and what is held back, is lost to this life; what was prepared
+ * may be found by the next one. Answers OK, or NOT_OPEN, which is allowed. */
+static inline uint32_t etcs_unit_close(etcs_unit *unit) {
+    return unit ? etcs_unit_close_(unit) : (uint32_t)ETCS_UNIT_NULL_POINTER;
+}
+
+/* Tells what is to be done, from 0 on, to make a medium of 1 + 6 * slots sectors an empty journal. It needs no unit.
+ * Answers OK, BAD_SLOTS, NO_SUCH_REQUEST behind the last one, or NO_ROOM (fewer than ETCS_UNIT_SECTOR bytes). */
+static inline uint32_t etcs_unit_format_request(uint32_t slots, uint32_t index, etcs_unit_request_told *request, uint8_t *bytes, size_t room) {
+    return request && bytes ? etcs_unit_format_request_(slots, index, request, bytes, room) : (uint32_t)ETCS_UNIT_NULL_POINTER;
+}
+
+#ifdef __cplusplus
+}
+#endif
+
+#endif

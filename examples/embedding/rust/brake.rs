@@ -4,6 +4,7 @@
 //!     rustc --edition 2021 -L PREFIX/lib -l static=etcs_unit brake.rs
 use std::ffi::c_void;
 use std::fmt;
+use std::mem::size_of;
 use std::ptr;
 
 const ABI: u32 = 1;
@@ -80,7 +81,6 @@ pub struct TrainData {
 
 const _: () = assert!(size_of::<library::Handle>() == 16 && size_of::<Output>() == 16);
 const _: () = assert!(size_of::<Request>() == 16 && size_of::<TrainData>() == 20);
-const _: () = assert!(std::mem::offset_of!(Output, brake) == 14 && std::mem::offset_of!(Request, kind) == 12);
 
 /// What a call answered that isn't OK: the emergency brake is to be commanded.
 #[derive(Debug)]

@@ -2,9 +2,10 @@
  * A unit's journal in a file, for C and C++ on systems with the calls of POSIX and flock (Linux, BSD, macOS): what
  * etcs_unit.h leaves to the maker. It is of this header alone; there is nothing to link but the library of etcs_unit.h.
  *
- * The image is that of the program `etcs`, byte for byte: an image that `etcs format` made opens here, and `etcs journal`
- * lists what a unit left. Files are opened as the program opens them: under the exclusive lock of the whole file (flock),
- * which keeps out the programs of this product and all others that ask for it, and no program that doesn't ask.
+ * The image is that of the program `etcs`, byte for byte: an image that `etcs format` made opens here, and `etcs
+ * journal` lists what a unit left. Files are opened as the program opens them: under the exclusive lock of the whole
+ * file (flock), which keeps out the programs of this product and all others that ask for it, and no program that
+ * doesn't ask.
  *
  *     etcs_unit unit = {0};
  *     etcs_file file;
@@ -13,16 +14,16 @@
  *     ...
  *     etcs_file_close(&file, &unit);
  *
- * Each call answers what failed (enum etcs_file_answer). Where the system failed, `error` of the file has its errno; where
- * the unit answered something else than OK, `status` has it (enum etcs_unit_status). ANY ANSWER BUT ETCS_FILE_OK MEANS THE
- * EMERGENCY BRAKE.
+ * Each call answers what failed (enum etcs_file_answer). Where the system failed, `error` of the file has its errno;
+ * where the unit answered something else than OK, `status` has it (enum etcs_unit_status). ANY ANSWER BUT ETCS_FILE_OK
+ * MEANS THE EMERGENCY BRAKE.
  *
- * The caller owes what etcs_unit.h says, a path that ends in a zero byte, and an etcs_file that only these calls write to.
- * No pointer may be null. A child of a fork shares the lock, so a process that forks owes that the child closes the
+ * The caller owes what etcs_unit.h says, a path that ends in a zero byte, and an etcs_file that only these calls write
+ * to. No pointer may be null. A child of a fork shares the lock, so a process that forks owes that the child closes the
  * descriptor or runs another program (it is closed then).
  *
- * Whether a file keeps what was synced is a matter of the file system and the drive. Formatting doesn't sync the folder:
- * whether the name of a new file survives a loss of power isn't known until the file system has written it.
+ * Whether a file keeps what was synced is a matter of the file system and the drive. Formatting doesn't sync the
+ * folder: whether the name of a new file survives a loss of power isn't known until the file system has written it.
  */
 #ifndef ETCS_FILE_H
 #define ETCS_FILE_H
@@ -132,7 +133,8 @@ static inline uint32_t etcs_file_write_(etcs_file *file, const uint8_t *bytes, s
 /* Carries out one request. */
 static inline uint32_t etcs_file_do_(etcs_file *file, const etcs_unit_request_told *request, const uint8_t *bytes) {
     if (request->kind == ETCS_REQUEST_WRITE)
-        return etcs_file_write_(file, bytes, (size_t)request->sectors * ETCS_UNIT_SECTOR, request->sector * ETCS_UNIT_SECTOR);
+        return etcs_file_write_(file, bytes, (size_t)request->sectors * ETCS_UNIT_SECTOR,
+                                request->sector * ETCS_UNIT_SECTOR);
     for (;;) {
         if (fsync(file->descriptor) == 0)
             return ETCS_FILE_OK;
@@ -141,7 +143,7 @@ static inline uint32_t etcs_file_do_(etcs_file *file, const etcs_unit_request_to
     }
 }
 
-/* The bytes of the whole sectors, for the caller to free; NULL where that failed. A file of no sector has a byte too. */
+/* The bytes of the whole sectors, for the caller to free; NULL where that failed. */
 static inline uint8_t *etcs_file_bytes_(etcs_file *file, size_t *len, uint32_t *answer) {
     const off_t end = lseek(file->descriptor, 0, SEEK_END);
     if (end < 0) {
@@ -212,8 +214,8 @@ static inline uint32_t etcs_file_format_(etcs_file *file, const char *path, uint
 /* ---- the calls */
 
 /* Opens and locks the file, reads it, and powers the unit up on it. Behind it the requests of the power-up are in the
- * list: carry them out, and release. Where it answers something else than OK, the file isn't open and as it was, and the
- * unit is as before. It takes memory for the bytes of the file while it runs. */
+ * list: carry them out, and release. Where it answers something else than OK, the file isn't open and as it was, and
+ * the unit is as before. It takes memory for the bytes of the file while it runs. */
 static inline uint32_t etcs_file_open(etcs_file *file, const char *path, etcs_unit *unit, uint32_t cold) {
     const uint32_t answer = etcs_file_open_(file, path, unit, cold);
     if (answer != ETCS_FILE_OK)
@@ -221,8 +223,8 @@ static inline uint32_t etcs_file_open(etcs_file *file, const char *path, etcs_un
     return answer;
 }
 
-/* Carries out the unit's requests that aren't done, one after the other, and says of each that it is done. Where the file
- * fails it says so to the unit (etcs_unit_fail), so that nothing is released any more. */
+/* Carries out the unit's requests that aren't done, one after the other, and says of each that it is done. Where the
+ * file fails it says so to the unit (etcs_unit_fail), so that nothing is released any more. */
 static inline uint32_t etcs_file_carry_out(etcs_file *file, etcs_unit *unit) {
     uint8_t bytes[ETCS_UNIT_REQUEST_BYTES];
     etcs_unit_request_told request;
@@ -242,7 +244,8 @@ static inline uint32_t etcs_file_carry_out(etcs_file *file, etcs_unit *unit) {
     return answer;
 }
 
-static inline uint32_t etcs_file_release_(etcs_file *file, etcs_unit *unit, etcs_unit_output *outputs, uint32_t *count) {
+static inline uint32_t etcs_file_release_(etcs_file *file, etcs_unit *unit, etcs_unit_output *outputs,
+                                          uint32_t *count) {
     const uint32_t answer = etcs_file_carry_out(file, unit);
     if (answer != ETCS_FILE_OK)
         return answer;
@@ -250,9 +253,9 @@ static inline uint32_t etcs_file_release_(etcs_file *file, etcs_unit *unit, etcs
 }
 
 /* Prepares what is pending, carries it out, and releases it: `count` outputs, the oldest first, in room for
- * ETCS_UNIT_OUTPUTS. Behind etcs_file_open it carries out the power-up too. Where requests of an earlier etcs_unit_prepare
- * are owed that hold outputs back, it releases those alone, and what is pending waits for the next flush. Where it answers
- * something else than OK, `count` is 0. */
+ * ETCS_UNIT_OUTPUTS. Behind etcs_file_open it carries out the power-up too. Where requests of an earlier
+ * etcs_unit_prepare are owed that hold outputs back, it releases those alone, and what is pending waits for the next
+ * flush. Where it answers something else than OK, `count` is 0. */
 static inline uint32_t etcs_file_flush(etcs_file *file, etcs_unit *unit, etcs_unit_output *outputs, uint32_t *count) {
     *count = 0;
     uint32_t answer = etcs_file_told_(file, etcs_unit_prepare(unit));
@@ -265,16 +268,16 @@ static inline uint32_t etcs_file_flush(etcs_file *file, etcs_unit *unit, etcs_un
     return answer == ETCS_FILE_OK ? etcs_file_release_(file, unit, outputs, count) : answer;
 }
 
-/* Closes the unit, and then the file, which gives its lock back. What isn't released is lost to this life. It may be called
- * on a file and a unit that aren't open, and answers OK or UNIT (the unit wasn't open). */
+/* Closes the unit, and then the file, which gives its lock back. What isn't released is lost to this life. It may be
+ * called on a file and a unit that aren't open, and answers OK or UNIT (the unit wasn't open). */
 static inline uint32_t etcs_file_close(etcs_file *file, etcs_unit *unit) {
     const uint32_t answer = etcs_file_told_(file, etcs_unit_close(unit));
     etcs_file_shut_(file);
     return answer;
 }
 
-/* Makes the file, or empties the one that is there, and makes it an empty journal of so many slots, as `etcs format` does.
- * What is there is locked before it is emptied. The file isn't open behind it. */
+/* Makes the file, or empties the one that is there, and makes it an empty journal of so many slots, as `etcs format`
+ * does. What is there is locked before it is emptied. The file isn't open behind it. */
 static inline uint32_t etcs_file_format(etcs_file *file, const char *path, uint32_t slots) {
     file->error = 0;
     file->status = ETCS_UNIT_OK;

@@ -1,5 +1,5 @@
 #!/usr/bin/env python3
-"""Runs the commands of docs/EMBEDDING.md, and compares what they print: in a new folder that is HOME, with a copy of nothing.
+"""Runs the commands of docs/EMBEDDING.md, and compares what they print: at the top of the repository, with a new folder as HOME.
 
     tests/unit/page.py
 
@@ -15,7 +15,7 @@ from pathlib import Path
 TOP = Path(__file__).resolve().parents[2]
 PAGE = TOP / "docs" / "EMBEDDING.md"
 BLOCK = re.compile(r"^```(console|c|python)\n(.*?)^```$", re.DOTALL | re.MULTILINE)
-FILE = re.compile(r"`([\w.]+)`:\n*\Z")
+FILE = re.compile(r"`~/([\w.]+)`:\n*\Z")
 LEAST = 6
 
 
@@ -32,7 +32,9 @@ def commands_of(text):
 def main():
     text, tried, found = PAGE.read_text(), 0, 0
     with tempfile.TemporaryDirectory() as home:
-        environment = dict(os.environ, HOME=home)
+        # (where rustc comes from rustup, it looks for its toolchain in the real HOME)
+        rustup = os.environ.get("RUSTUP_HOME", str(Path.home() / ".rustup"))
+        environment = dict(os.environ, HOME=home, RUSTUP_HOME=rustup)
         for block in BLOCK.finditer(text):
             if block[1] != "console":
                 name = FILE.search(text[:block.start()])

@@ -3,7 +3,8 @@
 # that the library shows, sizes and places, wrong calls, files, two units at once, the examples, random lives beside `etcs run`, and the
 # commands of docs/EMBEDDING.md. It needs gcc, g++, valgrind, rustc and Debian's Python; clang is tried where it is there.
 #
-#     tests/unit.sh [PREFIX]    builds and installs the library first, or takes the one below PREFIX; $ETCS names another program
+#     tests/unit.sh [PREFIX [LIVES]]    builds and installs the library first, or takes the one below PREFIX; 400 lives; $ETCS names another
+#                                       program than the gate's
 export PYTHONDONTWRITEBYTECODE=1
 top=$(cd "$(dirname "$0")/.." && pwd) || exit 1
 python=/usr/bin/python3 # Debian's packages belong to this one
@@ -141,8 +142,8 @@ counted "trains that brake" $trains 5
 
 # ---- lives beside the program, the package in Python, and the page
 
-"$python" "$top/tests/unit/lives.py" "$made/life.gcc" 400 || status=1
-"$python" "$top/tests/unit/lives.py" "$made/life.checked" 20 7 || status=1
+"$python" "$top/tests/unit/lives.py" "$made/life.gcc" "${2:-400}" || status=1
+"$python" "$top/tests/unit/lives.py" "$made/life.checked" "$((${2:-400} / 20))" 7 || status=1
 (cd "$top/python" && "$python" -m unittest -q tests.test_unit) >"$made/said" 2>&1 && grep -q '^Ran 9 tests' "$made/said" && ! grep -q skipped "$made/said" ||
     { cat "$made/said"; fails "python/tests/test_unit.py: failures, or other than 9 tests"; }
 ETCS_UNIT_ARCHIVE=$archive ETCS_C_ARCHIVE=$archive "$python" "$top/tests/unit/page.py" || status=1

@@ -188,13 +188,13 @@ typedef struct {
 /* Something to be done on the medium. */
 typedef struct {
     uint64_t sector;  /* of a write: the first sector, from 0 on; else 0 */
-    uint32_t sectors; /* of a write: how many sectors, with ETCS_UNIT_SECTOR bytes each; else 0 */
-    uint32_t kind;    /* enum etcs_request_kind */
+    uint64_t sectors; /* of a write: how many sectors, with ETCS_UNIT_SECTOR bytes each; else 0 */
+    uint64_t kind;    /* enum etcs_request_kind */
 } etcs_unit_request_told;
 
 /* Train data (SUBSET-026, 3.18.3). */
 typedef struct {
-    uint32_t length_m;
+    uint32_t length_cm;
     uint32_t maximum_m_per_h;
     uint32_t deceleration_cm_per_s2;
     uint32_t reaction_ms;
@@ -204,19 +204,19 @@ typedef struct {
 /* How far a unit is. */
 typedef struct {
     etcs_unit_output last; /* of the last release that had an output; before one: event 0, Stand By, no valid level, emergency brake */
-    uint32_t requests;     /* how many requests the list has */
-    uint32_t done;         /* how many of them are done */
-    uint32_t held;         /* how many outputs are held back */
-    uint32_t has_failed;   /* 1 where etcs_unit_fail was called or a flush failed, else 0 */
+    uint64_t requests;     /* how many requests the list has */
+    uint64_t done;         /* how many of them are done */
+    uint64_t held;         /* how many outputs are held back */
+    uint64_t has_failed;   /* 1 where etcs_unit_fail was called or a flush failed, else 0 */
 } etcs_unit_state_told;
 
 ETCS_UNIT_ASSERT(sizeof(void *) == 8 && sizeof(size_t) == 8);
 ETCS_UNIT_ASSERT(sizeof(etcs_unit) == 16 && offsetof(etcs_unit, is_open) == 8);
 ETCS_UNIT_ASSERT(sizeof(etcs_unit_output) == 16 && offsetof(etcs_unit_output, limit_m_per_h) == 8 && offsetof(etcs_unit_output, mode) == 12
                  && offsetof(etcs_unit_output, level) == 13 && offsetof(etcs_unit_output, brake) == 14 && offsetof(etcs_unit_output, indications) == 15);
-ETCS_UNIT_ASSERT(sizeof(etcs_unit_request_told) == 16 && offsetof(etcs_unit_request_told, sectors) == 8 && offsetof(etcs_unit_request_told, kind) == 12);
-ETCS_UNIT_ASSERT(sizeof(etcs_train_data) == 20 && offsetof(etcs_train_data, category) == 16);
-ETCS_UNIT_ASSERT(sizeof(etcs_unit_state_told) == 32 && offsetof(etcs_unit_state_told, requests) == 16 && offsetof(etcs_unit_state_told, has_failed) == 28);
+ETCS_UNIT_ASSERT(sizeof(etcs_unit_request_told) == 24 && offsetof(etcs_unit_request_told, sectors) == 8 && offsetof(etcs_unit_request_told, kind) == 16);
+ETCS_UNIT_ASSERT(sizeof(etcs_train_data) == 20 && offsetof(etcs_train_data, length_cm) == 0 && offsetof(etcs_train_data, category) == 16);
+ETCS_UNIT_ASSERT(sizeof(etcs_unit_state_told) == 48 && offsetof(etcs_unit_state_told, requests) == 16 && offsetof(etcs_unit_state_told, has_failed) == 40);
 
 /* ---- the library's own names; the calls below test pointers first, and then call these */
 

@@ -27,7 +27,7 @@ static int has_power(void) {
     return 1;
 }
 
-static int flash_write(uint64_t sector, const uint8_t *bytes, uint32_t sectors) {
+static int flash_write(uint64_t sector, const uint8_t *bytes, uint64_t sectors) {
     if (!has_power() || sector + sectors > SECTORS)
         return 0;
     memcpy(cells + sector * ETCS_UNIT_SECTOR, bytes, sectors * (size_t)ETCS_UNIT_SECTOR);

@@ -280,7 +280,7 @@ class _Output(ctypes.Structure):
 
 
 class _Request(ctypes.Structure):
-    _fields_ = [("sector", ctypes.c_uint64), ("sectors", ctypes.c_uint32), ("kind", ctypes.c_uint32)]
+    _fields_ = [(name, ctypes.c_uint64) for name in ("sector", "sectors", "kind")]
 
 
 class _TrainData(ctypes.Structure):
@@ -288,7 +288,7 @@ class _TrainData(ctypes.Structure):
 
 
 class _State(ctypes.Structure):
-    _fields_ = [("last", _Output), *((name, ctypes.c_uint32) for name in ("requests", "done", "held", "has_failed"))]
+    _fields_ = [("last", _Output), *((name, ctypes.c_uint64) for name in ("requests", "done", "held", "has_failed"))]
 
 
 _HANDLE = ctypes.POINTER(_Handle)

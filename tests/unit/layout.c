@@ -23,6 +23,7 @@ int main(void) {
     FIELD(etcs_unit_request_told, sectors);
     FIELD(etcs_unit_request_told, kind);
     SIZE(etcs_train_data);
+    FIELD(etcs_train_data, length_cm);
     FIELD(etcs_train_data, maximum_m_per_h);
     FIELD(etcs_train_data, deceleration_cm_per_s2);
     FIELD(etcs_train_data, reaction_ms);

@@ -14,8 +14,8 @@ from gaknifur import unit  # noqa: E402
 
 STRUCTS = {"etcs_unit": unit._Handle, "etcs_unit_output": unit._Output, "etcs_unit_request_told": unit._Request,
            "etcs_train_data": unit._TrainData, "etcs_unit_state_told": unit._State}
-SHORT = {"maximum_m_per_h": "maximum", "deceleration_cm_per_s2": "deceleration", "reaction_ms": "reaction"}
-LEAST = 25
+SHORT = {"length_cm": "length", "maximum_m_per_h": "maximum", "deceleration_cm_per_s2": "deceleration", "reaction_ms": "reaction"}
+LEAST = 26
 
 
 def place_of(name):

@@ -163,7 +163,7 @@ static void untouched(const char *what) {
     uint8_t other[ETCS_UNIT_REQUEST_BYTES];
     memset(other, 0xAA, sizeof other);
     is(what, (uint64_t)memcmp(outputs, other, sizeof outputs) | (uint64_t)memcmp(&request, other, sizeof request) |
-       (uint64_t)memcmp(&state, other, sizeof state) | (uint64_t)memcmp(bytes, other, sizeof bytes) | (uint64_t)memcmp(&count, other, sizeof count), 0);
+       (uint64_t)memcmp(&state, other, sizeof state) | (uint64_t)memcmp(bytes, other, sizeof bytes), 0);
 }
 
 static void touch(void) {
@@ -171,14 +171,13 @@ static void touch(void) {
     memset(&request, 0xAA, sizeof request);
     memset(&state, 0xAA, sizeof state);
     memset(bytes, 0xAA, sizeof bytes);
-    memset(&count, 0xAA, sizeof count);
 }
 
 static void relaying(medium *on) {
     etcs_unit unit = {0};
     is("open", etcs_unit_open(&unit, on->bytes, on->len, 0), ETCS_UNIT_OK);
     is("state", etcs_unit_state(&unit, &state), ETCS_UNIT_OK);
-    const uint32_t requests = state.requests;
+    const uint32_t requests = (uint32_t)state.requests;
     is("there are requests", requests > 0, 1);
     is("none is done", state.done, 0);
     is("none is held back", state.held, 0);

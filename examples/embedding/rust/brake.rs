@@ -14,7 +14,7 @@ const REQUEST_BYTES: usize = 8192;
 const SLOTS: u32 = 64;
 const CYCLE_MS: u64 = 500;
 const MOST_CYCLES: u32 = 1000;
-const WRITE: u32 = 1;
+const WRITE: u64 = 1;
 const NO_SUCH_REQUEST: u32 = 249;
 const COLD_UNKNOWN: u32 = 0;
 const CHOOSE_LEVEL_1: u32 = 2;
@@ -65,14 +65,14 @@ pub struct Output {
 #[derive(Clone, Copy, Default)]
 pub struct Request {
     sector: u64,
-    sectors: u32,
-    kind: u32,
+    sectors: u64,
+    kind: u64,
 }
 
 /// Train data (SUBSET-026, 3.18.3).
 #[repr(C)]
 pub struct TrainData {
-    length: u32,
+    length_cm: u32,
     maximum_m_per_h: u32,
     deceleration_cm_per_s2: u32,
     reaction_ms: u32,
@@ -80,7 +80,7 @@ pub struct TrainData {
 }
 
 const _: () = assert!(size_of::<library::Handle>() == 16 && size_of::<Output>() == 16);
-const _: () = assert!(size_of::<Request>() == 16 && size_of::<TrainData>() == 20);
+const _: () = assert!(size_of::<Request>() == 24 && size_of::<TrainData>() == 20);
 
 /// What a call answered that isn't OK: the emergency brake is to be commanded.
 #[derive(Debug)]
@@ -247,7 +247,7 @@ fn make_ready(unit: &mut Unit) -> Result<(), Refused> {
     ])?;
     unit.identity("IC 704")?;
     unit.action(CHOOSE_LEVEL_1)?;
-    unit.train_data(&TrainData { length: 20_000, maximum_m_per_h: 160_000, deceleration_cm_per_s2: 70, reaction_ms: 0, category: 15 })?;
+    unit.train_data(&TrainData { length_cm: 20_000, maximum_m_per_h: 160_000, deceleration_cm_per_s2: 70, reaction_ms: 0, category: 15 })?;
     unit.action(START)
 }
 

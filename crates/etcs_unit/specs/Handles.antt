@@ -1,6 +1,6 @@
 -- What the calls do to what a handle holds (this project's profile): None where no unit is open. `told` is what the call
 -- of `RelayedUnit` answered, the status its number.
-use Rattle.std.specs.Prelude.{◌≡◌, ◌↔◌, ◌⊎◌, ℕ, ◌/◌, ◌<◌, ◌≤◌, ◌==◌, ◌∷◌, ◌++◌, ◌||◌, Bool, true, false, if◌then◌else◌, List, [], length, Option, Some, None, IfSome, Result, Ok, Err, IfOk, IfErr, OnOk, OnErr, MatchOption, ⊤}
+use Rattle.std.specs.Prelude.{◌≡◌, ◌↔◌, ◌⊎◌, ℕ, ◌/◌, ◌<◌, ◌≤◌, ◌==◌, ◌∷◌, ◌||◌, Bool, true, false, if◌then◌else◌, List, [], length, Option, Some, None, IfSome, Result, Ok, Err, IfOk, IfErr, OnOk, OnErr, MatchOption, ⊤}
 use Rattle.disk.specs.State.{contents_of, AtEachMoment}
 use Rattle.events.specs.Limits.{most_pending}
 use Rattle.events.specs.declared.input.Event.{Event}

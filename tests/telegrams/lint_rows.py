@@ -79,6 +79,14 @@ def objects(found):
     return [{"pointer": place} | ({"advice": what} if isinstance(what, str) else {"fault": what[0], "name": what[1]}) for place, what in found]
 
 
+def loaded(text):
+    """The value of a text, or that it is none."""
+    try:
+        return json.loads(text)
+    except ValueError:
+        return "no JSON: " + text
+
+
 def of_telegram(place, digits):
     data = bytes.fromhex(digits)
     try:
@@ -128,7 +136,7 @@ class Compared:
         status = 4 if found else 0
         self.same(f"lint {told}", self.run(["lint", str(file)]), (people(found), "", status))
         printed, said, ended = self.run(["lint", "--json", str(file)])
-        self.same(f"lint --json {told}", ([json.loads(line) for line in printed.splitlines()], said, ended), (objects(found), "", status))
+        self.same(f"lint --json {told}", ([loaded(line) for line in printed.splitlines()], said, ended), (objects(found), "", status))
 
     def changed(self, text):
         """The first fault is that for which the program `etcs run` refuses the scenario."""
@@ -151,10 +159,10 @@ def main(words):
         for told, found in FAULTS + ADVICE:
             compared.lint(told, found)
         file = compared.room / "none.json"
-        file.write_text('{\n  "groups": [}\n')
-        compared.same("no JSON", compared.run(["lint", str(file)]), ("scenario: refused 1 NotJson at line 2, column 14\n", "", 4))
+        file.write_text('{\n  "groups": groups\n}\n')
+        compared.same("no JSON", compared.run(["lint", str(file)]), ("scenario: refused 1 NotJson at line 2, column 13\n", "", 4))
         compared.same("no JSON, as JSON", compared.run(["lint", "--json", str(file)]),
-                      ('{"pointer":"","fault":1,"name":"NotJson","line":2,"column":14}\n', "", 4))
+                      ('{"pointer":"","fault":1,"name":"NotJson","line":2,"column":13}\n', "", 4))
         compared.same("no file", compared.run(["lint", str(compared.room / "nothing")])[::2], ("", 3))
         for more in ([], [str(file), "x"], ["--jso", str(file)]):
             compared.same(f"words {more}", compared.run(["lint", *more])[::2], ("", 2))

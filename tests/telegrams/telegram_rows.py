@@ -48,6 +48,14 @@ def run(program, words, text=None):
     return done.stdout, done.stderr, done.returncode
 
 
+def loaded(text):
+    """The value of a text, or that it is none."""
+    try:
+        return json.loads(text)
+    except ValueError:
+        return "no JSON: " + text
+
+
 def body_of(data, packet, at):
     """The body of a packet that is skipped, which begins behind so many bits: its bits in digits, padded with zero bits to whole bytes."""
     bits = "".join(f"{byte:08b}" for byte in data)[at + 23:at + dict(packet["fields"])["L_PACKET"]]
@@ -83,20 +91,21 @@ def without_lengths(value):
 
 
 def one(program, room, number, data):
-    """What the program makes of bytes, and of the object that it tells; and what is wanted."""
+    """What the program makes of bytes, and of the object that it tells, of each tenth also without the lengths; and what is wanted."""
     wanted = told_of(data)
     printed, said, status = run(program, ["decode", "--json", data.hex()])
-    found = [(json.loads(printed), printed.count("\n"), said, status)]
+    found = [(loaded(printed), printed.count("\n"), said, status)]
     if "refused" in wanted:
         return found, [(wanted, 1, "", 1)]
     digits = spelled(data, wanted["bits"])
     file = room / f"{number}.json"
     file.write_text(printed)
     found.append(run(program, ["telegram", str(file)]))
-    file.write_text(json.dumps(without_lengths(wanted), indent=1))
-    found.append(run(program, ["telegram", str(file)]))
+    if number % 10 == 0:
+        file.write_text(json.dumps(without_lengths(wanted), indent=1))
+        found.append(run(program, ["telegram", str(file)]))
     file.unlink()
-    return found, [(wanted, 1, "", 0), (digits + "\n", "", 0), (digits + "\n", "", 0)]
+    return found, [(wanted, 1, "", 0)] + [(digits + "\n", "", 0)] * (len(found) - 1)
 
 
 def compare_telegrams(program, room, compared):
@@ -106,7 +115,7 @@ def compare_telegrams(program, room, compared):
         results = pool.map(lambda item: one(program, room, *item), enumerate(all_data))
         carried = 0
         for data, (found, wanted) in zip(all_data, results):
-            carried += len(wanted) == 3
+            carried += len(wanted) > 1
             compared.same(data.hex(), found, wanted)
     return carried, len(all_data) - carried
 

@@ -14,7 +14,7 @@ from gaknifur.unit import (Action, Brake, Cold, FileMedium, Indication, Level, M
 
 HEADER = Path(__file__).resolve().parents[2] / "include" / "etcs_unit.h"
 TRAIN = TrainData(20_000, 160_000, 70, 1_000, 15)
-BEFORE = Output(0, Mode.STAND_BY, Level.INVALID, Brake.EMERGENCY, 0, Indication(0))
+BEFORE = Output(0, Mode.STAND_BY, Level.INVALID, Brake.EMERGENCY, 0, Indication.NOT_REVALIDATED)
 
 
 def of_header(name: str, prefix: str) -> dict[str, int]:

@@ -203,7 +203,7 @@ typedef struct {
 
 /* How far a unit is. */
 typedef struct {
-    etcs_unit_output last; /* of the last release that had an output; before one: event 0, Stand By, no valid level, emergency brake */
+    etcs_unit_output last; /* of the last release that had an output; before one: event 0, Stand By, no valid level, emergency brake, not revalidated */
     uint64_t requests;     /* how many requests the list has */
     uint64_t done;         /* how many of them are done */
     uint64_t held;         /* how many outputs are held back */

@@ -9,6 +9,7 @@
   those of the plain causes (tests/plain/why.py), and they are not known just where the plain replay doesn't agree.
 - Whatever text an image holds stands escaped on the page.
 """
+import contextlib
 import csv
 import html.parser
 import io
@@ -29,14 +30,14 @@ from gaknifur import causes, database, program, reading, report, tables  # noqa:
 from gaknifur.program import Run  # noqa: E402
 from replay import replayed  # noqa: E402
 from replay_rows import damaged, examples, formats, random_lives  # noqa: E402
-from why import WORDS, reasoned  # noqa: E402
+from why import WORDS, main as plain_why  # noqa: E402
 from why_rows import more_lives  # noqa: E402
 from images import MARKUP, blocks, random_images, slots_of  # noqa: E402
 from told import SIGNS, Refused, told  # noqa: E402
 
 IMAGES, SEED = 200, 44
-LIVES = 25
-"""Images of each kind of lives."""
+LIVES, EACH = 25, 7
+"""Images of each kind of lives; of the events of which nothing new is told each seventh is compared."""
 LEAST_KNOWN, LEAST_UNKNOWN = 150, 20
 LEAST_RECORDS, LEAST_INTERVENTIONS, LEAST_TELEGRAMS = 4_000, 500, 300
 PLAIN = ("block event life kind time_ms mode level brake place_cm uncertainty_cm min_safe_front_cm max_safe_front_cm limit_m_per_h movement_cm "
@@ -226,17 +227,13 @@ def plain_reasons(image):
     return found
 
 
-class Each:
-    """Any event."""
-
-    def __eq__(self, other):
-        return True
-
-
-def plain_causes(image):
-    """Of each event whose life can be run again its causes and the events since which they hold."""
-    told = {line["event"]: line for line in map(json.loads, reasoned(image, True, Each())[1].splitlines())}
-    return {event: {word: line[word] for word, *_ in WORDS.values() if line[word] is not None} for event, line in told.items()}
+def plain_causes(path, event=None):
+    """Of each event that the plain program tells its causes, and the events since which they hold."""
+    said = io.StringIO()
+    with contextlib.redirect_stdout(said):
+        plain_why(["--json", str(path), *([] if event is None else [str(event)])])
+    lines = map(json.loads, said.getvalue().splitlines())
+    return {line["event"]: {word: line[word] for word, *_ in WORDS.values() if line[word] is not None} for line in lines}
 
 
 def wanted_causes(records, reasons, found):
@@ -261,15 +258,18 @@ def causes_agree(room):
         except Refused:
             continue
         journal = reading.read(path, replay=True, why=True)
-        reasons, found = plain_reasons(image), plain_causes(image)
+        reasons, lines = plain_reasons(image), plain_causes(path)
         table = tables.frame(journal)
         count.compare(f"{name}, reasons", dict(table.loc[table["causes_not_known"].notna(), ["event", "causes_not_known"]].values), reasons)
         got = {event: held for event, held in zip(table["event"], table["held"]) if held is not None}
-        count.compare(f"{name}, causes", got, {event: found[event] for event in got if event not in reasons})
-        # each change is told, and the last event of each command
-        lines = {json.loads(line)["event"] for line in reasoned(image, True)[1].splitlines()} - set(reasons)
+        # each change is told, and the last event of each command; those and some others are asked of the plain program
         ends = {last for _, last in wanted_runs(records, lambda record, _: record["brake"] != "none")} - set(reasons)
-        count.compare(f"{name}, events that are told", lines | ends <= set(got), True)
+        count.compare(f"{name}, events that are told", (lines.keys() - set(reasons)) | ends <= set(got), True)
+        found = dict(lines)
+        for event in ends | {event for event in got if event % EACH == 0}:
+            found |= plain_causes(path, event)
+        count.compare(f"{name}, causes", {event: got.get(event) for event in found if event not in reasons},
+                      {event: held for event, held in found.items() if event not in reasons})
         runs = tables.interventions(table)
         wanted = wanted_causes(records, reasons, got)
         count.compare(f"{name}, causes of interventions", [

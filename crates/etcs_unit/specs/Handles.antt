@@ -1,6 +1,6 @@
--- What the calls do to what a handle holds (this project's profile): None where no unit is open. `told` is what the call
--- of `RelayedUnit` answered, the status its number.
-use Rattle.std.specs.Prelude.{◌≡◌, ◌↔◌, ◌⊎◌, ℕ, ◌/◌, ◌<◌, ◌≤◌, ◌==◌, ◌∷◌, ◌++◌, ◌||◌, Bool, true, false, if◌then◌else◌, List, [], length, Option, Some, None, IfSome, Result, Ok, Err, IfOk, IfErr, OnOk, OnErr, MatchOption, ⊤}
+-- What the calls do to what a handle holds (this project's profile): None where no unit is open. `told` is what the
+-- call of `RelayedUnit` answered, the status its number.
+use Rattle.std.specs.Prelude.{◌≡◌, ◌↔◌, ◌⊎◌, ℕ, ◌/◌, ◌<◌, ◌≤◌, ◌==◌, ◌∷◌, ◌||◌, Bool, true, false, if◌then◌else◌, List, [], length, Option, Some, None, IfSome, Result, Ok, Err, IfOk, IfErr, OnOk, OnErr, MatchOption, ⊤}
 use Rattle.disk.specs.State.{contents_of, AtEachMoment}
 use Rattle.events.specs.Limits.{most_pending}
 use Rattle.events.specs.declared.input.Event.{Event}
@@ -30,8 +30,8 @@ use Rattle.etcs_unit.specs.declared.handle.Opened.{Opened}
 use Rattle.etcs_unit.specs.declared.status.Status.{Status}
 use Rattle.etcs_unit.specs.declared.status.Status.TheVariants as a_status
 
--- a call on a handle: NotOpen where no unit is open, and nothing changes; else the unit stays open, and stands so to the
--- one before
+-- a call on a handle: NotOpen where no unit is open, and nothing changes; else the unit stays open, and stands so to
+-- the one before
 abbrev pub OnHandle : Option Opened → Option Opened → Status → (Opened → Opened → Status → Type 0) → Type 0
 OnHandle None None status So = status ≡ a_status.NotOpen
 OnHandle None (Some after) status So = ⊥

@@ -2,7 +2,6 @@
 use Rattle.std.specs.Prelude.{◌≡◌, ℕ, ◌+◌, ◌*◌, ◌<◌, ◌≤◌, nat_lt, Bool, true, false, List, [], ◌∷◌, ◌++◌, length, take, drop, Option, Some, None}
 use Rattle.disk.specs.declared.record.Call.{Call}
 use Rattle.disk.specs.declared.record.Call.TheVariants.{Quiet, Synced, Written, Torn}
-use Rattle.disk.specs.declared.record.Span.{Span}
 use Rattle.relayed_unit.specs.Relayed.{list_of, written_of}
 use Rattle.etcs_unit.specs.declared.handle.Opened.{Opened}
 use Rattle.etcs_unit.specs.declared.status.Status.{Status}

@@ -1,6 +1,6 @@
 -- What contracts see of a unit that hands out its requests (this project's profile). Requests are counted from the
 -- first of the list.
-use Rattle.std.specs.Prelude.{◌≡◌, ℕ, ◌≤◌, Bool, true, false, nat_lt, if◌then◌else◌, List, [], length, Option, Some, None, option_map, Result, Ok, Err}
+use Rattle.std.specs.Prelude.{ℕ, ◌≤◌, Bool, true, false, nat_lt, if◌then◌else◌, List, [], length, Option, Some, None, option_map, Result, Ok, Err}
 use Rattle.disk.specs.declared.record.Call.{Call}
 use Rattle.mirror_disk.specs.Mirror.{ends_in_sync}
 use Rattle.onboard.specs.Answers.{flush_refusal}

@@ -1,6 +1,5 @@
 -- `into_held` gives it back.
-use Rattle.std.proofs.Common.{Option, ◌≡◌, List, [], ◌∷◌, ◌++◌, refl, sym, subst}
-use mir.Syntax.{impl, tnil, dnil}
+use Rattle.std.proofs.Common.{◌≡◌, List, [], ◌∷◌, ◌++◌, refl, sym, subst}
 use mir.Val.{Val}
 use base.Logic.{SProp, ent, emp, id⊢}
 use base.Fml.{ftrue}
@@ -16,13 +15,13 @@ use denote.RattleType.{RattleType, owns}
 use denote.Signature.{types_at, plain}
 use denote.RawPtr.{Ptr, ptr_val}
 use denote.Steps.{nothing}
-use denote.Triple.Walked.{Stays, stay_dropped, walk_of, Goes-dropped}
+use denote.Triple.Walked.{Stays, stay_dropped, walk_of}
 use Rattle.std.proofs.alloc.Calls.{Goes-blank, handle_tells}
 use Rattle.std.proofs.raw_atomic.Walks.{proved_at, leaves}
 use Rattle.std.specs.contracts.alloc.Global as heap
 use Rattle.std.proofs.alloc.Global.TheLaws as heap_laws
 use Rattle.std.specs.contracts.impls.GlobalAllocator.TheImpl.{ghosts}
-use Rattle.held.proofs.Values.{both, Held, al, held_shut, none_good, ptr_good}
+use Rattle.held.proofs.Values.{both, al, held_shut, none_good, ptr_good}
 use Rattle.etcs_unit.specs.contracts.handle.Opened as unit
 use Rattle.etcs_unit.proofs.Values.{Raw, one, raw_good, raw_out}
 use Rattle.etcs_unit.specs.contracts.raw.Raw.into_held as f

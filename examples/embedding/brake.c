@@ -1,0 +1,123 @@
+/* A maker's loop over a file, and a train that runs towards the end of its movement authority until it is braked.
+ *
+ *     brake IMAGE    a journal that `etcs format` or etcs_file_format made; where there is no such file it is made
+ *
+ * It prints each output that commands something else than the one before. */
+#include "etcs_file.h"
+
+#include <inttypes.h>
+#include <stdio.h>
+
+enum { CYCLE_MS = 500, MOST_CYCLES = 1000, SLOTS = 64 };
+
+/* The equipment around the unit. Here it is a train that is simulated: it pulls up to 100 km/h, and slows where a brake
+ * is commanded. */
+typedef struct {
+    uint64_t moment_ms;
+    int64_t movement_cm;
+    uint32_t speed_m_per_h;
+    uint8_t brake;
+    uint8_t mode;
+} train;
+
+static void go_on(train *our) {
+    /* m/h in half a second: 0.5 m/s^2 forward, 0.7 and 1 m/s^2 against it */
+    static const int64_t gained[] = {900, -1260, -1800};
+    const int64_t speed = (int64_t)our->speed_m_per_h + gained[our->brake];
+    our->speed_m_per_h = speed < 0 ? 0 : speed > 100000 ? 100000 : (uint32_t)speed;
+    our->movement_cm = (int64_t)our->speed_m_per_h * CYCLE_MS / 36000;
+    our->moment_ms += CYCLE_MS;
+}
+
+static void obey(train *our, const etcs_unit_output *output) {
+    static const char *const brakes[] = {"none", "service", "emergency"};
+    static const char *const modes[] = {"FS", "OS", "SR", "SH", "UN", "", "SB", "TR", "PT", "SF"};
+    if (output->brake != our->brake || output->mode != our->mode)
+        printf("event %" PRIu64 ": mode %s, brake %s, limit %" PRIu32 " m/h, speed %" PRIu32 " m/h\n", output->event, modes[output->mode],
+               brakes[output->brake], output->limit_m_per_h, our->speed_m_per_h);
+    our->brake = output->brake;
+    our->mode = output->mode;
+}
+
+/* Any answer but OK ends here. The next power-up begins from what is on the file. */
+static int brake(const char *where, uint32_t answer, const etcs_file *file) {
+    printf("emergency brake: %s answered %" PRIu32 ", status %" PRIu32 ", system %d\n", where, answer, file->status, file->error);
+    return 1;
+}
+
+/* Puts what was accepted onto the file, and obeys what is released. */
+static uint32_t flush(train *our, etcs_file *file, etcs_unit *unit) {
+    etcs_unit_output outputs[ETCS_UNIT_OUTPUTS];
+    uint32_t count;
+    const uint32_t answer = etcs_file_flush(file, unit, outputs, &count);
+    for (uint32_t i = 0; answer == ETCS_FILE_OK && i < count; i++)
+        obey(our, &outputs[i]);
+    return answer;
+}
+
+/* The driver makes the train ready, and a group gives an authority of 2,000 m. */
+static uint32_t make_ready(etcs_unit *unit) {
+    static const uint8_t identity[] = "IC 704";
+    static const uint8_t authority[] = {0x90, 0x00, 0x7F, 0x80, 0x20, 0x01, 0x43, 0x20, 0x24, 0xA8, 0x00, 0x7F, 0xE0, 0x07, 0xD0, 0x02,
+                                        0xB0, 0x0D, 0x90, 0x00, 0x10, 0x00, 0x0D, 0xC0, 0x3A, 0x40, 0x00, 0x20, 0x80, 0x1F, 0xE0};
+    /* 200 m, 160 km/h, 0.7 m/s^2, no reaction time, category 15 */
+    static const etcs_train_data data = {20000, 160000, 70, 0, 15};
+    uint32_t status = etcs_unit_telegram(unit, authority, sizeof authority);
+    if (status == ETCS_UNIT_OK)
+        status = etcs_unit_identity(unit, identity, sizeof identity - 1);
+    if (status == ETCS_UNIT_OK)
+        status = etcs_unit_action(unit, ETCS_CHOOSE_LEVEL_1);
+    if (status == ETCS_UNIT_OK)
+        status = etcs_unit_train_data(unit, &data);
+    if (status == ETCS_UNIT_OK)
+        status = etcs_unit_action(unit, ETCS_START);
+    return status;
+}
+
+/* What the sensors tell in one cycle. */
+static uint32_t accept(const train *our, etcs_unit *unit) {
+    const uint32_t status = etcs_unit_odometer(unit, our->movement_cm, our->speed_m_per_h);
+    return status == ETCS_UNIT_OK ? etcs_unit_clock(unit, our->moment_ms) : status;
+}
+
+static int run(train *our, etcs_file *file, etcs_unit *unit) {
+    uint32_t status, answer = flush(our, file, unit); /* the power-up */
+    if (answer != ETCS_FILE_OK)
+        return brake("the power-up", answer, file);
+    status = make_ready(unit);
+    if (status != ETCS_UNIT_OK)
+        return brake("making ready", status, file);
+    for (int cycle = 0; cycle < MOST_CYCLES; cycle++) {
+        answer = flush(our, file, unit);
+        if (answer != ETCS_FILE_OK)
+            return brake("a flush", answer, file);
+        go_on(our);
+        if (our->speed_m_per_h == 0)
+            break;
+        status = accept(our, unit);
+        if (status != ETCS_UNIT_OK)
+            return brake("an input", status, file);
+    }
+    printf("the train stands behind %" PRIu64 " ms\n", our->moment_ms);
+    return 0;
+}
+
+int main(int count, char **words) {
+    /* Before the first output the emergency brake is on. */
+    train our = {0, 0, 0, ETCS_BRAKE_EMERGENCY, ETCS_STAND_BY};
+    etcs_unit unit = {0};
+    etcs_file file;
+    if (count != 2)
+        return 2;
+    uint32_t answer = etcs_file_open(&file, words[1], &unit, ETCS_COLD_UNKNOWN);
+    if (answer == ETCS_FILE_CANT_OPEN && file.error == ENOENT) {
+        answer = etcs_file_format(&file, words[1], SLOTS);
+        if (answer == ETCS_FILE_OK)
+            answer = etcs_file_open(&file, words[1], &unit, ETCS_COLD_UNKNOWN);
+    }
+    if (answer != ETCS_FILE_OK)
+        return brake("opening", answer, &file);
+    const int status = run(&our, &file, &unit);
+    etcs_file_close(&file, &unit);
+    return status;
+}

@@ -1,0 +1,155 @@
+// The unit in C++17: a class that opens in its constructor and closes in its destructor, and throws where an answer isn't OK. The train of
+// brake.c runs to the end of its authority, and prints the same.
+//
+//     brake IMAGE
+#include "etcs_file.h"
+
+#include <array>
+#include <cstdio>
+#include <exception>
+#include <string>
+#include <string_view>
+#include <utility>
+#include <vector>
+
+namespace {
+
+// What a call answered that isn't OK: the emergency brake is to be commanded.
+class Refused : public std::exception {
+public:
+    Refused(std::string where, std::uint32_t answer, std::uint32_t status, int system)
+        : text(std::move(where) + " answered " + std::to_string(answer) + ", status " + std::to_string(status) + ", system " + std::to_string(system)) {}
+
+    const char *what() const noexcept override { return text.c_str(); }
+
+private:
+    std::string text;
+};
+
+// A unit over a file. It stays where it is made: it is neither copied nor moved.
+class Unit {
+public:
+    Unit(const std::string &path, etcs_cold cold) { told("opening", etcs_file_open(&file, path.c_str(), &unit, cold)); }
+    ~Unit() { etcs_file_close(&file, &unit); }
+    Unit(const Unit &) = delete;
+    Unit &operator=(const Unit &) = delete;
+
+    void telegram(const std::vector<std::uint8_t> &bytes) { taken(etcs_unit_telegram(&unit, at(bytes.data()), bytes.size())); }
+    void odometer(std::int64_t movement_cm, std::uint32_t speed_m_per_h) { taken(etcs_unit_odometer(&unit, movement_cm, speed_m_per_h)); }
+    void clock(std::uint64_t moment_ms) { taken(etcs_unit_clock(&unit, moment_ms)); }
+    void action(etcs_action action) { taken(etcs_unit_action(&unit, action)); }
+    void identity(std::string_view text) {
+        taken(etcs_unit_identity(&unit, reinterpret_cast<const std::uint8_t *>(text.data()), text.size()));
+    }
+    void train_data(const etcs_train_data &data) { taken(etcs_unit_train_data(&unit, &data)); }
+
+    // Puts what is pending onto the file, and answers what may reach the train.
+    std::vector<etcs_unit_output> flush() {
+        std::array<etcs_unit_output, ETCS_UNIT_OUTPUTS> outputs;
+        std::uint32_t count = 0;
+        told("a flush", etcs_file_flush(&file, &unit, outputs.data(), &count));
+        return {outputs.begin(), outputs.begin() + count};
+    }
+
+private:
+    // An empty vector may have no place; the unit wants one.
+    static const std::uint8_t *at(const std::uint8_t *bytes) {
+        static const std::uint8_t nothing = 0;
+        return bytes ? bytes : &nothing;
+    }
+
+    void told(const char *where, std::uint32_t answer) const {
+        if (answer != ETCS_FILE_OK)
+            throw Refused(where, answer, file.status, file.error);
+    }
+
+    static void taken(std::uint32_t status) {
+        if (status != ETCS_UNIT_OK)
+            throw Refused("an input", status, status, 0);
+    }
+
+    etcs_unit unit{};
+    etcs_file file{};
+};
+
+constexpr int cycle_ms = 500, most_cycles = 1000;
+constexpr std::uint32_t slots = 64;
+
+// The train of brake.c.
+struct Train {
+    std::uint64_t moment_ms = 0;
+    std::int64_t movement_cm = 0;
+    std::int64_t speed_m_per_h = 0;
+    std::uint8_t brake = ETCS_BRAKE_EMERGENCY;
+    std::uint8_t mode = ETCS_STAND_BY;
+
+    void go_on() {
+        constexpr std::array<std::int64_t, 3> gained{900, -1260, -1800};
+        speed_m_per_h += gained.at(brake);
+        speed_m_per_h = speed_m_per_h < 0 ? 0 : speed_m_per_h > 100000 ? 100000 : speed_m_per_h;
+        movement_cm = speed_m_per_h * cycle_ms / 36000;
+        moment_ms += cycle_ms;
+    }
+
+    void obey(const etcs_unit_output &output) {
+        constexpr std::array<const char *, 3> brakes{"none", "service", "emergency"};
+        constexpr std::array<const char *, 10> modes{"FS", "OS", "SR", "SH", "UN", "", "SB", "TR", "PT", "SF"};
+        if (output.brake != brake || output.mode != mode)
+            std::printf("event %llu: mode %s, brake %s, limit %u m/h, speed %lld m/h\n", static_cast<unsigned long long>(output.event),
+                        modes.at(output.mode), brakes.at(output.brake), static_cast<unsigned>(output.limit_m_per_h),
+                        static_cast<long long>(speed_m_per_h));
+        brake = output.brake;
+        mode = output.mode;
+    }
+};
+
+void flush(Train &train, Unit &unit) {
+    for (const etcs_unit_output &output : unit.flush())
+        train.obey(output);
+}
+
+void make_ready(Unit &unit) {
+    unit.telegram({0x90, 0x00, 0x7F, 0x80, 0x20, 0x01, 0x43, 0x20, 0x24, 0xA8, 0x00, 0x7F, 0xE0, 0x07, 0xD0, 0x02,
+                   0xB0, 0x0D, 0x90, 0x00, 0x10, 0x00, 0x0D, 0xC0, 0x3A, 0x40, 0x00, 0x20, 0x80, 0x1F, 0xE0});
+    unit.identity("IC 704");
+    unit.action(ETCS_CHOOSE_LEVEL_1);
+    unit.train_data({20000, 160000, 70, 0, 15});
+    unit.action(ETCS_START);
+}
+
+void run(const std::string &path) {
+    Unit unit(path, ETCS_COLD_UNKNOWN);
+    Train train;
+    flush(train, unit); // the power-up
+    make_ready(unit);
+    for (int cycle = 0; cycle < most_cycles; cycle++) {
+        flush(train, unit);
+        train.go_on();
+        if (train.speed_m_per_h == 0)
+            break;
+        unit.odometer(train.movement_cm, static_cast<std::uint32_t>(train.speed_m_per_h));
+        unit.clock(train.moment_ms);
+    }
+    std::printf("the train stands behind %llu ms\n", static_cast<unsigned long long>(train.moment_ms));
+}
+
+void make_where_missing(const std::string &path) {
+    etcs_file file;
+    if (access(path.c_str(), F_OK) != 0 && etcs_file_format(&file, path.c_str(), slots) != ETCS_FILE_OK)
+        throw Refused("formatting", ETCS_FILE_UNIT, file.status, file.error);
+}
+
+} // namespace
+
+int main(int count, char **words) {
+    if (count != 2)
+        return 2;
+    try {
+        make_where_missing(words[1]);
+        run(words[1]);
+        return 0;
+    } catch (const std::exception &error) {
+        std::printf("emergency brake: %s\n", error.what());
+        return 1;
+    }
+}

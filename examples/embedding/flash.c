@@ -1,0 +1,149 @@
+/* The journal on a flash behind a driver of the maker's own, without a file and without memory of the C library's own use.
+ * Power is lost behind each number of requests of a flush, and the next power-up goes on from what is on the flash: either
+ * all of the batch is there, or nothing of it, and none of its outputs reached the train before all of it was.
+ *
+ *     flash */
+#include <inttypes.h>
+#include <stdio.h>
+#include <string.h>
+
+#include "etcs_unit.h"
+
+enum { SLOTS = 8, SECTORS = 1 + 6 * SLOTS, BATCH = 3, MOST_REQUESTS = 32 };
+
+/* ---- the driver */
+
+static uint8_t cells[SECTORS * ETCS_UNIT_SECTOR];
+
+/* How many calls the flash still carries out before power is lost; below 0 there is no end. */
+static int calls_left = -1;
+
+/* Whether there was power for a call. */
+static int has_power(void) {
+    if (calls_left == 0)
+        return 0;
+    if (calls_left > 0)
+        calls_left--;
+    return 1;
+}
+
+static int flash_write(uint64_t sector, const uint8_t *bytes, uint64_t sectors) {
+    if (!has_power() || sector + sectors > SECTORS)
+        return 0;
+    memcpy(cells + sector * ETCS_UNIT_SECTOR, bytes, sectors * (size_t)ETCS_UNIT_SECTOR);
+    return 1;
+}
+
+static int flash_sync(void) {
+    return has_power();
+}
+
+/* ---- the unit's requests, by the driver */
+
+static int flash_does(const etcs_unit_request_told *request, const uint8_t *bytes) {
+    return request->kind == ETCS_REQUEST_SYNC ? flash_sync() : flash_write(request->sector, bytes, request->sectors);
+}
+
+/* Makes the flash an empty journal. */
+static uint32_t format(void) {
+    etcs_unit_request_told request;
+    uint8_t bytes[ETCS_UNIT_SECTOR];
+    uint32_t status, index = 0;
+    memset(cells, 0, sizeof cells);
+    while ((status = etcs_unit_format_request(SLOTS, index, &request, bytes, sizeof bytes)) == ETCS_UNIT_OK && flash_does(&request, bytes))
+        index++;
+    return status;
+}
+
+/* Carries out the list, and says that all of it is done. Where the flash fails it says so to the unit. */
+static uint32_t carry_out(etcs_unit *unit) {
+    etcs_unit_request_told request;
+    static uint8_t bytes[ETCS_UNIT_REQUEST_BYTES];
+    uint32_t status, count = 0;
+    while ((status = etcs_unit_request(unit, count, &request, bytes, sizeof bytes)) == ETCS_UNIT_OK) {
+        if (!flash_does(&request, bytes)) {
+            etcs_unit_fail(unit);
+            return ETCS_UNIT_FAILED;
+        }
+        count++;
+    }
+    return status == ETCS_UNIT_NO_SUCH_REQUEST ? etcs_unit_done(unit, count) : status;
+}
+
+static uint32_t release(etcs_unit *unit, etcs_unit_output *outputs, uint32_t *count) {
+    const uint32_t status = carry_out(unit);
+    return status == ETCS_UNIT_OK ? etcs_unit_release(unit, outputs, ETCS_UNIT_OUTPUTS, count) : status;
+}
+
+static uint32_t power_up(etcs_unit *unit) {
+    etcs_unit_output outputs[ETCS_UNIT_OUTPUTS];
+    uint32_t count, status = etcs_unit_open(unit, cells, sizeof cells, ETCS_COLD_UNKNOWN);
+    return status == ETCS_UNIT_OK ? release(unit, outputs, &count) : status;
+}
+
+/* ---- the story */
+
+static uint32_t accept(etcs_unit *unit, uint32_t events) {
+    uint32_t status = ETCS_UNIT_OK;
+    for (uint32_t event = 1; event <= events && status == ETCS_UNIT_OK; event++)
+        status = etcs_unit_clock(unit, 100 * event);
+    return status;
+}
+
+/* A life of one batch, whose power is lost behind so many of its requests; how many outputs were released goes to `count`. */
+static uint32_t first_life(int requests, uint32_t *count) {
+    etcs_unit unit = {0};
+    etcs_unit_output outputs[ETCS_UNIT_OUTPUTS];
+    uint32_t status = power_up(&unit);
+    *count = 0;
+    if (status == ETCS_UNIT_OK)
+        status = accept(&unit, BATCH);
+    if (status == ETCS_UNIT_OK)
+        status = etcs_unit_prepare(&unit);
+    calls_left = requests;
+    if (status == ETCS_UNIT_OK)
+        status = release(&unit, outputs, count);
+    calls_left = -1;
+    etcs_unit_close(&unit);
+    return status;
+}
+
+/* The next life: the number of its first event behind the power-up tells how many events there are before it. */
+static uint32_t second_life(uint64_t *event) {
+    etcs_unit unit = {0};
+    etcs_unit_output outputs[ETCS_UNIT_OUTPUTS];
+    uint32_t count = 0, status = power_up(&unit);
+    if (status == ETCS_UNIT_OK)
+        status = accept(&unit, 1);
+    if (status == ETCS_UNIT_OK)
+        status = etcs_unit_prepare(&unit);
+    if (status == ETCS_UNIT_OK)
+        status = release(&unit, outputs, &count);
+    if (status == ETCS_UNIT_OK && count == 1)
+        *event = outputs[0].event;
+    etcs_unit_close(&unit);
+    return status == ETCS_UNIT_OK && count != 1 ? (uint32_t)ETCS_UNIT_FAILED : status;
+}
+
+int main(void) {
+    for (int requests = 0; requests <= MOST_REQUESTS; requests++) {
+        uint32_t released = 0;
+        uint64_t event = 0;
+        if (format() != ETCS_UNIT_NO_SUCH_REQUEST)
+            return 1;
+        const uint32_t answer = first_life(requests, &released);
+        if (answer != ETCS_UNIT_OK && answer != ETCS_UNIT_FAILED)
+            return 1;
+        if (second_life(&event) != ETCS_UNIT_OK)
+            return 1;
+        /* events 0, 1 to BATCH, the second power-up, and then this one; or without the batch */
+        const int is_there = event == BATCH + 2;
+        if ((!is_there && event != 2) || (answer == ETCS_UNIT_OK && !is_there) || released != (answer == ETCS_UNIT_OK ? BATCH : 0))
+            return 1;
+        printf("power lost behind %d requests: %" PRIu32 " outputs released; then %s of the batch on the flash\n", requests, released,
+               is_there ? "all" : "nothing");
+        if (answer == ETCS_UNIT_OK)
+            return 0;
+    }
+    return 1;
+}

@@ -1,0 +1,75 @@
+#!/usr/bin/env python3
+"""The unit in Python: the train of brake.c, over a file. It prints the same.
+
+    PYTHONPATH=python GAKNIFUR_ETCS_UNIT=PREFIX/lib/libetcs_unit.so examples/embedding/use.py IMAGE
+"""
+import sys
+from pathlib import Path
+
+from gaknifur.unit import Action, Brake, FileMedium, Mode, Output, TrainData, Unit
+
+AUTHORITY = bytes.fromhex("90007F802001432024A8007FE007D002B00D900010000DC03A400020801FE0")
+CYCLE_MS, MOST_CYCLES, SLOTS = 500, 1_000, 64
+GAINED = {Brake.NONE: 900, Brake.SERVICE: -1_260, Brake.EMERGENCY: -1_800}
+LETTERS = {Mode.FULL_SUPERVISION: "FS", Mode.ON_SIGHT: "OS", Mode.STAFF_RESPONSIBLE: "SR", Mode.SHUNTING: "SH", Mode.UNFITTED: "UN",
+           Mode.STAND_BY: "SB", Mode.TRIP: "TR", Mode.POST_TRIP: "PT", Mode.SYSTEM_FAILURE: "SF"}
+
+
+class Train:
+    """The train of brake.c."""
+
+    def __init__(self) -> None:
+        self.moment_ms = self.speed = 0
+        self.brake, self.mode = Brake.EMERGENCY, Mode.STAND_BY
+
+    def go_on(self) -> int:
+        """How far it goes in a cycle."""
+        self.speed = min(max(self.speed + GAINED[self.brake], 0), 100_000)
+        self.moment_ms += CYCLE_MS
+        return self.speed * CYCLE_MS // 36_000
+
+    def obey(self, output: Output) -> None:
+        """Does what is commanded, and tells of it."""
+        if (output.brake, output.mode) != (self.brake, self.mode):
+            print(f"event {output.event}: mode {LETTERS[output.mode]}, brake {output.brake.name.lower()}, limit {output.limit_m_per_h} m/h, "
+                  f"speed {self.speed} m/h")
+        self.brake, self.mode = output.brake, output.mode
+
+
+def make_ready(unit: Unit) -> None:
+    """The driver makes the train ready, and a group gives an authority of 2,000 m."""
+    unit.telegram(AUTHORITY)
+    unit.identity("IC 704")
+    unit.action(Action.CHOOSE_LEVEL_1)
+    unit.train_data(TrainData(20_000, 160_000, 70, 0, 15))
+    unit.action(Action.START)
+
+
+def run(path: Path) -> None:
+    train = Train()
+    with FileMedium(path) if path.exists() else FileMedium.formatted(path, SLOTS) as medium, Unit(medium) as unit:
+        make_ready(unit)
+        for _ in range(MOST_CYCLES):
+            for output in unit.flush():
+                train.obey(output)
+            moved = train.go_on()
+            if train.speed == 0:
+                break
+            unit.odometer(moved, train.speed)
+            unit.clock(train.moment_ms)
+    print(f"the train stands behind {train.moment_ms} ms")
+
+
+def main(words: list[str]) -> int:
+    if len(words) != 1:
+        return 2
+    try:
+        run(Path(words[0]))
+    except Exception as error:
+        print(f"emergency brake: {error}")
+        return 1
+    return 0
+
+
+if __name__ == "__main__":
+    sys.exit(main(sys.argv[1:]))

@@ -1,0 +1,481 @@
+"""The onboard unit from Python, over the shared library that `tools/library PREFIX` installs.
+
+    with FileMedium("image") as medium, Unit(medium) as unit:
+        unit.odometer(500, 20_000)
+        for output in unit.flush():
+            obey(output)
+
+`$GAKNIFUR_ETCS_UNIT` names the library; without it the system's loader looks for `libetcs_unit.so.1`. A unit opens no
+file: its journal lies on a `Medium`, here a file (`FileMedium`) or sectors in memory (`MemoryMedium`), or a class of
+the user's own.
+
+Any exception means the emergency brake: `Refused` has the number and the name of what a call answered, a medium raises
+what it raises. Outputs come from `Unit.flush` alone, and only when all of it is on the medium.
+"""
+import ctypes
+import enum
+import fcntl
+import functools
+import os
+from collections.abc import Callable
+from dataclasses import dataclass
+from pathlib import Path
+from types import TracebackType
+from typing import Protocol, Self
+
+ABI = 1
+SECTOR = 512
+OUTPUTS = 8
+REQUEST_BYTES = 8192
+
+
+class Status(enum.IntEnum):
+    """What a call answers; docs/REFUSALS.md says more of each."""
+
+    OK = 0
+    OPEN_DEVICE_FAULT = 1
+    OPEN_NOT_FORMATTED = 2
+    OPEN_DAMAGED = 3
+    OPEN_NO_MEMORY = 4
+    OPEN_WORN_OUT = 6
+    PENDING_FULL = 10
+    CLOCK_BACK = 11
+    NO_MEMORY = 12
+    INPUT_FAILED = 13
+    FAILED = 21
+    REQUESTS_OWED = 22
+    WORN_OUT = 23
+    BAD_SLOTS = 41
+    WRONG_COUNT = 248
+    NO_SUCH_REQUEST = 249
+    NOT_OPEN = 250
+    IS_OPEN = 251
+    NO_ROOM = 252
+    NULL_POINTER = 253
+    OTHER_ABI = 254
+    OUT_OF_RANGE = 255
+
+
+class Cold(enum.IntEnum):
+    """Whether the train was moved while the unit was without power."""
+
+    UNKNOWN = 0
+    MOVED = 1
+    NOT_MOVED = 2
+
+
+class Action(enum.IntEnum):
+    """What the driver does without further values (SUBSET-026, 5)."""
+
+    CHOOSE_LEVEL_0 = 1
+    CHOOSE_LEVEL_1 = 2
+    CONFIRM_IDENTITY = 3
+    CONFIRM_RUNNING_NUMBER = 4
+    CONFIRM_TRAIN_DATA = 5
+    CONFIRM_LEVEL = 6
+    START = 7
+    CHOOSE_SHUNTING = 8
+    LEAVE_SHUNTING = 9
+    OVERRIDE = 10
+    ACKNOWLEDGE_TRIP = 11
+    ACKNOWLEDGE_ON_SIGHT = 12
+    ACKNOWLEDGE_SHUNTING = 13
+    ACKNOWLEDGE_LEVEL_0 = 14
+    CLOSE_DESK = 15
+
+
+class Mode(enum.IntEnum):
+    """M_MODE (SUBSET-026, 7.5.1)."""
+
+    FULL_SUPERVISION = 0
+    ON_SIGHT = 1
+    STAFF_RESPONSIBLE = 2
+    SHUNTING = 3
+    UNFITTED = 4
+    STAND_BY = 6
+    TRIP = 7
+    POST_TRIP = 8
+    SYSTEM_FAILURE = 9
+
+
+class Level(enum.IntEnum):
+    """The level of the train."""
+
+    LEVEL_0 = 0
+    LEVEL_1 = 1
+    INVALID = 255
+
+
+class Brake(enum.IntEnum):
+    """What the brakes are commanded to do."""
+
+    NONE = 0
+    SERVICE = 1
+    EMERGENCY = 2
+
+
+class Indication(enum.IntFlag):
+    """What the driver is shown."""
+
+    ON_SIGHT = 1
+    SHUNTING = 2
+    LEVEL_0 = 4
+    TRIP = 8
+    OVERRIDDEN = 16
+    NOT_REVALIDATED = 32
+    OVERSPEED = 64
+
+
+@dataclass(frozen=True, slots=True)
+class Output:
+    """An output that may reach the train; the limit is in metres per hour."""
+
+    event: int
+    mode: Mode
+    level: Level
+    brake: Brake
+    limit_m_per_h: int
+    indications: Indication
+
+
+@dataclass(frozen=True, slots=True)
+class TrainData:
+    """Train data (SUBSET-026, 3.18.3): 1 to 409,500 cm, 1 to 600,000 m/h, 1 to 300 cm/s^2, 0 to 10,000 ms, 0 to 15."""
+
+    length_cm: int
+    maximum_m_per_h: int
+    deceleration_cm_per_s2: int
+    reaction_ms: int
+    category: int
+
+
+@dataclass(frozen=True, slots=True)
+class State:
+    """How far a unit is; `last` is the last output that was released, before one the default, which brakes."""
+
+    last: Output
+    requests: int
+    done: int
+    held: int
+    has_failed: bool
+
+
+class Refused(Exception):
+    """A call that answered something else than OK: `number`, and `name` as in docs/REFUSALS.md."""
+
+    def __init__(self, number: int) -> None:
+        self.number = number
+        self.name = Status(number).name if number in Status.__members__.values() else "unknown"
+        super().__init__(f"{number} {self.name}")
+
+
+class Medium(Protocol):
+    """Where a journal lies. A call that fails raises, and then the unit is told that its medium failed."""
+
+    def read(self) -> bytes:
+        """All of its bytes."""
+
+    def write(self, sector: int, data: bytes) -> None:
+        """Writes whole sectors from this one on."""
+
+    def sync(self) -> None:
+        """Returns when all that was written is kept also without power."""
+
+
+class MemoryMedium:
+    """Sectors in memory, which no loss of power outlives."""
+
+    def __init__(self, data: bytes = b"") -> None:
+        self.data = bytearray(data)
+
+    def read(self) -> bytes:
+        """All of its bytes."""
+        return bytes(self.data)
+
+    def write(self, sector: int, data: bytes) -> None:
+        """Writes whole sectors from this one on."""
+        self.data[SECTOR * sector:SECTOR * sector + len(data)] = data
+
+    def sync(self) -> None:
+        """Memory has nothing to wait for."""
+
+    @classmethod
+    def formatted(cls, slots: int) -> Self:
+        """An empty journal of 2 to 1,048,576 slots."""
+        first_request(slots)
+        made = cls(bytes(SECTOR * (1 + 6 * slots)))
+        format_medium(made, slots)
+        return made
+
+
+class FileMedium:
+    """A file, or a block device, under the exclusive lock that `etcs run` takes (flock). BlockingIOError where another
+    program, or another handle of this one, holds it."""
+
+    def __init__(self, path: str | Path, *, create: bool = False) -> None:
+        self.descriptor = os.open(path, os.O_RDWR | os.O_CLOEXEC | (os.O_CREAT if create else 0), 0o666)
+        try:
+            fcntl.flock(self.descriptor, fcntl.LOCK_EX | fcntl.LOCK_NB)
+        except OSError:
+            self.close()
+            raise
+
+    def __enter__(self) -> Self:
+        return self
+
+    def __exit__(self, kind: type[BaseException] | None, error: BaseException | None,
+                 trace: TracebackType | None) -> None:
+        self.close()
+
+    def close(self) -> None:
+        """Gives the lock back."""
+        if self.descriptor >= 0:
+            os.close(self.descriptor)
+        self.descriptor = -1
+
+    def read(self) -> bytes:
+        """All of its bytes."""
+        size, data = os.lseek(self.descriptor, 0, os.SEEK_END), bytearray()
+        while len(data) < size:
+            part = os.pread(self.descriptor, size - len(data), len(data))
+            if not part:
+                raise OSError("the file ends before its length")
+            data += part
+        return bytes(data)
+
+    def write(self, sector: int, data: bytes) -> None:
+        """Writes whole sectors from this one on."""
+        done = 0
+        while done < len(data):
+            done += os.pwrite(self.descriptor, data[done:], SECTOR * sector + done)
+
+    def sync(self) -> None:
+        """Returns when the system says that all is kept."""
+        os.fsync(self.descriptor)
+
+    @classmethod
+    def formatted(cls, path: str | Path, slots: int) -> Self:
+        """Makes the file, or empties the one that is there, an empty journal of 2 to 1,048,576 slots."""
+        first_request(slots)
+        made = cls(path, create=True)
+        try:
+            os.ftruncate(made.descriptor, 0)
+            os.ftruncate(made.descriptor, SECTOR * (1 + 6 * slots))
+            format_medium(made, slots)
+        except BaseException:
+            made.close()
+            raise
+        return made
+
+
+# ---- the library
+
+class _Handle(ctypes.Structure):
+    _fields_ = [("at", ctypes.c_void_p), ("is_open", ctypes.c_uint64)]
+
+
+class _Output(ctypes.Structure):
+    _fields_ = [("event", ctypes.c_uint64), ("limit_m_per_h", ctypes.c_uint32), ("mode", ctypes.c_uint8),
+                ("level", ctypes.c_uint8), ("brake", ctypes.c_uint8), ("indications", ctypes.c_uint8)]
+
+
+class _Request(ctypes.Structure):
+    _fields_ = [(name, ctypes.c_uint64) for name in ("sector", "sectors", "kind")]
+
+
+class _TrainData(ctypes.Structure):
+    _fields_ = [(name, ctypes.c_uint32) for name in ("length", "maximum", "deceleration", "reaction", "category")]
+
+
+class _State(ctypes.Structure):
+    _fields_ = [("last", _Output), *((name, ctypes.c_uint64) for name in ("requests", "done", "held", "has_failed"))]
+
+
+_HANDLE = ctypes.POINTER(_Handle)
+_SIZE = ctypes.c_size_t
+_U32 = ctypes.c_uint32
+_CALLS: dict[str, tuple[object, ...]] = {
+    "etcs_unit_abi": (),
+    "etcs_unit_open_": (_HANDLE, ctypes.c_char_p, _SIZE, _U32, _U32),
+    "etcs_unit_telegram_": (_HANDLE, ctypes.c_char_p, _SIZE),
+    "etcs_unit_odometer_": (_HANDLE, ctypes.c_int64, _U32),
+    "etcs_unit_clock_": (_HANDLE, ctypes.c_uint64),
+    "etcs_unit_action_": (_HANDLE, _U32),
+    "etcs_unit_identity_": (_HANDLE, ctypes.c_char_p, _SIZE),
+    "etcs_unit_running_number_": (_HANDLE, _U32),
+    "etcs_unit_train_data_": (_HANDLE, ctypes.POINTER(_TrainData)),
+    "etcs_unit_prepare_": (_HANDLE,),
+    "etcs_unit_request_": (_HANDLE, _U32, ctypes.POINTER(_Request), ctypes.c_char_p, _SIZE),
+    "etcs_unit_done_": (_HANDLE, _U32),
+    "etcs_unit_fail_": (_HANDLE,),
+    "etcs_unit_release_": (_HANDLE, ctypes.POINTER(_Output), _SIZE, ctypes.POINTER(_U32)),
+    "etcs_unit_state_": (_HANDLE, ctypes.POINTER(_State)),
+    "etcs_unit_close_": (_HANDLE,),
+    "etcs_unit_format_request_": (_U32, _U32, ctypes.POINTER(_Request), ctypes.c_char_p, _SIZE),
+    "etcs_decode": (ctypes.c_char_p, _SIZE),
+    "etcs_packet_count": (ctypes.c_char_p, _SIZE),
+}
+
+
+@functools.cache
+def library() -> ctypes.CDLL:
+    """The library, whose calls have their types. OTHER_ABI where it is of another interface than this module."""
+    found = ctypes.CDLL(os.environ.get("GAKNIFUR_ETCS_UNIT") or f"libetcs_unit.so.{ABI}")
+    for name, types in _CALLS.items():
+        call = getattr(found, name)
+        call.restype, call.argtypes = ctypes.c_uint32, types
+    if found.etcs_unit_abi() != ABI:
+        raise Refused(Status.OTHER_ABI)
+    return found
+
+
+def _called(name: str, *words: object) -> int:
+    call: Callable[..., int] = getattr(library(), name)
+    return call(*words)
+
+
+def _told(number: int) -> None:
+    if number != Status.OK:
+        raise Refused(number)
+
+
+def _number(number: int, bits: int, *, signed: bool = False) -> int:
+    """A number that C can hold, since ctypes would cut off the others. OUT_OF_RANGE is what the unit answers beyond."""
+    low, high = (-(1 << bits - 1), (1 << bits - 1) - 1) if signed else (0, (1 << bits) - 1)
+    if not low <= number <= high:
+        raise Refused(Status.OUT_OF_RANGE)
+    return number
+
+
+def _output(told: _Output) -> Output:
+    return Output(told.event, Mode(told.mode), Level(told.level), Brake(told.brake), told.limit_m_per_h,
+                  Indication(told.indications))
+
+
+def _carry_out(medium: Medium, request: _Request, room: ctypes.Array[ctypes.c_char]) -> None:
+    if request.kind == 1:
+        medium.write(request.sector, room.raw[:SECTOR * request.sectors])
+    else:
+        medium.sync()
+
+
+def _format_request(slots: int, index: int, request: _Request, room: ctypes.Array[ctypes.c_char]) -> int:
+    return _called("etcs_unit_format_request_", _number(slots, 32), index, ctypes.byref(request), room, SECTOR)
+
+
+def first_request(slots: int) -> None:
+    """BAD_SLOTS where a journal can't have so many slots."""
+    _told(_format_request(slots, 0, _Request(), ctypes.create_string_buffer(SECTOR)))
+
+
+def format_medium(medium: Medium, slots: int) -> None:
+    """Makes a medium of 1 + 6 * slots sectors an empty journal."""
+    request, room, index = _Request(), ctypes.create_string_buffer(SECTOR), 0
+    while (status := _format_request(slots, index, request, room)) == Status.OK:
+        _carry_out(medium, request, room)
+        index += 1
+    if status != Status.NO_SUCH_REQUEST:
+        raise Refused(status)
+
+
+def decode(digits: str) -> tuple[int, int]:
+    """The fault of a telegram, 0 where it has none, and how many packets it has."""
+    data = bytes.fromhex(digits)
+    return _called("etcs_decode", data, len(data)), _called("etcs_packet_count", data, len(data))
+
+
+class Unit:
+    """A unit over a medium, open from `with` on to its end. It is for one thread, and for one call at a time."""
+
+    def __init__(self, medium: Medium, cold: Cold = Cold.UNKNOWN) -> None:
+        self.medium, self.cold = medium, cold
+        self._handle = _Handle()
+
+    def __enter__(self) -> Self:
+        self.open()
+        return self
+
+    def __exit__(self, kind: type[BaseException] | None, error: BaseException | None,
+                 trace: TracebackType | None) -> None:
+        self.close()
+
+    def _call(self, name: str, *words: object) -> None:
+        _told(_called(f"etcs_unit_{name}_", ctypes.byref(self._handle), *words))
+
+    def open(self) -> None:
+        """Powers up on the medium's bytes, and carries the power-up out."""
+        image = self.medium.read()
+        self._call("open", image, len(image), self.cold, ABI)
+        try:
+            self._release()
+        except BaseException:
+            self.close()
+            raise
+
+    def close(self) -> None:
+        """Closes it; a unit that isn't open stays so. What is pending is lost to this life."""
+        _called("etcs_unit_close_", ctypes.byref(self._handle))
+
+    # ---- inputs
+
+    def telegram(self, data: bytes) -> None:
+        """The bytes that a balise sent, 1 to 104; they need not carry a telegram."""
+        self._call("telegram", data, len(data))
+
+    def odometer(self, movement_cm: int, speed_m_per_h: int) -> None:
+        """The movement since the last reading, -10,000 to 10,000 cm, and the speed now, 0 only at standstill."""
+        self._call("odometer", _number(movement_cm, 64, signed=True), _number(speed_m_per_h, 32))
+
+    def clock(self, moment_ms: int) -> None:
+        """A moment of this life, below 2^40. Moments don't fall."""
+        self._call("clock", _number(moment_ms, 64))
+
+    def action(self, action: Action) -> None:
+        """An action of the driver."""
+        self._call("action", _number(action, 32))
+
+    def identity(self, text: str) -> None:
+        """The driver enters an identity of 1 to 16 printable characters."""
+        data = text.encode()
+        self._call("identity", data, len(data))
+
+    def running_number(self, number: int) -> None:
+        """The driver enters a running number, 0 to 99,999,999."""
+        self._call("running_number", _number(number, 32))
+
+    def train_data(self, data: TrainData) -> None:
+        """The driver enters train data."""
+        numbers = (data.length_cm, data.maximum_m_per_h, data.deceleration_cm_per_s2, data.reaction_ms, data.category)
+        self._call("train_data", ctypes.byref(_TrainData(*(_number(number, 32) for number in numbers))))
+
+    # ---- outputs
+
+    def flush(self) -> list[Output]:
+        """Puts what is pending onto the medium, and answers what may reach the train, the oldest first. Where the
+        medium raises, the unit has failed, and nothing is released any more."""
+        self._call("prepare")
+        return self._release()
+
+    def _release(self) -> list[Output]:
+        self._carry_out()
+        outputs, count = (_Output * OUTPUTS)(), ctypes.c_uint32()
+        self._call("release", outputs, OUTPUTS, ctypes.byref(count))
+        return [_output(outputs[place]) for place in range(count.value)]
+
+    def _carry_out(self) -> None:
+        request, room = _Request(), ctypes.create_string_buffer(REQUEST_BYTES)
+        state = self.state()
+        for index in range(state.done, state.requests):
+            self._call("request", index, ctypes.byref(request), room, REQUEST_BYTES)
+            try:
+                _carry_out(self.medium, request, room)
+            except BaseException:
+                self._call("fail")
+                raise
+            self._call("done", index + 1)
+
+    def state(self) -> State:
+        """How far it is."""
+        told = _State()
+        self._call("state", ctypes.byref(told))
+        return State(_output(told.last), told.requests, told.done, told.held, told.has_failed != 0)

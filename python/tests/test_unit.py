@@ -1,0 +1,160 @@
+"""The onboard unit from Python: that its names and numbers are those of the header; and over the library that
+`$GAKNIFUR_ETCS_UNIT` names, where it is named, what its calls answer.
+"""
+import enum
+import os
+import re
+import tempfile
+import unittest
+from pathlib import Path
+
+from gaknifur import unit as units
+from gaknifur.unit import (Action, Brake, Cold, FileMedium, Indication, Level, MemoryMedium, Mode, Output, Refused, Status,
+                           TrainData, Unit)
+
+HEADER = Path(__file__).resolve().parents[2] / "include" / "etcs_unit.h"
+TRAIN = TrainData(20_000, 160_000, 70, 1_000, 15)
+BEFORE = Output(0, Mode.STAND_BY, Level.INVALID, Brake.EMERGENCY, 0, Indication.NOT_REVALIDATED)
+
+
+def of_header(name: str, prefix: str) -> dict[str, int]:
+    """The names and numbers of one of its enums."""
+    found = re.search(rf"enum {name} {{(.*?)}};", HEADER.read_text(), re.DOTALL)
+    assert found is not None
+    return {one: int(number) for one, number in re.findall(rf"{prefix}(\w+) = (\d+)", found[1])}
+
+
+class Names(unittest.TestCase):
+    """Beside the header."""
+
+    def test_enums(self) -> None:
+        wanted: dict[type[enum.IntEnum], tuple[str, str]] = {
+            Status: ("etcs_unit_status", "ETCS_UNIT_"), Cold: ("etcs_cold", "ETCS_COLD_"), Action: ("etcs_action", "ETCS_"),
+            Mode: ("etcs_mode", "ETCS_"), Level: ("etcs_level", "ETCS_"), Brake: ("etcs_brake", "ETCS_BRAKE_")}
+        for one, (name, prefix) in wanted.items():
+            told = of_header(name, prefix)
+            if one is Level:
+                told = {key if key == "LEVEL_0" or key == "LEVEL_1" else key.removeprefix("LEVEL_"): n for key, n in told.items()}
+            self.assertEqual({key: int(member) for key, member in one.__members__.items()}, told, name)
+        self.assertEqual({key: int(member) for key, member in Indication.__members__.items()},
+                         of_header("etcs_indication", "ETCS_SHOWS_"))
+
+    def test_numbers(self) -> None:
+        for name, number in (("ABI", units.ABI), ("SECTOR", units.SECTOR), ("OUTPUTS", units.OUTPUTS),
+                             ("REQUEST_BYTES", units.REQUEST_BYTES)):
+            self.assertRegex(HEADER.read_text(), rf"#define ETCS_UNIT_{name} {number}\n")
+
+
+class Failing(MemoryMedium):
+    """A medium that fails at a call."""
+
+    left = -1
+
+    def write(self, sector: int, data: bytes) -> None:
+        if self.left == 0:
+            raise OSError("no power")
+        self.left -= 1
+        super().write(sector, data)
+
+
+@unittest.skipUnless(os.environ.get("GAKNIFUR_ETCS_UNIT"), "GAKNIFUR_ETCS_UNIT names no library")
+class Calls(unittest.TestCase):
+    """Over the library."""
+
+    def refused(self, status: Status) -> "unittest.case._AssertRaisesContext[Refused]":
+        return self.assertRaisesRegex(Refused, f"^{status.value} {status.name}$")
+
+    def test_a_life(self) -> None:
+        medium = MemoryMedium.formatted(4)
+        with Unit(medium) as unit:
+            self.assertEqual(unit.state(), units.State(BEFORE, 0, 0, 0, False))
+            unit.clock(5)
+            unit.odometer(-10, 300)
+            unit.identity("IC 704")
+            unit.running_number(704)
+            unit.train_data(TRAIN)
+            unit.action(Action.CHOOSE_LEVEL_1)
+            unit.telegram(b"\0")
+            outputs = unit.flush()
+            self.assertEqual([one.event for one in outputs], list(range(1, 8)))
+            self.assertEqual(unit.state().last, outputs[-1])
+            self.assertEqual(unit.flush(), [])
+        with Unit(medium, Cold.NOT_MOVED) as unit:
+            unit.clock(1)
+            self.assertEqual([one.event for one in unit.flush()], [9])
+
+    def test_refusals(self) -> None:
+        unit = Unit(MemoryMedium.formatted(4))
+        with self.refused(Status.NOT_OPEN):
+            unit.clock(1)
+        with unit:
+            with self.refused(Status.IS_OPEN):
+                unit.open()
+        with unit:
+            for number in (-1, 1 << 40, 1 << 64, (1 << 64) + 1):
+                with self.refused(Status.OUT_OF_RANGE):
+                    unit.clock(number)
+            for number in (-10_001, 10_001, 1 << 63, -(1 << 64)):
+                with self.refused(Status.OUT_OF_RANGE):
+                    unit.odometer(number, 0)
+            for text in ("", "a" * 17, "\n", "ä"):
+                with self.refused(Status.OUT_OF_RANGE):
+                    unit.identity(text)
+            unit.clock(2)
+            with self.refused(Status.CLOCK_BACK):
+                unit.clock(1)
+            for _ in range(7):
+                unit.clock(2)
+            with self.refused(Status.PENDING_FULL):
+                unit.clock(2)
+            self.assertEqual(len(unit.flush()), 8)
+        with self.refused(Status.NOT_OPEN):
+            unit.flush()
+
+    def test_images_that_do_not_open(self) -> None:
+        for data, status in ((b"", Status.OPEN_NOT_FORMATTED), (bytes(12_800), Status.OPEN_NOT_FORMATTED),
+                             (MemoryMedium.formatted(4).data[:-512], Status.OPEN_DAMAGED)):
+            with self.refused(status):
+                Unit(MemoryMedium(bytes(data))).open()
+
+    def test_formats(self) -> None:
+        for slots in (0, 1, 1_048_577):
+            with self.refused(Status.BAD_SLOTS):
+                MemoryMedium.formatted(slots)
+        for slots in (-1, 1 << 32):
+            with self.refused(Status.OUT_OF_RANGE):
+                units.first_request(slots)
+
+    def test_a_medium_that_fails(self) -> None:
+        medium = Failing(bytes(MemoryMedium.formatted(4).data))
+        with Unit(medium) as unit:
+            unit.clock(1)
+            medium.left = 0
+            self.assertRaisesRegex(OSError, "no power", unit.flush)
+            self.assertTrue(unit.state().has_failed)
+            with self.refused(Status.FAILED):
+                unit.flush()
+            with self.refused(Status.INPUT_FAILED):
+                unit.clock(2)
+
+    def test_a_file(self) -> None:
+        with tempfile.TemporaryDirectory() as folder:
+            path = Path(folder) / "image"
+            self.assertRaises(FileNotFoundError, FileMedium, path)
+            with FileMedium.formatted(path, 4):
+                self.assertRaises(BlockingIOError, FileMedium, path)
+                self.assertRaises(BlockingIOError, FileMedium.formatted, path, 8)
+            self.assertEqual(path.read_bytes(), MemoryMedium.formatted(4).data)
+            memory = MemoryMedium.formatted(4)
+            with FileMedium(path) as medium:
+                places: list[units.Medium] = [medium, memory]
+                for place in places:
+                    with Unit(place) as unit:
+                        unit.clock(1)
+                        unit.flush()
+            self.assertEqual(path.read_bytes(), memory.data)
+
+    def test_telegrams(self) -> None:
+        self.assertEqual(units.decode("90007F8020017FC0"), (0, 0))
+        self.assertEqual(units.decode("90007F802001432024A8007FE007D002B00D900010000DC03A400020801FE0"), (0, 3))
+        self.assertEqual(units.decode(""), (1, 0))

@@ -1,0 +1,151 @@
+#!/bin/bash
+# The unit as C, C++, Python and Rust programs call it, all of it built from the folder that tools/library makes: the headers alone, the names
+# that the library shows, sizes and places, wrong calls, files, two units at once, the examples, random lives beside `etcs run`, and the
+# commands of docs/EMBEDDING.md. It needs gcc, g++, valgrind, rustc and Debian's Python; clang is tried where it is there.
+#
+#     tests/unit.sh [PREFIX [LIVES]]    builds and installs the library first, or takes the one below PREFIX; 400 lives; $ETCS names another
+#                                       program than the gate's
+export PYTHONDONTWRITEBYTECODE=1
+top=$(cd "$(dirname "$0")/.." && pwd) || exit 1
+python=/usr/bin/python3 # Debian's packages belong to this one
+made=$(mktemp -d) || exit 1
+trap 'rm -rf "$made"' EXIT
+export ETCS=${ETCS:-$top/crates/etcs/out/etcs}
+status=0
+
+fails() { echo "$*"; status=1; }
+
+# counted WHAT NUMBER LEAST: how many were tried
+counted() {
+    echo "$1: $2"
+    [ "$2" -ge "$3" ] || fails "$1: there are $3 to be tried"
+}
+
+[ -x "$ETCS" ] || { echo "there is no program $ETCS: rt ci makes it"; exit 1; }
+if [ $# -gt 0 ]; then
+    prefix=$(cd "$1" && pwd) || exit 1
+else
+    prefix=$made/prefix
+    "$top/tools/library" "$prefix" >"$made/said" 2>&1 || { cat "$made/said"; echo "the unit: the library isn't built"; exit 1; }
+fi
+include=$prefix/include
+archive=$prefix/lib/libetcs_unit.a
+shared=$prefix/lib/libetcs_unit.so
+export GAKNIFUR_ETCS_UNIT=$shared LD_LIBRARY_PATH=$prefix/lib
+
+compilers=(gcc)
+! command -v clang >/dev/null || compilers+=(clang)
+strict=(-Wall -Wextra -Werror -pedantic)
+# (static, since lives.py loads a library of its own first)
+sanitizers=(-fsanitize=address,undefined -fno-sanitize-recover=all -static-libasan)
+
+# ---- the headers alone, in each language
+
+tried=0
+for header in etcs etcs_unit etcs_file; do
+    echo "#include \"$header.h\"" >"$made/alone"
+    echo "typedef int something;" >>"$made/alone"
+    for words in "c -std=c99" "c -std=c11" "c -std=c17" "c++ -std=c++17" "c++ -std=c++20"; do
+        for compiler in "${compilers[@]}"; do
+            # shellcheck disable=SC2086
+            "$compiler" -x $words "${strict[@]}" -I "$include" -fsyntax-only "$made/alone" || fails "$compiler $words: $header.h doesn't compile alone"
+            tried=$((tried + 1))
+        done
+    done
+done
+counted "headers alone" $tried 15
+
+# ---- the names that the library shows are those that the headers declare, as gcc reads them
+
+printf '#include "etcs.h"\n#include "etcs_unit.h"\n' >"$made/all.c"
+gcc -std=c99 -I "$include" -aux-info "$made/declared" -c "$made/all.c" -o "$made/all.o" || fails "the headers don't compile"
+sed -n 's@^/\* [^ ]*/etcs[a-z_]*\.h:[0-9]*:NC \*/ extern .*[ *]\(etcs_[a-z_]*\) (.*@\1@p' "$made/declared" | LC_ALL=C sort -u >"$made/names"
+nm -D --defined-only "$shared" | sed 's/.* //' | LC_ALL=C sort >"$made/shown"
+nm --defined-only --extern-only "$archive" | sed -n 's/^[0-9a-f]* . //p' | LC_ALL=C sort >"$made/in_archive"
+diff "$made/names" "$made/shown" || fails "the shared library shows other names than the headers declare"
+diff "$made/names" "$made/in_archive" || fails "the static library shows other names than the headers declare"
+counted "names of the library" "$(wc -l <"$made/shown")" 19
+needed=$(objdump -p "$shared" | sed -n 's/^ *NEEDED *//p' | tr '\n' ' ')
+soname=$(objdump -p "$shared" | sed -n 's/^ *SONAME *//p')
+[ "$needed" = "libc.so.6 " ] || fails "the shared library needs $needed"
+[ "$soname" = "libetcs_unit.so.$(sed -n 's/^#define ETCS_UNIT_ABI //p' "$include/etcs_unit.h")" ] || fails "the shared library's name is $soname"
+[ -r "$prefix/lib/$soname" ] || fails "there is no $soname"
+
+# ---- the programs: in C by each compiler, and as C++; with the static library and with the shared one
+
+# build NAME FILE COMPILER WORDS..
+build() {
+    "$3" "${@:4}" -g "${strict[@]}" -I "$include" -I "$top/tests/unit" "$2" -x none "${link[@]}" -pthread -o "$made/$1" && built=$((built + 1)) ||
+        fails "$1 doesn't compile ($3 ${*:4})"
+}
+
+built=0
+link=("$archive")
+for name in layout misuse files two life; do
+    for compiler in "${compilers[@]}"; do build "$name.$compiler" "$top/tests/unit/$name.c" "$compiler" -x c -std=c99 -O2; done
+    build "$name.cpp" "$top/tests/unit/$name.c" g++ -x c++ -std=c++17 -O2 -Wno-missing-field-initializers
+done
+for name in misuse files two life; do
+    build "$name.checked" "$top/tests/unit/$name.c" gcc -x c -std=c99 -O1 "${sanitizers[@]}"
+done
+for name in brake flash; do
+    for compiler in "${compilers[@]}"; do build "$name.$compiler" "$top/examples/embedding/$name.c" "$compiler" -x c -std=c99 -O2; done
+    build "$name.checked" "$top/examples/embedding/$name.c" gcc -x c -std=c99 -O1 "${sanitizers[@]}"
+done
+build brake.cpp "$top/examples/embedding/brake.cpp" g++ -x c++ -std=c++17 -O2
+link=(-L "$prefix/lib" -letcs_unit)
+for name in misuse two; do build "$name.shared" "$top/tests/unit/$name.c" gcc -x c -std=c99 -O2; done
+rustc --edition 2021 -D warnings -O -L "$prefix/lib" -l static=etcs_unit "$top/examples/embedding/rust/brake.rs" -o "$made/brake.rs" &&
+    built=$((built + 1)) || fails "examples/embedding/rust doesn't compile"
+counted "programs built" $built 26
+
+# ---- what they answer
+
+runs=0
+# runs_well PROGRAM WORDS..: it ends with 0; its last line is shown
+runs_well() {
+    runs=$((runs + 1))
+    "$@" >"$made/said" 2>&1 || { cat "$made/said"; fails "$(basename "$1") ends with another status than 0"; }
+}
+
+"$python" "$top/tests/unit/layout.py" "$made"/layout.* || fails "sizes and places differ"
+for program in "$made"/misuse.* "$made"/two.*; do runs_well "$program"; done
+for program in "$made"/files.*; do
+    rm -rf "$made/room"
+    mkdir "$made/room"
+    runs_well "$program" "$made/room"
+done
+for program in "$made"/flash.*; do runs_well "$program"; done
+mv "$made/said" "$made/flash"
+for program in misuse.gcc two.gcc "files.gcc $made/room" "brake.gcc $made/image.valgrind" flash.gcc; do
+    rm -rf "$made/room"
+    mkdir "$made/room"
+    # shellcheck disable=SC2086
+    runs_well valgrind -q --error-exitcode=9 --leak-check=full --errors-for-leak-kinds=all --show-leak-kinds=all $(echo "$made/$program")
+done
+counted "runs of them, 5 of them under valgrind" $runs 20
+
+# ---- the examples: the same train in each language, over the same file
+
+trains=0
+for program in "$made"/brake.*; do
+    name=$(basename "$program")
+    "$program" "$made/image.$name" >"$made/told.$name" || fails "$name ends with another status than 0"
+done
+PYTHONPATH=$top/python "$python" "$top/examples/embedding/use.py" "$made/image.py" >"$made/told.py" || fails "use.py ends with another status than 0"
+for told in "$made"/told.*; do
+    "$python" "$top/tests/unit/brake_told.py" "$told" >"$made/said" || { cat "$made/said"; fails "$(basename "$told") has other lines"; }
+    trains=$((trains + 1))
+done
+for image in "$made"/image.*; do cmp "$image" "$made/image.brake.gcc" || fails "the journals of the examples differ"; done
+counted "trains that brake" $trains 5
+
+# ---- lives beside the program, the package in Python, and the page
+
+"$python" "$top/tests/unit/lives.py" "$made/life.gcc" "${2:-400}" || status=1
+"$python" "$top/tests/unit/lives.py" "$made/life.checked" "$((${2:-400} / 20))" 7 || status=1
+(cd "$top/python" && "$python" -m unittest -q tests.test_unit) >"$made/said" 2>&1 && grep -q '^Ran 9 tests' "$made/said" && ! grep -q skipped "$made/said" ||
+    { cat "$made/said"; fails "python/tests/test_unit.py: failures, or other than 9 tests"; }
+ETCS_UNIT_ARCHIVE=$archive ETCS_C_ARCHIVE=$archive "$python" "$top/tests/unit/page.py" || status=1
+echo "the unit: $([ $status -eq 0 ] && echo "no failures" || echo "failures, see above")"
+exit $status

@@ -1,0 +1,74 @@
+#!/usr/bin/env python3
+"""What examples/embedding/brake.c has to print on a new journal, worked out by the plain kernel over the same train: or, with a file, whether it
+is what that file holds.
+
+    tests/unit/brake_told.py [FILE]
+"""
+import sys
+from pathlib import Path
+
+sys.path.insert(0, str(Path(__file__).resolve().parents[1] / "plain"))
+
+from life import Life  # noqa: E402
+from program import action_of  # noqa: E402
+
+AUTHORITY = "90007F802001432024A8007FE007D002B00D900010000DC03A400020801FE0"
+CYCLE_MS, CYCLES = 500, 1_000
+GAINED = {"none": 900, "service": -1_260, "emergency": -1_800}
+
+
+class Train:
+    """The train of brake.c, and the unit on it."""
+
+    def __init__(self):
+        self.life, self.events, self.lines = Life(), 1, []
+        self.moment = self.speed = 0
+        self.brake, self.mode = "emergency", "SB"
+
+    def accept(self, *inputs):
+        """What is released of these inputs, and obeyed."""
+        outputs = []
+        for word, value in inputs:
+            outputs.append((self.events, self.life.take(word, value)))
+            self.events += 1
+        for event, output in outputs:
+            self.obey(event, output)
+
+    def obey(self, event, output):
+        brake, mode = str(output.brake), output.mode
+        if (brake, mode) != (self.brake, self.mode):
+            self.lines.append(f"event {event}: mode {mode}, brake {brake}, limit {output.limit} m/h, speed {self.speed} m/h")
+        self.brake, self.mode = brake, mode
+
+    def go_on(self):
+        self.speed = min(max(self.speed + GAINED[self.brake], 0), 100_000)
+        self.moment += CYCLE_MS
+        return self.speed * CYCLE_MS // 36_000
+
+
+def told():
+    train = Train()
+    driver = [(1, "IC 704"), (4, 1), (3, 20_000, 160_000, 70, 0, 15), (6,)]
+    train.accept(("hear", AUTHORITY), *(action_of(*one)[:2] for one in driver))
+    for _ in range(CYCLES):
+        moved = train.go_on()
+        if train.speed == 0:
+            break
+        train.accept(("move", f"{moved} {train.speed}"), ("clock", str(train.moment)))
+    return [*train.lines, f"the train stands behind {train.moment} ms"]
+
+
+def main(words):
+    wanted = told()
+    if not words:
+        print(*wanted, sep="\n")
+        return 0
+    found = Path(words[0]).read_text().splitlines()
+    if found != wanted:
+        print("brake.c printed", *found, "and the plain kernel", *wanted, sep="\n")
+    print(f"a train that brakes: {len(found)} lines from C")
+    return found != wanted or len(found) < 3
+
+
+if __name__ == "__main__":
+    sys.exit(main(sys.argv[1:]))

@@ -1,0 +1,151 @@
+/* Lives one life on an image, and prints what `etcs run` prints of it: a line for each output that is released.
+ *
+ *     life IMAGE COLD [CUT]    reads inputs from standard input, one a line; with CUT it stops behind so many requests
+ *     life format IMAGE SLOTS
+ *
+ * The inputs: `telegram HEX`, `odometer CM SPEED`, `clock MS`, `action N`, `identity HEX`, `number N`,
+ * `train LENGTH MAXIMUM DECELERATION REACTION CATEGORY`, and `flush`. */
+#include "etcs_file.h"
+
+#include <inttypes.h>
+#include <stdio.h>
+#include <string.h>
+
+enum { DONE = 0, REFUSED = 1, DEVICE = 3, WRONG_WORDS = 2 };
+
+/* How many requests may still be carried out; below 0 there is no end. */
+static long left = -1;
+
+static const char *name_of(uint32_t status) {
+    switch (status) {
+    case ETCS_UNIT_OPEN_DEVICE_FAULT: return "DeviceFault";
+    case ETCS_UNIT_OPEN_NOT_FORMATTED: return "NotFormatted";
+    case ETCS_UNIT_OPEN_DAMAGED: return "Damaged";
+    case ETCS_UNIT_OPEN_NO_MEMORY: return "NoMemory";
+    case ETCS_UNIT_OPEN_WORN_OUT: return "WornOut";
+    case ETCS_UNIT_PENDING_FULL: return "PendingFull";
+    case ETCS_UNIT_CLOCK_BACK: return "ClockBack";
+    case ETCS_UNIT_NO_MEMORY: return "NoMemory";
+    case ETCS_UNIT_WORN_OUT: return "WornOut";
+    default: return "?";
+    }
+}
+
+static const char *mode_of(uint8_t mode) {
+    static const char *const words[] = {"FS", "OS", "SR", "SH", "UN", "?", "SB", "TR", "PT", "SF"};
+    return mode < sizeof words / sizeof words[0] ? words[mode] : "?";
+}
+
+static void print(const etcs_unit_output *output) {
+    static const char *const brakes[] = {"none", "service", "emergency"};
+    const char *level = output->level == ETCS_LEVEL_0 ? "0" : output->level == ETCS_LEVEL_1 ? "1" : output->level == ETCS_LEVEL_INVALID ? "-" : "?";
+    printf("event %" PRIu64 " mode %s level %s brake %s limit %" PRIu32 " ind %u\n", output->event, mode_of(output->mode), level,
+           output->brake < 3 ? brakes[output->brake] : "?", output->limit_m_per_h, (unsigned)output->indications);
+}
+
+/* Carries out the requests, up to the cut. */
+static uint32_t carry_out(etcs_file *file, etcs_unit *unit) {
+    if (left < 0)
+        return etcs_file_carry_out(file, unit);
+    etcs_unit_state_told state;
+    etcs_unit_request_told request;
+    uint8_t bytes[ETCS_UNIT_REQUEST_BYTES];
+    if (etcs_unit_state(unit, &state) != ETCS_UNIT_OK)
+        return ETCS_FILE_UNIT;
+    for (uint32_t index = 0; index < state.requests; index++, left--) {
+        if (left == 0)
+            return ETCS_FILE_CANT_WRITE;
+        if (etcs_unit_request(unit, index, &request, bytes, sizeof bytes) != ETCS_UNIT_OK)
+            return ETCS_FILE_UNIT;
+        if (etcs_file_do_(file, &request, bytes) != ETCS_FILE_OK || etcs_unit_done(unit, index + 1) != ETCS_UNIT_OK)
+            return ETCS_FILE_UNIT;
+    }
+    return ETCS_FILE_OK;
+}
+
+/* Puts what is pending onto the file, and prints what is released. */
+static uint32_t flush(etcs_file *file, etcs_unit *unit, int prepares) {
+    etcs_unit_output outputs[ETCS_UNIT_OUTPUTS];
+    uint32_t count = 0, status = prepares ? etcs_unit_prepare(unit) : (uint32_t)ETCS_UNIT_OK;
+    if (status != ETCS_UNIT_OK)
+        return status;
+    if (carry_out(file, unit) != ETCS_FILE_OK)
+        return ETCS_UNIT_FAILED;
+    status = etcs_unit_release(unit, outputs, ETCS_UNIT_OUTPUTS, &count);
+    for (uint32_t i = 0; status == ETCS_UNIT_OK && i < count; i++)
+        print(&outputs[i]);
+    return status;
+}
+
+static size_t bytes_of(const char *hex, uint8_t *bytes, size_t room) {
+    size_t length = 0;
+    unsigned byte;
+    for (; hex[0] && hex[1] && length < room && sscanf(hex, "%2x", &byte) == 1; hex += 2)
+        bytes[length++] = (uint8_t)byte;
+    return length;
+}
+
+/* Hands in the input of a line. */
+static uint32_t take(etcs_unit *unit, const char *line) {
+    char hex[512];
+    uint8_t bytes[256];
+    int64_t movement;
+    uint64_t moment;
+    uint32_t number;
+    etcs_train_data data;
+    uint32_t *const to = (uint32_t *)&data; /* five numbers of 32 bits, in the order of the header */
+    if (sscanf(line, "telegram %511s", hex) == 1)
+        return etcs_unit_telegram(unit, bytes, bytes_of(hex, bytes, sizeof bytes));
+    if (sscanf(line, "identity %511s", hex) == 1)
+        return etcs_unit_identity(unit, bytes, bytes_of(hex, bytes, sizeof bytes));
+    if (sscanf(line, "odometer %" SCNd64 " %" SCNu32, &movement, &number) == 2)
+        return etcs_unit_odometer(unit, movement, number);
+    if (sscanf(line, "clock %" SCNu64, &moment) == 1)
+        return etcs_unit_clock(unit, moment);
+    if (sscanf(line, "action %" SCNu32, &number) == 1)
+        return etcs_unit_action(unit, number);
+    if (sscanf(line, "number %" SCNu32, &number) == 1)
+        return etcs_unit_running_number(unit, number);
+    if (sscanf(line, "train %" SCNu32 " %" SCNu32 " %" SCNu32 " %" SCNu32 " %" SCNu32, &to[0], &to[1], &to[2], &to[3], &to[4]) == 5)
+        return etcs_unit_train_data(unit, &data);
+    return ETCS_UNIT_OUT_OF_RANGE;
+}
+
+/* The whole life; a flush comes of itself before a ninth pending event, and at the end. */
+static uint32_t live(etcs_file *file, etcs_unit *unit) {
+    char line[1024];
+    uint32_t status = flush(file, unit, 0);
+    while (status == ETCS_UNIT_OK && fgets(line, sizeof line, stdin)) {
+        if (strcmp(line, "flush\n") == 0) {
+            status = flush(file, unit, 1);
+            continue;
+        }
+        status = take(unit, line);
+        if (status == ETCS_UNIT_PENDING_FULL) {
+            status = flush(file, unit, 1);
+            if (status == ETCS_UNIT_OK)
+                status = take(unit, line);
+        }
+    }
+    return status == ETCS_UNIT_OK ? flush(file, unit, 1) : status;
+}
+
+int main(int count, char **words) {
+    etcs_unit unit = {0};
+    etcs_file file;
+    if (count == 4 && strcmp(words[1], "format") == 0)
+        return etcs_file_format(&file, words[2], (uint32_t)strtoul(words[3], NULL, 10)) == ETCS_FILE_OK ? DONE : DEVICE;
+    if (count != 3 && count != 4)
+        return WRONG_WORDS;
+    left = count == 4 ? strtol(words[3], NULL, 10) : -1;
+    uint32_t answer = etcs_file_open(&file, words[1], &unit, (uint32_t)strtoul(words[2], NULL, 10));
+    if (answer != ETCS_FILE_OK && answer != ETCS_FILE_UNIT) {
+        puts("device");
+        return DEVICE;
+    }
+    const uint32_t status = answer == ETCS_FILE_OK ? live(&file, &unit) : file.status;
+    if (status != ETCS_UNIT_OK)
+        printf("stopped %" PRIu32 " %s\n", status, name_of(status));
+    etcs_file_close(&file, &unit);
+    return status == ETCS_UNIT_OK ? DONE : REFUSED;
+}

@@ -1,0 +1,177 @@
+#!/usr/bin/env python3
+"""Random lives from C beside `etcs run`, the same in every run: what is printed, what the file is handed, call by call, and what it holds.
+
+    tests/unit/lives.py LIFE [LIVES [SEED]]    LIFE is life.c with the library; 400 lives, seed 2026; $ETCS names another program than the gate's
+
+Both print the same and end with the same status. Their writes and syncs of the file are the same, in the same order and with the same bytes, so
+that power may be lost between any two of them and the file is the same. In every second life it is, between two requests: the life from C stops
+there, and has released just what `etcs run` had printed by then. Then both go on from that file.
+"""
+import json
+import os
+import random
+import struct
+import subprocess
+import sys
+from pathlib import Path
+
+TOP = Path(__file__).resolve().parents[2]
+sys.path[:0] = [str(TOP / "tests/hostile"), str(TOP / "tests/plain"), str(TOP / "python")]
+
+from built import PROGRAM, Failures, built, room  # noqa: E402
+from gaknifur import random_lives  # noqa: E402
+from program import inputs_of  # noqa: E402
+from random_inputs import headed, mutated  # noqa: E402
+
+LIVES = 10  # so many on one image
+LEAST_CALLS, LEAST_LINES = 10, 5  # of a life, on the average
+
+ALONE = {6: 7, 7: 8, 8: 9, 9: 10, 11: 15}
+FROM = {4: 1, 5: 2, 10: 10}  # what is added to the value behind the code
+
+
+def word_of(asked):
+    """A line of life.c."""
+    if asked is None:
+        return "flush"
+    kind, *values = asked
+    if kind == "reading":
+        return f"odometer {values[0]} {values[1]}"
+    if kind != "driver":
+        return f"{kind} {values[0]}"
+    code, *values = values
+    if code == 1:
+        return f"identity {values[0].encode().hex()}"
+    if code == 2:
+        return f"number {values[0]}"
+    if code == 3:
+        return "train " + " ".join(map(str, values))
+    return f"action {FROM[code] + values[0] if code in FROM else ALONE[code]}"
+
+
+def scenario_of(numbers):
+    """A life of a train that mostly heeds what it is told; in some lives it hears telegrams that can't be read, or the clock goes back."""
+    told = json.loads(random_lives.scenario(numbers))
+    for _ in range(numbers.randrange(4)):
+        data = (headed if numbers.randrange(2) else mutated)(numbers)
+        if 1 <= len(data) <= 104:
+            told["steps"].insert(numbers.randrange(len(told["steps"]) + 1), {"telegram": data.hex()})
+    if numbers.randrange(10) == 0:
+        told["steps"].append({"clock": numbers.randrange(2_000)})
+    return told
+
+
+def recorded(record, image, words, text=""):
+    """Status and text of a run, and its writes, syncs and prints in their order."""
+    calls_file = image.with_suffix(".calls")
+    calls_file.unlink(missing_ok=True)
+    env = dict(os.environ, LD_PRELOAD=record, RECORD_OF=str(image), RECORD_TO=str(calls_file))
+    ran = subprocess.run(list(map(str, words)), input=text, capture_output=True, env=env, text=True, timeout=60)
+    if ran.stderr:
+        raise SystemExit(f"{words}: {ran.stderr[:200]}")
+    data, at, calls = calls_file.read_bytes() if calls_file.exists() else b"", 0, []
+    while at < len(data):
+        kind, place, length = struct.unpack_from("<cQQ", data, at)
+        at += 17
+        body = data[at:at + length] if kind in b"wo" else b""
+        at += len(body)
+        if kind in b"wso":
+            calls.append((kind.decode(), place, body))
+    return ran.returncode, ran.stdout, calls
+
+
+def requests_of(calls):
+    return [call for call in calls if call[0] != "o"]
+
+
+def cut_off(before, calls, count):
+    """The bytes of the file behind so many requests, and what is printed by then."""
+    held, printed = bytearray(before), b""
+    for kind, place, body in calls:
+        if kind == "o":
+            printed += body
+            continue
+        if count == 0:
+            break
+        count -= 1
+        if kind == "w":
+            held[place:place + len(body)] = body
+    return bytes(held), printed.decode()
+
+
+class Pair:
+    """The image of the program, and the one of the C program."""
+
+    def __init__(self, life, folder, record, failures):
+        self.life, self.record, self.failures = life, record, failures
+        self.one, self.other, self.path = folder / "one", folder / "other", folder / "scenario"
+        self.calls = self.lines = self.cuts = self.within = 0
+
+    def same(self, name):
+        self.failures.unless(self.one.read_bytes() == self.other.read_bytes(), f"{name}: the files hold other bytes")
+
+    def format(self, name, slots):
+        subprocess.run([PROGRAM, "format", self.one, str(slots)], check=True, stdout=subprocess.DEVNULL)
+        self.other.unlink(missing_ok=True)
+        done = subprocess.run([self.life, "format", self.other, str(slots)]).returncode
+        self.failures.unless(done == 0, f"{name}: the format from C ends with {done}")
+        self.same(name)
+
+    def live(self, name, scenario, numbers):
+        before = self.one.read_bytes()
+        self.path.write_text(json.dumps(scenario))
+        text = "".join(word_of(asked) + "\n" for asked in inputs_of(scenario))
+        status, printed, calls = recorded(self.record, self.one, [PROGRAM, "run", self.path, self.one])
+        words = [self.life, self.other, scenario.get("cold", 0)]
+        if numbers.randrange(2):
+            self.cut(name, before, calls, words, text, numbers)
+        self.other.write_bytes(before)
+        found = recorded(self.record, self.other, words, text)
+        self.failures.unless(found[:2] == (status, printed), f"{name}: from C {found[0]} {found[1][:400]}, wanted {status} {printed[:400]}")
+        self.failures.unless(requests_of(found[2]) == requests_of(calls), f"{name}: from C the file is handed other calls")
+        self.same(name)
+        self.calls += len(requests_of(calls))
+        self.lines += printed.count("\n")
+
+    def cut(self, name, before, calls, words, text, numbers):
+        """The life stops between two requests."""
+        count = numbers.randrange(len(requests_of(calls)))
+        self.other.write_bytes(before)
+        status, printed, _ = recorded(self.record, self.other, [*words, count], text)
+        held, wanted = cut_off(before, calls, count)
+        self.failures.unless(self.other.read_bytes() == held, f"{name}, cut behind {count}: the file holds other bytes")
+        self.failures.unless((status, printed) == (1, wanted + "stopped 21 ?\n"), f"{name}, cut behind {count}: {status} {printed}, wanted {wanted}")
+        self.cuts += 1
+        self.within += held != before
+
+    def go_on(self, name, numbers, scenario):
+        """A life that is cut off, from which both go on."""
+        before = self.one.read_bytes()
+        self.path.write_text(json.dumps(scenario))
+        _, _, calls = recorded(self.record, self.one, [PROGRAM, "run", self.path, self.one])
+        text = "".join(word_of(asked) + "\n" for asked in inputs_of(scenario))
+        self.other.write_bytes(before)
+        self.cut(name, before, calls, [self.life, self.other, scenario.get("cold", 0)], text, numbers)
+        self.one.write_bytes(self.other.read_bytes())
+
+
+def main(words):
+    life, *given = words
+    count, seed = [int(word) for word in given] + [400, 2026][len(given):]
+    numbers, failures = random.Random(seed), Failures()
+    with room() as name:
+        pair = Pair(Path(life).resolve(), Path(name), built("record"), failures)
+        for number in range(count):
+            if number % LIVES == 0:
+                pair.format(f"image before life {number}", 2 + numbers.randrange(8))
+            if numbers.randrange(3) == 0:
+                pair.go_on(f"a cut before life {number}", numbers, scenario_of(numbers))
+            pair.live(f"life {number}", scenario_of(numbers), numbers)
+    failures.unless(pair.calls >= LEAST_CALLS * count and pair.lines >= LEAST_LINES * count, "the lives are too short")
+    failures.unless(pair.cuts >= count // 2 and pair.within >= count // 4, "too few lives are cut off")
+    return failures.end(f"lives from C: {count}, with {pair.calls} requests and {pair.lines} lines, and {pair.cuts} cut off, "
+                        f"{pair.within} of them behind a write")
+
+
+if __name__ == "__main__":
+    sys.exit(main(sys.argv[1:]))

@@ -1,0 +1,308 @@
+/* Each wrong call that C lets the library see is answered as include/etcs_unit.h says, and changes nothing. */
+#include "medium.h"
+
+static etcs_unit_output outputs[ETCS_UNIT_OUTPUTS];
+static etcs_unit_request_told request;
+static etcs_unit_state_told state;
+static uint8_t bytes[ETCS_UNIT_REQUEST_BYTES];
+static uint32_t count;
+static const uint8_t telegram[ETCS_TELEGRAM_BYTES + 1] = {0x90, 0x00, 0x7F, 0x80, 0x20, 0x01, 0x7F, 0xC0};
+static const uint8_t letters[17] = {'A', ' ', '~', 'B', 'C', 'D', 'E', 'F', 'G', 'H', 'I', 'J', 'K', 'L', 'M', 'N', 'O'};
+/* 200 m, 160 km/h, 0.7 m/s^2, 1 s, category 15 */
+static const etcs_train_data train = {20000, 160000, 70, 1000, 15};
+
+static void null_pointers(medium *on) {
+    etcs_unit unit = {0};
+    const uint32_t wanted = ETCS_UNIT_NULL_POINTER;
+    is("open, no unit", etcs_unit_open(NULL, on->bytes, on->len, 0), wanted);
+    is("open, no image", etcs_unit_open(&unit, NULL, on->len, 0), wanted);
+    is("telegram, no unit", etcs_unit_telegram(NULL, telegram, 8), wanted);
+    is("telegram, no bytes", etcs_unit_telegram(&unit, NULL, 8), wanted);
+    is("odometer, no unit", etcs_unit_odometer(NULL, 0, 0), wanted);
+    is("clock, no unit", etcs_unit_clock(NULL, 0), wanted);
+    is("action, no unit", etcs_unit_action(NULL, ETCS_START), wanted);
+    is("identity, no unit", etcs_unit_identity(NULL, letters, 1), wanted);
+    is("identity, no bytes", etcs_unit_identity(&unit, NULL, 1), wanted);
+    is("running number, no unit", etcs_unit_running_number(NULL, 1), wanted);
+    is("train data, no unit", etcs_unit_train_data(NULL, &train), wanted);
+    is("train data, none", etcs_unit_train_data(&unit, NULL), wanted);
+    is("prepare, no unit", etcs_unit_prepare(NULL), wanted);
+    is("request, no unit", etcs_unit_request(NULL, 0, &request, bytes, sizeof bytes), wanted);
+    is("request, nowhere to tell", etcs_unit_request(&unit, 0, NULL, bytes, sizeof bytes), wanted);
+    is("request, no bytes", etcs_unit_request(&unit, 0, &request, NULL, 0), wanted);
+    is("done, no unit", etcs_unit_done(NULL, 0), wanted);
+    is("fail, no unit", etcs_unit_fail(NULL), wanted);
+    is("release, no unit", etcs_unit_release(NULL, outputs, 8, &count), wanted);
+    is("release, no outputs", etcs_unit_release(&unit, NULL, 8, &count), wanted);
+    is("release, no count", etcs_unit_release(&unit, outputs, 8, NULL), wanted);
+    is("state, no unit", etcs_unit_state(NULL, &state), wanted);
+    is("state, nowhere to tell", etcs_unit_state(&unit, NULL), wanted);
+    is("close, no unit", etcs_unit_close(NULL), wanted);
+    is("format, nowhere to tell", etcs_unit_format_request(4, 0, NULL, bytes, 512), wanted);
+    is("format, no bytes", etcs_unit_format_request(4, 0, &request, NULL, 512), wanted);
+}
+
+/* Each call on a unit that isn't open, also with a number that is out of range. */
+static void not_open(etcs_unit *unit) {
+    const uint32_t wanted = ETCS_UNIT_NOT_OPEN;
+    is("telegram, not open", etcs_unit_telegram(unit, telegram, 8), wanted);
+    is("telegram of no byte, not open", etcs_unit_telegram(unit, telegram, 0), wanted);
+    is("odometer, not open", etcs_unit_odometer(unit, 0, 0), wanted);
+    is("odometer out of range, not open", etcs_unit_odometer(unit, INT64_MAX, 0), wanted);
+    is("clock, not open", etcs_unit_clock(unit, 0), wanted);
+    is("action, not open", etcs_unit_action(unit, ETCS_START), wanted);
+    is("action out of range, not open", etcs_unit_action(unit, 0), wanted);
+    is("identity, not open", etcs_unit_identity(unit, letters, 1), wanted);
+    is("running number, not open", etcs_unit_running_number(unit, 1), wanted);
+    is("train data, not open", etcs_unit_train_data(unit, &train), wanted);
+    is("prepare, not open", etcs_unit_prepare(unit), wanted);
+    is("request, not open", etcs_unit_request(unit, 0, &request, bytes, sizeof bytes), wanted);
+    is("done, not open", etcs_unit_done(unit, 0), wanted);
+    is("fail, not open", etcs_unit_fail(unit), wanted);
+    is("release, not open", etcs_unit_release(unit, outputs, ETCS_UNIT_OUTPUTS, &count), wanted);
+    is("state, not open", etcs_unit_state(unit, &state), wanted);
+    is("close, not open", etcs_unit_close(unit), wanted);
+}
+
+/* An opening that is refused leaves the unit as it was. */
+static void refused(const char *what, uint32_t found, uint32_t wanted, const etcs_unit *unit) {
+    is(what, found, wanted);
+    is(what, unit->is_open, 0);
+}
+
+static void opening(medium *on) {
+    etcs_unit unit = {0};
+    uint8_t *other = (uint8_t *)calloc(1, on->len + ETCS_UNIT_SECTOR);
+    refused("an older header", etcs_unit_open_(&unit, on->bytes, on->len, 0, ETCS_UNIT_ABI - 1), ETCS_UNIT_OTHER_ABI, &unit);
+    refused("a newer header", etcs_unit_open_(&unit, on->bytes, on->len, 0, ETCS_UNIT_ABI + 1), ETCS_UNIT_OTHER_ABI, &unit);
+    is("the number of the interface", etcs_unit_abi(), ETCS_UNIT_ABI);
+    refused("cold 3", etcs_unit_open(&unit, on->bytes, on->len, 3), ETCS_UNIT_OUT_OF_RANGE, &unit);
+    refused("cold -1", etcs_unit_open(&unit, on->bytes, on->len, UINT32_MAX), ETCS_UNIT_OUT_OF_RANGE, &unit);
+    refused("no byte", etcs_unit_open(&unit, on->bytes, 0, 0), ETCS_UNIT_OPEN_NOT_FORMATTED, &unit);
+    refused("511 bytes", etcs_unit_open(&unit, on->bytes, 511, 0), ETCS_UNIT_OPEN_NOT_FORMATTED, &unit);
+    refused("zeros", etcs_unit_open(&unit, other, on->len, 0), ETCS_UNIT_OPEN_NOT_FORMATTED, &unit);
+    memcpy(other, on->bytes, on->len);
+    refused("a sector too few", etcs_unit_open(&unit, other, on->len - 512, 0), ETCS_UNIT_OPEN_DAMAGED, &unit);
+    refused("a sector too many", etcs_unit_open(&unit, other, on->len + 512, 0), ETCS_UNIT_OPEN_DAMAGED, &unit);
+    is("bytes behind the last sector", etcs_unit_open(&unit, other, on->len + 511, ETCS_COLD_NOT_MOVED), ETCS_UNIT_OK);
+    is("opened twice", etcs_unit_open(&unit, on->bytes, on->len, 0), ETCS_UNIT_IS_OPEN);
+    is("closed before its power-up is done", etcs_unit_close(&unit), ETCS_UNIT_OK);
+    is("closed twice", etcs_unit_close(&unit), ETCS_UNIT_NOT_OPEN);
+    is("opened again", etcs_unit_open(&unit, on->bytes, on->len, ETCS_COLD_MOVED), ETCS_UNIT_OK);
+    is("closed again", etcs_unit_close(&unit), ETCS_UNIT_OK);
+    not_open(&unit);
+    free(other);
+}
+
+/* Train data with one number changed. */
+static uint32_t with(etcs_unit *unit, int place, uint32_t number) {
+    etcs_train_data data = train;
+    memcpy((uint8_t *)&data + 4 * place, &number, sizeof number);
+    return etcs_unit_train_data(unit, &data);
+}
+
+/* Each limit of an input, on a unit of its own, since eight inputs fill it. */
+static void limits(medium *on) {
+    static const struct { const char *what; uint32_t least, most; } fields[] = {
+        {"length", 1, 409500}, {"greatest speed", 1, 600000}, {"deceleration", 1, 300}, {"reaction", 0, 10000}, {"category", 0, 15}};
+    static const uint8_t unprintable[] = {0x1F, 0x7F, 0x80, 0xFF, 0};
+    uint8_t *many = (uint8_t *)calloc(1, 1 << 20);
+    etcs_unit unit = {0};
+    is("power-up", powered_up(on, &unit, 0), ETCS_UNIT_OK);
+    const uint32_t wanted = ETCS_UNIT_OUT_OF_RANGE;
+    is("a telegram of no byte", etcs_unit_telegram(&unit, telegram, 0), wanted);
+    is("a telegram of 105 bytes", etcs_unit_telegram(&unit, telegram, 105), wanted);
+    is("a telegram of 1,048,576 bytes", etcs_unit_telegram(&unit, many, 1 << 20), wanted);
+    is("a telegram of 1 byte", etcs_unit_telegram(&unit, telegram, 1), ETCS_UNIT_OK);
+    is("a telegram of 104 bytes", etcs_unit_telegram(&unit, telegram, 104), ETCS_UNIT_OK);
+    is("10,001 cm", etcs_unit_odometer(&unit, 10001, 1), wanted);
+    is("-10,001 cm", etcs_unit_odometer(&unit, -10001, 1), wanted);
+    is("the greatest number of cm", etcs_unit_odometer(&unit, INT64_MAX, 1), wanted);
+    is("the least number of cm", etcs_unit_odometer(&unit, INT64_MIN, 1), wanted);
+    is("600,001 m/h", etcs_unit_odometer(&unit, 0, 600001), wanted);
+    is("the greatest number of m/h", etcs_unit_odometer(&unit, 0, UINT32_MAX), wanted);
+    is("10,000 cm", etcs_unit_odometer(&unit, 10000, 600000), ETCS_UNIT_OK);
+    is("-10,000 cm", etcs_unit_odometer(&unit, -10000, 0), ETCS_UNIT_OK);
+    is("2^40 ms", etcs_unit_clock(&unit, UINT64_C(1) << 40), wanted);
+    is("the greatest number of ms", etcs_unit_clock(&unit, UINT64_MAX), wanted);
+    is("2^40 - 1 ms", etcs_unit_clock(&unit, (UINT64_C(1) << 40) - 1), ETCS_UNIT_OK);
+    is("a clock that goes back", etcs_unit_clock(&unit, 5), ETCS_UNIT_CLOCK_BACK);
+    is("flush", flushed(on, &unit, outputs, &count), ETCS_UNIT_OK);
+    is("what was refused isn't pending", count, 5);
+    is("action 0", etcs_unit_action(&unit, 0), wanted);
+    is("action 16", etcs_unit_action(&unit, 16), wanted);
+    is("action -1", etcs_unit_action(&unit, UINT32_MAX), wanted);
+    for (uint32_t action = ETCS_CHOOSE_LEVEL_0; action <= ETCS_CLOSE_DESK; action++) {
+        is("an action", etcs_unit_action(&unit, action), ETCS_UNIT_OK);
+        is("its flush", flushed(on, &unit, outputs, &count), ETCS_UNIT_OK);
+    }
+    is("an identity of no byte", etcs_unit_identity(&unit, letters, 0), wanted);
+    is("an identity of 17 bytes", etcs_unit_identity(&unit, letters, 17), wanted);
+    is("an identity of 1,048,576 bytes", etcs_unit_identity(&unit, many, 1 << 20), wanted);
+    for (size_t i = 0; i < sizeof unprintable; i++)
+        is("an identity that can't be printed", etcs_unit_identity(&unit, &unprintable[i], 1), wanted);
+    is("an identity of 16 bytes", etcs_unit_identity(&unit, letters, 16), ETCS_UNIT_OK);
+    is("running number 100,000,000", etcs_unit_running_number(&unit, 100000000), wanted);
+    is("running number 99,999,999", etcs_unit_running_number(&unit, 99999999), ETCS_UNIT_OK);
+    for (int i = 0; i < 5; i++) {
+        is(fields[i].what, with(&unit, i, fields[i].most + 1), wanted);
+        is(fields[i].what, with(&unit, i, UINT32_MAX), wanted);
+        is(fields[i].what, with(&unit, i, fields[i].most + 65536), wanted);
+        if (fields[i].least > 0)
+            is(fields[i].what, with(&unit, i, 0), wanted);
+        is("flush", flushed(on, &unit, outputs, &count), ETCS_UNIT_OK);
+        is(fields[i].what, with(&unit, i, fields[i].most), ETCS_UNIT_OK);
+        is(fields[i].what, with(&unit, i, fields[i].least), ETCS_UNIT_OK);
+    }
+    is("close with two pending", etcs_unit_close(&unit), ETCS_UNIT_OK);
+    free(many);
+}
+
+/* That a call that was refused wrote nothing where it would have put its answer. */
+static void untouched(const char *what) {
+    uint8_t other[ETCS_UNIT_REQUEST_BYTES];
+    memset(other, 0xAA, sizeof other);
+    is(what, (uint64_t)memcmp(outputs, other, sizeof outputs) | (uint64_t)memcmp(&request, other, sizeof request) |
+       (uint64_t)memcmp(&state, other, sizeof state) | (uint64_t)memcmp(bytes, other, sizeof bytes), 0);
+}
+
+static void touch(void) {
+    memset(outputs, 0xAA, sizeof outputs);
+    memset(&request, 0xAA, sizeof request);
+    memset(&state, 0xAA, sizeof state);
+    memset(bytes, 0xAA, sizeof bytes);
+}
+
+static void relaying(medium *on) {
+    etcs_unit unit = {0};
+    is("open", etcs_unit_open(&unit, on->bytes, on->len, 0), ETCS_UNIT_OK);
+    is("state", etcs_unit_state(&unit, &state), ETCS_UNIT_OK);
+    const uint32_t requests = (uint32_t)state.requests;
+    is("there are requests", requests > 0, 1);
+    is("none is done", state.done, 0);
+    is("none is held back", state.held, 0);
+    is("it hasn't failed", state.has_failed, 0);
+    is("before a release: event", state.last.event, 0);
+    is("before a release: mode", state.last.mode, ETCS_STAND_BY);
+    is("before a release: level", state.last.level, ETCS_LEVEL_INVALID);
+    is("before a release: brake", state.last.brake, ETCS_BRAKE_EMERGENCY);
+    touch();
+    is("prepare before the power-up is done", etcs_unit_prepare(&unit), ETCS_UNIT_REQUESTS_OWED);
+    is("release before the power-up is done", etcs_unit_release(&unit, outputs, 8, &count), ETCS_UNIT_REQUESTS_OWED);
+    is("room for 7", etcs_unit_release(&unit, outputs, 7, &count), ETCS_UNIT_NO_ROOM);
+    is("room for none", etcs_unit_release(&unit, outputs, 0, &count), ETCS_UNIT_NO_ROOM);
+    is("behind the list", etcs_unit_request(&unit, requests, &request, bytes, sizeof bytes), ETCS_UNIT_NO_SUCH_REQUEST);
+    is("far behind the list", etcs_unit_request(&unit, UINT32_MAX, &request, bytes, sizeof bytes), ETCS_UNIT_NO_SUCH_REQUEST);
+    untouched("a refusal writes nothing");
+    for (uint32_t i = 0; i < requests; i++) {
+        touch();
+        const uint32_t status = etcs_unit_request(&unit, i, &request, bytes, 511);
+        is("a write has no room in 511 bytes", status == ETCS_UNIT_NO_ROOM || (status == ETCS_UNIT_OK && request.kind == ETCS_REQUEST_SYNC), 1);
+        if (status == ETCS_UNIT_NO_ROOM)
+            untouched("a request that has no room writes nothing");
+        is("a request", etcs_unit_request(&unit, i, &request, bytes, sizeof bytes), ETCS_UNIT_OK);
+        is("its kind", request.kind == ETCS_REQUEST_WRITE || request.kind == ETCS_REQUEST_SYNC, 1);
+        is("its sectors", request.kind == ETCS_REQUEST_WRITE ? request.sectors >= 1 && (request.sector + request.sectors) * 512 <= on->len
+           : request.sectors == 0 && request.sector == 0, 1);
+        if (request.kind == ETCS_REQUEST_WRITE)
+            is("exactly its room", etcs_unit_request(&unit, i, &request, bytes, request.sectors * (size_t)512), ETCS_UNIT_OK);
+        do_on(on, &request, bytes);
+    }
+    is("one more than there are", etcs_unit_done(&unit, requests + 1), ETCS_UNIT_WRONG_COUNT);
+    is("many more than there are", etcs_unit_done(&unit, UINT32_MAX), ETCS_UNIT_WRONG_COUNT);
+    is("all but one", etcs_unit_done(&unit, requests - 1), ETCS_UNIT_OK);
+    is("fewer than before", etcs_unit_done(&unit, 0), ETCS_UNIT_WRONG_COUNT);
+    is("as many as before", etcs_unit_done(&unit, requests - 1), ETCS_UNIT_OK);
+    is("state", etcs_unit_state(&unit, &state), ETCS_UNIT_OK);
+    is("how many are done", state.done, requests - 1);
+    is("release before the last one is done", etcs_unit_release(&unit, outputs, 8, &count), ETCS_UNIT_REQUESTS_OWED);
+    is("an input meanwhile", etcs_unit_clock(&unit, 1), ETCS_UNIT_OK);
+    is("all", etcs_unit_done(&unit, requests), ETCS_UNIT_OK);
+    is("release", etcs_unit_release(&unit, outputs, 8, &count), ETCS_UNIT_OK);
+    is("a power-up releases nothing", count, 0);
+    is("done behind a release", etcs_unit_done(&unit, 1), ETCS_UNIT_WRONG_COUNT);
+    for (int i = 0; i < 7; i++)
+        is("eight may be pending", etcs_unit_clock(&unit, 2), ETCS_UNIT_OK);
+    is("the ninth", etcs_unit_clock(&unit, 2), ETCS_UNIT_PENDING_FULL);
+    is("the ninth, out of range", etcs_unit_action(&unit, 0), ETCS_UNIT_OUT_OF_RANGE);
+    is("prepare", etcs_unit_prepare(&unit), ETCS_UNIT_OK);
+    is("prepare twice", etcs_unit_prepare(&unit), ETCS_UNIT_REQUESTS_OWED);
+    is("state", etcs_unit_state(&unit, &state), ETCS_UNIT_OK);
+    is("eight are held back", state.held, 8);
+    is("an input while requests are owed", etcs_unit_clock(&unit, 3), ETCS_UNIT_OK);
+    is("carry out", carry_out(on, &unit), ETCS_UNIT_OK);
+    is("release", etcs_unit_release(&unit, outputs, 8, &count), ETCS_UNIT_OK);
+    is("all of them", count, 8);
+    for (uint32_t i = 0; i < count; i++)
+        is("the number of an event", outputs[i].event, outputs[0].event + i);
+    is("state", etcs_unit_state(&unit, &state), ETCS_UNIT_OK);
+    is("the last output", (uint64_t)memcmp(&state.last, &outputs[7], sizeof outputs[7]), 0);
+    is("the list is empty", state.requests, 0);
+    is("flush of one", flushed(on, &unit, outputs, &count), ETCS_UNIT_OK);
+    is("one", count, 1);
+    is("prepare of nothing", etcs_unit_prepare(&unit), ETCS_UNIT_OK);
+    is("its list", etcs_unit_request(&unit, 0, &request, bytes, sizeof bytes), ETCS_UNIT_NO_SUCH_REQUEST);
+    is("its release", etcs_unit_release(&unit, outputs, 8, &count), ETCS_UNIT_OK);
+    is("nothing", count, 0);
+    is("close", etcs_unit_close(&unit), ETCS_UNIT_OK);
+}
+
+static void failing(medium *on) {
+    etcs_unit unit = {0};
+    is("power-up", powered_up(on, &unit, 0), ETCS_UNIT_OK);
+    is("an input", etcs_unit_clock(&unit, 1), ETCS_UNIT_OK);
+    is("prepare", etcs_unit_prepare(&unit), ETCS_UNIT_OK);
+    is("carry out", carry_out(on, &unit), ETCS_UNIT_OK);
+    is("the medium failed", etcs_unit_fail(&unit), ETCS_UNIT_OK);
+    touch();
+    is("release behind a failure", etcs_unit_release(&unit, outputs, 8, &count), ETCS_UNIT_FAILED);
+    is("room for 7 behind a failure", etcs_unit_release(&unit, outputs, 7, &count), ETCS_UNIT_NO_ROOM);
+    untouched("nothing is released behind a failure");
+    is("prepare behind a failure", etcs_unit_prepare(&unit), ETCS_UNIT_FAILED);
+    is("an input behind a failure", etcs_unit_clock(&unit, 2), ETCS_UNIT_INPUT_FAILED);
+    is("one out of range", etcs_unit_action(&unit, 16), ETCS_UNIT_OUT_OF_RANGE);
+    is("state", etcs_unit_state(&unit, &state), ETCS_UNIT_OK);
+    is("it has failed", state.has_failed, 1);
+    is("once more", etcs_unit_fail(&unit), ETCS_UNIT_OK);
+    is("close", etcs_unit_close(&unit), ETCS_UNIT_OK);
+    is("opened again", powered_up(on, &unit, 0), ETCS_UNIT_OK);
+    is("an input", etcs_unit_clock(&unit, 1), ETCS_UNIT_OK);
+    is("flush", flushed(on, &unit, outputs, &count), ETCS_UNIT_OK);
+    is("one", count, 1);
+    is("close", etcs_unit_close(&unit), ETCS_UNIT_OK);
+}
+
+static void formatting(void) {
+    touch();
+    is("no slot", etcs_unit_format_request(0, 0, &request, bytes, 512), ETCS_UNIT_BAD_SLOTS);
+    is("1 slot", etcs_unit_format_request(1, 0, &request, bytes, 512), ETCS_UNIT_BAD_SLOTS);
+    is("1,048,577 slots", etcs_unit_format_request(1048577, 0, &request, bytes, 512), ETCS_UNIT_BAD_SLOTS);
+    is("4,294,967,295 slots", etcs_unit_format_request(UINT32_MAX, 0, &request, bytes, 512), ETCS_UNIT_BAD_SLOTS);
+    is("far behind the last one", etcs_unit_format_request(2, UINT32_MAX, &request, bytes, 512), ETCS_UNIT_NO_SUCH_REQUEST);
+    is("room for 511 bytes", etcs_unit_format_request(2, 0, &request, bytes, 511), ETCS_UNIT_NO_ROOM);
+    untouched("a refusal of a format writes nothing");
+    is("1,048,576 slots", etcs_unit_format_request(1048576, 0, &request, bytes, 512), ETCS_UNIT_OK);
+    uint32_t last = 0, index = 0, first = 0;
+    for (; etcs_unit_format_request(2, index, &request, bytes, 512) == ETCS_UNIT_OK && index < 100; index++) {
+        last = request.kind;
+        if (request.kind == ETCS_REQUEST_WRITE)
+            first = request.sector == 0;
+    }
+    is("the requests of a format end", index < 100, 1);
+    is("the last one is a sync", last, ETCS_REQUEST_SYNC);
+    is("the first sector is written last", first, 1);
+}
+
+int main(void) {
+    medium on = formatted(4);
+    null_pointers(&on);
+    etcs_unit unit = {0};
+    not_open(&unit);
+    opening(&on);
+    limits(&on);
+    relaying(&on);
+    failing(&on);
+    formatting();
+    free(on.bytes);
+    return told("misuse", 280);
+}

@@ -5,7 +5,7 @@
 #     bench/all.sh [--keep] [PART..]    the parts: measure kernel blocks journal onboard program worst mixed; with --keep the new rows are kept
 top=$(cd "$(dirname "$0")/.." && pwd) || exit 1
 out=$top/bench/out
-mkdir -p "$out/rows"
+mkdir -p "$out/printed"
 keep=
 [ "${1:-}" != --keep ] || { keep=--keep; shift; }
 [ $# -gt 0 ] || set -- measure kernel blocks journal onboard program worst mixed
@@ -15,9 +15,9 @@ for part in "$@"; do
     words=()
     [ "$part" != kernel ] || words=(200 200)
     [ -x "$top/bench/$part.sh" ] || { echo "there is no part $part"; exit 2; }
-    "$top/bench/$part.sh" "${words[@]}" >"$out/rows/$part" 2>>"$out/said" || { echo "$part: failed, see $out/said"; status=1; rm -f "$out/rows/$part"; }
+    "$top/bench/$part.sh" "${words[@]}" >"$out/printed/$part" 2>>"$out/said" || { echo "$part: failed, see $out/said"; status=1; rm -f "$out/printed/$part"; }
 done
-python3 - "$top/bench/figures.txt" "$out/rows" "$keep" "$@" <<'P' || status=1
+python3 - "$top/bench/figures.txt" "$out/printed" "$keep" "$@" <<'P' || status=1
 import re, sys
 from pathlib import Path
 

@@ -134,7 +134,7 @@ def in_plain_rust(text):
 
 def count():
     text = list(lines())
-    took = counted([(16, [text[0], "count", *text[1:]])])
+    took = counted([(16, [text[0], "count", *text[1:]])], told=True)
     plain, answers = in_plain_rust(text)
     groups = defaultdict(list)
     for kind, line, at in zip(list(kinds_of(text))[1:], text[1:], range(3, len(text) + 2)):

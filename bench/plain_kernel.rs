@@ -1513,11 +1513,16 @@ fn permitted_before(front: i64, speed: u32, target: &Target, braking: &mut Braki
     if fits(front, speed, target, braking) {
         return speed;
     }
-    if braking.train.reaction == 0 {
-        let taken_off = if front < target.place { braking.taken_off } else { 0 };
-        return (square(target.speed) + taken_off).isqrt() as u32;
+    let root = |taken_off: u64| (square(target.speed) + taken_off).isqrt() as u32;
+    let acts = |speed: u32| front + way(braking.train, speed);
+    // What is taken off from where the brakes act at a speed bounds those above it.
+    let mut least = if acts(speed) < target.place { root(braking.taken_off) } else { target.speed };
+    if braking.train.reaction == 0 || acts(least) >= target.place {
+        return least;
     }
-    let (mut least, mut beyond) = (target.speed, speed);
+    let mut most = braking.anew(acts(least));
+    most.go_on(target.place, u64::MAX);
+    let mut beyond = speed.min(root(most.taken_off) + 1);
     while beyond - least > 1 {
         let middle = least.midpoint(beyond);
         if fits(front, middle, target, &mut braking.anew(front)) {

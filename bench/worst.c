@@ -1,6 +1,6 @@
 /* Lives scenarios by the calls of include/etcs_unit.h, and says for callgrind where each counted call ends.
  *
- *     worst [stack]    reads scenarios from standard input, an input a line
+ *     worst [told | stack]    reads scenarios from standard input, an input a line
  *
  * The lines, of which those that tests/unit/life.c has mean the same:
  *
@@ -11,12 +11,12 @@
  *     train LENGTH MAXIMUM DECELERATION REACTION CATEGORY
  *     flush             prepares, carries out and releases; only the first is counted
  *
- * A flush that isn't counted comes of itself before a ninth pending input, and behind each counted one. Behind each
- * counted call callgrind writes what it took ("scenario N line M"), and a line is printed:
+ * A flush that isn't counted comes of itself before a ninth pending input, and where `told` is asked for behind each
+ * counted one. Behind each counted call callgrind writes what it took ("scenario N line M"), and a line is printed:
  *
  *     N M STATUS MODE LEVEL BRAKE LIMIT HEAP PEAK REQUESTS GREATEST STACK
  *
- * HEAP is what the unit holds of the heap behind the call, PEAK the most within it, REQUESTS how often it asked for
+ * MODE, LEVEL, BRAKE and LIMIT are those of the last release. HEAP is what the unit holds of the heap behind the call, PEAK the most within it, REQUESTS how often it asked for
  * memory, GREATEST the largest request. STACK is how far down the call wrote on the stack, where `stack` is asked for: the
  * room below the harness is filled before each call, and looked through behind it. What the heap holds is known where
  * MEASURES_HEAP is defined, and the linker hands the library's requests to the functions below
@@ -80,7 +80,7 @@ void *__wrap_realloc(void *memory, size_t size) {
 
 static etcs_unit unit;
 static medium disk;
-static int measures_stack;
+static int measures_stack, tells;
 static unsigned scenario, line_number;
 
 __attribute__((noinline)) static void paint(void) {
@@ -214,7 +214,7 @@ static void count_one(const struct input *in) {
     const uint64_t requests = heap.requests;
     if (in->kind == FLUSH || in->kind == COLD)
         release();
-    else
+    else if (tells)
         settle();
     printf(" %u %u %u %u %zu %zu %" PRIu64 " %zu %zu\n", last.mode, last.level, last.brake, last.limit_m_per_h, held, peak, requests,
            greatest, stack);
@@ -236,6 +236,7 @@ int main(int count, char **words) {
     size_t stack;
     int counts = 0;
     measures_stack = count > 1 && strcmp(words[1], "stack") == 0;
+    tells = count > 1 && strcmp(words[1], "told") == 0;
     disk.bytes = sectors;
     while (fgets(line, sizeof line, stdin)) {
         const struct input in = read_from(line);

@@ -8,6 +8,7 @@
 
 bench/worst.sh builds what it runs (bench/out/worst and bench/out/worst_heap), and says more.
 """
+import os
 import random
 import re
 import subprocess
@@ -33,9 +34,9 @@ ACTIONS = {1: "choose level 0", 2: "choose level 1", 3: "confirm identity", 4: "
 MODES = {0: "FS", 1: "OS", 2: "SR", 3: "SH", 4: "UN", 6: "SB", 7: "TR", 8: "PT", 9: "SF"}
 
 BITS = 832 - 50 - 8  # of a telegram, for its packets
-LINES = 60  # of a scenario, at most
+LINES = 40  # of a scenario, at most
 RESTRICTIONS = 32  # packets 65 of a scenario, at most: nothing bounds them, and each costs the same (--more)
-COUNTED = 10  # the last lines of a scenario are counted
+COUNTED = 6  # the last lines of a scenario are counted
 BATCH = 100  # scenarios that are run at once
 
 
@@ -215,14 +216,16 @@ ENTERED = ["cold 0", "identity 41", "action 2", "train 20000 160000 70 0 15", "a
 
 
 def seeds(r):
-    """A life in Full Supervision over a told track, and lives at random behind the entries."""
+    """Lives in Full Supervision over a told track, and lives at random behind the entries."""
     told = [("telegram", dict(zip(HEADER, (0, 0, 0, 255, 1, number, 1))), fitting([packet(r, kind) for kind in kinds]))
             for number, kinds in ((2, (12,)), (3, (21,)), (4, (27,)), (5, (65,) * 10), (6, (5,)), (7, (80,)), (8, (3, 41)))]
     full = [*ENTERED, *told, "action 7", *(["odometer 100 100000"] * 4), "clock 1000", "odometer 1400 100000"]
     yield full
     yield [*full, "flush"]
     yield [*ENTERED, *told, "flush"]
-    for _ in range(BATCH - 3):
+    for reaction in (0, 1_000):
+        yield [*track(restricted=RESTRICTIONS, speeds=25, grades=25, reaction=reaction), "clock 1000"]
+    for _ in range(BATCH - 5):
         yield [*ENTERED, *(telegram(r) for _ in range(r.randrange(1, 8))), "action 7", *(any_line(r) for _ in range(r.randrange(4, 20)))]
 
 
@@ -381,16 +384,17 @@ def ran(program, scenarios, *words):
     return [tuple(map(int, line.split())) for line in done.stdout.splitlines()]
 
 
-def counted(scenarios):
-    """What callgrind counted of each counted line: (scenario, line) to (instructions, status, mode, limit)."""
-    profile = OUT / "profile"
+def counted(scenarios, told=False):
+    """What callgrind counted of each counted line: (scenario, line) to (instructions, status, mode, limit). Mode and limit are those behind
+    the line where they are to be told."""
+    profile = OUT / f"profile.{os.getpid()}"
     toggles = [f"--toggle-collect=etcs_unit_{call}_" for call in CALLS]
-    told = ran(["valgrind", "--tool=callgrind", f"--callgrind-out-file={profile}", "--combine-dumps=yes", "--collect-atstart=no", *toggles],
-               scenarios, "./worst")
+    lines = ran(["valgrind", "--tool=callgrind", f"--callgrind-out-file={profile}", "--combine-dumps=yes", "--collect-atstart=no", *toggles],
+                scenarios, "./worst", *(["told"] if told else []))
     took = {}
     label = None
-    with open(profile) as lines:
-        for line in lines:
+    with open(profile) as dumps:
+        for line in dumps:
             if line.startswith("desc: Trigger: "):
                 found = re.search(r"scenario (\d+) line (\d+)", line)
                 label = found and (int(found[1]), int(found[2]))
@@ -398,15 +402,13 @@ def counted(scenarios):
                 took[label] = int(line.split()[1])
                 label = None
     profile.unlink()
-    return {(at, line): (took[at, line], status, mode, limit) for at, line, status, mode, _, _, limit, *_ in told}
+    return {(at, line): (took[at, line], status, mode, limit) for at, line, status, mode, _, _, limit, *_ in lines}
 
 
 def tried(many):
     """Each counted line that was taken: (kind, instructions, scenario up to it)."""
     texts = [[text_of(line) for line in lines] for lines in many]
-    # (a counted line leaves nothing pending, and a flush is to have much)
-    counts = [1 if lines[-1] == "flush" else COUNTED for lines in texts]
-    marked = [(4, [*lines[:-count], "count", *lines[-count:]]) for lines, count in zip(texts, counts)]
+    marked = [(4, [*lines[:-COUNTED], "count", *lines[-COUNTED:]]) for lines in texts]
     kinds = [list(kinds_of(lines)) for lines in texts]
     for (at, line), (instructions, status, _, _) in counted(marked).items():
         # (the count is a line of its own)
@@ -434,6 +436,7 @@ class Best:
             parents = r.choices(kinds, [weights.get(kind, 1) for kind in kinds], k=BATCH)
             self.take([changed(r, self.of[kind][1], lives) for kind in parents])
             if number % (10 * BATCH) == 0:
+                self.write()
                 print(number, *(f"{kind} {took}" for kind, (took, _) in sorted(self.of.items())), sep="; ", file=sys.stderr)
 
     def shorten(self):
@@ -462,8 +465,12 @@ class Best:
         took = counted([(4, [*text[:-1], "count", text[-1]]) for text in texts])
         return [took.get((at, len(text) + 1), (0,))[0] >= most and list(kinds_of(text))[-1] == kind for at, text in enumerate(texts, 1)]
 
+    def add_by_hand(self):
+        for kind, lines in by_hand().items():
+            texts = [text_of(line) for line in lines]
+            self.of[kind] = (counted([(4, [*texts[:-1], "count", texts[-1]])])[1, len(texts) + 1][0], lines)
+
     def write(self):
-        self.of |= by_hand()
         with open(SCENARIOS, "w") as file:
             for kind, (took, lines) in sorted(self.of.items()):
                 text = [text_of(line) for line in lines]
@@ -474,7 +481,7 @@ def by_hand():
     """What takes the most of the heap: the room for all packets that a group may have is made before it closes."""
     header = dict(zip(HEADER, (0, 7, 0, 255, 1, 9, 1)))
     heard = [("telegram", header | {"N_PIG": place}, [(SKIPPED, [("Q_DIR", 2)])] * 33) for place in range(8)]
-    return {"telegram that closes a group of 264 packets": (0, [*ENTERED, *heard])}
+    return {"telegram that closes a group of 264 packets": [*ENTERED, *heard]}
 
 
 # ---- what is kept, counted again
@@ -493,7 +500,7 @@ def kept():
 
 def count_again():
     told = kept()
-    took = counted([(4, lines) for _, _, lines in told])
+    took = counted([(4, lines) for _, _, lines in told], told=True)
     for number, (found, kind, lines) in enumerate(told, 1):
         instructions, _, mode, limit = took[number, len(lines)]
         print(kind, instructions, MODES.get(mode, mode), limit, found, sep="\t")
@@ -506,36 +513,36 @@ def memory():
         print(told[at - 1][1], held, peak, requests, greatest, stack, sep="\t")
 
 
-def track(r, restricted=0, speeds=1, grades=1):
-    """Full Supervision 30 km before the end, with so many restrictions, static speeds and gradients ahead, all of them too far to matter
-    to each other: the train brakes for each."""
+def track(restricted=0, speeds=1, grades=1, reaction=0):
+    """Full Supervision 300 km before the end, with so many restrictions, static speeds and gradients ahead, one every 20 m, from which the
+    train could not stop before the next."""
     def heard(group, packets):
-        return text_of(("telegram", dict(zip(HEADER, (0, 0, 0, 255, 1, group, 1))), packets))
+        return ("telegram", dict(zip(HEADER, (0, 0, 0, 255, 1, group, 1))), packets)
     whole = [("Q_DIR", 2), ("Q_SCALE", 1)]
-    lines = [*ENTERED, heard(2, [(12, [*whole, ("V_MAIN", 32), ("V_LOA", 0), ("T_LOA", 1023), ("N_ITER", 0), ("L_ENDSECTION", 30_000),
-                                       ("Q_SECTIONTIMER", 0), ("Q_ENDTIMER", 0), ("Q_DANGERPOINT", 0), ("Q_OVERLAP", 0)])])]
-    lines.append(heard(3, [(21, whole + listed([[("D_GRADIENT", 0 if at == 0 else 900), ("Q_GDIR", at % 2), ("G_A", 1)]
+    lines = [*ENTERED, f"train 20000 160000 70 {reaction} 15"]
+    lines.append(heard(2, [(12, [*whole, ("V_MAIN", 32), ("V_LOA", 0), ("T_LOA", 1023), ("N_ITER", 0), ("L_ENDSECTION", 30_000),
+                                 ("Q_SECTIONTIMER", 0), ("Q_ENDTIMER", 0), ("Q_DANGERPOINT", 0), ("Q_OVERLAP", 0)])]))
+    lines.append(heard(3, [(21, whole + listed([[("D_GRADIENT", 2 if at else 0), ("Q_GDIR", at % 2), ("G_A", 1)]
                                                for at in range(grades)]))]))
-    lines.append(heard(4, [(27, whole + listed([[("D_STATIC", 0 if at == 0 else 1_100), ("V_STATIC", 20 + at % 2), ("Q_FRONT", 0), ("N_ITER", 0)]
+    lines.append(heard(4, [(27, whole + listed([[("D_STATIC", 2 if at else 0), ("V_STATIC", 30 + at % 2), ("Q_FRONT", 0), ("N_ITER", 0)]
                                                for at in range(speeds)]))]))
     for first in range(0, restricted, 10):
-        lines.append(heard(5 + first // 10, [(65, [*whole, ("NID_TSR", 255), ("D_TSR", 1_000 + 20 * at), ("L_TSR", 10), ("Q_FRONT", 0),
-                                                   ("V_TSR", 19)]) for at in range(first, min(restricted, first + 10))]))
-    return [*lines, "action 7", "odometer 1 50000", "odometer 1 50000", "count", "odometer 1 50000"]
+        lines.append(heard(5 + first // 10, [(65, [*whole, ("NID_TSR", 255), ("D_TSR", 2 + 2 * at), ("L_TSR", 1), ("Q_FRONT", 0),
+                                                   ("V_TSR", 29 - at % 2)]) for at in range(first, min(restricted, first + 10))]))
+    return [*lines, "action 7", "odometer 1 50000", "odometer 1 50000", "odometer 1 50000"]
 
 
 def more():
-    r = random.Random(0)
-    cases = {"a restriction ahead": [track(r, restricted=32), track(r, restricted=232)],
-             "a static speed ahead": [track(r, speeds=5), track(r, speeds=25)],
-             "a gradient ahead": [track(r, grades=5), track(r, grades=25)]}
-    for name, (few, many) in cases.items():
-        took = counted([(4, few), (4, many)])
-        first, second = (took[at, len(lines)] for at, lines in ((1, few), (2, many)))
-        print(f"reading, {name}", first, second, sep="\t")
+    cases = {"32 and 232 restrictions ahead": [track(restricted=32), track(restricted=232)],
+             "5 and 25 static speeds ahead": [track(speeds=5), track(speeds=25)],
+             "5 and 25 gradients ahead": [track(grades=5), track(grades=25)]}
+    for name, case in cases.items():
+        texts = [[text_of(line) for line in lines] for lines in case]
+        took = counted([(4, [*text[:-1], "count", text[-1]]) for text in texts])
+        print(f"reading, {name}", *(took[at, len(text) + 1][0] for at, text in enumerate(texts, 1)), sep="\t")
     opened = ["cold 0", "count", "cold 0"]
     took = counted([(4, opened), (1004, opened)])
-    print("power-up, 1,000 slots without a block", took[1, 3][0], took[2, 3][0], sep="\t")
+    print("power-up on 4 and 1,004 slots, all but one empty", took[1, 3][0], took[2, 3][0], sep="\t")
 
 
 def main(words):
@@ -549,6 +556,7 @@ def main(words):
         r, best = random.Random(int(words[1])), Best()
         best.climb(r, int(words[0]))
         best.shorten()
+        best.add_by_hand()
         best.write()
     else:
         sys.exit(__doc__)

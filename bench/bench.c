@@ -6,7 +6,7 @@
 
 #include "etcs.h"
 
-/* The exports of crates/bench_telegram. Each answers a sum over what it got. */
+/* The exports of bench/calls/telegram. Each answers a sum over what it got. */
 uint64_t bench_decode(const uint8_t *bytes, size_t len);
 uint64_t bench_decode_into(const uint8_t *bytes, size_t len, uint32_t runs);
 uint64_t bench_encode(const uint8_t *bytes, size_t len, uint32_t runs);

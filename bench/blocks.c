@@ -8,8 +8,9 @@
 
 enum { BLOCK = 3072, GATE = 512, HEAD = 512, RECORD = 256, RECORDS = 8, TELEGRAM = 104, COUNTRIES = 32 };
 
-/* The exports of crates/bench_blocks. */
+/* The exports of bench/calls/blocks. */
 uint64_t bench_write_block(uint32_t runs);
+uint64_t bench_write_block_to(uint32_t runs);
 uint64_t bench_read_block(uint32_t runs);
 uint64_t bench_valid_number(uint32_t runs);
 
@@ -220,13 +221,15 @@ int main(int argc, char **argv) {
     write_block(&block, bytes);
     if (strcmp(argv[1], "write_block") == 0)
         sum = bench_write_block(runs);
+    else if (strcmp(argv[1], "write_block_to") == 0)
+        sum = bench_write_block_to(runs);
     else if (strcmp(argv[1], "read_block") == 0)
         sum = bench_read_block(runs);
     else if (strcmp(argv[1], "valid_number") == 0)
         sum = bench_valid_number(runs);
     else
         for (uint32_t run = 0; run < runs; run++) {
-            if (strcmp(argv[1], "plain_write_block") == 0) {
+            if (strncmp(argv[1], "plain_write_block", 17) == 0) {
                 write_block(&block, bytes);
                 sum += bytes[527];
             } else if (strcmp(argv[1], "plain_read_block") == 0)

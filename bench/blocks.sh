@@ -1,7 +1,8 @@
 #!/bin/sh
-# Prints the instructions of a block of eight records in format 3 that is written and read, and of the number in a slot,
-# and beside each those of the same in plain C: what callgrind counts for twice as many runs less what it counts for so
-# many, by so many. Builds what it needs first; what the builds have to say goes to standard error.
+# Prints the instructions of a block of eight records in format 3 that is written (into an array; and into a writer that
+# is there, as a commit of the journal does it) and read, and of the number in a slot, and beside each those of the same
+# in plain C: what callgrind counts for twice as many runs less what it counts for so many, by so many. Builds what it
+# needs first; what the builds have to say goes to standard error.
 #
 #     bench/blocks.sh [RUNS]
 set -e
@@ -27,7 +28,7 @@ counted() {
 }
 
 printf '%-20s %10s %10s\n' call blocks plain_C
-for call in write_block read_block valid_number; do
+for call in write_block write_block_to read_block valid_number; do
     printf '%-20s' "$call"
     for by in "$call" "plain_$call"; do
         few=$(counted "$by" "$runs")

@@ -1,7 +1,8 @@
 #!/bin/sh
 # Prints the instructions of a commit of eight records over a disk in memory: by crates/journal, called by crates/test_journal, and by plain
 # Rust that makes the same calls (bench/plain_journal.rs); then how much of that the disk's reads take. What callgrind counts within the
-# commits for 24 of them less what it counts for 12, by 12: all on slots that are used again. Then the calls of Journal::open on so many
+# commits for 24 of them less what it counts for 12, by 12: all on slots that are used again. (The compiler puts the commit into the test
+# program's call of it, so that call is counted.) Then the calls of Journal::open on so many
 # slots without blocks, and its seconds beside those of making the disk alone. Then the blocks that are put into a new
 # image a second, with the syncs of each: by `etcs run`, a moment of the clock and a flush each, and by plain Rust. The program must be
 # there (./etcs --prove). Builds all else first; what the builds have to say goes to standard error.
@@ -37,7 +38,12 @@ row() {
     printf '%-50s %10d\n' "$1" $((($3 - $2 + 6) / 12))
 }
 
-row 'commit' "$(proved 'test_journal::session::Session::commit' 12)" "$(proved 'test_journal::session::Session::commit' 24)"
+# commits COUNT: what they take, without what the test program makes for each (what is kept); eight records are made with them
+commits() {
+    echo $(($(proved 'test_journal::calls::commit_one' "$1") - $(proved 'blocks::block::Block::blank' "$1")))
+}
+
+row 'commit, with the making of eight records' "$(commits 12)" "$(commits 24)"
 row 'commit, the disk reads' "$(proved 'disk::memory::calls::MemoryDisk::read' 12)" "$(proved 'disk::memory::calls::MemoryDisk::read' 24)"
 row 'plain Rust' "$(collected '*plain_journal::commit*' ./plain_journal 12)" "$(collected '*plain_journal::commit*' ./plain_journal 24)"
 row 'plain Rust, the disk reads' "$(collected '*Memory*read*' ./plain_journal 12)" "$(collected '*Memory*read*' ./plain_journal 24)"

@@ -13,7 +13,7 @@
  * is a whole group. STRETCHES: those of one gradient before the stop. */
 enum { TELEGRAM = 104, TELEGRAMS = 5, LONGEST = 30, AT_ONCE = 15, RESTRICTIONS = 10, WHOLE = 5, STRETCHES = 32 };
 
-/* What the permitted speed is asked for, as crates/bench_kernel has it. */
+/* What the permitted speed is asked for, as bench/calls/kernel has it. */
 struct stop {
     int64_t place;
     uint32_t limit;
@@ -21,7 +21,7 @@ struct stop {
     uint16_t reaction;
 };
 
-/* The events that are counted, as crates/bench_kernel has them. */
+/* The events that are counted, as bench/calls/kernel has them. */
 enum kind { READING, CLOCK, ACTION, REPEAT, GROUP };
 struct counted {
     int64_t movement;
@@ -29,7 +29,7 @@ struct counted {
     uint32_t number;
 };
 
-/* The exports of crates/bench_kernel. Each answers a sum, or all ones where it could not run. */
+/* The exports of bench/calls/kernel. Each answers a sum, or all ones where it could not run. */
 uint64_t bench_limits(const uint8_t *before, size_t before_len, const uint8_t *telegrams, size_t len,
                       const struct counted *counted);
 uint64_t bench_permitted(const int16_t *gradients, size_t len, const struct stop *stop, uint32_t runs);
@@ -167,14 +167,44 @@ static void tell_groups(uint8_t *telegrams, uint32_t number) {
     }
 }
 
+/* The line of a telegram for bench/plain_kernel.rs. */
+static void print_telegram(const uint8_t *telegram) {
+    printf("hear ");
+    for (int i = 0; i < TELEGRAM; i++) {
+        printf("%02X", telegram[i]);
+    }
+    printf("\n");
+}
+
+/* The same events for bench/plain_kernel.rs, a line each; those that are counted stand behind the line count. */
+static void print_lines(const uint8_t *before, uint32_t number, const uint8_t *telegrams, uint32_t turns, const struct counted *counted) {
+    printf("enter-identity A\nchoose-level 1\nenter-train-data 20000 160000 70 0 15\n");
+    for (uint32_t i = 0; i < number; i++) {
+        print_telegram(before + TELEGRAM * i);
+    }
+    printf(counted->kind == ACTION ? "count\n" : "start\ncount\n");
+    for (uint32_t i = 0; i < counted->number; i++) {
+        switch (counted->kind) {
+        case READING: printf("move %lld 100000\n", (long long)counted->movement); break;
+        case CLOCK: printf("clock %u\n", i); break;
+        case ACTION: printf("enter-running-number %u\n", i); break;
+        default: print_telegram(telegrams + TELEGRAM * (i % turns)); break;
+        }
+    }
+}
+
 /* The events of a kind, on a track of so many kilometres. A telegram is a repeat where it is the only one, and a whole group
- * where it takes turns with another one. */
-static uint64_t limits(uint32_t kilometres, int restricted, const struct counted *counted) {
+ * where it takes turns with another one. Runs them, or prints them for the plain program. */
+static void limits(uint32_t kilometres, int restricted, const struct counted *counted, int prints) {
     uint8_t before[TELEGRAM * TELEGRAMS] = {0}, telegrams[TELEGRAM * 2] = {0};
     uint32_t number = tell_track(before, kilometres, restricted);
     uint32_t turns = counted->kind == REPEAT ? 1 : 2;
     tell_groups(telegrams, turns);
-    return bench_limits(before, TELEGRAM * number, telegrams, TELEGRAM * turns, counted);
+    if (prints) {
+        print_lines(before, number, telegrams, turns, counted);
+    } else {
+        printf("%llu\n", (unsigned long long)bench_limits(before, TELEGRAM * number, telegrams, TELEGRAM * turns, counted));
+    }
 }
 
 /* A stop 20 km ahead, on stretches whose gradients are one per mille apart in turn. */
@@ -200,7 +230,7 @@ static uint32_t kind_of(const char *name) {
 }
 
 int main(int argc, char **argv) {
-    if (argc == 6 && strcmp(argv[1], "limits") == 0) {
+    if (argc == 6 && (strcmp(argv[1], "limits") == 0 || strcmp(argv[1], "lines") == 0)) {
         char *end;
         uint32_t kilometres = (uint32_t)strtoul(argv[2], &end, 10);
         struct counted counted = {strtol(argv[4], NULL, 10), kind_of(argv[3]), (uint32_t)strtoul(argv[5], NULL, 10)};
@@ -208,7 +238,7 @@ int main(int argc, char **argv) {
             fprintf(stderr, "at most %d km\n", LONGEST);
             return 2;
         }
-        printf("%llu\n", (unsigned long long)limits(kilometres, *end == 'r', &counted));
+        limits(kilometres, *end == 'r', &counted, strcmp(argv[1], "lines") == 0);
         return 0;
     }
     if (argc == 4 && strcmp(argv[1], "permitted") == 0) {
@@ -229,6 +259,7 @@ int main(int argc, char **argv) {
         }
     }
     fprintf(stderr, "usage: kernel limits KILOMETRES[r] KIND MOVEMENT NUMBER\n"
+                    "       kernel lines KILOMETRES[r] KIND MOVEMENT NUMBER\n"
                     "       kernel permitted GRADIENT RUNS | kernel CALL RUNS\n");
     return 2;
 }

@@ -1,8 +1,10 @@
 #!/bin/sh
 # Prints the instructions of the kernel per event, and of the permitted speed per call: what callgrind
 # counts within the call for twice as many less what it counts for so many, by so many. So what is told at the start
-# falls out, and the harness and the making of the inputs don't count. Then how often some functions were called in so many events.
-# Builds what it needs first; what the builds have to say goes to standard error.
+# falls out, and the harness and the making of the inputs don't count. Beside them those of a kernel in plain Rust
+# (bench/plain_kernel.rs) on the same events; it answers random lives as tests/plain does, and the same limits here.
+# Then how often some functions were called in so many events. Builds what it needs first; what the builds have to say
+# goes to standard error.
 #
 #     bench/kernel.sh [EVENTS [CALLS]]
 set -e
@@ -17,35 +19,68 @@ memory=$(dirname "$(rt doc)")/c/liblibc_c.a
 mkdir -p "$out"
 gcc -O2 -Wall -Wextra "$top/bench/kernel.c" "$out/libbench_kernel.a" "$memory" \
     -o "$out/kernel" >&2
+rustc --edition 2021 -O -C target-cpu=x86-64-v2 -g "$top/bench/plain_kernel.rs" -o "$out/plain_kernel" >&2
+"$top/bench/plain_check.py" "$out/plain_kernel" >&2
 
-# counted FUNCTION WORD..: the instructions within the function, with all that it calls, where the harness is called with these words.
-# The profile of the run stays in bench/out/callgrind.
+# counted PROGRAM FUNCTION WORD..: the instructions within the function, with all that it calls, where the program is called with these
+# words. The profile of the run stays in bench/out/callgrind.
 cd "$out"
+: >lines
 counted() {
-    within=$1
-    shift
+    program=$1
+    within=$2
+    shift 2
     if ! env -i PATH="$PATH" valgrind --tool=callgrind --callgrind-out-file=callgrind --dump-instr=yes \
-        --collect-atstart=no --toggle-collect="$within" ./kernel "$@" >counted 2>&1; then
+        --collect-atstart=no --toggle-collect="$within" "$program" "$@" <lines >counted 2>&1; then
         cat counted >&2
         return 1
     fi
     sed -n 's/^==[0-9]*== Collected : //p' counted
 }
 
-# row TITLE FUNCTION COUNT WORD..: for so many, one of them
-row() {
-    title=$1
+# one PROGRAM FUNCTION COUNT WORD..: for so many, one of them
+one() {
+    program=$1
     within=$2
     count=$3
     shift 3
-    few=$(counted "$within" "$@" "$count")
-    many=$(counted "$within" "$@" $((2 * count)))
-    printf '%-60s %10d\n' "$title" $(((many - few + count / 2) / count))
+    few=$(counted "$program" "$within" "$@" "$count")
+    many=$(counted "$program" "$within" "$@" $((2 * count)))
+    echo $(((many - few + count / 2) / count))
+}
+
+# row TITLE FUNCTION COUNT WORD..
+row() {
+    title=$1
+    shift
+    printf '%-60s %10d\n' "$title" "$(one ./kernel "$@")"
+}
+
+# agree KERNEL PLAIN WHAT: whether both have the same sum of limits
+agree() {
+    [ "$1" = "$2" ] || { echo "$3: the sum of the limits is $1, and $2 in plain Rust" >&2; return 1; }
+}
+
+# plain WORD..: an event of these in plain Rust
+plain() {
+    ./kernel lines "$@" "$events" >lines
+    agree "$(./kernel limits "$@" "$events")" "$(./plain_kernel sum <lines)" "$*" || return 1
+    few=$(counted ./plain_kernel plain_kernel::State::apply sum)
+    ./kernel lines "$@" $((2 * events)) >lines
+    many=$(counted ./plain_kernel plain_kernel::State::apply sum)
+    echo $(((many - few + events / 2) / events))
+}
+
+# permitted TITLE GRADIENT
+permitted() {
+    agree "$(./kernel permitted "$2" "$calls")" "$(./plain_kernel permitted "$2" "$calls")" "permitted $2" || return 1
+    printf '%-60s %10d %10d\n' "$1" "$(one ./kernel '*permitted_from*' "$calls" permitted "$2")" \
+        "$(one ./plain_kernel plain_kernel::permitted "$calls" permitted "$2")"
 }
 
 # each TITLE FUNCTION COUNT CALL: one call after another, of so many inputs in turn
 each() {
-    all=$(counted "$2" "$4" "$3")
+    all=$(counted ./kernel "$2" "$4" "$3")
     printf '%-60s %10d\n' "$1" $(((all + $3 / 2) / $3))
 }
 
@@ -56,7 +91,7 @@ called() {
     shift 2
     count=$1
     shift
-    counted '*output_after*' "$@" "$count" >/dev/null
+    counted ./kernel '*output_after*' "$@" "$count" >/dev/null
     awk -v name="$name" -v title="$title" '
         /^c?fn=/ { match($0, /\([0-9]+\)/); id = substr($0, RSTART, RLENGTH)
                    rest = substr($0, RSTART + RLENGTH + 1); if (rest != "") names[id] = rest }
@@ -67,8 +102,9 @@ called() {
 
 # on TITLE TRACK KIND MOVEMENT: one event of a kind on a track
 on() {
-    row "$1" '*output_after*' "$events" limits "$2" "$3" "$4"
+    printf '%-60s %10d %10d\n' "$1" "$(one ./kernel '*output_after*' "$events" limits "$2" "$3" "$4")" "$(plain "$2" "$3" "$4")"
 }
+printf '%-60s %10s %10s\n' call kernel plain_Rust
 on 'a reading of 1 cm' 30r reading 1
 on 'a reading of 10 cm' 30r reading 10
 on 'a reading of 1 cm in Staff Responsible' 0 reading 1
@@ -81,8 +117,8 @@ on 'a telegram that is a whole group' 30 group 0
 row 'a reading of 0 cm behind 1,000 others' '*output_after*' 1000 limits 5 reading 0
 row 'a reading of 0 cm behind 100,000 others' '*output_after*' 100000 limits 5 reading 0
 called "memory taken in $events readings" '^rattle_(re)?alloc' "$events" limits 30r reading 1
-row 'permitted, the limit fits' '*permitted_from*' "$calls" permitted 0
-row 'permitted, sought' '*permitted_from*' "$calls" permitted -67
+permitted 'permitted, the limit fits' 0
+permitted 'permitted, sought' -67
 each 'next_mode' '*mode_after*' 147456 next_mode
 each 'status_on' '*fate_of*' 153 status_on
 each 'accepts' '*is_accepted*' 16128 accepts

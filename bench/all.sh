@@ -1,0 +1,64 @@
+#!/bin/bash
+# Runs the scripts of bench/, one after another, and prints each row that they print with the numbers that bench/figures.txt keeps of an earlier
+# run behind it. What the builds have to say goes to bench/out/said.
+#
+#     bench/all.sh [--keep] [PART..]    the parts: measure kernel blocks journal onboard program worst mixed; with --keep the new rows are kept
+top=$(cd "$(dirname "$0")/.." && pwd) || exit 1
+out=$top/bench/out
+mkdir -p "$out/printed"
+keep=
+[ "${1:-}" != --keep ] || { keep=--keep; shift; }
+[ $# -gt 0 ] || set -- measure kernel blocks journal onboard program worst mixed
+: >"$out/said"
+status=0
+for part in "$@"; do
+    words=()
+    [ "$part" != kernel ] || words=(200 200)
+    [ -x "$top/bench/$part.sh" ] || { echo "there is no part $part"; exit 2; }
+    "$top/bench/$part.sh" "${words[@]}" >"$out/printed/$part" 2>>"$out/said" || { echo "$part: failed, see $out/said"; status=1; rm -f "$out/printed/$part"; }
+done
+python3 - "$top/bench/figures.txt" "$out/printed" "$keep" "$@" <<'P' || status=1
+import re, sys
+from pathlib import Path
+
+kept, rows, keep, *parts = sys.argv[1:]
+NUMBER = re.compile(r"(?<![\w.])\d[\d.]*(?![\w])")
+
+
+def read():
+    """The rows of each part that were kept."""
+    found, part = {}, None
+    for line in Path(kept).read_text().splitlines() if Path(kept).exists() else []:
+        if line.startswith("== "):
+            part = found.setdefault(line[3:], [])
+        elif part is not None:
+            part.append(line)
+    return found
+
+
+def shape(line):
+    """The text of a row without its numbers at the end, or without any where it ends otherwise."""
+    told = re.sub(r"(\s+\d[\d.]*)+\s*$", "", line)
+    return told if told != line else NUMBER.sub("#", line)
+
+
+def numbers(line):
+    told = re.search(r"((\s+\d[\d.]*)+)\s*$", line)
+    return told[1].split() if told else NUMBER.findall(line)
+
+
+before = read()
+now = {part: (Path(rows) / part).read_text().splitlines() for part in parts if (Path(rows) / part).exists()}
+for part, lines in now.items():
+    print(f"== {part}")
+    old = {}
+    for line in before.get(part, []):
+        old.setdefault(shape(line), []).append(line)
+    for line in lines:
+        same = old.get(shape(line))
+        found = numbers(same.pop(0)) if same else []
+        print(line + (f"    before: {' '.join(found)}" if found and found != numbers(line) else ""))
+if keep:
+    Path(kept).write_text("".join(f"== {part}\n" + "".join(line + "\n" for line in lines) for part, lines in sorted((before | now).items())))
+P
+exit $status

@@ -1,0 +1,566 @@
+#!/usr/bin/env python3
+"""Looks for the events that take the most instructions, by a hill climb over scenarios that callgrind counts.
+
+    bench/worst_search.py TRIES SEED     writes bench/worst.scenarios: for each kind of call the scenario whose last line took most
+    bench/worst_search.py --count        counts these again: KIND, INSTRUCTIONS, MODE, LIMIT, FOUND, a line each, tab between
+    bench/worst_search.py --more         what one thing more costs: a restriction, a static speed, a gradient, a slot
+    bench/worst_search.py --memory       heap and stack of each call of the scenarios: KIND, HELD, PEAK, REQUESTS, GREATEST, STACK
+
+bench/worst.sh builds what it runs (bench/out/worst and bench/out/worst_heap), and says more.
+"""
+import os
+import random
+import re
+import subprocess
+import sys
+from pathlib import Path
+
+TOP = Path(__file__).resolve().parent.parent
+sys.path.insert(0, str(TOP / "tests" / "plain"))
+sys.dont_write_bytecode = True
+import named  # noqa: E402
+import telegrams  # noqa: E402
+from groups import Assembler, Reading  # noqa: E402
+from named import WIDTH, written  # noqa: E402
+from place import Sums  # noqa: E402
+
+OUT, SCENARIOS = TOP / "bench" / "out", TOP / "bench" / "worst.scenarios"
+
+CALLS = ("open", "telegram", "odometer", "clock", "action", "identity", "running_number", "train_data", "prepare")
+
+ACTIONS = {1: "choose level 0", 2: "choose level 1", 3: "confirm identity", 4: "confirm running number", 5: "confirm train data",
+           6: "confirm level", 7: "start", 8: "choose shunting", 9: "leave shunting", 10: "override", 11: "acknowledge trip",
+           12: "acknowledge on sight", 13: "acknowledge shunting", 14: "acknowledge level 0", 15: "close desk"}
+MODES = {0: "FS", 1: "OS", 2: "SR", 3: "SH", 4: "UN", 6: "SB", 7: "TR", 8: "PT", 9: "SF"}
+
+BITS = 832 - 50 - 8  # of a telegram, for its packets
+LINES = 40  # of a scenario, at most
+RESTRICTIONS = 32  # packets 65 of a scenario, at most: nothing bounds them, and each costs the same (--more)
+COUNTED = 6  # the last lines of a scenario are counted
+BATCH = 100  # scenarios that are run at once
+
+
+# ---- packets, at random: a number, and the fields in their order
+
+def distance(r):
+    return r.choice((0, r.randrange(1, 50), r.randrange(1, 2_000), r.randrange(1, 32_767), 32_767))
+
+
+def steps(r):
+    """So many elements as a list may have; mostly many."""
+    return r.choice((0, 1, r.randrange(32), 31, r.randrange(12, 32)))
+
+
+def speed(r, *others):
+    return r.choice((0, r.randrange(1, 121), r.randrange(10, 40), 120, *others))
+
+
+def head(r):
+    return [("Q_DIR", r.choice((2, 2, 2, 2, 1, 0))), ("Q_SCALE", r.randrange(3))]
+
+
+def national_values(r):
+    countries = [("NID_C", r.randrange(1024)) for _ in range(steps(r))]
+    return [("D_VALIDNV", distance(r)), ("N_ITER", len(countries)), *countries, ("V_NVSHUNT", speed(r)), ("V_NVSTFF", speed(r)),
+            ("V_NVONSIGHT", speed(r)), ("V_NVUNFIT", speed(r)), ("V_NVREL", speed(r)), ("D_NVROLL", distance(r)),
+            ("V_NVALLOWOVTRP", speed(r)), ("V_NVSUPOVTRP", speed(r)), ("D_NVOVTRP", distance(r)), ("T_NVOVTRP", r.randrange(256)),
+            ("D_NVSTFF", distance(r))]
+
+
+def listed(elements):
+    first, *others = elements
+    return [*first, ("N_ITER", len(others)), *(field for other in others for field in other)]
+
+
+def link(r):
+    new = r.randrange(8) == 0
+    return [("D_LINK", distance(r)), ("Q_NEWCOUNTRY", int(new)), *([("NID_C", r.randrange(1024))] if new else []),
+            ("NID_BG", r.randrange(1, 40)), ("Q_LINKORIENTATION", r.randrange(2)), ("Q_LINKREACTION", r.choice((2, 2, 2, 0, 1))),
+            ("Q_LOCACC", r.randrange(64))]
+
+
+def linking(r):
+    return listed([link(r) for _ in range(1 + steps(r))])
+
+
+def timed(r, name, place):
+    return [("T_" + name, r.randrange(1024)), (place, distance(r))]
+
+
+def section(r, length):
+    has = r.randrange(2)
+    return [(length, distance(r)), ("Q_SECTIONTIMER", has), *(timed(r, "SECTIONTIMER", "D_SECTIONTIMERSTOPLOC") if has else [])]
+
+
+def authority(r):
+    few = r.choice((0, 0, 1, r.randrange(20)))
+    fields = [("V_MAIN", speed(r)), ("V_LOA", r.choice((0, speed(r)))), ("T_LOA", r.choice((1023, r.randrange(1024)))), ("N_ITER", few)]
+    for _ in range(few):
+        fields += section(r, "L_SECTION")
+    fields += section(r, "L_ENDSECTION")
+    has = [r.randrange(2) for _ in range(3)]
+    fields += [("Q_ENDTIMER", has[0]), *(timed(r, "ENDTIMER", "D_ENDTIMERSTARTLOC") if has[0] else [])]
+    fields += [("Q_DANGERPOINT", has[1]), *([("D_DP", distance(r)), ("V_RELEASEDP", speed(r, 126, 127))] if has[1] else [])]
+    overlap = [("D_STARTOL", distance(r)), ("T_OL", r.randrange(1024)), ("D_OL", distance(r)), ("V_RELEASEOL", speed(r, 126, 127))]
+    return fields + [("Q_OVERLAP", has[2]), *(overlap if has[2] else [])]
+
+
+def gradients(r):
+    def element():
+        return [("D_GRADIENT", distance(r)), ("Q_GDIR", r.randrange(2)), ("G_A", r.choice((0, r.randrange(255), r.randrange(40), 255)))]
+    return listed([element() for _ in range(1 + steps(r))])
+
+
+def static_speeds(r):
+    def element():
+        pairs = [("NC_DIFF", r.randrange(16)), ("V_DIFF", speed(r))]
+        many = r.choice((0, 0, 0, 1, r.randrange(16)))
+        return [("D_STATIC", distance(r)), ("V_STATIC", speed(r, 127)), ("Q_FRONT", r.randrange(2)), ("N_ITER", many), *(pairs * many)]
+    return listed([element() for _ in range(1 + steps(r))])
+
+
+def level_transition(r):
+    def element():
+        level = r.randrange(5)
+        return [("M_LEVELTR", level), *([("NID_STM", r.randrange(256))] if level == 1 else []), ("L_ACKLEVELTR", distance(r))]
+    return [("D_LEVELTR", distance(r)), *listed([element() for _ in range(1 + steps(r))])]
+
+
+def restriction(r):
+    return [("NID_TSR", r.choice((255, r.randrange(256)))), ("D_TSR", distance(r)), ("L_TSR", distance(r)), ("Q_FRONT", r.randrange(2)),
+            ("V_TSR", speed(r))]
+
+
+def mode_profile(r):
+    def element():
+        return [("D_MAMODE", distance(r)), ("M_MAMODE", r.randrange(2)), ("V_MAMODE", speed(r, 127)), ("L_MAMODE", distance(r)),
+                ("L_ACKMAMODE", distance(r))]
+    return listed([element() for _ in range(1 + steps(r))])
+
+
+BODIES = {3: national_values, 5: linking, 12: authority, 21: gradients, 27: static_speeds, 41: level_transition, 65: restriction,
+          66: lambda r: [("NID_TSR", r.randrange(256))], 80: mode_profile, 44: lambda r: [], 136: lambda r: []}  # (44: SKIPPED)
+SKIPPED = 44  # a packet that isn't known: its head alone
+named.WITHOUT_SCALE = (*named.WITHOUT_SCALE, SKIPPED)
+NUMBERS = (3, 5, 5, 12, 12, 12, 21, 21, 21, 27, 27, 27, 41, 65, 65, 65, 65, 66, 80, 80, 44, 136)
+
+
+def packet(r, number=None):
+    """One that has room in a telegram."""
+    number = number or r.choice(NUMBERS)
+    while True:
+        made = (number, (head(r)[:1] if number in named.WITHOUT_SCALE else head(r)) + BODIES[number](r))
+        if size_of(made) <= BITS:
+            return made
+
+
+def size_of(one):
+    return 21 + sum(WIDTH[name] for name, _ in one[1])
+
+
+# ---- telegrams: a header, and packets that have room
+
+HEADER = ("N_PIG", "N_TOTAL", "M_DUP", "M_MCOUNT", "NID_C", "NID_BG", "Q_LINK")
+
+
+def telegram(r, group=None):
+    total = r.choice((0, 0, 0, 0, 0, 1, 7, r.randrange(8)))
+    values = {"N_PIG": r.randrange(total + 1), "N_TOTAL": total, "M_DUP": r.choice((0, 0, 0, 1, 2)), "M_MCOUNT": 255,
+              "NID_C": r.choice((1, 1, 1, 1, r.randrange(1024))), "NID_BG": group or r.randrange(1, 40), "Q_LINK": r.randrange(2)}
+    return ("telegram", values, fitting([packet(r) for _ in range(r.choice((1, 2, 3, 12)))]))
+
+
+def fitting(packets):
+    kept, left = [], BITS
+    for one in packets[:33]:
+        if size_of(one) <= left:
+            kept.append(one)
+            left -= size_of(one)
+    return kept
+
+
+def text_of(line):
+    """The line of a scenario. What isn't a telegram is its text."""
+    if isinstance(line, str):
+        return line
+    _, values, packets = line
+    told = ", ".join(f"{name} {values[name]}" for name in HEADER)
+    for number, fields in packets:
+        told += f"; {number}: " + ", ".join(f"{name} {value}" for name, value in fields)
+    return "telegram " + written(told)
+
+
+# ---- scenarios: lines
+
+def other_line(r):
+    return r.choice((
+        lambda: f"odometer {r.choice((0, 1, 10, r.randrange(2_000), r.randrange(10_001), -r.randrange(10_001)))} "
+                f"{r.choice((0, r.randrange(1, 600_001), r.randrange(1, 160_001)))}",
+        lambda: f"odometer {r.randrange(1_301, 10_001)} {r.randrange(1, 160_001)}",
+        lambda: f"clock {r.randrange(1 << r.randrange(1, 40))}",
+        lambda: f"action {r.randrange(1, 16)}",
+        lambda: f"action {r.randrange(1, 16)}",
+        lambda: f"number {r.randrange(100_000_000)}",
+        lambda: "identity " + r.choice(("41", "41" * 16)),
+        lambda: train(r),
+        lambda: r.choice(("flush", f"cold {r.randrange(3)}", "odometer 0 0")),
+    ))()
+
+
+def train(r):
+    return (f"train {r.choice((0, 20_000, r.randrange(40_001)))} {r.choice((160_000, 600_000, r.randrange(600_001)))} "
+            f"{r.choice((1, 70, r.randrange(1, 301)))} {r.choice((0, r.randrange(1_001)))} {r.choice((15, r.randrange(16)))}")
+
+
+ENTERED = ["cold 0", "identity 41", "action 2", "train 20000 160000 70 0 15", "action 3", "action 4", "action 5", "action 6"]
+
+
+def seeds(r):
+    """Lives in Full Supervision over a told track, and lives at random behind the entries."""
+    told = [("telegram", dict(zip(HEADER, (0, 0, 0, 255, 1, number, 1))), fitting([packet(r, kind) for kind in kinds]))
+            for number, kinds in ((2, (12,)), (3, (21,)), (4, (27,)), (5, (65,) * 10), (6, (5,)), (7, (80,)), (8, (3, 41)))]
+    full = [*ENTERED, *told, "action 7", *(["odometer 100 100000"] * 4), "clock 1000", "odometer 1400 100000"]
+    yield full
+    yield [*full, "flush"]
+    yield [*ENTERED, *told, "flush"]
+    for reaction in (0, 1_000):
+        yield [*track(restricted=RESTRICTIONS, speeds=25, grades=25, reaction=reaction), "clock 1000"]
+    for _ in range(BATCH - 5):
+        yield [*ENTERED, *(telegram(r) for _ in range(r.randrange(1, 8))), "action 7", *(any_line(r) for _ in range(r.randrange(4, 20)))]
+
+
+def any_line(r):
+    return telegram(r) if r.randrange(3) == 0 else other_line(r)
+
+
+# ---- steps of the climb
+
+def nudged(r, name, value):
+    most = (1 << WIDTH[name]) - 1
+    if name == "N_ITER":
+        return value  # it counts what follows
+    return r.choice((0, most, r.randrange(most + 1), min(most, value + 1), max(0, value - 1), min(most, 2 * value), value // 2))
+
+
+def changed_telegram(r, line):
+    """One with another packet, another field, another number of packets, or another header."""
+    _, values, packets = line
+    values, packets = dict(values), list(packets)
+    way = r.randrange(9)
+    if way == 0 or not packets:
+        packets.insert(r.randrange(len(packets) + 1), packet(r))
+    elif way == 1:
+        del packets[r.randrange(len(packets))]
+    elif way == 2:
+        at = r.randrange(len(packets))
+        packets[at] = packet(r, packets[at][0])
+    elif way == 3:
+        at = r.randrange(len(packets))
+        packets += [packets[at]] * r.choice((1, 2, 30))
+    elif way == 4:
+        total = r.randrange(8)
+        values |= {"N_TOTAL": total, "N_PIG": r.randrange(total + 1)}
+    elif way == 5:
+        name = r.choice(("M_DUP", "NID_C", "NID_BG", "Q_LINK"))
+        values[name] = {"M_DUP": r.randrange(3), "NID_C": r.choice((1, r.randrange(1024))), "NID_BG": r.randrange(1, 40),
+                        "Q_LINK": r.randrange(2)}[name]
+    else:
+        at = r.randrange(len(packets))
+        number, fields = packets[at]
+        fields = list(fields)
+        for _ in range(r.choice((1, 1, 2, 8))):
+            place = r.randrange(len(fields))
+            name, value = fields[place]
+            if name[:2] != "Q_" or name in ("Q_FRONT", "Q_GDIR", "Q_LINKORIENTATION", "Q_LOCACC"):
+                fields[place] = (name, nudged(r, name, value))
+            elif name in ("Q_DIR", "Q_SCALE", "Q_LINKREACTION"):
+                fields[place] = (name, r.randrange(3))
+        packets[at] = (number, fields)
+    return ("telegram", values, fitting(packets))
+
+
+def whole_group(r, line):
+    """The telegrams of a group of eight that all say what this one does, or other things."""
+    return [("telegram", line[1] | {"N_TOTAL": 7, "N_PIG": place}, line[2] if r.randrange(2) else telegram(r)[2]) for place in range(8)]
+
+
+def nudged_text(r, line):
+    words = line.split(" ")
+    if words[0] in ("odometer", "clock", "train", "number") and r.randrange(3):
+        at = r.randrange(1, len(words))
+        value = int(words[at])
+        words[at] = str(r.choice((value + 1, max(0, value - 1), 2 * value, value // 2, r.randrange(1 + 2 * abs(value)), 0)))
+        return " ".join(words)
+    return other_line(r)
+
+
+def changed(r, lines, others):
+    """A scenario that is a few steps away. Its last line mostly stays."""
+    lines = list(lines)
+    for _ in range(r.choice((1, 1, 1, 2, 2, 3, 5))):
+        way = r.randrange(14)
+        at = r.randrange(1, len(lines))
+        heard = [place for place, line in enumerate(lines) if not isinstance(line, str)]
+        if way < 6 and heard:
+            at = r.choice(heard)
+            lines[at] = changed_telegram(r, lines[at])
+        elif way < 8:
+            lines.insert(at, any_line(r))
+        elif way == 8 and len(lines) > 4:
+            del lines[r.randrange(1, len(lines) - 1)]
+        elif way == 9 and isinstance(lines[at], str):
+            lines[at] = nudged_text(r, lines[at])
+        elif way == 10:
+            lines.insert(at, lines[r.randrange(1, len(lines))])
+        elif way == 11 and heard:
+            at = r.choice(heard)
+            lines[at:at + 1] = whole_group(r, lines[at])
+        elif way == 12:
+            other = r.choice(others)
+            first = r.randrange(len(other))
+            lines[at:at] = other[first:first + r.randrange(1, 6)]
+        elif way == 13:
+            moved = lines.pop(r.randrange(1, len(lines)))
+            lines.insert(r.randrange(1, len(lines) + 1), moved)
+    return bounded(lines)
+
+
+def bounded(lines):
+    """At most so many lines, the entries and the last ones kept, and at most so many restrictions."""
+    while len(lines) > LINES:
+        del lines[len(ENTERED) + 1]
+    left, kept = RESTRICTIONS, []
+    for line in lines:
+        if not isinstance(line, str):
+            packets = []
+            for one in line[2]:
+                left -= one[0] == 65
+                if one[0] != 65 or left >= 0:
+                    packets.append(one)
+            line = (*line[:2], packets)
+        kept.append(line)
+    return kept
+
+
+# ---- what a line is, and what it took
+
+def kinds_of(texts):
+    """The kind of each line."""
+    assembler, sums = Assembler(), Sums()
+    for text in texts:
+        word, _, value = text.partition(" ")
+        if word == "cold":
+            assembler, sums = Assembler(), Sums()
+            yield "power-up, on 4 slots"
+        elif word == "odometer":
+            sums = sums.after(int(value.split()[0]))
+            yield "reading that ends a group" if assembler.moved(sums.path) else "reading"
+        elif word == "telegram":
+            yield kind_of_telegram(assembler, sums, telegrams.read(bytes.fromhex(value)))
+        elif word == "action":
+            yield "driver: " + ACTIONS.get(int(value), "none")
+        else:
+            yield {"clock": "moment of the clock", "identity": "driver: enter identity", "number": "driver: enter running number",
+                   "train": "driver: enter train data", "flush": "prepare, behind up to eight inputs"}[word]
+
+
+def kind_of_telegram(assembler, sums, read):
+    if not read:
+        return "telegram that can't be read"
+    last = assembler.last
+    if last and last.first.group == read.group and last.is_near(sums.path):
+        kind = "telegram that is a repeat"
+    else:
+        kind = "telegram of a group that goes on"
+    return "telegram that closes a group" if assembler.take(Reading(read, sums)) else kind
+
+
+def ran(program, scenarios, *words):
+    """Runs scenarios, each the number of slots and lines of text; the lines that were printed, as numbers."""
+    text = "".join(f"scenario {slots}\n" + "".join(line + "\n" for line in lines) for slots, lines in scenarios)
+    done = subprocess.run([*program, *words], input=text, capture_output=True, text=True, cwd=OUT, env={"PATH": "/usr/bin:/bin"})
+    if done.returncode:
+        sys.exit(f"{program}: {done.stderr[-2000:]}")
+    return [tuple(map(int, line.split())) for line in done.stdout.splitlines()]
+
+
+def counted(scenarios, told=False):
+    """What callgrind counted of each counted line: (scenario, line) to (instructions, status, mode, limit). Mode and limit are those behind
+    the line where they are to be told."""
+    profile = OUT / f"profile.{os.getpid()}"
+    toggles = [f"--toggle-collect=etcs_unit_{call}_" for call in CALLS]
+    lines = ran(["valgrind", "--tool=callgrind", f"--callgrind-out-file={profile}", "--combine-dumps=yes", "--collect-atstart=no", *toggles],
+                scenarios, "./worst", *(["told"] if told else []))
+    took = {}
+    label = None
+    with open(profile) as dumps:
+        for line in dumps:
+            if line.startswith("desc: Trigger: "):
+                found = re.search(r"scenario (\d+) line (\d+)", line)
+                label = found and (int(found[1]), int(found[2]))
+            elif line.startswith("totals: ") and label:
+                took[label] = int(line.split()[1])
+                label = None
+    profile.unlink()
+    return {(at, line): (took[at, line], status, mode, limit) for at, line, status, mode, _, _, limit, *_ in lines}
+
+
+def tried(many):
+    """Each counted line that was taken: (kind, instructions, scenario up to it)."""
+    texts = [[text_of(line) for line in lines] for lines in many]
+    marked = [(4, [*lines[:-COUNTED], "count", *lines[-COUNTED:]]) for lines in texts]
+    kinds = [list(kinds_of(lines)) for lines in texts]
+    for (at, line), (instructions, status, _, _) in counted(marked).items():
+        # (the count is a line of its own)
+        if status == 0:
+            yield kinds[at - 1][line - 2], instructions, many[at - 1][:line - 1]
+
+
+class Best:
+    """For each kind the scenario whose last line took most."""
+
+    def __init__(self):
+        self.of = {}
+
+    def take(self, many):
+        for kind, instructions, lines in tried(many):
+            if instructions >= self.of.get(kind, (0,))[0]:
+                self.of[kind] = (instructions, lines)
+
+    def climb(self, r, tries):
+        weights = {"reading": 6, "reading that ends a group": 5, "telegram that closes a group": 6, "moment of the clock": 3}
+        self.take(list(seeds(r)))
+        for number in range(BATCH, tries, BATCH):
+            kinds = sorted(self.of)
+            lives = [lines for _, lines in self.of.values()]
+            parents = r.choices(kinds, [weights.get(kind, 1) for kind in kinds], k=BATCH)
+            self.take([changed(r, self.of[kind][1], lives) for kind in parents])
+            if number % (10 * BATCH) == 0:
+                self.write()
+                print(number, *(f"{kind} {took}" for kind, (took, _) in sorted(self.of.items())), sep="; ", file=sys.stderr)
+
+    def shorten(self):
+        """Leaves out lines without which the last one takes as much."""
+        for kind in sorted(self.of):
+            while self.takes_shorter(kind, *self.of[kind]):
+                pass
+
+    def takes_shorter(self, kind, most, lines):
+        """Leaves out all lines that can be left out one by one, or the first of them; whether there was one."""
+        alone = {at: lines[:at] + lines[at + 1:] for at in range(1, len(lines) - 1)}
+        idle = {at for (at, _), fits in zip(alone.items(), self.fits(kind, most, alone.values())) if fits}
+        if not idle:
+            return False
+        for left_out in (idle, {min(idle)}):
+            shorter = [line for at, line in enumerate(lines) if at not in left_out]
+            if self.fits(kind, most, [shorter])[0]:
+                self.of[kind] = (most, shorter)
+                return True
+        return False
+
+    @staticmethod
+    def fits(kind, most, many):
+        """Whether the last line of each is of that kind, and takes as much."""
+        texts = [[text_of(line) for line in lines] for lines in many]
+        took = counted([(4, [*text[:-1], "count", text[-1]]) for text in texts])
+        return [took.get((at, len(text) + 1), (0,))[0] >= most and list(kinds_of(text))[-1] == kind for at, text in enumerate(texts, 1)]
+
+    def add_by_hand(self):
+        for kind, lines in by_hand().items():
+            texts = [text_of(line) for line in lines]
+            self.of[kind] = (counted([(4, [*texts[:-1], "count", texts[-1]])])[1, len(texts) + 1][0], lines)
+
+    def write(self):
+        with open(SCENARIOS, "w") as file:
+            for kind, (took, lines) in sorted(self.of.items()):
+                text = [text_of(line) for line in lines]
+                print(f"scenario 4 {took} {kind}", *text[:-1], "count", text[-1], sep="\n", file=file)
+
+
+def by_hand():
+    """What takes the most of the heap: the room for all packets that a group may have is made before it closes."""
+    header = dict(zip(HEADER, (0, 7, 0, 255, 1, 9, 1)))
+    heard = [("telegram", header | {"N_PIG": place}, [(SKIPPED, [("Q_DIR", 2)])] * 33) for place in range(8)]
+    return {"telegram that closes a group of 264 packets": [*ENTERED, *heard]}
+
+
+# ---- what is kept, counted again
+
+def kept():
+    """The kept scenarios: what was found, the kind, the lines."""
+    found = []
+    for line in SCENARIOS.read_text().splitlines():
+        if line.startswith("scenario "):
+            _, _, took, kind = line.split(" ", 3)
+            found.append((int(took), kind, []))
+        else:
+            found[-1][2].append(line)
+    return found
+
+
+def count_again():
+    told = kept()
+    took = counted([(4, lines) for _, _, lines in told], told=True)
+    for number, (found, kind, lines) in enumerate(told, 1):
+        instructions, _, mode, limit = took[number, len(lines)]
+        print(kind, instructions, MODES.get(mode, mode), limit, found, sep="\t")
+
+
+def memory():
+    told = kept()
+    for at, *numbers in ran(["./worst_heap", "stack"], [(4, lines) for _, _, lines in told]):
+        held, peak, requests, greatest, stack = numbers[-5:]
+        print(told[at - 1][1], held, peak, requests, greatest, stack, sep="\t")
+
+
+def track(restricted=0, speeds=1, grades=1, reaction=0):
+    """Full Supervision 300 km before the end, with so many restrictions, static speeds and gradients ahead, one every 20 m, from which the
+    train could not stop before the next."""
+    def heard(group, packets):
+        return ("telegram", dict(zip(HEADER, (0, 0, 0, 255, 1, group, 1))), packets)
+    whole = [("Q_DIR", 2), ("Q_SCALE", 1)]
+    lines = [*ENTERED, f"train 20000 160000 70 {reaction} 15"]
+    lines.append(heard(2, [(12, [*whole, ("V_MAIN", 32), ("V_LOA", 0), ("T_LOA", 1023), ("N_ITER", 0), ("L_ENDSECTION", 30_000),
+                                 ("Q_SECTIONTIMER", 0), ("Q_ENDTIMER", 0), ("Q_DANGERPOINT", 0), ("Q_OVERLAP", 0)])]))
+    lines.append(heard(3, [(21, whole + listed([[("D_GRADIENT", 2 if at else 0), ("Q_GDIR", at % 2), ("G_A", 1)]
+                                               for at in range(grades)]))]))
+    lines.append(heard(4, [(27, whole + listed([[("D_STATIC", 2 if at else 0), ("V_STATIC", 30 + at % 2), ("Q_FRONT", 0), ("N_ITER", 0)]
+                                               for at in range(speeds)]))]))
+    for first in range(0, restricted, 10):
+        lines.append(heard(5 + first // 10, [(65, [*whole, ("NID_TSR", 255), ("D_TSR", 2 + 2 * at), ("L_TSR", 1), ("Q_FRONT", 0),
+                                                   ("V_TSR", 29 - at % 2)]) for at in range(first, min(restricted, first + 10))]))
+    return [*lines, "action 7", "odometer 1 50000", "odometer 1 50000", "odometer 1 50000"]
+
+
+def more():
+    cases = {"32 and 232 restrictions ahead": [track(restricted=32), track(restricted=232)],
+             "5 and 25 static speeds ahead": [track(speeds=5), track(speeds=25)],
+             "5 and 25 gradients ahead": [track(grades=5), track(grades=25)]}
+    for name, case in cases.items():
+        texts = [[text_of(line) for line in lines] for lines in case]
+        took = counted([(4, [*text[:-1], "count", text[-1]]) for text in texts])
+        print(f"reading, {name}", *(took[at, len(text) + 1][0] for at, text in enumerate(texts, 1)), sep="\t")
+    opened = ["cold 0", "count", "cold 0"]
+    took = counted([(4, opened), (1004, opened)])
+    print("power-up on 4 and 1,004 slots, all but one empty", took[1, 3][0], took[2, 3][0], sep="\t")
+
+
+def main(words):
+    if words == ["--count"]:
+        count_again()
+    elif words == ["--memory"]:
+        memory()
+    elif words == ["--more"]:
+        more()
+    elif len(words) == 2:
+        r, best = random.Random(int(words[1])), Best()
+        best.climb(r, int(words[0]))
+        best.shorten()
+        best.add_by_hand()
+        best.write()
+    else:
+        sys.exit(__doc__)
+
+
+if __name__ == "__main__":
+    main(sys.argv[1:])

@@ -3,6 +3,7 @@
 //! moments milliseconds.
 #![tactic(auto)]
 
+mod accepting;
 mod causes;
 mod commanding;
 mod counts;

@@ -3,3 +3,4 @@ pub mod Items
 pub mod Leaving
 pub mod Marking
 pub mod Standing
+pub mod Tripped

@@ -6,3 +6,4 @@ pub mod Output
 pub mod StandsFor
 pub mod Laws
 pub mod Quiet
+pub mod Trips

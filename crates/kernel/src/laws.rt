@@ -1,6 +1,7 @@
 //! Laws of every list of events.
 ghost use Rattle.kernel.specs.Causes.{EmergencyHasCause, ServiceHasCause, NoneHasNoCause};
 ghost use Rattle.kernel.specs.Laws.{CountsSo, IdentitySo, RunningNumberSo, TrainDataSo, LevelSo, TripSo, PositionSo, NationalSo, Forgets, BrakesUntilRevalidated, TripBrakes};
+ghost use Rattle.kernel.specs.Trips.{TripsHaveCauses};
 
 /// A law: what is kept of a list of events is what the whole list says, item by item.
 pub fn kept_is_the_last()
@@ -35,4 +36,9 @@ pub fn causes_command()
     ensures emergency { EmergencyHasCause }
     ensures service { ServiceHasCause }
     ensures none { NoneHasNoCause }
+{}
+
+/// A law: an event has a cause of a trip exactly where the mode behind it is Trip, and that before it wasn't.
+pub fn trips_have_causes()
+    ensures { TripsHaveCauses }
 {}

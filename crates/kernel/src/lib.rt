@@ -3,6 +3,7 @@
 //! moments milliseconds.
 #![tactic(auto)]
 
+mod accepting;
 mod causes;
 mod commanding;
 mod counts;
@@ -16,12 +17,15 @@ mod receiving;
 mod sight;
 mod state;
 mod steps;
+mod tripping;
 mod window;
 
 pub use causes::{BrakeCause, BrakeCauses};
 pub use events::{Event, Input, Kept, Output};
 pub use laws::{
     brakes_until_revalidated, causes_command, kept_is_the_last, power_up_forgets, trip_brakes,
+    trips_have_causes,
 };
+pub use mode_control::TripCause;
 pub use state::{State, StateOver};
 pub use steps::step;

@@ -3,4 +3,5 @@ pub mod History
 pub mod Life
 pub mod Conditions
 pub mod Sentences
+pub mod Tripping
 pub mod StandsFor

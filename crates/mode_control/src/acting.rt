@@ -1,8 +1,9 @@
 //! What the driver does: an action counts where it is accepted in the situation before the event.
 ghost use Rattle.std.specs.Prelude.{◌≡◌, None, Some};
+ghost use Rattle.driver.specs.Accepting.{accepts};
 ghost use Rattle.track_picture.specs.Entry.{TrackEntry};
 ghost use Rattle.mode_control.specs.Entry.{begun};
-ghost use Rattle.mode_control.specs.Life.{Life, grown};
+ghost use Rattle.mode_control.specs.Life.{Life, driver_of, grown};
 ghost use Rattle.mode_control.specs.Sentences.{situation, occasion, deed_by, deed_of};
 ghost use Rattle.mode_control.specs.StandsFor.{StandsForLife, parts_of};
 
@@ -77,11 +78,19 @@ impl<G: ProfileStore<Permille> + Drop, S: ProfileStore<CategorySpeeds> + Drop> S
         }
     }
 
+    /// Whether an action would be accepted now, as the next event.
+    pub fn accepts(&self, action: &Action) -> bool
+        ensures { (life : Life) → StandsForLife G.profile S.profile self.now life
+            → result ≡ accepts (driver_of life) (situation life) action.now }
+    {
+        self.parts.driver.accepts(action, &self.situation())
+    }
+
     // What an action does, if it is accepted.
     fn deed_by(&self, action: &Action) -> Option<Deed>
         ensures { (life : Life) → StandsForLife G.profile S.profile self.now life → result ≡ deed_by life action.now }
     {
-        if !self.parts.driver.accepts(action, &self.situation()) {
+        if !self.accepts(action) {
             return None;
         }
         Some(Deed {

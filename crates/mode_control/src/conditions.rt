@@ -115,8 +115,8 @@ impl<G: ProfileStore<Permille> + Drop, S: ProfileStore<CategorySpeeds> + Drop> S
         self.parts.driver.is_overridden(self.track.moment(), path)
     }
 
-    // Whether the minimum safe front is above the end of authority while no speed is allowed there.
-    fn is_beyond_end(&self, train: &Stretch) -> bool
+    /// Whether the minimum safe front is above the end of authority while no speed is allowed there.
+    pub(crate) fn is_beyond_end(&self, train: &Stretch) -> bool
         ensures { (life : Life) → StandsForLife G.profile S.profile self.now life → result ≡ is_beyond_end life train.now }
     {
         match self.track.authority().end() {
@@ -125,8 +125,8 @@ impl<G: ProfileStore<Permille> + Drop, S: ProfileStore<CategorySpeeds> + Drop> S
         }
     }
 
-    // Whether the train is to be tripped.
-    fn trips(&self, train: &Stretch) -> bool
+    /// Whether the train is to be tripped.
+    pub(crate) fn trips(&self, train: &Stretch) -> bool
         ensures { (life : Life) → StandsForLife G.profile S.profile self.now life → result ≡ trips life train.now }
     {
         !self.is_overridden()

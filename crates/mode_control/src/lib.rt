@@ -13,6 +13,8 @@ mod parts;
 mod receiving;
 mod seeing;
 mod state;
+mod tripping;
 mod turning;
 
 pub use state::{Supervision, SupervisionOver};
+pub use tripping::TripCause;

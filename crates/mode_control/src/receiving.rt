@@ -17,8 +17,8 @@ impl<G: ProfileStore<Permille> + Drop, S: ProfileStore<CategorySpeeds> + Drop> S
     G,
     S,
 > {
-    // What the input itself brings, and the groups that it closes.
-    fn begin(&mut self, input: &Input) -> Result<(), NoMemory>
+    /// What the input itself brings, and the groups that it closes.
+    pub(crate) fn begin(&mut self, input: &Input) -> Result<(), NoMemory>
         ensures quiet { HasRoomFor G.room S.room self.old.track input.now → IsOk result }
         ensures idle { packets_by self.old.track.parts input.now ≡ 0 → OnOk result (size_in G.size S.size self.new.track ≡ size_in G.size S.size self.old.track) }
         ensures stands { OnOk result ((life : Life) → StandsForLife G.profile S.profile self.old life

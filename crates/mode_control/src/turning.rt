@@ -136,8 +136,8 @@ impl<G: ProfileStore<Permille> + Drop, S: ProfileStore<CategorySpeeds> + Drop> S
     G,
     S,
 > {
-    // The mode that is entered, if another one is, where the train is there.
-    fn entered(&self, train: &Stretch) -> Option<Mode>
+    /// The mode that is entered, if another one is, where the train is there.
+    pub(crate) fn entered(&self, train: &Stretch) -> Option<Mode>
         ensures { (life : Life) → StandsForLife G.profile S.profile self.now life → result ≡ entered_in life train.now }
     {
         changed(self.parts.mode, self.mode_behind(train))

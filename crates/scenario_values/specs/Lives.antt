@@ -1,6 +1,6 @@
 -- The life that the JSON value of a scenario asks for, or its first fault (this project's profile). Distances are
 -- centimetres, speeds metres per hour, moments milliseconds.
-use Rattle.std.specs.Prelude.{ℕ, ◌&&◌, ℤ, pos, List, [], ◌∷◌, codes, is_some, Bool, if◌then◌else◌, Option, Some, None, Result, Ok, Err}
+use Rattle.std.specs.Prelude.{ℕ, ◌&&◌, ℤ, pos, List, [], ◌∷◌, ◌++◌, length, codes, is_some, Bool, if◌then◌else◌, Option, Some, None, Result, Ok, Err}
 use Rattle.serde_json.specs.Data.{Data}
 use Rattle.serde_json.specs.Find.{get}
 use Rattle.mode_table.specs.declared.statuses.Cold.{Cold}
@@ -56,3 +56,20 @@ life_in d = do
   items ← items_at (codes "steps") d
   steps ← steps_in (passed balises) items
   Ok (cold, steps)
+
+-- ---- which steps of the life come from which step of the scenario
+
+-- behind each step of the scenario, how many steps the life has so far
+abbrev pub ends_by : (ℤ → ℕ → List Balise) → List Data → Run → List ℕ → Result (List ℕ) ScenarioFault
+ends_by ahead [] r ends = Ok ends
+ends_by ahead (d ∷ ds) r ends = do
+  step ← asked d
+  ends_by ahead ds (taken ahead step r) (ends ++ length (taken ahead step r).steps ∷ [])
+
+-- .. of all steps of a value
+abbrev pub ends_in : Data → Result (List ℕ) ScenarioFault
+ends_in d = do
+  laid ← items_at (codes "groups") d
+  balises ← groups laid []
+  items ← items_at (codes "steps") d
+  ends_by (passed balises) items start []

@@ -4,11 +4,13 @@
 
 mod actions;
 mod asking;
+mod ends;
 mod fault;
 mod groups;
 mod lives;
 mod telegrams;
 mod values;
 
+pub use ends::ends_of;
 pub use fault::ScenarioFault;
 pub use lives::life_of;

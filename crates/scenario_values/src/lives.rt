@@ -39,8 +39,8 @@ fn cold_of(value: &Value) -> Result<Cold, ScenarioFault>
     }
 }
 
-// The items of the list at a key.
-fn items_at<'a>(value: &'a Value, key: &str) -> Result<&'a [Value], ScenarioFault>
+/// The items of the list at a key.
+pub(crate) fn items_at<'a>(value: &'a Value, key: &str) -> Result<&'a [Value], ScenarioFault>
     ensures ok { IfOk result (λ items. items_at key.now (view value.now) ≡ Ok (map view items.now)) }
     ensures err { IfErr result (λ fault. items_at key.now (view value.now) ≡ Err fault) }
 {
@@ -50,8 +50,8 @@ fn items_at<'a>(value: &'a Value, key: &str) -> Result<&'a [Value], ScenarioFaul
     }
 }
 
-// The track on which all groups are laid.
-fn track_of(alloc: Global, items: &[Value]) -> Result<Track, ScenarioFault>
+/// The track on which all groups are laid.
+pub(crate) fn track_of(alloc: Global, items: &[Value]) -> Result<Track, ScenarioFault>
     ensures ok { IfOk result (λ track. (laid : _) × (groups (map view items.now) [] ≡ Ok laid)
         × (passed track.balises.items ≡ passed laid)) }
     ensures err { IfErr result (λ fault. (fault ≡ ScenarioFault.NoMemory)

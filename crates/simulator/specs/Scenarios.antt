@@ -5,7 +5,7 @@ use Rattle.serde_json.specs.Data.{Data}
 use Rattle.serde_json.specs.Read.{read}
 use Rattle.mode_table.specs.declared.statuses.Cold.{Cold}
 use Rattle.events.specs.declared.step.Step.{Step}
-use Rattle.scenario_values.specs.Lives.{life_in}
+use Rattle.scenario_values.specs.Lives.{life_in, ends_in}
 use Rattle.scenario_values.specs.declared.fault.ScenarioFault.{ScenarioFault}
 use Rattle.scenario_values.specs.declared.fault.ScenarioFault.TheVariants.{NotJson}
 
@@ -22,3 +22,7 @@ abbrev pub FaultOf : List ℕ → ScenarioFault → Type 0
 FaultOf bytes fault =
     ((fault ≡ NotJson) × ((d : Data) → ¬ IsReading bytes d))
     ⊎ ((d : Data) × IsReading bytes d × (life_in d ≡ Err fault))
+
+-- Of each step of the scenario, how many steps its life has up to the end of it.
+abbrev pub TellsEnds : List ℕ → List ℕ → Type 0
+TellsEnds bytes ends = (d : Data) × IsReading bytes d × (ends_in d ≡ Ok ends)

@@ -6,5 +6,5 @@ mod laws;
 mod reading;
 
 pub use laws::{not_json_alone, one_answer, tells_or_fails};
-pub use reading::{Scenario, events_of};
+pub use reading::{Scenario, ends_of, events_of};
 pub use scenario_values::ScenarioFault;

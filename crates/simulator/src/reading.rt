@@ -1,6 +1,6 @@
 //! From the bytes of a file to the steps of a life.
 ghost use Rattle.std.specs.Prelude.{◌≡◌, ◌⊎◌, IfOk, IfErr};
-ghost use Rattle.simulator.specs.Scenarios.{Tells, FaultOf};
+ghost use Rattle.simulator.specs.Scenarios.{Tells, FaultOf, TellsEnds};
 
 use events::Step;
 use mode_table::Cold;
@@ -28,4 +28,18 @@ pub fn events_of(alloc: Global, scenario: &Scenario) -> Result<(Cold, Vec<Step>)
         Err(_) => return Err(ScenarioFault::NotJson),
     };
     life_of(alloc, &value)
+}
+
+/// Of each step of the scenario, how many steps of the life that `events_of` answers there are up to its end: so the step
+/// at a place of that life comes from the first step of the scenario whose end is behind the place; a last flush comes
+/// from none. An error is a fault of the scenario, or NoMemory.
+pub fn ends_of(alloc: Global, scenario: &Scenario) -> Result<Vec<usize>, ScenarioFault>
+    ensures { IfOk result (λ ends. TellsEnds scenario.now.bytes.items ends.items) }
+{
+    let value = match Value::from_slice(alloc, scenario.bytes.as_slice()) {
+        Ok(value) => value,
+        Err(error) if error.is_memory() => return Err(ScenarioFault::NoMemory),
+        Err(_) => return Err(ScenarioFault::NotJson),
+    };
+    scenario_values::ends_of(alloc, &value)
 }

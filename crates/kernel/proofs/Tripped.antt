@@ -1,0 +1,61 @@
+-- An event has a cause of a trip exactly where it enters Trip.
+use Rattle.std.proofs.Common.{◌≡◌, Bool, true, false, not, ◌&&◌, cond, refl, sym, ◌∙◌, List, ◌∷◌}
+use Rattle.std.specs.Prelude.{is_some, None, Some, unwrap_or}
+use Rattle.units.specs.Stretches.{Span}
+use Rattle.events.specs.declared.input.Event.{Event}
+use Rattle.events.specs.declared.input.Event.TheVariants.{PowerUp, Input}
+use Rattle.mode_table.specs.declared.mode.Mode.{Mode}
+use Rattle.mode_table.specs.declared.mode.Mode.TheVariants.{FullSupervision, OnSight, StaffResponsible, Shunting, Unfitted, StandBy, Trip, PostTrip, SystemFailure}
+use Rattle.mode_table.specs.Modes.{is_mode}
+use Rattle.mode_table.specs.Rows.{next_mode}
+use Rattle.mode_control.specs.Conditions.{conditions}
+use Rattle.mode_control.specs.History.{mode_of}
+use Rattle.mode_control.specs.Life.{Life, grown}
+use Rattle.mode_control.specs.Sentences.{changed, train_in}
+use Rattle.mode_control.specs.Tripping.{row_where, seen_by}
+use Rattle.kernel.specs.Lives.{life_of}
+use Rattle.kernel.specs.Trips.{TripsHaveCauses}
+
+not_both : (b : Bool) → (b && not b) ≡ false
+not_both true = refl
+not_both false = refl
+
+module _ (life : Life) (train : Span) where
+  abbrev IsTold : Mode → Mode → Bool → Type 0
+  IsTold old new same =
+      is_some (row_where (cond same None (Some new)) life train) ≡ (is_mode Trip (unwrap_or (cond same None (Some new)) old) && not (is_mode Trip old))
+
+  to_another : (old new : Mode) (same : Bool) → is_some (row_where (Some new) life train) ≡ false → is_mode Trip new ≡ false → IsTold old new same
+  to_another old new true untold other = sym (not_both (is_mode Trip old))
+  to_another old new false untold other = untold ∙ (λ i. sym other i && not (is_mode Trip old))
+
+  to_trip : (old : Mode) → IsTold old Trip (is_mode old Trip)
+  to_trip FullSupervision = refl
+  to_trip OnSight = refl
+  to_trip StaffResponsible = refl
+  to_trip Shunting = refl
+  to_trip Unfitted = refl
+  to_trip StandBy = refl
+  to_trip Trip = refl
+  to_trip PostTrip = refl
+  to_trip SystemFailure = refl
+
+  told_by : (old new : Mode) → IsTold old new (is_mode old new)
+  told_by old FullSupervision = to_another old FullSupervision (is_mode old FullSupervision) refl refl
+  told_by old OnSight = to_another old OnSight (is_mode old OnSight) refl refl
+  told_by old StaffResponsible = to_another old StaffResponsible (is_mode old StaffResponsible) refl refl
+  told_by old Shunting = to_another old Shunting (is_mode old Shunting) refl refl
+  told_by old Unfitted = to_another old Unfitted (is_mode old Unfitted) refl refl
+  told_by old StandBy = to_another old StandBy (is_mode old StandBy) refl refl
+  told_by old Trip = to_trip old
+  told_by old PostTrip = to_another old PostTrip (is_mode old PostTrip) refl refl
+  told_by old SystemFailure = to_another old SystemFailure (is_mode old SystemFailure) refl refl
+
+pub trips_told : TripsHaveCauses
+trips_told (PowerUp cold) events = refl
+trips_told (Input input) events =
+    let life = life_of events in
+    let now = grown life (seen_by life input) in
+    let train = train_in now (seen_by life input) in
+    let old = mode_of life.entries in
+    told_by now train old (next_mode old (conditions now train))

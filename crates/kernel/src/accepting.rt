@@ -1,0 +1,26 @@
+//! Which of the driver's actions would be accepted.
+ghost use Rattle.std.specs.Prelude.{◌≡◌, List};
+ghost use Rattle.driver.specs.Accepting.{accepts};
+ghost use Rattle.events.specs.declared.input.Event.{Event};
+ghost use Rattle.kernel.specs.Lives.{life_of};
+ghost use Rattle.kernel.specs.StandsFor.{StandsFor};
+ghost use Rattle.mode_control.specs.Life.{driver_of};
+ghost use Rattle.mode_control.specs.Sentences.{situation};
+
+use crate::state::StateOver;
+use driver::Action;
+use speed_profile::CategorySpeeds;
+use track_store::ProfileStore;
+use units::Permille;
+
+impl<G: ProfileStore<Permille> + Drop, S: ProfileStore<CategorySpeeds> + Drop> StateOver<G, S> {
+    /// Whether an action of the driver would be accepted as the next event (the table of actions: this project's
+    /// profile): by the driver's data and the situation behind the last event. An action that wouldn't has no effect.
+    /// Takes no memory.
+    pub fn accepts(&self, action: &Action) -> bool
+        ensures { (events : List Event) → StandsFor G.profile S.profile self.now events
+            → result ≡ accepts (driver_of (life_of events)) (situation (life_of events)) action.now }
+    {
+        self.supervision.accepts(action)
+    }
+}

@@ -1,0 +1,87 @@
+//! Why Trip is entered.
+ghost use Rattle.std.specs.Prelude.{◌≡◌, IfOk};
+ghost use Rattle.mode_control.specs.History.{mode_of};
+ghost use Rattle.mode_control.specs.Life.{Life};
+ghost use Rattle.mode_control.specs.StandsFor.{StandsForLife};
+ghost use Rattle.mode_control.specs.Tripping.{why_trips, row_from, trip_in, trip_by};
+
+use crate::state::SupervisionOver;
+use events::Input;
+use mode_table::Mode;
+use speed_profile::CategorySpeeds;
+use std::alloc::Global;
+use track_store::ProfileStore;
+use units::{NoMemory, Permille, Stretch};
+
+/// Why Trip is entered: which row of the mode table leads there, and of rows 3 to 5 the first of their conditions that
+/// holds (SUBSET-026, 4.6; the rows: this project's profile).
+#[derive(Clone, Copy)]
+pub enum TripCause {
+    /// Rows 3 to 5: the minimum safe front is above the end of authority, where no speed is allowed (3.8).
+    EndPassed,
+    /// Rows 3 to 5: linking or a balise group asks for a trip in this event (3.4.4, 3.16.2).
+    Linking,
+    /// Rows 3 to 5: an authority is used in this event whose speed V_MAIN is 0 (3.8).
+    Stop,
+    /// Row 6: the path since Staff Responsible was entered is above D_NVSTFF (4.4).
+    StaffDistance,
+    /// Row 9: the level is 1 in Unfitted, and the authority or the track ahead isn't known (5.10).
+    Level,
+}
+
+impl<G: ProfileStore<Permille> + Drop, S: ProfileStore<CategorySpeeds> + Drop> SupervisionOver<
+    G,
+    S,
+> {
+    // Of rows 3 to 5.
+    fn why_trips(&self, train: &Stretch) -> TripCause
+        ensures { (life : Life) → StandsForLife G.profile S.profile self.now life → result ≡ why_trips life train.now }
+    {
+        if self.is_beyond_end(train) {
+            TripCause::EndPassed
+        } else if self.track.happened().asked.trip {
+            TripCause::Linking
+        } else {
+            TripCause::Stop
+        }
+    }
+
+    // The row to Trip from the mode.
+    fn row_from(&self, train: &Stretch) -> TripCause
+        ensures { (life : Life) → StandsForLife G.profile S.profile self.now life → result ≡ row_from (mode_of life.entries) life train.now }
+    {
+        match self.parts.mode {
+            Mode::Unfitted => TripCause::Level,
+            Mode::StaffResponsible => {
+                if self.trips(train) {
+                    self.why_trips(train)
+                } else {
+                    TripCause::StaffDistance
+                }
+            }
+            _ => self.why_trips(train),
+        }
+    }
+
+    // Why Trip is entered, if it is, where the train is there.
+    fn trip_in(&self, train: &Stretch) -> Option<TripCause>
+        ensures { (life : Life) → StandsForLife G.profile S.profile self.now life → result ≡ trip_in life train.now }
+    {
+        match self.entered(train) {
+            Some(Mode::Trip) => Some(self.row_from(train)),
+            _ => None,
+        }
+    }
+
+    /// Why an input would enter Trip, as the next event; None where it wouldn't. It works on a copy: NoMemory where
+    /// memory is refused for that, or for what the input adds.
+    pub fn trip_by(&self, alloc: Global, input: &Input) -> Result<Option<TripCause>, NoMemory>
+        ensures { IfOk result (λ cause. (life : Life) → StandsForLife G.profile S.profile self.now life
+            → cause ≡ trip_by life input.now) }
+    {
+        let mut next = self.copy(alloc)?;
+        next.begin(input)?;
+        let seen = next.see();
+        Ok(next.trip_in(&seen.train))
+    }
+}

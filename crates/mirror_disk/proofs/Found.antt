@@ -1,7 +1,9 @@
--- Where the bytes of a sector are found, as the record of a disk tells it.
-use Rattle.std.proofs.Common.{◌≡◌, ℕ, ◌+◌, ◌-◌, ◌*◌, ◌≤◌, Bool, true, false, List, [], ◌∷◌, length, take, refl, sym, ◌∙◌, ap, subst, arith, Option, Some, None}
+-- Where the bytes of a sector are found, as the record of a disk tells it, and the request at a place.
+use Rattle.std.proofs.Common.{◌≡◌, ℕ, ◌+◌, ◌-◌, ◌*◌, ◌<◌, ◌≤◌, Bool, true, false, List, [], ◌∷◌, ◌++◌, length, take, get_or, refl, sym, ◌∙◌, ap, subst, arith, Option, Some, None}
 use Rattle.std.specs.Prelude.{fold, All, IfSome, if◌then◌else◌}
-use Rattle.std.proofs.lemmas.List.{take_all}
+use Rattle.std.proofs.Math.Seq.{get_or-append_seam}
+use Rattle.std.proofs.lemmas.List.{take_all, length-take-le, get_or-take}
+use Rattle.std.proofs.lemmas.List.Elements.{All-get_or}
 use Rattle.disk.specs.Record.{bytes_at, place_in, trace_written, trace_torn, trace_next, trace_start, trace_of, IsWithin, IsPlaced}
 use Rattle.disk.specs.declared.record.Call.{Call}
 use Rattle.disk.specs.declared.record.Call.TheVariants.{Quiet, Synced, Written, Torn}
@@ -72,3 +74,12 @@ pub found_there : (sectors written s : ℕ) (calls : List Call) → All (IsWithi
 found_there sectors written s calls within =
     let P : Place → Type 0 = λ p. IsPlaced written p in
     there_if written (found_in s calls) (if_found written (found_in s calls) (subst P (last_told s calls) (placed sectors written s calls within).last))
+
+-- what is so of each request is so of the one at a place
+pub at_place : (P : Call → Type 0) (calls : List Call) (i : ℕ) (call : Call) → i < length calls → take (i + 1) calls ≡ take i calls ++ call ∷ [] → All P calls → P call
+at_place P calls i call below is all =
+    let size : length (take i calls) ≡ i = length-take-le i calls (omega (arith, below)) in
+    let here : get_or calls i call ≡ call =
+    sym (get_or-take (i + 1) calls i call (omega arith)) ∙ ap (λ (l : List Call). get_or l i call) is
+    ∙ ap (λ (n : ℕ). get_or (take i calls ++ call ∷ []) n call) (sym size) ∙ get_or-append_seam (take i calls) call [] call in
+    subst P here (All-get_or P calls i call below all)

@@ -68,13 +68,26 @@ impl MirrorDisk {
         self.requests.len()
     }
 
-    /// A request by its place in the list, from 0 on: a sync, or a write of sectors whose bytes `bytes_of` tells.
+    // The request at a place.
+    fn request_at(&self, index: usize) -> Option<Call>
+        ensures none { result ≡ None → length self.now.requests ≤ index }
+        ensures some { (call : Call) → result ≡ Some call →
+            (index < length self.now.requests) × (take (index + 1) self.now.requests ≡ take index self.now.requests ++ call ∷ []) }
+        ensures kept { IsMirroring self.now }
+    {
+        self.requests.get(index).copied()
+    }
+
+    /// A request by its place in the list, from 0 on: a sync, or a write of sectors that the medium has, whose bytes
+    /// `bytes_of` tells.
     pub fn request(&self, index: usize) -> Option<Call>
         ensures none { result ≡ None → length self.now.requests ≤ index }
         ensures some { (call : Call) → result ≡ Some call →
             (index < length self.now.requests) × (take (index + 1) self.now.requests ≡ take index self.now.requests ++ call ∷ []) }
+        ensures within { (call : Call) → result ≡ Some call →
+            IsWithin self.now.sectors (length self.now.written) call }
     {
-        self.requests.get(index).copied()
+        self.request_at(index)
     }
 
     /// The bytes that a request of this disk writes; none of them where the span is none of its own.

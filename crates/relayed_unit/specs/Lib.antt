@@ -1,2 +1,3 @@
 pub mod Absent
+pub mod LifeNow
 pub mod Relayed

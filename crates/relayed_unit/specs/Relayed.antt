@@ -32,6 +32,11 @@ abbrev pub written_of : Option Moored → List ℕ
 written_of None = []
 written_of (Some moored) = moored.mirror.written
 
+-- how many sectors the medium has
+abbrev pub sectors_in : Option Moored → ℕ
+sectors_in None = 0
+sectors_in (Some moored) = moored.mirror.sectors
+
 -- how many requests the list has
 abbrev pub requests_of : Option Moored → ℕ
 requests_of moored = length (list_of moored)

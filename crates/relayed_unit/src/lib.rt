@@ -4,10 +4,12 @@
 
 mod absent;
 mod errors;
+mod life_now;
 mod moored;
 mod relayed;
 
 pub use absent::Absent;
 pub use errors::{PrepareError, ReleaseError};
+pub use life_now::LifeNow;
 pub use moored::Moored;
 pub use relayed::RelayedUnit;

@@ -1,11 +1,11 @@
-"""The words of `./lab`: `table`, `database`, `report`, `build`, `test`, `coverage`, `campaign`, `compare`."""
+"""The words of `./lab`: `table`, `database`, `report`, `build`, `test`, `coverage`, `drive`, `campaign`, `compare`."""
 import argparse
 import os
 import sys
 from collections.abc import Callable, Sequence
 from pathlib import Path
 
-from . import campaign_words, coverage, database, report, scenarios, tables
+from . import campaign_words, coverage, database, drive_words, report, scenarios, tables
 from .extent import Extent, bound
 from .program import DEVICE, REFUSED, WRONG_WORDS, Failed
 from .progress import Terminal
@@ -17,7 +17,7 @@ NEXT = """\
 
 Of a damaged image all is told that can be read, and one line on standard error says so. Take a digest of the image
 before anything reads it, and work on a copy. docs/LABORATORY.md goes through the first three words,
-docs/TESTING_A_TRAIN.md through the others."""
+docs/TESTING_A_TRAIN.md, CLOSED_LOOP.md and CAMPAIGNS.md through the others."""
 
 
 def words() -> argparse.ArgumentParser:
@@ -49,6 +49,7 @@ def words() -> argparse.ArgumentParser:
     page.add_argument("--to", dest="last", metavar="WHERE", help="the same")
     page.add_argument("--life", metavar="N", type=int, help="this life alone")
     add_suites(word)
+    drive_words.add_words(word)
     campaign_words.add_words(word)
     return lab
 
@@ -169,7 +170,7 @@ def tell_coverage(told: argparse.Namespace, progress: Progress) -> None:
 
 WORDS: dict[str, Callable[[argparse.Namespace, Progress], int | None]]
 WORDS = {"table": write_table, "database": write_database, "report": write_report, "build": write_scenario, "test": run_tests,
-         "coverage": tell_coverage, **campaign_words.WORDS}
+         "coverage": tell_coverage, **drive_words.WORDS, **campaign_words.WORDS}
 
 
 def main(given: Sequence[str] | None = None) -> int:

@@ -10,7 +10,7 @@ from decimal import Decimal
 from pathlib import Path
 from typing import Any
 
-from . import scenarios
+from . import drives, scenarios
 from .located import Value, documents
 from .words import INDICATIONS, MODES
 
@@ -25,13 +25,15 @@ NUMBERS = ("event", "life", "block", "level", "time_ms", "place_cm", "place_m", 
 SHOWS = tuple(f"shows_{name}" for name in INDICATIONS)
 UNKNOWN = "unknown"
 CONDITION = (*NUMBERS, *WORDS, *SHOWS, "indications")
+DRIVEN = ("train_place_cm", "train_place_m", "train_speed_m_per_h", "train_speed_kmh", "above_limit_m_per_h", "above_limit_kmh")
+"""What is known of the train itself, where a life is a drive in a closed loop."""
 WITHIN = {"within_events": "event", "within_ms": "time_ms", "within_cm": "place_cm"}
 EXPECTED = ("note", "sections", "rule", "at", "expect", "row", "from", "until", "where", "always", "never", "after", *WITHIN)
 CASE = ("test_case", "feature", "sections", "rule", "starting_conditions", "lives")
 MORE = ("slots", "expected", "include", "telegrams", "parts")
 END = "end"
 ROW = re.compile(r"([0-9]+)(?: from ([A-Z]{2}))?")
-MOST_SLOTS = 4096
+MOST_SLOTS, USUAL_SLOTS = 4096, 64
 
 
 @dataclass(frozen=True)
@@ -93,6 +95,8 @@ class Life:
     scenario: scenarios.Scenario | None
     path: Path | None
     ends: str | None
+    drive: drives.Drive | None = None
+    """How it goes on in a closed loop behind its steps."""
 
 
 @dataclass(frozen=True)
@@ -167,11 +171,11 @@ def test_of(name: str, at: Value) -> Test:
     return word_test(at, WORDS[name]) if name in WORDS else decimal_test(at, name)
 
 
-def condition(at: Value, marks: Iterable[str], is_when: bool) -> Condition:
-    """A condition. A WHEN may name a mark, or the last record."""
+def condition(at: Value, marks: Iterable[str], is_when: bool, is_driven: bool = False) -> Condition:
+    """A condition. A WHEN may name a mark, or the last record; where a life is a drive, all may ask for the train itself."""
     if is_when and at.is_text() and at.text() == END:
         return Condition(at, {}, is_end=True)
-    told = at.members((), (*CONDITION, *(["mark"] if is_when else [])))
+    told = at.members((), (*CONDITION, *(DRIVEN if is_driven else ()), *(["mark"] if is_when else [])))
     if not told:
         raise at.fault("a condition has at least one name")
     mark = told["mark"].one_of(marks) if "mark" in told else None
@@ -206,11 +210,11 @@ def row_of(at: Value) -> Row:
     return Row(int(found[1]), found[2])
 
 
-def expected_of(at: Value, sections: list[str], rule: str, marks: Iterable[str]) -> Expected:
+def expected_of(at: Value, sections: list[str], rule: str, marks: Iterable[str], is_driven: bool = False) -> Expected:
     """An expected result of a case."""
     told = at.members(("note",), EXPECTED)
     check_form(at, told)
-    conditions = {name: condition(told[name], marks, name in WHENS)
+    conditions = {name: condition(told[name], marks, name in WHENS, is_driven)
                   for name in (*WHENS, "expect", "where", "always", "never") if name in told}
     return Expected(at, told["note"].text(), sections_of(told["sections"]) if "sections" in told else sections,
                     told["rule"].text() if "rule" in told else rule, conditions,
@@ -236,20 +240,31 @@ def sections_of(at: Value) -> list[str]:
 
 def life_of(at: Value, shared: scenarios.Shared) -> Life:
     """A life of a case."""
-    told = at.members((), (*scenarios.LIFE, "scenario", "ends"))
+    told = at.members((), (*scenarios.LIFE, "drive", "scenario", "ends"))
     ends = told["ends"].text() if "ends" in told else None
+    if "drive" in told and ends:
+        raise told["ends"].fault("a drive is always carried out; how it ends is an expected result")
     if "scenario" not in told:
         if "steps" not in told:
             raise at.fault("a life has steps, or a scenario of another file")
-        return Life(at, scenarios.build(told, shared), None, ends)
+        return Life(at, scenarios.build(told, shared), None, ends, drives.drive_of(told["drive"]) if "drive" in told else None)
     if set(told) - {"scenario", "ends"}:
         raise at.fault("a life has steps, or a scenario of another file, and not both")
     path = at.path.parent / told["scenario"].text()
     if not path.exists():
         raise told["scenario"].fault(f"there is no file {path}")
     if path.suffix in (".yaml", ".yml"):
-        return Life(at, scenarios.read(path), None, ends)
+        scenario, drive = drives.read(path)
+        if drive and ends:
+            raise told["ends"].fault("a drive is always carried out; how it ends is an expected result")
+        return Life(at, scenario, None, ends, drive)
     return Life(at, None, path, ends)
+
+
+def slots_of(lives: list[Life]) -> int:
+    """How many slots an image has where none are told: drives need one for each time step."""
+    needed = sum(drives.slots_for(life.scenario, life.drive) for life in lives if life.scenario and life.drive)
+    return min(MOST_SLOTS, USUAL_SLOTS + needed)
 
 
 def case_of(at: Value) -> Case:
@@ -260,13 +275,13 @@ def case_of(at: Value) -> Case:
     if not lives:
         raise told["lives"].fault("a case has at least one life")
     case = Case(at, told["test_case"].text(), told["feature"].text(), sections_of(told["sections"]), told["rule"].text(),
-                told["starting_conditions"].text(), told["slots"].integer(2, MOST_SLOTS) if "slots" in told else 64, lives)
+                told["starting_conditions"].text(), told["slots"].integer(2, MOST_SLOTS) if "slots" in told else slots_of(lives), lives)
     marks = [name for life in lives if life.scenario for name in life.scenario.marks]
     for name in marks:
         if marks.count(name) > 1:
             raise told["lives"].fault(f"\"{name}\" marks more than one event")
     for one in told["expected"].elements() if "expected" in told else []:
-        case.expected.append(expected_of(one, case.sections, case.rule, marks))
+        case.expected.append(expected_of(one, case.sections, case.rule, marks, any(life.drive for life in lives)))
     if not case.expected and not any(life.ends for life in lives):
         raise at.fault("nothing is expected: a case has expected results, or a life that ends as told")
     return case
@@ -296,3 +311,11 @@ def derived(record: dict[str, Any]) -> dict[str, Any]:
     for name in INDICATIONS:
         found[f"shows_{name}"] = name in record["indications"]
     return found
+
+
+def with_train(record: dict[str, Any], place_cm: int, speed_m_per_h: int) -> dict[str, Any]:
+    """A record with the train itself as it was at the end of the time step."""
+    above = speed_m_per_h - record["limit_m_per_h"]
+    return record | {"train_place_cm": place_cm, "train_place_m": Decimal(place_cm) / 100, "train_speed_m_per_h": speed_m_per_h,
+                     "train_speed_kmh": Decimal(speed_m_per_h) / 1000, "above_limit_m_per_h": above,
+                     "above_limit_kmh": Decimal(above) / 1000}

@@ -8,8 +8,9 @@ import tempfile
 from dataclasses import dataclass
 from pathlib import Path
 
-from . import program
-from .cases import WITHIN, Case, Condition, Expected, Life, Row, derived
+from . import closed_loop, program
+from .cases import DRIVEN, WITHIN, Case, Condition, Expected, Life, Row, derived, with_train
+from .driving import Driven
 from .program import REFUSED, Failed
 from .reading import Journal, Json, read
 
@@ -40,9 +41,11 @@ class Played:
 def record_text(record: Json) -> str:
     """A record, for people."""
     speed = f", speed {record['speed_kmh']:f} km/h" if record["speed_kmh"] is not None else ""
+    train = f"; the train is at {record['train_place_m']} m, speed {record['train_speed_kmh']} km/h" if "train_place_m" in record else ""
     return (f"event {record['event']} of life {record['life']} ({record['kind']}): {record['mode']}, level "
             f"{'unknown' if record['level'] is None else record['level']}, brake {record['brake']}, at {record['place_m']:f} m, "
-            f"{record['time_ms']} ms{speed}, limit {record['limit_kmh']:f} km/h, shows {' '.join(record['indications']) or 'nothing'}")
+            f"{record['time_ms']} ms{speed}, limit {record['limit_kmh']:f} km/h, shows {' '.join(record['indications']) or 'nothing'}"
+            f"{train}")
 
 
 # ---- playing
@@ -79,12 +82,33 @@ def play(case: Case) -> Played:
         status, printed = program.etcs("format", "--", str(image), str(case.slots))
         if status:
             raise Failed(f"etcs format: {' '.join(printed)}", REFUSED)
-        released = [line for life in case.lives for line in run_life(case, life, image, folder)]
+        released: list[str] = []
+        driven: list[Driven | None] = []
+        for life in case.lives:
+            driven.append(drive(life, image))
+            one = driven[-1]
+            released += one.lines() if one else run_life(case, life, image, folder)
         journal = read(image, replay=True)
     check_image(journal)
-    records = with_speeds(journal.records)
+    records = with_trains(with_speeds(journal.records), driven)
     check_released(released, records)
-    return Played(records, marked(case, records))
+    return Played(records, marked(case, records, driven))
+
+
+def drive(life: Life, image: Path) -> Driven | None:
+    """Plays a life that is a drive; None of one that isn't."""
+    if not life.drive or not life.scenario:
+        return None
+    driven, data = closed_loop.over_image(image.read_bytes(), life.scenario, life.drive)
+    image.write_bytes(data)
+    return driven
+
+
+def with_trains(records: list[Json], driven: list[Driven | None]) -> list[Json]:
+    """The records with the train itself, where there is one."""
+    rows = {event: row for one in driven if one for row in one.rows for event in range(row.first_event, row.event + 1)}
+    return [with_train(record, rows[record["event"]].place_cm, rows[record["event"]].speed_m_per_h)
+            if record["event"] in rows else record for record in records]
 
 
 def check_image(journal: Journal) -> None:
@@ -136,21 +160,23 @@ def with_speeds(records: list[Json]) -> list[Json]:
     return found
 
 
-def marked(case: Case, records: list[Json]) -> dict[str, int]:
-    """The index of the record of each mark. Each life has just the events that its scenario comes to."""
+def marked(case: Case, records: list[Json], driven: list[Driven | None] | None = None) -> dict[str, int]:
+    """The index of the record of each mark. Each life has just the events that its scenario, or its drive, comes to."""
     begins = {record["life"]: index for index, record in enumerate(records) if record["kind"] == "powerup"}
-    lives = [life for life in case.lives if not (life.ends or "").startswith("refused")]
+    lives = [(life, one) for life, one in zip(case.lives, driven or [None] * len(case.lives))
+             if not (life.ends or "").startswith("refused")]
     found: dict[str, int] = {}
-    for number, life in enumerate(lives, 1):
+    for number, (life, one) in enumerate(lives, 1):
         if life.scenario is None or number not in begins:
             continue
         first = begins[number]
         count = sum(record["life"] == number for record in records) - 1
-        if life.ends is None and count != life.scenario.events:
-            raise Missed(f"{life.scenario.events} events in life {number}", f"{count} events")
-        for name, events in life.scenario.marks.items():
-            if events <= count:
-                found[name] = first + events
+        events = len(one.outputs) if one else life.scenario.events
+        if life.ends is None and count != events:
+            raise Missed(f"{events} events in life {number}", f"{count} events")
+        for name, before in life.scenario.marks.items():
+            if before <= count:
+                found[name] = first + before
     return found
 
 
@@ -199,9 +225,13 @@ def judge_stretch(expected: Expected, played: Played) -> None:
     told = expected.conditions
     first = first_met(told["from"], played) if "from" in told else 0
     last = first_met(told["until"], played, first) if "until" in told else len(played.records) - 1
-    judged = [index for index in range(first, last + 1) if "where" not in told or is_met(told["where"], played, index)]
+    asked = told["always"] if "always" in told else told["never"]
+    needed = [name for name in DRIVEN if name in asked.tests]
+    judged = [index for index in range(first, last + 1) if all(name in played.records[index] for name in needed)
+              and ("where" not in told or is_met(told["where"], played, index))]
     if not judged:
-        raise Missed("records to be judged", "there is none" + (f" with {told['where'].text}" if "where" in told else ""))
+        which = (" of a drive" if needed else "") + (f" with {told['where'].text}" if "where" in told else "")
+        raise Missed("records to be judged", f"there is none{which}")
     for index in judged:
         if "always" in told:
             check(told["always"], played.records[index])

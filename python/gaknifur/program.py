@@ -53,6 +53,15 @@ def built(name: str) -> Path:
     return Path(find(name)).parent / "crates" / name / "out" / name
 
 
+def note_slow(name: str) -> None:
+    """Says once, before its first call, that a program isn't there, and that each call will compile the sources."""
+    if name not in told_once:
+        told_once.add(name)
+        if not is_built(name):
+            print(f"lab: there is no proved {name} of these sources, so each call of it compiles them, for about a minute; "
+                  f"./{name} --prove makes it once", file=sys.stderr)
+
+
 def note_unproved(said: Sequence[str]) -> None:
     """Says once that a run wasn't of the proved build."""
     for line in said:
@@ -112,6 +121,7 @@ class Run:
             self.status, printed, self.said = found
             yield from printed
             return
+        note_slow("etcs_lab")
         with tempfile.TemporaryFile() as errors:
             try:
                 with subprocess.Popen(self.words, stdin=subprocess.DEVNULL, stdout=subprocess.PIPE, stderr=errors,
@@ -139,6 +149,7 @@ class Run:
 def etcs(*words: str) -> tuple[int, list[str]]:
     """The status of a run of `etcs`, and the lines that it prints."""
     path = find("etcs")
+    note_slow("etcs")
     try:
         done = subprocess.run([path, *words], stdin=subprocess.DEVNULL, capture_output=True, text=True, encoding="utf-8",
                               errors="replace")

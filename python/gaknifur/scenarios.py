@@ -30,6 +30,7 @@ UNITS: dict[str, dict[str, Decimal]] = {
     "speed": {"m/h": Decimal(1), "km/h": Decimal(1000)},
     "time": {"ms": Decimal(1), "s": Decimal(1000), "min": Decimal(60_000)},
     "deceleration": {"cm/s2": Decimal(1), "m/s2": Decimal(100)},
+    "acceleration": {"cm/s2": Decimal(1), "m/s2": Decimal(100)},
 }
 QUANTITY = re.compile(r"(-?[0-9][0-9_]*(?:\.[0-9]+)?)\s*([a-z][a-z0-9/]*)")
 DEPTH = 16
@@ -70,7 +71,7 @@ def quantity(text: str, at: Value, kind: str, least: int, most: int) -> int:
     """A number with its unit, in the unit of the scenario."""
     found, units = QUANTITY.fullmatch(text.strip()), UNITS[kind]
     if not found or found[2] not in units:
-        raise at.fault(f"a {kind} is wanted here, a number and {' or '.join(units)}, and this is \"{text.strip()}\"")
+        raise at.fault(f"{'an' if kind[0] in 'aeiou' else 'a'} {kind} is wanted here, a number and {' or '.join(units)}, and this is \"{text.strip()}\"")
     number = Decimal(found[1].replace("_", "")) * units[found[2]]
     least_unit = next(iter(units))
     if number != int(number):
@@ -294,5 +295,7 @@ def build(members: dict[str, Value], shared: Shared) -> Scenario:
 def read(path: Path) -> Scenario:
     """The scenario of a YAML file."""
     at = document(path)
-    members = at.members(("steps",), (*LIFE, *SHARED))
+    members = at.members(("steps",), (*LIFE, "drive", *SHARED))
+    if "drive" in members:
+        raise members["drive"].fault("what is driven in a closed loop is known when it was driven; lab drive has --scenario")
     return build(members, shared_of(members, path))

@@ -9,7 +9,7 @@ from contextlib import redirect_stderr
 from pathlib import Path
 from unittest.mock import patch
 
-from gaknifur.program import Failed, Run, prepare
+from gaknifur.program import Failed, Run, etcs, prepare
 from gaknifur.reading import Journal, read
 
 from .samples import journal, line, record
@@ -113,6 +113,14 @@ class Unproved(unittest.TestCase):
                 # the third did not come to its end: it is run by itself
                 third = Run(["replay"], image)
                 self.assertEqual((list(third.lines()), third.status), ([], 1))
+
+    def test_is_told_once(self) -> None:
+        said = io.StringIO()
+        with patch("gaknifur.program.told_once", set()), patch("gaknifur.program.find", lambda name: "/bin/echo"), \
+                patch("gaknifur.program.is_built", lambda name: False), redirect_stderr(said):
+            self.assertEqual([etcs("a"), etcs("b")], [(0, ["a"]), (0, ["b"])])
+        self.assertEqual(said.getvalue(), "lab: there is no proved etcs of these sources, so each call of it compiles them, for about "
+                         "a minute; ./etcs --prove makes it once\n")
 
 
 RT = """#!/bin/sh

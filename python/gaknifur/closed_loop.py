@@ -1,0 +1,50 @@
+"""A drive over the onboard unit itself: the library that `tools/library` makes, on an image in memory."""
+from . import driving, program, scenarios
+from .drives import Drive, slots_for
+from .program import DEVICE, REFUSED, Failed
+from .unit import Cold, MemoryMedium, Refused, Unit, library
+from .words import SCALES_CM
+
+
+def check_library() -> None:
+    """The unit's library is there, and of the interface of this package."""
+    try:
+        library()
+    except OSError as error:
+        raise Failed(f"there is no library of the onboard unit ({error}); tools/library PREFIX makes it, and "
+                     "GAKNIFUR_ETCS_UNIT names its libetcs_unit.so", DEVICE) from error
+    except Refused as refused:
+        raise Failed(f"the library of the onboard unit is of another interface: {refused}", DEVICE) from refused
+
+
+def over_image(data: bytes, scenario: scenarios.Scenario, drive: Drive) -> tuple[driving.Driven, bytes]:
+    """A life on an image: what came of the drive, and the image behind it."""
+    check_library()
+    medium = MemoryMedium(data)
+    try:
+        with Unit(medium, Cold(scenario.cold)) as unit:
+            driven = driving.play(unit, scenario, drive)
+    except Refused as refused:
+        raise Failed(f"{drive.at.path}:{drive.at.line}: the unit answers {refused}", REFUSED) from refused
+    return driven, medium.read()
+
+
+def fresh(scenario: scenarios.Scenario, drive: Drive) -> bytes:
+    """An empty image that holds all of a drive."""
+    check_library()
+    return MemoryMedium.formatted(slots_for(scenario, drive)).read()
+
+
+def ends_of(driven: driving.Driven) -> tuple[int, int] | None:
+    """Where the authority that was heard last ends, and its supervised location, in cm of the train's way, as packet 12 announced
+    them; None where none was heard."""
+    for origin, digits in reversed(driven.heard):
+        for line in program.decode(digits):
+            if not line.startswith("packet 12 "):
+                continue
+            fields = [(name, int(number)) for name, _, number in (word.partition("=") for word in line.split()[2:])]
+            scale = SCALES_CM.get(dict(fields)["Q_SCALE"], 100)
+            end = round(origin) + scale * sum(number for name, number in fields if name in ("L_SECTION", "L_ENDSECTION"))
+            behind = dict(fields).get("D_OL", dict(fields).get("D_DP", 0))
+            return end, end + scale * behind
+    return None

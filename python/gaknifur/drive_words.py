@@ -1,0 +1,167 @@
+"""The word `drive` of `./lab`: plays a drive in a closed loop over the onboard unit's library, and tells what came of it."""
+import argparse
+import csv
+import io
+import json
+import os
+from collections.abc import Callable
+from dataclasses import asdict, replace
+from pathlib import Path
+
+from . import drive_picture, driving, scenarios
+from .closed_loop import check_library, ends_of, fresh, over_image
+from .drives import Drive, read, slots_for
+from .located import BadFile
+from .program import DEVICE, REFUSED, Failed
+from .reading import Progress
+from .unit import FileMedium
+
+Word = Callable[[str, str, str], argparse.ArgumentParser]
+COLUMNS = ("time_ms", "first_event", "event", "place_cm", "speed_m_per_h", "limit_m_per_h", "above_m_per_h", "brake", "mode",
+           "braking_cm_per_s2")
+
+
+def add_words(word: Word) -> None:
+    """Adds the word."""
+    drive = word("drive", "plays a train in a closed loop with the onboard unit, and tells what came of it",
+                 "The unit is the proved library that tools/library PREFIX makes; GAKNIFUR_ETCS_UNIT names its .so.")
+    drive.add_argument("yaml", metavar="FILE.yaml", type=Path, help="a scenario with a drive")
+    drive.add_argument("--csv", metavar="OUT.csv", type=Path, help="a row for each time step")
+    drive.add_argument("--picture", metavar="OUT", type=Path, help="speed and limit over the place, .svg or .png")
+    drive.add_argument("--image", metavar="IMAGE", type=Path, help="the journal; a life more where the file is there")
+    drive.add_argument("--scenario", metavar="OUT.json", type=Path, help="what the unit was told, for etcs run")
+    drive.add_argument("--build-up", metavar="TIMES", help="a table in place of all that: the same drive with each of these "
+                       "build-up times of the brakes, as \"0 s, 1 s, 2 s\"")
+
+
+# ---- what is told
+
+def km(m_per_h: int) -> str:
+    """A speed in km/h."""
+    return f"{m_per_h / 1000:.1f}"
+
+
+def metres(cm: int) -> str:
+    """A place in m."""
+    return f"{cm / 100:.2f}"
+
+
+def where(row: driving.Row) -> str:
+    """A row, for people."""
+    return f"at {metres(row.place_cm)} m after {row.time_ms / 1000:g} s, speed {km(row.speed_m_per_h)}, limit {km(row.limit_m_per_h)} km/h"
+
+
+def told(driven: driving.Driven) -> list[str]:
+    """What came of a drive, a line for each change of brake or mode."""
+    lines, before = [], None
+    for row in driven.rows:
+        now = (row.mode, row.brake)
+        if now != before:
+            lines.append(f"{row.mode}, brake {row.brake}: {where(row)}")
+        before = now
+    last, worst = driven.rows[-1], max(driven.rows, key=lambda row: row.above_m_per_h)
+    if worst.above_m_per_h > 0:
+        lines.append(f"most above the limit: {km(worst.above_m_per_h)} km/h {where(worst)}")
+    lines.append(f"{'stands' if not last.speed_m_per_h else 'still runs'}: {where(last)}")
+    found = ends_of(driven)
+    if found:
+        end, location = found
+        beyond = last.place_cm - location
+        name = "the end of authority" if end == location else "the supervised location"
+        lines.append(f"{name} is at {metres(location)} m: {metres(abs(beyond))} m {'before' if beyond <= 0 else 'beyond'} it")
+    return lines
+
+
+def csv_text(driven: driving.Driven) -> str:
+    """A row for each time step."""
+    text = io.StringIO()
+    writer = csv.DictWriter(text, COLUMNS, lineterminator="\n")
+    writer.writeheader()
+    writer.writerows(asdict(row) | {"above_m_per_h": row.above_m_per_h} for row in driven.rows)
+    return text.getvalue()
+
+
+def scenario_text(scenario: scenarios.Scenario, driven: driving.Driven) -> str:
+    """What the unit was told, as a scenario of its own. Each time step is flushed, as it was."""
+    return scenarios.Scenario(scenario.cold, [], driven.steps).text()
+
+
+def first(driven: driving.Driven, brake: str) -> str:
+    """Where a brake was commanded first."""
+    found = next((row for row in driven.rows if row.brake == brake), None)
+    return metres(found.place_cm) if found else "-"
+
+
+def table(scenario: scenarios.Scenario, drive: Drive, build_ups: list[int]) -> list[str]:
+    """The same drive with several build-up times, a line for each."""
+    rows = [("build-up s", "service m", "emergency m", "most above km/h", "stands m", "beyond m")]
+    for build_up in build_ups:
+        one = replace(drive, train=replace(drive.train, build_up_ms=build_up))
+        driven, _ = over_image(fresh(scenario, one), scenario, one)
+        last, ends = driven.rows[-1], ends_of(driven)
+        rows.append((f"{build_up / 1000:g}", first(driven, "service"), first(driven, "emergency"),
+                     km(max(row.above_m_per_h for row in driven.rows)), metres(last.place_cm) if not last.speed_m_per_h else "-",
+                     metres(last.place_cm - ends[1]) if ends and not last.speed_m_per_h else "-"))
+    widths = [max(map(len, column)) for column in zip(*rows)]
+    return ["  ".join(cell.rjust(width) for cell, width in zip(row, widths)) for row in rows]
+
+
+# ---- the word
+
+def write_bytes(path: Path, data: bytes) -> None:
+    """Writes a file whole, or not at all."""
+    beside = path.with_name(f".{path.name}.{os.getpid()}")
+    try:
+        beside.write_bytes(data)
+        beside.replace(path)
+    except OSError as error:
+        beside.unlink(missing_ok=True)
+        raise Failed(f"{path}: {error.strerror}", DEVICE) from error
+
+
+def on_file(path: Path, scenario: scenarios.Scenario, drive: Drive) -> driving.Driven:
+    """A life on the image of a file, under its lock. One that isn't there is made."""
+    check_library()
+    try:
+        if not path.exists():
+            FileMedium.formatted(path, slots_for(scenario, drive)).close()
+        with FileMedium(path) as medium:
+            driven, data = over_image(medium.read(), scenario, drive)
+            medium.write(0, data)
+            medium.sync()
+    except BlockingIOError as error:
+        raise Failed(f"{path}: another program holds this image", DEVICE) from error
+    except OSError as error:
+        raise Failed(f"{path}: {error.strerror}", DEVICE) from error
+    return driven
+
+
+def build_ups_of(text: str, drive: Drive) -> list[int]:
+    """The build-up times of the word."""
+    try:
+        return [scenarios.quantity(one, drive.at, "time", 0, 60_000) for one in text.split(",")]
+    except BadFile as bad:
+        raise Failed(f"--build-up: {str(bad).split(': ', 1)[1]}", REFUSED) from bad
+
+
+def play_drive(given: argparse.Namespace, progress: Progress) -> None:
+    """The word `drive`."""
+    scenario, drive = read(given.yaml)
+    if drive is None:
+        raise Failed(f"{given.yaml}: has no drive", REFUSED)
+    if given.picture:
+        drive_picture.check_suffix(given.picture.suffix)
+    if given.build_up:
+        print("\n".join(table(scenario, drive, build_ups_of(given.build_up, drive))))
+        return
+    driven = on_file(given.image, scenario, drive) if given.image else over_image(fresh(scenario, drive), scenario, drive)[0]
+    if given.csv:
+        write_bytes(given.csv, csv_text(driven).encode())
+    if given.scenario:
+        write_bytes(given.scenario, scenario_text(scenario, driven).encode())
+    if given.picture:
+        write_bytes(given.picture, drive_picture.drawn(driven, ends_of(driven), given.yaml.stem, given.picture.suffix))
+    print("\n".join(told(driven)))
+
+
+WORDS = {"drive": play_drive}

@@ -1,0 +1,162 @@
+#!/usr/bin/env python3
+"""Trains in a closed loop with the onboard unit's library, which `GAKNIFUR_ETCS_UNIT` names: the drives of drives/.
+
+    tests/suites/drive_rows.py ETCS ETCS_LAB
+
+What the unit was told is played again by `etcs run`: outputs and image have to be the same, byte for byte. `./lab drive` makes
+its files, and says each of its refusals. With each planted fault, in the train, in the driver and between unit and train, some
+expected result of the cases doesn't come.
+"""
+import os
+import re
+import subprocess
+import sys
+import tempfile
+from dataclasses import replace
+from pathlib import Path
+from unittest.mock import patch
+
+TOP = Path(__file__).resolve().parents[2]
+DRIVES = TOP / "drives"
+sys.path.insert(0, str(TOP / "python"))
+from gaknifur import cases, closed_loop, coverage, driving, playing, program  # noqa: E402
+from gaknifur.unit import Brake, Unit  # noqa: E402
+
+SWAPPED = {Brake.NONE: Brake.EMERGENCY, Brake.SERVICE: Brake.SERVICE, Brake.EMERGENCY: Brake.NONE}
+FLUSH, MOVE, READ, DUE, CYCLE = Unit.flush, driving.Motion.move, driving.Loop.read, driving.Motion.due, driving.Loop.cycle
+
+
+def with_brakes(brakes):
+    """A unit that commands other brakes than it records."""
+    return lambda self: [replace(output, brake=brakes.get(output.brake, output.brake)) for output in FLUSH(self)]
+
+
+def decides(self, speed, limit, ms):
+    """A driver who only ever pulls."""
+    return 1.0, 0.0
+
+
+# A fault: where it is planted, and what stands there.
+PLANTED = {
+    "a train that ignores its brakes": (driving.Motion, "brake", lambda self, wanted, seconds: 0.0),
+    "a train whose brakes hold on": (driving.Motion, "due", lambda self, moment: max(DUE(self, moment), self.braking)),
+    "a train that pulls while it is braked": (driving.Motion, "move", lambda self, moment, ms, power: MOVE(self, moment, ms, 0.0) or setattr(
+        self, "speed", self.speed + self.train.acceleration * ms / 1000)),
+    "a driver who heeds nothing": (driving.Driving, "decide", decides),
+    "a driver who does nothing else": (driving.Driving, "acts", lambda self, moment, motion, output: ()),
+    "a unit whose brakes are swapped": (Unit, "flush", with_brakes(SWAPPED)),
+    "a unit without a service brake": (Unit, "flush", with_brakes({Brake.SERVICE: Brake.NONE})),
+    "a unit without an emergency brake": (Unit, "flush", with_brakes({Brake.EMERGENCY: Brake.NONE})),
+    "a service brake in place of each emergency brake": (Unit, "flush", with_brakes({Brake.EMERGENCY: Brake.SERVICE})),
+    "an odometer that isn't read": (driving.Loop, "read", lambda self, speed, is_wanted: None),
+    "an odometer that tells half of the speed": (driving.Loop, "read", lambda self, speed, is_wanted: READ(self, speed // 2, is_wanted)),
+}
+
+
+def missed(found, table):
+    """The results that don't come, case by case."""
+    for case in found:
+        try:
+            played = playing.play(case)
+            for expected in case.expected:
+                try:
+                    playing.judge(expected, played, table)
+                except playing.Missed as one:
+                    yield f"{case.name}: {expected.note}: {' '.join(str(one).split())}"
+        except (playing.Missed, program.Failed) as one:
+            yield f"{case.name}: {' '.join(str(one).split())}"
+
+
+def lab(*words, env=()):
+    done = subprocess.run([TOP / "lab", *words], capture_output=True, text=True, stdin=subprocess.DEVNULL, env={**os.environ, **dict(env)})
+    return done.returncode, done.stdout, done.stderr
+
+
+class Compared:
+    def __init__(self, room):
+        self.room, self.count, self.differ = room, 0, 0
+
+    def same(self, name, found, wanted):
+        self.count += 1
+        if found != wanted:
+            self.differ += 1
+            print(f"tests/suites/drive_rows.py: {name}:\n  found  {str(found)[:600]}\n  wanted {str(wanted)[:600]}")
+
+    def drive(self, path):
+        """A drive, its files, and the same events by the program."""
+        image, again, scenario, rows, picture = (self.room / f"{path.stem}.{end}" for end in ("image", "again", "json", "csv", "svg"))
+        status, told, said = lab("drive", path, "--image", image, "--scenario", scenario, "--csv", rows, "--picture", picture)
+        self.same(f"{path.name}: status", (status, said), (0, ""))
+        program.etcs("format", "--", str(again), str((image.stat().st_size // 512 - 1) // 6))
+        status, printed = program.etcs("run", "--", str(scenario), str(again))
+        self.same(f"{path.name}: etcs run", status, 0)
+        self.same(f"{path.name}: the images", image.read_bytes() == again.read_bytes(), True)
+        table = [line.split(",") for line in rows.read_text().splitlines()]
+        outputs = {int(found[1]): found for found in map(playing.RELEASED.fullmatch, printed) if found}
+        for row in table[1:]:
+            output = outputs[int(row[2])]
+            self.same(f"{path.name}: {row}", (row[5], row[7], row[8]), (output[5], output[4], output[2]))
+        self.same(f"{path.name}: the picture", picture.read_text().count("<svg"), 1)
+        self.same(f"{path.name}: told", len(told.splitlines()) >= 3 and "end of authority is at" in told.splitlines()[-1], True)
+
+    def refusals(self):
+        none = self.room / "none.yaml"
+        none.write_text("steps: [start]\n")
+        kept = DRIVES / "heeds_the_limit.yaml"
+        for words, status, said in ((["drive", none], 1, "has no drive"), (["drive", self.room / "nothing.yaml"], 3, "No such file"),
+                                    (["drive", kept, "--picture", self.room / "x.gif"], 2, "a picture is a file .svg or .png"),
+                                    (["drive", kept, "--build-up", "2 m"], 1, "--build-up: a time is wanted here"),
+                                    (["build", kept], 1, "lab drive has --scenario"),
+                                    (["drive", kept, "--image", self.room], 3, "Is a directory")):
+            found = lab(*words)
+            self.same(f"{words}", (found[0], said in found[2]), (status, True))
+        found = lab("drive", kept, env={"GAKNIFUR_ETCS_UNIT": str(self.room / "no.so")}.items())
+        self.same("no library", (found[0], "tools/library PREFIX makes it" in found[2]), (3, True))
+
+    def table(self):
+        """The longer the brakes need, the farther the train runs; by hand half of the build-up time at 140 km/h more."""
+        status, told, _ = lab("drive", DRIVES / "overruns.yaml", "--build-up", "0 s, 1 s, 2 s, 3 s")
+        beyond = [float(line.split()[-1]) for line in told.splitlines()[1:]]
+        self.same("the table", (status, len(beyond)), (0, 4))
+        for at in range(3):
+            self.same(f"a second more: {beyond}", 18.0 < beyond[at + 1] - beyond[at] < 19.7, True)
+
+    def lives(self):
+        """A second life on an image begins behind the first one, and is replayed with it."""
+        image = self.room / "lives"
+        program.etcs("format", "--", str(image), "1024")
+        for _ in range(2):
+            self.same("a life", lab("drive", DRIVES / "heeds_the_limit.yaml", "--image", image)[0], 0)
+        done = subprocess.run([os.environ["GAKNIFUR_ETCS_LAB"], "replay", "--json", image], capture_output=True, text=True)
+        self.same("two lives", (done.returncode, len(re.findall('"replay":"agrees"', done.stdout)), "differ" in done.stdout.replace("nothing_differs", "")),
+                  (0, 2, False))
+
+
+def main(etcs, etcs_lab):
+    os.environ |= {"GAKNIFUR_ETCS": str(Path(etcs).resolve()), "GAKNIFUR_ETCS_LAB": str(Path(etcs_lab).resolve())}
+    closed_loop.check_library()
+    found, table = coverage.all_cases(DRIVES), coverage.mode_table()
+    wrong = list(missed(found, table))
+    for one in wrong:
+        print(f"tests/suites/drive_rows.py: {one}")
+    left = []
+    for name, (owner, attribute, stands) in PLANTED.items():
+        with patch.object(owner, attribute, stands):
+            if next(missed(found, table), None) is None:
+                left.append(name)
+                print(f"tests/suites/drive_rows.py: not told: {name}")
+    with tempfile.TemporaryDirectory() as folder:
+        compared = Compared(Path(folder))
+        for path in sorted(DRIVES.glob("*.yaml")):
+            if not cases.is_case_file(path):
+                compared.drive(path)
+        compared.refusals()
+        compared.table()
+        compared.lives()
+    print(f"tests/suites/drive_rows.py: {len(found)} cases, {len(PLANTED)} planted faults, {len(left)} not told; {compared.count} comparisons, "
+          f"{compared.differ} differ")
+    return 1 if wrong or left or compared.differ or len(found) < 6 or compared.count < 1_000 else 0
+
+
+if __name__ == "__main__":
+    sys.exit(main(*sys.argv[1:]))

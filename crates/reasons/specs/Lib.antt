@@ -2,3 +2,5 @@ pub mod Runs
 pub mod Told
 pub mod Words
 pub mod LimitWords
+pub mod Trips
+pub mod TripWords

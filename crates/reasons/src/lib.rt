@@ -6,6 +6,7 @@
 mod limit_words;
 mod reasoning;
 mod runs;
+mod trips;
 mod words;
 
 pub use limit_words::{
@@ -13,4 +14,5 @@ pub use limit_words::{
 };
 pub use reasoning::Reasoning;
 pub use runs::Runs;
+pub use trips::{TripTold, trip_section, trip_sentence, trip_word};
 pub use words::{ending, sentence, word};

@@ -5,12 +5,15 @@ ghost use Rattle.events.specs.declared.input.Event.TheVariants.{PowerUp};
 ghost use Rattle.kernel.specs.Causes.{marked, causes_after};
 ghost use Rattle.kernel.specs.Lives.{left_by, kept_by, life_of};
 ghost use Rattle.kernel.specs.Output.{output_after};
+ghost use Rattle.kernel.specs.Trips.{trip_at};
 ghost use Rattle.limit_causes.specs.Causes.{IsLimitCause};
 ghost use Rattle.reasons.specs.Runs.{runs_of};
+ghost use Rattle.reasons.specs.Trips.{trip_of};
 
 use crate::runs::Runs;
+use crate::trips::{TripTold, trip_before, trip_held};
 use events::{Event, Kept, Output};
-use kernel::{BrakeCauses, State};
+use kernel::{BrakeCauses, State, TripCause};
 use limit_causes::LimitCause;
 use mode_table::Cold;
 use std::alloc::Global;
@@ -25,6 +28,7 @@ pub struct Reasoning {
     // The number of the next event, up to the greatest number of 64 bits.
     next: u64,
     runs: Runs,
+    trip: Option<TripTold>,
 }
 
 impl Model for Reasoning {
@@ -32,7 +36,7 @@ impl Model for Reasoning {
 
     ghost Value = { Reasoned };
 
-    ghost view = { λ r. record { state = r.state; next = r.next; runs = r.runs } };
+    ghost view = { λ r. record { state = r.state; next = r.next; runs = r.runs; trip = r.trip } };
 }
 
 impl Reasoning {
@@ -53,8 +57,20 @@ impl Reasoning {
             state,
             next: number.saturating_add(1),
             runs,
+            trip: None,
         };
         (reasoning, output)
+    }
+
+    // Why an event enters Trip, as the next one.
+    fn trip_by(&self, alloc: Global, event: &Event) -> Result<Option<TripCause>, NoMemory>
+        ensures { IfOk result (λ cause. (events : List Event) → Reasons events self.now
+            → cause ≡ trip_at (event.now ∷ events)) }
+    {
+        match event {
+            Event::PowerUp(_) => Ok(None),
+            Event::Input(input) => Ok(self.state.trip_by(alloc, input)?),
+        }
     }
 
     /// Runs one event more, and answers it. NoMemory where memory is refused; then nothing changes.
@@ -64,12 +80,18 @@ impl Reasoning {
         ensures output { (events : List Event) → Reasons events self.old
             → IfOk result (λ output. output ≡ output_after (event.now ∷ events)) }
     {
+        let Ok(entered) = self.trip_by(alloc, event) else {
+            return Err(NoMemory);
+        };
         let Ok(output) = self.state.apply(alloc, event) else {
             return Err(NoMemory);
         };
         let causes = self.state.brake_causes();
         let number = self.next;
+        let before = trip_before(event, self.trip);
+        let trip = trip_held(causes.owes_trip, entered, before, number);
         self.runs = self.runs.after(event, &causes, number);
+        self.trip = trip;
         self.next = number.saturating_add(1);
         Ok(output)
     }
@@ -86,6 +108,13 @@ impl Reasoning {
         ensures { (events : List Event) → Reasons events self.now → result ≡ runs_of events }
     {
         self.runs
+    }
+
+    /// The trip that is owed, where it was entered in this life.
+    pub fn trip(&self) -> Option<TripTold>
+        ensures { (events : List Event) → Reasons events self.now → result ≡ trip_of events }
+    {
+        self.trip
     }
 
     /// What decides the limit that was answered to the last event.

@@ -1,4 +1,4 @@
-use Rattle.std.proofs.Common.{◌≡◌, ap, ◌∷◌, arith}
+use Rattle.std.proofs.Common.{◌≡◌, ap, ◌∷◌, arith, refl}
 use Rattle.events.specs.declared.input.Event.TheVariants.{PowerUp}
 use Rattle.events.specs.declared.kept.Kept.{Kept}
 use Rattle.reasons.specs.Runs.{number_behind}
@@ -13,6 +13,7 @@ returns-clause-stands c = λ events left.
       knows = knows;
       numbered = omega (arith, number, one_more_behind events (PowerUp c.args.word));
       runs_are = c.begun-runs.ensures events c.args.word (c.brake_causes-causes.ensures (PowerUp c.args.word ∷ events) knows) number;
+      trip_is = refl;
     }
 
 pub returns-clause-output : goal.returns-clause-output

@@ -1,0 +1,93 @@
+//! The trip that is owed, and why it was entered.
+ghost use Rattle.std.specs.Prelude.{◌≡◌};
+ghost use Rattle.reasons.specs.Trips.{still, trip_held, trip_before};
+ghost use Rattle.reasons.specs.TripWords.{trip_word_of, trip_sentence_of, trip_section_of};
+
+use events::Event;
+use kernel::TripCause;
+
+/// A trip that is owed: by which event of this life it was entered, and why (SUBSET-026, 4.6, 5.11).
+#[derive(Clone, Copy)]
+pub struct TripTold {
+    /// The number of the event, from 0 on, over all lives.
+    pub event: u64,
+    /// Why.
+    pub cause: TripCause,
+}
+
+// A trip of an earlier event, where one is owed still.
+fn still(owes: bool, before: Option<TripTold>) -> Option<TripTold>
+    ensures { result ≡ still owes before }
+{
+    match before {
+        None => None,
+        Some(told) => { if owes { Some(told) } else { None } }
+    }
+}
+
+/// What an event leaves of the trip before it: nothing where it begins a life.
+pub(crate) fn trip_before(event: &Event, before: Option<TripTold>) -> Option<TripTold>
+    ensures { result ≡ trip_before event.now before }
+{
+    match event {
+        Event::PowerUp(_) => None,
+        Event::Input(_) => before,
+    }
+}
+
+/// The trip behind an event of this number, which entered Trip for this cause, or didn't.
+pub(crate) fn trip_held(
+    owes: bool,
+    entered: Option<TripCause>,
+    before: Option<TripTold>,
+    number: u64,
+) -> Option<TripTold>
+    ensures { result ≡ trip_held owes entered before number }
+{
+    match entered {
+        Some(cause) => Some(TripTold {
+            event: number,
+            cause,
+        }),
+        None => still(owes, before),
+    }
+}
+
+/// The word of a cause, as JSON has it.
+pub fn trip_word(cause: TripCause) -> &'static str
+    ensures { result.now ≡ trip_word_of cause }
+{
+    match cause {
+        TripCause::EndPassed => "end_passed",
+        TripCause::Linking => "linking",
+        TripCause::Stop => "stop",
+        TripCause::StaffDistance => "staff_distance",
+        TripCause::Level => "level",
+    }
+}
+
+/// What it says.
+pub fn trip_sentence(cause: TripCause) -> &'static str
+    ensures { result.now ≡ trip_sentence_of cause }
+{
+    match cause {
+        TripCause::EndPassed => "the minimum safe front was past the end of authority",
+        TripCause::Linking => "linking or a balise group asked for it",
+        TripCause::Stop => "an authority with V_MAIN 0 was used",
+        TripCause::StaffDistance => "the path in Staff Responsible was above D_NVSTFF",
+        TripCause::Level => "the level was 1, and the authority or the track ahead was not known",
+    }
+}
+
+/// The sections of SUBSET-026 that it is from.
+pub fn trip_section(cause: TripCause) -> &'static str
+    ensures { result.now ≡ trip_section_of cause }
+{
+    match cause {
+        TripCause::EndPassed => "3.8",
+        TripCause::Linking => "3.4.4, 3.16.2",
+        TripCause::Stop => "3.8",
+        TripCause::StaffDistance => "4.4",
+        TripCause::Level => "5.10",
+    }
+}

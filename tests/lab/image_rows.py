@@ -297,7 +297,14 @@ def compare_words(program, room, compared):
     image = image_of(6, ring(6, blocks_of(11)))
     good.write_bytes(image)
     text = text_of(image)[0]
-    for words in ([], ["examine"], ["examine", "--jso", str(good)], ["examine", str(good), "x"], ["look", str(good)], ["examine", "--json"], ["--json"]):
+    wrong = (
+        [], ["examine"], ["examine", "--jso", str(good)], ["examine", str(good), "x"], ["look", str(good)], ["examine", "--json"], ["--json"], [""], ["help"],
+        ["--", "examine", str(good)], ["--json", "examine", str(good)], ["examine", "--json", "--json", str(good)], ["examine", "--json=1", str(good)],
+        ["examine", "--help"], ["examine", "-j", str(good)], ["examine", "--all", str(good)], ["events", "--json", str(good)], ["why", str(good), "x"],
+        ["why", str(good), "-1"], ["why", str(good), "8", "9"], ["telegram"], ["telegram", "--schema", str(good)], ["decode"], ["lint", str(good), "x"],
+        ["--help", "--help"], ["--help", "look"], ["--help", "--", "x"],
+    )
+    for words in wrong:
         printed, said, status = run(program, words)
         compared.same(f"words {words}", (printed, said.count("\n"), status), ("", 1, 2))
     for path in ("none", str(room)):
@@ -305,6 +312,10 @@ def compare_words(program, room, compared):
         compared.same(f"file {path}", (printed, said.count("\n"), path in said, status), ("", 1, True, 3))
     printed, said, status = run(program, ["--help"])
     compared.same("help", ("examine" in printed, "digest" in printed.split("\n\n")[-1], "copy" in printed.split("\n\n")[-1], said, status), (True, True, True, "", 0))
+    compared.same("help, and the end of the options", run(program, ["--help", "--"]), (printed, "", 0))
+    compared.same("a command behind --help", run(program, ["--help", "examine", str(good)])[::2], (text, 0))
+    compared.same("an option behind the image", run(program, ["examine", str(good), "--json"]), run(program, ["examine", "--json", str(good)]))
+    compared.same("the end of the options behind the image", run(program, ["examine", str(good), "--"])[::2], (text, 0))
     compared.same("behind --", run(program, ["examine", "--", "-odd"], cwd=room)[2], 3)
     (room / "-odd").write_bytes(image)
     compared.same("behind -- a file", run(program, ["examine", "--", "-odd"], cwd=room)[::2], (text, 0))

@@ -1,45 +1,36 @@
 //! The run of a process: its words, its standard output, and its exit status.
-use crate::program::{etcs_main, status_of};
+use crate::program::answer;
+use command_line::{take_standard_streams, words_of};
 use exit_status::{Status, tell};
-use standard_streams::take_standard_streams;
-use std::alloc::{AllocError, Global};
 use std::fs::File;
+use std::io;
 use std::io::{BufWriter, Write};
 use std::rt::{Env, Files};
-use std::{env, io};
 
-fn words_of<R: Env + AllocGlobal>(rt: &R) -> io::Result<Vec<String>> {
-    let mut words = Vec::new(rt.alloc());
-    for word in env::args(rt)?.skip(1) {
-        words.push(word)?;
-    }
-    Ok(words)
-}
-
-fn borrowed(alloc: Global, words: &[String]) -> Result<Vec<&str>, AllocError> {
-    let mut all = Vec::new(alloc);
-    for word in words {
-        all.push(word.as_str())?;
-    }
-    Ok(all)
-}
-
-fn run_into<R: Env + Files<File = File> + AllocGlobal, W: Write>(rt: &R, out: &mut W) -> u8 {
-    let words = match words_of(rt) {
-        Ok(words) => words,
+fn answer_process<R: Env + Files<File = File> + AllocGlobal, W: Write>(
+    rt: &R,
+    out: &mut W,
+) -> io::Result<Status> {
+    match words_of(rt) {
+        Ok(words) => answer(rt, words.as_slice(), out),
         Err(error) if error.kind() == io::ErrorKind::OutOfMemory => {
-            return status_of(tell(out, "refused memory", Status::Refused));
+            tell(out, "refused memory", Status::Refused)
         }
         // A word that is no text is no word of the program.
-        Err(_) => return status_of(tell(out, "usage", Status::Usage)),
-    };
-    match borrowed(rt.alloc(), words.as_slice()) {
-        Ok(all) => etcs_main(rt, all.as_slice(), out),
-        Err(_) => status_of(tell(out, "refused memory", Status::Refused)),
+        Err(_) => tell(out, "usage", Status::Usage),
     }
 }
 
-/// Does what the words of the process behind the program's name ask, over standard output, and answers the exit status.
+// The number of a status, or that of a write that failed.
+fn status_of(told: io::Result<Status>) -> u8 {
+    match told {
+        Ok(status) => status as u8,
+        Err(_) => Status::Refused as u8,
+    }
+}
+
+/// Does what the words of the process behind the program's name ask, over standard output, and answers the exit status:
+/// 0 done, 1 refused or not written, 2 for words that are none of the program's, 3 where a file or the device fails.
 /// Before it opens a file it takes the standard streams that are closed. Where it can't, it writes nothing, and opens
 /// no file.
 pub(crate) fn run<R: Env + Files<File = File> + Print + AllocGlobal>(rt: &R) -> u8 {
@@ -49,7 +40,7 @@ pub(crate) fn run<R: Env + Files<File = File> + Print + AllocGlobal>(rt: &R) -> 
     let Ok(mut out) = BufWriter::new(rt.alloc(), io::writer(rt)) else {
         return status_of(tell(&mut io::writer(rt), "refused memory", Status::Refused));
     };
-    let status = run_into(rt, &mut out);
+    let status = status_of(answer_process(rt, &mut out));
     match out.flush() {
         Ok(()) => status,
         Err(_) => Status::Refused as u8,

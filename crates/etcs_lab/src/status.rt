@@ -1,5 +1,7 @@
 //! How the program ends, and what it says on standard error.
 
+use std::io::Write;
+
 /// How the program ends; its number is the exit status of the process (this project's profile).
 #[derive(Clone, Copy)]
 pub(crate) enum Status {
@@ -29,6 +31,19 @@ pub(crate) fn unwritten<R: Eprint>(rt: &R, path: &str) -> Status {
         path,
         Status::Refused,
     )
+}
+
+/// Writes a text that a word asks for.
+pub(crate) fn text_told<R: Eprint, W: Write>(
+    rt: &R,
+    text: &str,
+    word: &str,
+    out: &mut W,
+) -> Status {
+    match out.write_all(text.as_bytes()) {
+        Ok(()) => Status::Whole,
+        Err(_) => unwritten(rt, word),
+    }
 }
 
 /// Says that the words are wrong.

@@ -8,7 +8,7 @@ use std::fs::File;
 use std::io::{Read, Write};
 use std::rt::Files;
 use std::{fs, io};
-use telegram_objects::{ObjectFault, SCHEMA, bytes_of_text, write_answer};
+use telegram_objects::{ObjectFault, bytes_of_text, write_answer};
 
 // The bytes of a file, or of standard input.
 fn bytes_in<R: Files<File = File> + Input + AllocGlobal>(
@@ -55,27 +55,14 @@ pub(crate) fn telegram_told<R: Files<File = File> + Input + AllocGlobal + Eprint
     }
 }
 
-/// Writes the schema of a telegram's JSON, and answers the status.
-pub(crate) fn schema_told<R: Eprint, W: Write>(rt: &R, out: &mut W) -> Status {
-    match out.write_all(SCHEMA.as_bytes()) {
-        Ok(()) => Status::Whole,
-        Err(_) => unwritten(rt, "--schema"),
-    }
-}
-
 // Writes what digits carry as an object; whether they carry a telegram.
 fn write_object<W: Write>(alloc: Global, digits: &str, out: &mut W) -> io::Result<bool> {
-    match hex::decode(alloc, digits) {
-        Ok(bytes) => write_answer(bytes.as_slice(), out),
-        Err(FromHexError::OutOfMemory) => {
-            writeln!(out, "{{\"refused\":{{\"name\":\"memory\"}}}}")?;
-            Ok(false)
-        }
-        Err(_) => {
-            writeln!(out, "{{\"refused\":{{\"name\":\"hex\"}}}}")?;
-            Ok(false)
-        }
-    }
+    let refused = match hex::decode(alloc, digits) {
+        Ok(bytes) => return write_answer(bytes.as_slice(), out),
+        Err(FromHexError::OutOfMemory) => "{\"refused\":{\"name\":\"memory\"}}\n",
+        Err(_) => "{\"refused\":{\"name\":\"hex\"}}\n",
+    };
+    out.write_all(refused.as_bytes()).map(|()| false)
 }
 
 /// Writes what digits carry, in lines as `etcs decode` or as JSON, and answers the status.

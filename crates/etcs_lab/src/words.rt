@@ -1,110 +1,80 @@
-//! The words of the program. Each command has a function of its own, and each name stands in it as a literal: a name that
-//! is handed over takes its proof five times as long.
+//! What the words of the program ask for.
 
-use clap::{Arg, ArgAction, ArgMatches, Command, Error};
-use std::alloc::{AllocError, Global};
+use command_line::told_apart;
+use lab_lines::Form;
 
-fn examine_words<'a>(alloc: Global) -> Result<Command<'a>, AllocError> {
-    let json = Arg::new(alloc, "json")
-        .long("json")
-        .action(ArgAction::SetTrue);
-    Command::new(alloc, "examine")
-        .disable_help_flag(true)
-        .arg(json)?
-        .arg(Arg::new(alloc, "IMAGE").required(true))
+/// What the words ask for.
+#[derive(Clone, Copy)]
+pub(crate) enum Asked<'a> {
+    /// The help.
+    Help,
+    /// To examine an image.
+    Examine(&'a str, Form),
+    /// The events of an image, of its journal or all.
+    Events(&'a str, bool),
+    /// To replay an image.
+    Replay(&'a str, Form),
+    /// Why the brakes were commanded, at each change or at the event of a number.
+    Why(&'a str, Option<u64>, Form),
+    /// The telegram that a file tells.
+    Telegram(&'a str),
+    /// The schema of a telegram.
+    Schema,
+    /// To decode digits, in lines or as JSON.
+    Decode(&'a str, bool),
+    /// What is wrong in a scenario, in lines or as JSON.
+    Lint(&'a str, bool),
 }
 
-fn events_words<'a>(alloc: Global) -> Result<Command<'a>, AllocError> {
-    let all = Arg::new(alloc, "all")
-        .long("all")
-        .action(ArgAction::SetTrue);
-    Command::new(alloc, "events")
-        .disable_help_flag(true)
-        .arg(all)?
-        .arg(Arg::new(alloc, "IMAGE").required(true))
+fn form_of(is_json: bool) -> Form {
+    if is_json { Form::Json } else { Form::People }
 }
 
-fn replay_words<'a>(alloc: Global) -> Result<Command<'a>, AllocError> {
-    let json = Arg::new(alloc, "json")
-        .long("json")
-        .action(ArgAction::SetTrue);
-    Command::new(alloc, "replay")
-        .disable_help_flag(true)
-        .arg(json)?
-        .arg(Arg::new(alloc, "IMAGE").required(true))
+// The option of a command.
+fn option_of(name: &str) -> &'static str {
+    match name {
+        "events" => "--all",
+        "telegram" => "--schema",
+        _ => "--json",
+    }
 }
 
-fn why_words<'a>(alloc: Global) -> Result<Command<'a>, AllocError> {
-    let json = Arg::new(alloc, "json")
-        .long("json")
-        .action(ArgAction::SetTrue);
-    Command::new(alloc, "why")
-        .disable_help_flag(true)
-        .arg(json)?
-        .arg(Arg::new(alloc, "IMAGE").required(true))?
-        .arg(Arg::new(alloc, "EVENT"))
+// What a command of one value asks for, with or without its option.
+fn asked_of<'a>(name: &str, value: &'a str, has_option: bool) -> Option<Asked<'a>> {
+    match name {
+        "examine" => Some(Asked::Examine(value, form_of(has_option))),
+        "events" => Some(Asked::Events(value, has_option)),
+        "replay" => Some(Asked::Replay(value, form_of(has_option))),
+        "why" => Some(Asked::Why(value, None, form_of(has_option))),
+        "telegram" if !has_option => Some(Asked::Telegram(value)),
+        "decode" => Some(Asked::Decode(value, has_option)),
+        "lint" => Some(Asked::Lint(value, has_option)),
+        _ => None,
+    }
 }
 
-fn telegram_words<'a>(alloc: Global) -> Result<Command<'a>, AllocError> {
-    let schema = Arg::new(alloc, "schema")
-        .long("schema")
-        .action(ArgAction::SetTrue);
-    Command::new(alloc, "telegram")
-        .disable_help_flag(true)
-        .arg(schema)?
-        .arg(Arg::new(alloc, "FILE"))
+// What a command and the words behind its name ask for.
+fn command<'a>(name: &str, words: &'a [String]) -> Option<Asked<'a>> {
+    let told = told_apart(words, option_of(name))?;
+    match (told.first, told.second) {
+        (None, None) if told.has_option && name == "telegram" => Some(Asked::Schema),
+        (Some(value), None) => asked_of(name, value, told.has_option),
+        (Some(image), Some(event)) if name == "why" => {
+            let event = event.parse().ok()?;
+            Some(Asked::Why(image, Some(event), form_of(told.has_option)))
+        }
+        _ => None,
+    }
 }
 
-fn decode_words<'a>(alloc: Global) -> Result<Command<'a>, AllocError> {
-    let json = Arg::new(alloc, "json")
-        .long("json")
-        .action(ArgAction::SetTrue);
-    Command::new(alloc, "decode")
-        .disable_help_flag(true)
-        .arg(json)?
-        .arg(Arg::new(alloc, "HEX").required(true))
-}
-
-fn lint_words<'a>(alloc: Global) -> Result<Command<'a>, AllocError> {
-    let json = Arg::new(alloc, "json")
-        .long("json")
-        .action(ArgAction::SetTrue);
-    Command::new(alloc, "lint")
-        .disable_help_flag(true)
-        .arg(json)?
-        .arg(Arg::new(alloc, "SCENARIO").required(true))
-}
-
-// The words over an image.
-fn image_commands<'a>(alloc: Global, command: Command<'a>) -> Result<Command<'a>, AllocError> {
-    command
-        .subcommand(examine_words(alloc)?)?
-        .subcommand(events_words(alloc)?)?
-        .subcommand(replay_words(alloc)?)?
-        .subcommand(why_words(alloc)?)
-}
-
-fn command<'a>(alloc: Global) -> Result<Command<'a>, AllocError> {
-    let help = Arg::new(alloc, "help")
-        .long("help")
-        .action(ArgAction::SetTrue);
-    let command = Command::new(alloc, "etcs_lab")
-        .no_binary_name(true)
-        .disable_help_flag(true)
-        .disable_help_subcommand(true)
-        .arg(help)?;
-    image_commands(alloc, command)?
-        .subcommand(telegram_words(alloc)?)?
-        .subcommand(decode_words(alloc)?)?
-        .subcommand(lint_words(alloc)?)
-}
-
-/// What the words behind the program's name ask for.
-pub(crate) fn parsed<'a>(alloc: Global, words: &'a [&'a str]) -> Result<ArgMatches<'a>, Error> {
-    command(alloc)?.try_get_matches_from(words)
-}
-
-/// A word that names a file or a value; none where it isn't there.
-pub(crate) fn word<'a>(matches: &ArgMatches<'a>, name: &str) -> &'a str {
-    matches.get_str(name).unwrap_or("")
+/// What the words behind the program's name ask for; None where they are none of the program's.
+pub(crate) fn understood<'a>(words: &'a [String]) -> Option<Asked<'a>> {
+    match words {
+        [name, behind @ ..] if name.as_str() != "--help" => command(name.as_str(), behind),
+        [_] => Some(Asked::Help),
+        [_, end] if end.as_str() == "--" => Some(Asked::Help),
+        // The help gives way to a command.
+        [_, name, behind @ ..] => command(name.as_str(), behind),
+        [] => None,
+    }
 }

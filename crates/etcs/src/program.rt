@@ -43,9 +43,7 @@ fn understood<'a>(words: &'a [String]) -> Option<Asked<'a>> {
     }
 }
 
-/// Does what the words behind the program's name ask, writes what there is to tell, and answers the exit status. The
-/// error is that of a write.
-pub(crate) fn answer<R: Files<File = File> + AllocGlobal, W: Write>(
+fn done<R: Files<File = File> + AllocGlobal, W: Write>(
     rt: &R,
     words: &[String],
     out: &mut W,
@@ -57,4 +55,22 @@ pub(crate) fn answer<R: Files<File = File> + AllocGlobal, W: Write>(
         Some(Asked::Journal(image)) => list_image(rt, image, out),
         None => tell(out, "usage", Status::Usage),
     }
+}
+
+/// The number of a status, or that of a write that failed.
+pub(crate) fn status_of(told: io::Result<Status>) -> u8 {
+    match told {
+        Ok(status) => status as u8,
+        Err(_) => Status::Refused as u8,
+    }
+}
+
+/// Does what the words behind the program's name ask, writes what there is to tell, and answers the exit status: 0 done,
+/// 1 refused or not written, 2 for words that are none of the program's, 3 where a file or the device fails.
+pub(crate) fn etcs_main<R: Files<File = File> + AllocGlobal, W: Write>(
+    rt: &R,
+    words: &[String],
+    out: &mut W,
+) -> u8 {
+    status_of(done(rt, words, out))
 }

@@ -1,5 +1,5 @@
 //! The run of a process: its words, its standard output, and its exit status.
-use crate::program::answer;
+use crate::program::{etcs_main, status_of};
 use command_line::{take_standard_streams, words_of};
 use exit_status::{Status, tell};
 use std::fs::File;
@@ -7,25 +7,14 @@ use std::io;
 use std::io::{BufWriter, Write};
 use std::rt::{Env, Files};
 
-fn answer_process<R: Env + Files<File = File> + AllocGlobal, W: Write>(
-    rt: &R,
-    out: &mut W,
-) -> io::Result<Status> {
+fn run_into<R: Env + Files<File = File> + AllocGlobal, W: Write>(rt: &R, out: &mut W) -> u8 {
     match words_of(rt) {
-        Ok(words) => answer(rt, words.as_slice(), out),
+        Ok(words) => etcs_main(rt, words.as_slice(), out),
         Err(error) if error.kind() == io::ErrorKind::OutOfMemory => {
-            tell(out, "refused memory", Status::Refused)
+            status_of(tell(out, "refused memory", Status::Refused))
         }
         // A word that is no text is no word of the program.
-        Err(_) => tell(out, "usage", Status::Usage),
-    }
-}
-
-// The number of a status, or that of a write that failed.
-fn status_of(told: io::Result<Status>) -> u8 {
-    match told {
-        Ok(status) => status as u8,
-        Err(_) => Status::Refused as u8,
+        Err(_) => status_of(tell(out, "usage", Status::Usage)),
     }
 }
 
@@ -40,7 +29,7 @@ pub(crate) fn run<R: Env + Files<File = File> + Print + AllocGlobal>(rt: &R) -> 
     let Ok(mut out) = BufWriter::new(rt.alloc(), io::writer(rt)) else {
         return status_of(tell(&mut io::writer(rt), "refused memory", Status::Refused));
     };
-    let status = status_of(answer_process(rt, &mut out));
+    let status = run_into(rt, &mut out);
     match out.flush() {
         Ok(()) => status,
         Err(_) => Status::Refused as u8,

@@ -13,12 +13,15 @@ TOP = Path(__file__).resolve().parents[2]
 sys.path[:0] = [str(TOP / "tests" / part) for part in ("plain", "hostile")]
 
 import decoded
+import driver
 import program as plain_program
+from items import Kept
+from life import Life
 from named import written
 from random_inputs import Made, cut_text
 from random_lists import Numbers
 
-RANDOM, SEED, LEAST_FAULTS = 300, 2026, 100
+RANDOM, SEED, LEAST_FAULTS, LEAST_ACTIONS = 300, 2026, 100, 100
 GOOD = written("NID_BG 2, N_TOTAL 2; 65: NID_TSR 7, D_TSR 100, L_TSR 50, Q_FRONT 1, V_TSR 4").upper()
 SKIPPED = written("NID_BG 2; 44: ; 136: ").upper()
 SPARE = written("NID_BG 2, M_DUP 3").upper()
@@ -60,6 +63,15 @@ FAULTS = [
 ]
 
 REFUSED = "the kernel refuses the telegram: 3 Spare"
+READY = [{"driver": action} for action in ([1, "IC 704"], [4, 1], [3, 20_000, 160_000, 70, 0, 15])]
+START, SHUNTING, LEAVE, OVERRIDE, CLOSE, STANDS = *({"driver": [code]} for code in (6, 7, 8, 9, 11)), {"drive": [0, 0]}
+
+
+def not_accepted(*steps):
+    """The actions of these steps aren't accepted, each in its mode."""
+    return [(f"/steps/{step}/driver", f"the kernel doesn't accept the action, in mode {mode}") for step, mode in steps]
+
+
 ADVICE = [
     (scenario([group()], [{"drive": [100, 1_000]}, {"telegram": GOOD}]), []),
     (scenario([group()], [{"drive": [99, 1_000]}]), [("/groups/0/balises/0", "no drive leads over the balise")]),
@@ -68,6 +80,21 @@ ADVICE = [
       ("/groups/0/balises/1", "no drive leads over the balise")]),
     (scenario(steps=[{"flush": True}, {"telegram": SPARE}]), [("/steps/1/telegram", REFUSED)]),
     (scenario([group(balises=[SPARE])], [{"drive": [100, 1]}]), [("/groups/0/balises/0", REFUSED)]),
+    # The actions, by the tables of modes and of what is accepted (crates/driver): without data no start, and none twice; what was never
+    # entered can't be confirmed; without an area or a trip nothing can be acknowledged.
+    (scenario(steps=[START, *READY, START]), not_accepted((0, "SB"))),
+    (scenario(steps=[*READY, START, START, LEAVE, {"driver": [2, 704]}, {"driver": [10, 1]}]),
+     not_accepted((4, "SR"), (5, "SR"), (6, "SR"), (7, "SR"))),
+    (scenario(steps=[{"driver": [5, 1]}, {"driver": [1, "IC 704"]}, {"driver": [5, 1]}, {"driver": [10, 2]}, OVERRIDE, CLOSE]),
+     not_accepted((0, "SB"), (3, "SB"), (4, "SB"), (5, "SB"))),
+    # Shunting is chosen at standstill and left once; a desk isn't closed in motion, and in Stand By there is none to be closed.
+    (scenario(steps=[*READY, SHUNTING, SHUNTING, {"drive": [100, 5_000]}, LEAVE, STANDS, LEAVE, LEAVE]),
+     not_accepted((4, "SH"), (6, "SH"), (9, "SB"))),
+    (scenario(steps=[*READY, START, {"drive": [100, 5_000]}, CLOSE, STANDS, CLOSE, CLOSE]), not_accepted((5, "SR"), (8, "SB"))),
+    # An override is for FS, OS, SR and PT; with a telegram's advice between them, in the order of the steps.
+    (scenario(steps=[*READY, OVERRIDE, {"telegram": SPARE}, START, OVERRIDE]), [*not_accepted((3, "SB")), ("/steps/4/telegram", REFUSED)]),
+    # A life ends where its clock goes back: behind that no action is judged.
+    (scenario(steps=[LEAVE, {"clock": 5}, {"clock": 5}, LEAVE, {"clock": 4}, LEAVE]), not_accepted((0, "SB"), (3, "SB"))),
 ]
 
 
@@ -96,8 +123,24 @@ def of_telegram(place, digits):
     return [(place, f"packet {line.split()[1]} is skipped") for line in lines if line.endswith(" skipped")]
 
 
+def refusals(told):
+    """Of each action that is reached, in its order, the mode in which the plain kernel doesn't accept it; None where it does."""
+    life, moment, found = Life(Kept(), plain_program.WORDS[told.get("cold", 0)]), 0, []
+    for asked in filter(None, plain_program.inputs_of(told)):
+        kind, word, value, _ = plain_program.event_of(*asked)
+        if word == "clock":
+            if int(value) < moment:
+                break
+            moment = int(value)
+        if kind == "driver":
+            found.append(None if driver.accepts(life, word, value) else life.mode())
+        life.take(word, value)
+    return found
+
+
 def advice_on(told):
     """What is to be told of a scenario that is accepted."""
+    modes = iter(refusals(told))
     front = farthest = 0
     for step in told["steps"]:
         front += step.get("drive", [0])[0]
@@ -112,6 +155,9 @@ def advice_on(told):
     for i, step in enumerate(told["steps"]):
         if "telegram" in step:
             found += of_telegram(f"/steps/{i}/telegram", step["telegram"])
+        mode = next(modes, None) if "driver" in step else None
+        if mode:
+            found += not_accepted((i, mode))
     return found
 
 
@@ -168,13 +214,16 @@ def main(words):
             compared.same(f"words {more}", compared.run(["lint", *more])[::2], ("", 2))
         done = subprocess.run(["sh", "-c", 'exec "$@" >/dev/full', "sh", *lab, "lint", str(file)], capture_output=True, stdin=subprocess.DEVNULL)
         compared.same("a full device", done.returncode, 1)
-        numbers, image, faults = Numbers(SEED), plain_program.Image(64), 0
+        numbers, image, faults, actions = Numbers(SEED), plain_program.Image(64), 0, 0
         for _ in range(RANDOM):
             told = Made(numbers, image).scenario()
-            compared.lint(told, advice_on(told))
+            found = advice_on(told)
+            actions += sum("accept" in what for _, what in found)
+            compared.lint(told, found)
             faults += compared.changed(cut_text(json.dumps(told), numbers))
-    print(f"lint: {len(FAULTS) + len(ADVICE)} by hand, {RANDOM} random ones, {faults} with a fault, {compared.count} comparisons, {compared.differ} differ")
-    return 0 if compared.differ == 0 and faults >= LEAST_FAULTS else 1
+    print(f"lint: {len(FAULTS) + len(ADVICE)} by hand, {RANDOM} random ones, {faults} with a fault, {actions} actions that aren't accepted, "
+          f"{compared.count} comparisons, {compared.differ} differ")
+    return 0 if compared.differ == 0 and faults >= LEAST_FAULTS and actions >= LEAST_ACTIONS else 1
 
 
 if __name__ == "__main__":

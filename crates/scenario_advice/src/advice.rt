@@ -2,6 +2,8 @@
 
 use crate::places::Place;
 use hex::FromHexError;
+use mode_table::Mode;
+use output_lines::mode_word;
 use packets::Packet;
 use serde_json::Value;
 use std::alloc::Global;
@@ -18,6 +20,8 @@ pub(crate) enum Advice {
     Skipped(u8),
     /// No drive leads over the balise.
     NotReached,
+    /// An action that the kernel doesn't accept, and the mode that it meets.
+    NotAccepted(Mode),
 }
 
 impl fmt::Display for Advice {
@@ -29,6 +33,10 @@ impl fmt::Display for Advice {
             }
             Advice::Skipped(number) => write!(f, "packet {number} is skipped"),
             Advice::NotReached => write!(f, "no drive leads over the balise"),
+            Advice::NotAccepted(mode) => {
+                let mode = mode_word(*mode);
+                write!(f, "the kernel doesn't accept the action, in mode {mode}")
+            }
         }
     }
 }
@@ -125,10 +133,36 @@ fn items<'a>(value: &'a Value, key: &str) -> &'a [Value] {
     }
 }
 
-/// What is probably not meant in a scenario, in its order. The error is that memory was refused.
+// Tells of the telegrams of the steps, and of the actions that aren't accepted.
+fn of_steps(
+    alloc: Global,
+    steps: &[Value],
+    refusals: &[Option<Mode>],
+    found: &mut Vec<LocatedAdvice>,
+) -> Result<(), FromHexError> {
+    let mut actions = 0usize;
+    for (i, step) in steps.iter().enumerate() {
+        if let Some(digits) = step.get("telegram") {
+            of_telegram(alloc, digits, Place::InStep(i, "telegram"), found)?;
+        }
+        if step.get("driver").is_some() {
+            if let Some(Some(mode)) = refusals.get(actions).copied() {
+                let advice = Advice::NotAccepted(mode);
+                let place = Place::InStep(i, "driver");
+                push(found, LocatedAdvice { advice, place })?;
+            }
+            actions = actions.saturating_add(1);
+        }
+    }
+    Ok(())
+}
+
+/// What is probably not meant in a scenario, in its order; `refusals` are those of its actions. The error is that
+/// memory was refused.
 pub(crate) fn advice_on(
     alloc: Global,
     scenario: &Value,
+    refusals: &[Option<Mode>],
 ) -> Result<Vec<LocatedAdvice>, FromHexError> {
     let mut found = Vec::new(alloc);
     let steps = items(scenario, "steps");
@@ -136,10 +170,6 @@ pub(crate) fn advice_on(
     for (i, group) in items(scenario, "groups").iter().enumerate() {
         of_group(alloc, i, group, farthest, &mut found)?;
     }
-    for (i, step) in steps.iter().enumerate() {
-        if let Some(digits) = step.get("telegram") {
-            of_telegram(alloc, digits, Place::InStep(i, "telegram"), &mut found)?;
-        }
-    }
+    of_steps(alloc, steps, refusals, &mut found)?;
     Ok(found)
 }

@@ -2,6 +2,7 @@
 //! meant (this project's profile).
 #![tactic(auto)]
 
+mod accepting;
 mod advice;
 mod lines;
 mod locating;

@@ -1,8 +1,11 @@
 //! What there is to tell of a scenario, in lines for people or as JSON Lines.
 
+use crate::accepting::refusals;
 use crate::advice::{LocatedAdvice, advice_on};
 use crate::locating::{Faults, LocatedFault, faults_of};
 use crate::places::Place;
+use events::Step;
+use mode_table::Cold;
 use serde_json::Value;
 use simulator::Scenario;
 use std::alloc::Global;
@@ -88,13 +91,17 @@ fn write_advice<W: Write>(found: &LocatedAdvice, form: Form, out: &mut W) -> io:
 fn write_all_advice<W: Write>(
     alloc: Global,
     text: &[u8],
+    life: &(Cold, Vec<Step>),
     form: Form,
     out: &mut W,
 ) -> Result<bool, LintError> {
     let Ok(value) = Value::from_slice(alloc, text) else {
         return Err(LintError::NoMemory);
     };
-    let Ok(all) = advice_on(alloc, &value) else {
+    let Ok(refusals) = refusals(alloc, life.0, life.1.as_slice()) else {
+        return Err(LintError::NoMemory);
+    };
+    let Ok(all) = advice_on(alloc, &value, refusals.as_slice()) else {
         return Err(LintError::NoMemory);
     };
     for advice in all.as_slice() {
@@ -112,7 +119,7 @@ pub fn lint<W: Write>(
     out: &mut W,
 ) -> Result<bool, LintError> {
     match faults_of(alloc, scenario) {
-        Ok(_) => write_all_advice(alloc, scenario.bytes.as_slice(), form, out),
+        Ok(life) => write_all_advice(alloc, scenario.bytes.as_slice(), &life, form, out),
         Err(faults) => {
             write_faults(&faults, form, out)?;
             Ok(false)

@@ -27,18 +27,15 @@ fn understood<'a>(words: &'a [String]) -> Option<Asked<'a>> {
     let [name, values @ ..] = words else {
         return None;
     };
+    let name = name.as_str();
     let told = told_apart(values, "")?; // no command has an option
     match (told.first, told.second) {
-        (Some(only), None) => match name.as_str() {
-            "decode" => Some(Asked::Decode(only)),
-            "journal" => Some(Asked::Journal(only)),
-            _ => None,
-        },
-        (Some(first), Some(second)) => match name.as_str() {
-            "format" => Some(Asked::Format(first, second.parse().ok()?)),
-            "run" => Some(Asked::Run(first, second)),
-            _ => None,
-        },
+        (Some(digits), None) if name == "decode" => Some(Asked::Decode(digits)),
+        (Some(image), None) if name == "journal" => Some(Asked::Journal(image)),
+        (Some(image), Some(blocks)) if name == "format" => {
+            Some(Asked::Format(image, blocks.parse().ok()?))
+        }
+        (Some(scenario), Some(image)) if name == "run" => Some(Asked::Run(scenario, image)),
         _ => None,
     }
 }

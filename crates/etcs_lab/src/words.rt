@@ -32,37 +32,32 @@ fn form_of(is_json: bool) -> Form {
 
 // The option of a command.
 fn option_of(name: &str) -> &'static str {
-    match name {
-        "events" => "--all",
-        "telegram" => "--schema",
-        _ => "--json",
-    }
-}
-
-// What a command of one value asks for, with or without its option.
-fn asked_of<'a>(name: &str, value: &'a str, has_option: bool) -> Option<Asked<'a>> {
-    match name {
-        "examine" => Some(Asked::Examine(value, form_of(has_option))),
-        "events" => Some(Asked::Events(value, has_option)),
-        "replay" => Some(Asked::Replay(value, form_of(has_option))),
-        "why" => Some(Asked::Why(value, None, form_of(has_option))),
-        "telegram" if !has_option => Some(Asked::Telegram(value)),
-        "decode" => Some(Asked::Decode(value, has_option)),
-        "lint" => Some(Asked::Lint(value, has_option)),
-        _ => None,
+    if name == "events" {
+        "--all"
+    } else if name == "telegram" {
+        "--schema"
+    } else {
+        "--json"
     }
 }
 
 // What a command and the words behind its name ask for.
 fn command<'a>(name: &str, words: &'a [String]) -> Option<Asked<'a>> {
     let told = told_apart(words, option_of(name))?;
+    let has_option = told.has_option;
+    let form = form_of(has_option);
     match (told.first, told.second) {
-        (None, None) if told.has_option && name == "telegram" => Some(Asked::Schema),
-        (Some(value), None) => asked_of(name, value, told.has_option),
+        (Some(image), None) if name == "examine" => Some(Asked::Examine(image, form)),
+        (Some(image), None) if name == "events" => Some(Asked::Events(image, has_option)),
+        (Some(image), None) if name == "replay" => Some(Asked::Replay(image, form)),
+        (Some(image), None) if name == "why" => Some(Asked::Why(image, None, form)),
         (Some(image), Some(event)) if name == "why" => {
-            let event = event.parse().ok()?;
-            Some(Asked::Why(image, Some(event), form_of(told.has_option)))
+            Some(Asked::Why(image, Some(event.parse().ok()?), form))
         }
+        (None, None) if name == "telegram" && has_option => Some(Asked::Schema),
+        (Some(file), None) if name == "telegram" && !has_option => Some(Asked::Telegram(file)),
+        (Some(digits), None) if name == "decode" => Some(Asked::Decode(digits, has_option)),
+        (Some(scenario), None) if name == "lint" => Some(Asked::Lint(scenario, has_option)),
         _ => None,
     }
 }

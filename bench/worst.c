@@ -1,6 +1,6 @@
 /* Lives scenarios by the calls of include/etcs_unit.h, and says for callgrind where each counted call ends.
  *
- *     worst [told | stack]    reads scenarios from standard input, an input a line
+ *     worst [told | mute | stack]    reads scenarios from standard input, an input a line
  *
  * The lines, of which those that tests/unit/life.c has mean the same:
  *
@@ -16,11 +16,11 @@
  *
  *     N M STATUS MODE LEVEL BRAKE LIMIT HEAP PEAK REQUESTS GREATEST STACK
  *
- * MODE, LEVEL, BRAKE and LIMIT are those of the last release. HEAP is what the unit holds of the heap behind the call, PEAK the most within it, REQUESTS how often it asked for
- * memory, GREATEST the largest request. STACK is how far down the call wrote on the stack, where `stack` is asked for: the
- * room below the harness is filled before each call, and looked through behind it. What the heap holds is known where
- * MEASURES_HEAP is defined, and the linker hands the library's requests to the functions below
- * (--wrap=malloc,--wrap=realloc,--wrap=free); else it is 0. */
+ * MODE, LEVEL, BRAKE and LIMIT are those of the last release. HEAP is what the unit holds of the heap behind the call,
+ * PEAK the most within it, REQUESTS how often it asked for memory, GREATEST the largest request. STACK is how far down the
+ * call wrote on the stack, where `stack` is asked for: the room below the harness is filled before each call, and looked
+ * through behind it. The linker hands the library's requests to the functions below (--wrap=malloc,--wrap=realloc,
+ * --wrap=free). */
 #include <inttypes.h>
 #include <valgrind/callgrind.h>
 
@@ -33,23 +33,24 @@ static struct {
     uint64_t requests;
 } heap;
 
-#ifdef MEASURES_HEAP
-/* What stands before each piece of memory that the unit asked for. */
-union piece {
+/* The heap of the unit, which begins anew with each scenario: a piece that grows is always moved, and what is given back
+ * isn't handed out again. So what a call takes doesn't go by what was asked for before. */
+static union piece {
     size_t size;
     long double aligned;
-};
+} arena[(64 << 20) / sizeof(union piece)];
+static size_t used;
 
-void *__real_malloc(size_t size);
-void __real_free(void *memory);
 void *__wrap_malloc(size_t size);
 void *__wrap_realloc(void *memory, size_t size);
 void __wrap_free(void *memory);
 
 void *__wrap_malloc(size_t size) {
-    union piece *piece = __real_malloc(sizeof *piece + size);
-    if (!piece)
+    union piece *const piece = arena + used;
+    const size_t count = 1 + (size + sizeof *piece - 1) / sizeof *piece;
+    if (count > sizeof arena / sizeof *arena - used)
         return NULL;
+    used += count;
     piece->size = size;
     heap.requests++;
     heap.held += size;
@@ -59,16 +60,13 @@ void *__wrap_malloc(size_t size) {
 }
 
 void __wrap_free(void *memory) {
-    if (memory) {
-        union piece *piece = (union piece *)memory - 1;
-        heap.held -= piece->size;
-        __real_free(piece);
-    }
+    if (memory)
+        heap.held -= ((union piece *)memory - 1)->size;
 }
 
 /* The old piece and the new one are held at once. */
 void *__wrap_realloc(void *memory, size_t size) {
-    void *moved = __wrap_malloc(size);
+    void *const moved = __wrap_malloc(size);
     if (moved && memory) {
         const size_t before = ((union piece *)memory - 1)->size;
         memcpy(moved, memory, before < size ? before : size);
@@ -76,7 +74,6 @@ void *__wrap_realloc(void *memory, size_t size) {
     }
     return moved;
 }
-#endif
 
 static etcs_unit unit;
 static medium disk;
@@ -247,6 +244,7 @@ int main(int count, char **words) {
         }
         if (in.kind == SCENARIO) {
             end_life();
+            used = 0;
             format(in.number);
             scenario++;
             line_number = 0;

@@ -1,15 +1,17 @@
 #!/bin/bash
-# The most that was found of one call of the unit from C (include/etcs_unit.h), by kind of call: its instructions, counted by callgrind within
-# the call of the library, with all that it calls, malloc included; what the unit holds of the heap behind it; and how far it writes down the
-# stack. The scenarios are kept in bench/worst.scenarios: each one's last line is the call that is counted, and its first line says what was
-# found for it. Then what one thing more costs, of those that nothing bounds.
+# The most that was found of one call of the unit from C (include/etcs_unit.h), by kind of call: its instructions, counted
+# by callgrind within the call of the library, with all that it calls; what the unit holds of the heap; and how far it
+# writes down the stack. The heap is the harness's own (bench/worst.c). The scenarios are kept in bench/worst.scenarios:
+# each one's last line is the call that is counted, and its first line says what was found for it. Then what one thing
+# more costs, of those that nothing bounds, and the bound of the stack (bench/stack_bound.py).
 #
 #     bench/worst.sh                         counts them again
-#     bench/worst.sh --search [TRIES SEED]   looks for them anew (10,000 tries, seed 46), writes the file, and counts them
+#     bench/worst.sh --search [TRIES SEED]   looks for more (10,000 tries, seed 46), keeps what takes more, and counts them
 #     bench/worst.sh --build                 builds what counts, and no more
 #
-# The search is a hill climb (bench/worst_search.py): it begins with lives at random, then changes the scenario of a kind by a few steps, and
-# keeps it where a call takes at least as much. Its figures are the greatest that were found, and no bound.
+# The search is a hill climb (bench/worst_search.py): it begins with lives at random, then changes the scenario of a kind
+# by a few steps, and keeps it where a call takes at least as much. Its figures are the greatest that were found, and no
+# bound.
 set -e
 top=$(cd "$(dirname "$0")/.." && pwd)
 out=$top/bench/out
@@ -19,9 +21,8 @@ export PYTHONDONTWRITEBYTECODE=1
 
 "$top/tools/build_c_library" etcs_unit >&2
 mkdir -p "$out"
-built=("$top/bench/worst.c" "$top/crates/etcs_unit/out/libetcs_unit.a" "$memory" -I "$top/include" -I "$top/tests/unit")
-gcc -O2 -Wall -Wextra "${built[@]}" -o "$out/worst" >&2
-gcc -O2 -Wall -Wextra -DMEASURES_HEAP -Wl,--wrap=malloc,--wrap=realloc,--wrap=free "${built[@]}" -o "$out/worst_heap" >&2
+gcc -O2 -Wall -Wextra -Wl,-z,now,--wrap=malloc,--wrap=realloc,--wrap=free "$top/bench/worst.c" "$top/crates/etcs_unit/out/libetcs_unit.a" "$memory" \
+    -I "$top/include" -I "$top/tests/unit" -o "$out/worst" >&2
 
 search() {
     "$top/bench/worst_search.py" "$@"
@@ -39,3 +40,5 @@ printf '\n%-44s %9s %9s %9s %9s %9s\n' 'bytes' held peak requests greatest stack
 search --memory | awk -F '\t' '{ printf "%-44s %9d %9d %9d %9d %9d\n", $1, $2, $3, $4, $5, $6 }'
 printf '\n%-44s %12s %12s\n' 'what one more costs' few many
 search --more | awk -F '\t' '{ printf "%-44s %12d %12d\n", $1, $2, $3 }'
+printf '\n%-44s %12s\n' 'stack, by the frames' bytes
+"$top/bench/stack_bound.py" "$out/worst" 'etcs_unit_.*_' | awk -F '\t' '{ printf "%-44s %12d\n", $1, $2 }'

@@ -1,12 +1,13 @@
 #!/usr/bin/env python3
 """Looks for the events that take the most instructions, by a hill climb over scenarios that callgrind counts.
 
-    bench/worst_search.py TRIES SEED     writes bench/worst.scenarios: for each kind of call the scenario whose last line took most
+    bench/worst_search.py TRIES SEED     writes bench/worst.scenarios: for each kind of call the scenario whose last line took most, of
+                                         those that it found and those that were kept before
     bench/worst_search.py --count        counts these again: KIND, INSTRUCTIONS, MODE, LIMIT, FOUND, a line each, tab between
     bench/worst_search.py --more         what one thing more costs: a restriction, a static speed, a gradient, a slot
     bench/worst_search.py --memory       heap and stack of each call of the scenarios: KIND, HELD, PEAK, REQUESTS, GREATEST, STACK
 
-bench/worst.sh builds what it runs (bench/out/worst and bench/out/worst_heap), and says more.
+bench/worst.sh builds what it runs (bench/out/worst), and says more.
 """
 import os
 import random
@@ -390,7 +391,7 @@ def counted(scenarios, told=False):
     profile = OUT / f"profile.{os.getpid()}"
     toggles = [f"--toggle-collect=etcs_unit_{call}_" for call in CALLS]
     lines = ran(["valgrind", "--tool=callgrind", f"--callgrind-out-file={profile}", "--combine-dumps=yes", "--collect-atstart=no", *toggles],
-                scenarios, "./worst", *(["told"] if told else []))
+                scenarios, "./worst", "told" if told else "mute")  # (as long a word, since counts go by the place of the stack)
     took = {}
     label = None
     with open(profile) as dumps:
@@ -398,7 +399,7 @@ def counted(scenarios, told=False):
             if line.startswith("desc: Trigger: "):
                 found = re.search(r"scenario (\d+) line (\d+)", line)
                 label = found and (int(found[1]), int(found[2]))
-            elif line.startswith("totals: ") and label:
+            elif line.startswith("summary: ") and label:
                 took[label] = int(line.split()[1])
                 label = None
     profile.unlink()
@@ -436,7 +437,7 @@ class Best:
             parents = r.choices(kinds, [weights.get(kind, 1) for kind in kinds], k=BATCH)
             self.take([changed(r, self.of[kind][1], lives) for kind in parents])
             if number % (10 * BATCH) == 0:
-                self.write()
+                self.write(OUT / "worst.scenarios")
                 print(number, *(f"{kind} {took}" for kind, (took, _) in sorted(self.of.items())), sep="; ", file=sys.stderr)
 
     def shorten(self):
@@ -470,8 +471,17 @@ class Best:
             texts = [text_of(line) for line in lines]
             self.of[kind] = (counted([(4, [*texts[:-1], "count", texts[-1]])])[1, len(texts) + 1][0], lines)
 
-    def write(self):
-        with open(SCENARIOS, "w") as file:
+    def add_kept(self):
+        """Takes what was kept before where it takes more."""
+        told = kept() if SCENARIOS.exists() else []
+        took = counted([(4, lines) for _, _, lines in told])
+        for number, (_, kind, lines) in enumerate(told, 1):
+            again = took[number, len(lines)][0]
+            if again > self.of.get(kind, (0,))[0]:
+                self.of[kind] = (again, [line for line in lines if line != "count"])
+
+    def write(self, path):
+        with open(path, "w") as file:
             for kind, (took, lines) in sorted(self.of.items()):
                 text = [text_of(line) for line in lines]
                 print(f"scenario 4 {took} {kind}", *text[:-1], "count", text[-1], sep="\n", file=file)
@@ -508,7 +518,7 @@ def count_again():
 
 def memory():
     told = kept()
-    for at, *numbers in ran(["./worst_heap", "stack"], [(4, lines) for _, _, lines in told]):
+    for at, *numbers in ran(["./worst"], [(4, lines) for _, _, lines in told], "stack"):
         held, peak, requests, greatest, stack = numbers[-5:]
         print(told[at - 1][1], held, peak, requests, greatest, stack, sep="\t")
 
@@ -557,7 +567,8 @@ def main(words):
         best.climb(r, int(words[0]))
         best.shorten()
         best.add_by_hand()
-        best.write()
+        best.add_kept()
+        best.write(SCENARIOS)
     else:
         sys.exit(__doc__)
 

@@ -137,10 +137,11 @@ static medium lived(void) {
     medium on = formatted(SLOTS);
     is("power-up", powered_up(&on, &unit, ETCS_COLD_MOVED), ETCS_UNIT_OK);
     is("clock", etcs_unit_clock(&unit, 258), ETCS_UNIT_OK);
-    is("odometer", etcs_unit_odometer(&unit, -30, 300), ETCS_UNIT_OK);
     is("identity", etcs_unit_identity(&unit, (const uint8_t *)"IC 704", 6), ETCS_UNIT_OK);
     is("running number", etcs_unit_running_number(&unit, 70400), ETCS_UNIT_OK);
     is("train data", etcs_unit_train_data(&unit, &train), ETCS_UNIT_OK);
+    /* (the driver enters nothing while the train moves) */
+    is("odometer", etcs_unit_odometer(&unit, -30, 300), ETCS_UNIT_OK);
     is("flush", flushed(&on, &unit, outputs, &count), ETCS_UNIT_OK);
     is("five outputs", count, 5);
     is("close", etcs_unit_close(&unit), ETCS_UNIT_OK);
@@ -148,8 +149,8 @@ static medium lived(void) {
 }
 
 static void records(const medium *on) {
-    static const uint8_t kinds[] = {ETCS_POWER_UP, ETCS_CLOCK, ETCS_ODOMETER, ETCS_DRIVER, ETCS_DRIVER, ETCS_DRIVER};
-    static const uint8_t lengths[] = {1, 8, 8, 7, 5, 14};
+    static const uint8_t kinds[] = {ETCS_POWER_UP, ETCS_CLOCK, ETCS_DRIVER, ETCS_DRIVER, ETCS_DRIVER, ETCS_ODOMETER};
+    static const uint8_t lengths[] = {1, 8, 7, 5, 14, 8};
     uint8_t *image = copy_of(on);
     is("facts", etcs_image_facts(image, on->len, &facts), ETCS_UNIT_OK);
     is("sectors", facts.sectors, 25);
@@ -171,9 +172,9 @@ static void records(const medium *on) {
         is("its life", record.life, 1);
         is("its format", record.format, 3);
         is("a place", record.has_place, 1);
-        is("its front", (uint64_t)record.front_cm, i < 2 ? 0 : (uint64_t)-30);
+        is("its front", (uint64_t)record.front_cm, i < 5 ? 0 : (uint64_t)-30);
         /* 500 cm, and the twentieth part of 30 cm, rounded up */
-        is("its uncertainty", record.uncertainty_cm, i < 2 ? 500 : 502);
+        is("its uncertainty", record.uncertainty_cm, i < 5 ? 500 : 502);
         is("its limit", record.limit_m_per_h, 0);
         for (unsigned j = record.payload_len; j < ETCS_PAYLOAD_BYTES; j++)
             if (record.payload[j] != 0)
@@ -184,7 +185,7 @@ static void records(const medium *on) {
             is("258 ms", (uint64_t)memcmp(record.payload, "\0\0\0\0\0\0\1\2", 8), 0);
         if (kinds[i] == ETCS_ODOMETER)
             is("-30 cm and 300 m/h", (uint64_t)memcmp(record.payload, "\xFF\xFF\xFF\xE2\0\0\x01\x2C", 8), 0);
-        if (i == 3)
+        if (i == 2)
             is("IC 704", (uint64_t)memcmp(record.payload, "\1IC 704", 7), 0);
     }
     is("the end", etcs_journal_next(image, on->len, &journal, &record), ETCS_UNIT_END);
@@ -251,8 +252,8 @@ static void positions(void) {
     medium on = formatted(SLOTS);
     is("power-up", powered_up(&on, &unit, 0), ETCS_UNIT_OK);
     is("a group", etcs_unit_telegram(&unit, values, sizeof values), ETCS_UNIT_OK);
-    is("forward", etcs_unit_odometer(&unit, 400, 300), ETCS_UNIT_OK);
     is("level 1", etcs_unit_action(&unit, ETCS_CHOOSE_LEVEL_1), ETCS_UNIT_OK);
+    is("forward", etcs_unit_odometer(&unit, 400, 300), ETCS_UNIT_OK);
     is("flush", flushed(&on, &unit, outputs, &count), ETCS_UNIT_OK);
     is("close", etcs_unit_close(&unit), ETCS_UNIT_OK);
     is("block 2", etcs_image_block(on.bytes, on.len, 2, &block), ETCS_UNIT_OK);

@@ -70,7 +70,10 @@ extern "C" {
 #endif
 
 /* The number of this interface: counted up with each change that a caller can see. */
-#define ETCS_UNIT_ABI 1
+#define ETCS_UNIT_ABI 2
+
+/* The bytes of the version, at most. */
+#define ETCS_VERSION_BYTES 32
 
 /* The bytes of a sector. */
 #define ETCS_UNIT_SECTOR 512
@@ -102,6 +105,14 @@ enum etcs_unit_status {
     ETCS_UNIT_FAILED = 21,        /* the medium failed: close, and open again */
     ETCS_UNIT_REQUESTS_OWED = 22, /* requests aren't done, or not released yet */
     ETCS_UNIT_WORN_OUT = 23,      /* there is no block number after 2^40: a new medium */
+
+    /* reading an image (etcs_image.h): nothing is written */
+    ETCS_UNIT_IMAGE_NOT_FORMATTED = 31, /* the first sector isn't that of a journal, or there is none */
+    ETCS_UNIT_IMAGE_DAMAGED = 32,       /* the size isn't that of the slots, or a block of the journal isn't readable */
+    ETCS_UNIT_NO_SUCH_SLOT = 35,        /* the image has no such slot with all its sectors */
+    ETCS_UNIT_NO_SUCH_BLOCK = 36,       /* no slot holds the block of this number */
+    ETCS_UNIT_NO_SUCH_RECORD = 37,      /* the block has fewer records */
+    ETCS_UNIT_END = 38,                 /* the journal ends */
 
     /* formatting */
     ETCS_UNIT_BAD_SLOTS = 41, /* the number of slots isn't 2 to 1,048,576 */
@@ -208,6 +219,10 @@ typedef struct {
     uint64_t done;         /* how many of them are done */
     uint64_t held;         /* how many outputs are held back */
     uint64_t has_failed;   /* 1 where etcs_unit_fail was called or a flush failed, else 0 */
+    uint64_t pending;      /* how many inputs were taken since the last preparation, at most eight */
+    uint64_t moment_ms;    /* the last moment of this life that was taken; 0 before one */
+    int64_t front_cm;      /* where the train's front is thought to be behind all inputs that were taken, from where this life began */
+    uint64_t uncertainty_cm; /* how far that may be wrong to either side */
 } etcs_unit_state_told;
 
 ETCS_UNIT_ASSERT(sizeof(void *) == 8 && sizeof(size_t) == 8);
@@ -216,11 +231,13 @@ ETCS_UNIT_ASSERT(sizeof(etcs_unit_output) == 16 && offsetof(etcs_unit_output, li
                  && offsetof(etcs_unit_output, level) == 13 && offsetof(etcs_unit_output, brake) == 14 && offsetof(etcs_unit_output, indications) == 15);
 ETCS_UNIT_ASSERT(sizeof(etcs_unit_request_told) == 24 && offsetof(etcs_unit_request_told, sectors) == 8 && offsetof(etcs_unit_request_told, kind) == 16);
 ETCS_UNIT_ASSERT(sizeof(etcs_train_data) == 20 && offsetof(etcs_train_data, length_cm) == 0 && offsetof(etcs_train_data, category) == 16);
-ETCS_UNIT_ASSERT(sizeof(etcs_unit_state_told) == 48 && offsetof(etcs_unit_state_told, requests) == 16 && offsetof(etcs_unit_state_told, has_failed) == 40);
+ETCS_UNIT_ASSERT(sizeof(etcs_unit_state_told) == 80 && offsetof(etcs_unit_state_told, requests) == 16 && offsetof(etcs_unit_state_told, has_failed) == 40
+                 && offsetof(etcs_unit_state_told, pending) == 48 && offsetof(etcs_unit_state_told, moment_ms) == 56
+                 && offsetof(etcs_unit_state_told, front_cm) == 64 && offsetof(etcs_unit_state_told, uncertainty_cm) == 72);
 
 /* ---- the library's own names; the calls below test pointers first, and then call these */
 
-uint32_t etcs_unit_abi(void);
+uint32_t etcs_version_(uint8_t *out, size_t room, uint32_t *len);
 uint32_t etcs_unit_open_(etcs_unit *unit, const uint8_t *image, size_t len, uint32_t cold, uint32_t abi);
 uint32_t etcs_unit_telegram_(etcs_unit *unit, const uint8_t *bytes, size_t len);
 uint32_t etcs_unit_odometer_(etcs_unit *unit, int64_t movement_cm, uint32_t speed_m_per_h);
@@ -239,6 +256,51 @@ uint32_t etcs_unit_close_(etcs_unit *unit);
 uint32_t etcs_unit_format_request_(uint32_t slots, uint32_t index, etcs_unit_request_told *request, uint8_t *bytes, size_t room);
 
 /* ---- the calls */
+
+/* The number of the library's interface: that of a header beside it is ETCS_UNIT_ABI. */
+uint32_t etcs_abi(void);
+
+/* Writes the version of the product, as "0.1.0", with no zero behind it, and to `len` how many bytes it has. Answers OK,
+ * or NO_ROOM; then nothing is written. ETCS_VERSION_BYTES are always enough. */
+static inline uint32_t etcs_version(uint8_t *out, size_t room, uint32_t *len) {
+    return out && len ? etcs_version_(out, room, len) : (uint32_t)ETCS_UNIT_NULL_POINTER;
+}
+
+/* The name of a status, as enum etcs_unit_status has it behind ETCS_UNIT_; "unknown" for a number that it doesn't have.
+ * The text is the program's own, and never ends. */
+static inline const char *etcs_status_text(uint32_t status) {
+    switch (status) {
+    case ETCS_UNIT_OK: return "OK";
+    case ETCS_UNIT_OPEN_DEVICE_FAULT: return "OPEN_DEVICE_FAULT";
+    case ETCS_UNIT_OPEN_NOT_FORMATTED: return "OPEN_NOT_FORMATTED";
+    case ETCS_UNIT_OPEN_DAMAGED: return "OPEN_DAMAGED";
+    case ETCS_UNIT_OPEN_NO_MEMORY: return "OPEN_NO_MEMORY";
+    case ETCS_UNIT_OPEN_WORN_OUT: return "OPEN_WORN_OUT";
+    case ETCS_UNIT_PENDING_FULL: return "PENDING_FULL";
+    case ETCS_UNIT_CLOCK_BACK: return "CLOCK_BACK";
+    case ETCS_UNIT_NO_MEMORY: return "NO_MEMORY";
+    case ETCS_UNIT_INPUT_FAILED: return "INPUT_FAILED";
+    case ETCS_UNIT_FAILED: return "FAILED";
+    case ETCS_UNIT_REQUESTS_OWED: return "REQUESTS_OWED";
+    case ETCS_UNIT_WORN_OUT: return "WORN_OUT";
+    case ETCS_UNIT_IMAGE_NOT_FORMATTED: return "IMAGE_NOT_FORMATTED";
+    case ETCS_UNIT_IMAGE_DAMAGED: return "IMAGE_DAMAGED";
+    case ETCS_UNIT_NO_SUCH_SLOT: return "NO_SUCH_SLOT";
+    case ETCS_UNIT_NO_SUCH_BLOCK: return "NO_SUCH_BLOCK";
+    case ETCS_UNIT_NO_SUCH_RECORD: return "NO_SUCH_RECORD";
+    case ETCS_UNIT_END: return "END";
+    case ETCS_UNIT_BAD_SLOTS: return "BAD_SLOTS";
+    case ETCS_UNIT_WRONG_COUNT: return "WRONG_COUNT";
+    case ETCS_UNIT_NO_SUCH_REQUEST: return "NO_SUCH_REQUEST";
+    case ETCS_UNIT_NOT_OPEN: return "NOT_OPEN";
+    case ETCS_UNIT_IS_OPEN: return "IS_OPEN";
+    case ETCS_UNIT_NO_ROOM: return "NO_ROOM";
+    case ETCS_UNIT_NULL_POINTER: return "NULL_POINTER";
+    case ETCS_UNIT_OTHER_ABI: return "OTHER_ABI";
+    case ETCS_UNIT_OUT_OF_RANGE: return "OUT_OF_RANGE";
+    default: return "unknown";
+    }
+}
 
 /* Powers up on these sectors: `len` bytes, the whole medium, of which the unit keeps a copy. Behind it the requests of
  * the power-up are in the list, and no output is held back: carry them out, say that they are done, and release.
@@ -319,7 +381,7 @@ static inline uint32_t etcs_unit_release(etcs_unit *unit, etcs_unit_output *outp
     return unit && outputs && count ? etcs_unit_release_(unit, outputs, room, count) : (uint32_t)ETCS_UNIT_NULL_POINTER;
 }
 
-/* Tells how far the unit is. Answers OK or NOT_OPEN; then `state` isn't written. */
+/* Tells how far the unit is, and what is known of its life. Answers OK, or NOT_OPEN; then `state` isn't written. */
 static inline uint32_t etcs_unit_state(etcs_unit *unit, etcs_unit_state_told *state) {
     return unit && state ? etcs_unit_state_(unit, state) : (uint32_t)ETCS_UNIT_NULL_POINTER;
 }

@@ -1,7 +1,7 @@
 #!/bin/bash
 # The unit as C, C++, Python and Rust programs call it, all of it built from the folder that tools/library makes: the headers alone, the names
-# that the library shows, sizes and places, wrong calls, files, two units at once, the examples, random lives beside `etcs run`, and the
-# commands of docs/EMBEDDING.md. It needs gcc, g++, valgrind, rustc and Debian's Python; clang is tried where it is there.
+# that the library shows, sizes and places, wrong calls, files, two units at once, the examples, images beside `etcs journal`, random lives
+# beside `etcs run`, and the commands of docs/EMBEDDING.md. It needs gcc, g++, valgrind, rustc and Debian's Python; clang is tried where it is there.
 #
 #     tests/unit.sh [PREFIX [LIVES]]    builds and installs the library first, or takes the one below PREFIX; 400 lives; $ETCS names another
 #                                       program than the gate's
@@ -42,7 +42,7 @@ sanitizers=(-fsanitize=address,undefined -fno-sanitize-recover=all -static-libas
 # ---- the headers alone, in each language
 
 tried=0
-for header in etcs etcs_unit etcs_file; do
+for header in etcs etcs_unit etcs_file etcs_image; do
     echo "#include \"$header.h\"" >"$made/alone"
     echo "typedef int something;" >>"$made/alone"
     for words in "c -std=c99" "c -std=c11" "c -std=c17" "c++ -std=c++17" "c++ -std=c++20"; do
@@ -53,18 +53,18 @@ for header in etcs etcs_unit etcs_file; do
         done
     done
 done
-counted "headers alone" $tried 15
+counted "headers alone" $tried 20
 
 # ---- the names that the library shows are those that the headers declare, as gcc reads them
 
-printf '#include "etcs.h"\n#include "etcs_unit.h"\n' >"$made/all.c"
+printf '#include "etcs.h"\n#include "etcs_unit.h"\n#include "etcs_image.h"\n' >"$made/all.c"
 gcc -std=c99 -I "$include" -aux-info "$made/declared" -c "$made/all.c" -o "$made/all.o" || fails "the headers don't compile"
 sed -n 's@^/\* [^ ]*/etcs[a-z_]*\.h:[0-9]*:NC \*/ extern .*[ *]\(etcs_[a-z_]*\) (.*@\1@p' "$made/declared" | LC_ALL=C sort -u >"$made/names"
 nm -D --defined-only "$shared" | sed 's/.* //' | LC_ALL=C sort >"$made/shown"
 nm --defined-only --extern-only "$archive" | sed -n 's/^[0-9a-f]* . //p' | LC_ALL=C sort >"$made/in_archive"
 diff "$made/names" "$made/shown" || fails "the shared library shows other names than the headers declare"
 diff "$made/names" "$made/in_archive" || fails "the static library shows other names than the headers declare"
-counted "names of the library" "$(wc -l <"$made/shown")" 19
+counted "names of the library" "$(wc -l <"$made/shown")" 26
 needed=$(objdump -p "$shared" | sed -n 's/^ *NEEDED *//p' | tr '\n' ' ')
 soname=$(objdump -p "$shared" | sed -n 's/^ *SONAME *//p')
 [ "$needed" = "libc.so.6 " ] || fails "the shared library needs $needed"
@@ -81,11 +81,11 @@ build() {
 
 built=0
 link=("$archive")
-for name in layout misuse files two life; do
+for name in layout misuse files two life reading listing; do
     for compiler in "${compilers[@]}"; do build "$name.$compiler" "$top/tests/unit/$name.c" "$compiler" -x c -std=c99 -O2; done
     build "$name.cpp" "$top/tests/unit/$name.c" g++ -x c++ -std=c++17 -O2 -Wno-missing-field-initializers
 done
-for name in misuse files two life; do
+for name in misuse files two life reading listing; do
     build "$name.checked" "$top/tests/unit/$name.c" gcc -x c -std=c99 -O1 "${sanitizers[@]}"
 done
 for name in brake flash; do
@@ -94,10 +94,10 @@ for name in brake flash; do
 done
 build brake.cpp "$top/examples/embedding/brake.cpp" g++ -x c++ -std=c++17 -O2
 link=(-L "$prefix/lib" -letcs_unit)
-for name in misuse two; do build "$name.shared" "$top/tests/unit/$name.c" gcc -x c -std=c99 -O2; done
+for name in misuse two reading; do build "$name.shared" "$top/tests/unit/$name.c" gcc -x c -std=c99 -O2; done
 rustc --edition 2021 -D warnings -O -L "$prefix/lib" -l static=etcs_unit "$top/examples/embedding/rust/brake.rs" -o "$made/brake.rs" &&
     built=$((built + 1)) || fails "examples/embedding/rust doesn't compile"
-counted "programs built" $built 26
+counted "programs built" $built 33
 
 # ---- what they answer
 
@@ -109,7 +109,7 @@ runs_well() {
 }
 
 "$python" "$top/tests/unit/layout.py" "$made"/layout.* || fails "sizes and places differ"
-for program in "$made"/misuse.* "$made"/two.*; do runs_well "$program"; done
+for program in "$made"/misuse.* "$made"/two.* "$made"/reading.*; do runs_well "$program"; done
 for program in "$made"/files.*; do
     rm -rf "$made/room"
     mkdir "$made/room"
@@ -117,13 +117,13 @@ for program in "$made"/files.*; do
 done
 for program in "$made"/flash.*; do runs_well "$program"; done
 mv "$made/said" "$made/flash"
-for program in misuse.gcc two.gcc "files.gcc $made/room" "brake.gcc $made/image.valgrind" flash.gcc; do
+for program in misuse.gcc two.gcc reading.gcc "files.gcc $made/room" "brake.gcc $made/image.valgrind" flash.gcc; do
     rm -rf "$made/room"
     mkdir "$made/room"
     # shellcheck disable=SC2086
     runs_well valgrind -q --error-exitcode=9 --leak-check=full --errors-for-leak-kinds=all --show-leak-kinds=all $(echo "$made/$program")
 done
-counted "runs of them, 5 of them under valgrind" $runs 20
+counted "runs of them, 6 of them under valgrind" $runs 25
 
 # ---- the examples: the same train in each language, over the same file
 
@@ -140,12 +140,16 @@ done
 for image in "$made"/image.*; do cmp "$image" "$made/image.brake.gcc" || fails "the journals of the examples differ"; done
 counted "trains that brake" $trains 5
 
+# ---- images: what is listed by the calls is what the program lists
+
+"$python" "$top/tests/unit/images.py" "$made/listing.gcc" "$made/listing.checked" "$made"/image.* || status=1
+
 # ---- lives beside the program, the package in Python, and the page
 
 "$python" "$top/tests/unit/lives.py" "$made/life.gcc" "${2:-400}" || status=1
 "$python" "$top/tests/unit/lives.py" "$made/life.checked" "$((${2:-400} / 20))" 7 || status=1
-(cd "$top/python" && "$python" -m unittest -q tests.test_unit) >"$made/said" 2>&1 && grep -q '^Ran 9 tests' "$made/said" && ! grep -q skipped "$made/said" ||
-    { cat "$made/said"; fails "python/tests/test_unit.py: failures, or other than 9 tests"; }
+(cd "$top/python" && "$python" -m unittest -q tests.test_unit) >"$made/said" 2>&1 && grep -q '^Ran 12 tests' "$made/said" && ! grep -q skipped "$made/said" ||
+    { cat "$made/said"; fails "python/tests/test_unit.py: failures, or other than 12 tests"; }
 ETCS_UNIT_ARCHIVE=$archive ETCS_C_ARCHIVE=$archive "$python" "$top/tests/unit/page.py" || status=1
 echo "the unit: $([ $status -eq 0 ] && echo "no failures" || echo "failures, see above")"
 exit $status

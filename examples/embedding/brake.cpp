@@ -3,10 +3,13 @@
 //
 //     brake IMAGE
 #include "etcs_file.h"
+#include "etcs_image.h"
 
 #include <array>
 #include <cstdio>
 #include <exception>
+#include <fstream>
+#include <iterator>
 #include <string>
 #include <string_view>
 #include <utility>
@@ -72,6 +75,22 @@ private:
     etcs_file file{};
 };
 
+// The records of a file's journal, the oldest first. No lock is taken.
+std::vector<etcs_record> journal(const std::string &path) {
+    std::ifstream file(path, std::ios::binary);
+    const std::vector<char> bytes{std::istreambuf_iterator<char>(file), std::istreambuf_iterator<char>()};
+    const auto *image = reinterpret_cast<const std::uint8_t *>(bytes.data());
+    std::vector<etcs_record> records;
+    etcs_journal at;
+    etcs_record record;
+    std::uint32_t answer = etcs_journal_open(image, bytes.size(), &at);
+    while (answer == ETCS_UNIT_OK && (answer = etcs_journal_next(image, bytes.size(), &at, &record)) == ETCS_UNIT_OK)
+        records.push_back(record);
+    if (answer != ETCS_UNIT_END)
+        throw Refused(std::string("the journal: ") + etcs_status_text(answer), answer, answer, 0);
+    return records;
+}
+
 constexpr int cycle_ms = 500, most_cycles = 1000;
 constexpr std::uint32_t slots = 64;
 
@@ -82,6 +101,7 @@ struct Train {
     std::int64_t speed_m_per_h = 0;
     std::uint8_t brake = ETCS_BRAKE_EMERGENCY;
     std::uint8_t mode = ETCS_STAND_BY;
+    std::uint64_t last_event = 0;
 
     void go_on() {
         constexpr std::array<std::int64_t, 3> gained{900, -1260, -1800};
@@ -100,6 +120,7 @@ struct Train {
                         static_cast<long long>(speed_m_per_h));
         brake = output.brake;
         mode = output.mode;
+        last_event = output.event;
     }
 };
 
@@ -130,6 +151,9 @@ void run(const std::string &path) {
         unit.odometer(train.movement_cm, static_cast<std::uint32_t>(train.speed_m_per_h));
         unit.clock(train.moment_ms);
     }
+    const std::vector<etcs_record> records = journal(path);
+    if (records.empty() || records.back().event != train.last_event)
+        throw Refused("the journal ends with another event", 0, 0, 0);
     std::printf("the train stands behind %llu ms\n", static_cast<unsigned long long>(train.moment_ms));
 }
 

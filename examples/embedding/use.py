@@ -6,7 +6,7 @@
 import sys
 from pathlib import Path
 
-from gaknifur.unit import Action, Brake, FileMedium, Mode, Output, TrainData, Unit
+from gaknifur.unit import Action, Brake, FileMedium, Mode, Output, TrainData, Unit, journal
 
 AUTHORITY = bytes.fromhex("90007F802001432024A8007FE007D002B00D900010000DC03A400020801FE0")
 CYCLE_MS, MOST_CYCLES, SLOTS = 500, 1_000, 64
@@ -21,6 +21,7 @@ class Train:
     def __init__(self) -> None:
         self.moment_ms = self.speed = 0
         self.brake, self.mode = Brake.EMERGENCY, Mode.STAND_BY
+        self.last_event = -1
 
     def go_on(self) -> int:
         """How far it goes in a cycle."""
@@ -33,7 +34,7 @@ class Train:
         if (output.brake, output.mode) != (self.brake, self.mode):
             print(f"event {output.event}: mode {LETTERS[output.mode]}, brake {output.brake.name.lower()}, limit {output.limit_m_per_h} m/h, "
                   f"speed {self.speed} m/h")
-        self.brake, self.mode = output.brake, output.mode
+        self.brake, self.mode, self.last_event = output.brake, output.mode, output.event
 
 
 def make_ready(unit: Unit) -> None:
@@ -57,6 +58,9 @@ def run(path: Path) -> None:
                 break
             unit.odometer(moved, train.speed)
             unit.clock(train.moment_ms)
+    *_, last = journal(path)
+    if last.event != train.last_event:
+        raise ValueError(f"the journal ends at event {last.event}")
     print(f"the train stands behind {train.moment_ms} ms")
 
 

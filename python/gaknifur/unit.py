@@ -5,11 +5,13 @@
         for output in unit.flush():
             obey(output)
 
-`$GAKNIFUR_ETCS_UNIT` names the library; without it the system's loader looks for `libetcs_unit.so.1`. A unit opens no
+`$GAKNIFUR_ETCS_UNIT` names the library; without it the system's loader looks for `libetcs_unit.so.2`. A unit opens no
 file: its journal lies on a `Medium`, here a file (`FileMedium`) or sectors in memory (`MemoryMedium`), or a class of
 the user's own.
 
-Any exception means the emergency brake: `Refused` has the number and the name of what a call answered, a medium raises
+`journal(path)` iterates over the records that a file holds, and `records`, `facts` and `slots` read bytes.
+
+Any exception of a unit means the emergency brake: `Refused` has the number and the name of what a call answered, a medium raises
 what it raises. Outputs come from `Unit.flush` alone, and only when all of it is on the medium.
 """
 import ctypes
@@ -17,13 +19,14 @@ import enum
 import fcntl
 import functools
 import os
-from collections.abc import Callable
+from collections.abc import Callable, Iterator
 from dataclasses import dataclass
 from pathlib import Path
 from types import TracebackType
 from typing import Protocol, Self
 
-ABI = 1
+ABI = 2
+VERSION_BYTES = 32
 SECTOR = 512
 OUTPUTS = 8
 REQUEST_BYTES = 8192
@@ -45,6 +48,12 @@ class Status(enum.IntEnum):
     FAILED = 21
     REQUESTS_OWED = 22
     WORN_OUT = 23
+    IMAGE_NOT_FORMATTED = 31
+    IMAGE_DAMAGED = 32
+    NO_SUCH_SLOT = 35
+    NO_SUCH_BLOCK = 36
+    NO_SUCH_RECORD = 37
+    END = 38
     BAD_SLOTS = 41
     WRONG_COUNT = 248
     NO_SUCH_REQUEST = 249
@@ -126,6 +135,29 @@ class Indication(enum.IntFlag):
     OVERSPEED = 64
 
 
+class Kind(enum.IntEnum):
+    """The kind of an event in a journal."""
+
+    POWER_UP = 1
+    TELEGRAM = 2
+    ODOMETER = 3
+    CLOCK = 4
+    DRIVER = 5
+
+
+class SlotState(enum.IntEnum):
+    """What a slot of an image holds (docs/FORMAT.md)."""
+
+    EMPTY = 0
+    BLOCK = 1
+    UNREADABLE = 2
+    MISPLACED = 3
+    FOREIGN = 4
+    UNWRITTEN = 5
+    REPLACED = 6
+    REMAINS = 7
+
+
 @dataclass(frozen=True, slots=True)
 class Output:
     """An output that may reach the train; the limit is in metres per hour."""
@@ -151,13 +183,59 @@ class TrainData:
 
 @dataclass(frozen=True, slots=True)
 class State:
-    """How far a unit is; `last` is the last output that was released, before one the default, which brakes."""
+    """How far a unit is; `last` is the last output that was released, before one the default, which brakes. The place of
+    the train's front counts from where the life began."""
 
     last: Output
     requests: int
     done: int
     held: int
     has_failed: bool
+    pending: int
+    moment_ms: int
+    front_cm: int
+    uncertainty_cm: int
+
+
+@dataclass(frozen=True, slots=True)
+class Record:
+    """A record of a journal with all that its block tells of it. Place, uncertainty and limit are None in format 1. The
+    payload is what the event tells (docs/FORMAT.md)."""
+
+    event: int
+    block: int
+    life: int
+    format: int
+    kind: Kind
+    moment_ms: int
+    mode: Mode
+    level: Level
+    brake: Brake
+    indications: Indication
+    front_cm: int | None
+    uncertainty_cm: int | None
+    limit_m_per_h: int | None
+    payload: bytes
+
+
+@dataclass(frozen=True, slots=True)
+class Facts:
+    """What an image has at first sight: whole sectors, the slots that are told, those that are there, the newest block."""
+
+    sectors: int
+    slots: int
+    whole: int
+    newest: int
+
+
+@dataclass(frozen=True, slots=True)
+class Slot:
+    """What a slot holds. A field that isn't one is told by its record, from 1 on, and its offset behind the gate."""
+
+    state: SlotState
+    number: int | None
+    is_sound: bool
+    fault: tuple[int, int] | None
 
 
 class Refused(Exception):
@@ -288,14 +366,56 @@ class _TrainData(ctypes.Structure):
 
 
 class _State(ctypes.Structure):
-    _fields_ = [("last", _Output), *((name, ctypes.c_uint64) for name in ("requests", "done", "held", "has_failed"))]
+    _fields_ = [("last", _Output), *((name, ctypes.c_uint64) for name in ("requests", "done", "held", "has_failed", "pending", "moment_ms")),
+                ("front_cm", ctypes.c_int64), ("uncertainty_cm", ctypes.c_uint64)]
+
+
+class _Image(ctypes.Structure):
+    _fields_ = [(name, ctypes.c_uint64) for name in ("sectors", "slots", "whole", "newest")]
+
+
+class _Slot(ctypes.Structure):
+    _fields_ = [("number", ctypes.c_uint64), ("fault_at", ctypes.c_uint64),
+                *((name, ctypes.c_uint32) for name in ("state", "is_sound", "has_fault", "fault_record"))]
+
+
+class _National(ctypes.Structure):
+    _fields_ = [*((name, ctypes.c_uint32) for name in (
+        "shunting_m_per_h", "staff_responsible_m_per_h", "on_sight_m_per_h", "unfitted_m_per_h", "release_m_per_h", "roll_cm",
+        "override_allowed_m_per_h", "override_m_per_h", "override_distance_cm", "override_time_ms",
+        "staff_responsible_distance_cm", "count")), ("countries", ctypes.c_uint16 * 32)]
+
+
+class _Kept(ctypes.Structure):
+    _fields_ = [("distance_cm", ctypes.c_int64), ("train", _TrainData), ("running_number", ctypes.c_uint32), ("country", ctypes.c_uint32),
+                ("group", ctypes.c_uint32), ("identity", ctypes.c_uint8 * 16), *((name, ctypes.c_uint8) for name in (
+                    "identity_len", "has_running_number", "has_train", "level_status", "level", "position_status",
+                    "trip_outstanding", "reserved")), ("national", _National)]
+
+
+class _Block(ctypes.Structure):
+    _fields_ = [*((name, ctypes.c_uint64) for name in ("number", "first_event", "events")), ("lives", ctypes.c_uint32),
+                ("format", ctypes.c_uint8), ("records", ctypes.c_uint8), ("reserved", ctypes.c_uint16), ("kept", _Kept)]
+
+
+class _Record(ctypes.Structure):
+    _fields_ = [("event", ctypes.c_uint64), ("block", ctypes.c_uint64), ("moment_ms", ctypes.c_uint64), ("front_cm", ctypes.c_int64),
+                ("uncertainty_cm", ctypes.c_uint64), ("limit_m_per_h", ctypes.c_uint32), ("life", ctypes.c_uint32),
+                *((name, ctypes.c_uint8) for name in (
+                    "format", "kind", "mode", "level", "brake", "indications", "has_place", "payload_len")),
+                ("payload", ctypes.c_uint8 * 104)]
+
+
+class _Journal(ctypes.Structure):
+    _fields_ = [(name, ctypes.c_uint64) for name in ("block", "last", "index")]
 
 
 _HANDLE = ctypes.POINTER(_Handle)
 _SIZE = ctypes.c_size_t
 _U32 = ctypes.c_uint32
 _CALLS: dict[str, tuple[object, ...]] = {
-    "etcs_unit_abi": (),
+    "etcs_abi": (),
+    "etcs_version_": (ctypes.c_char_p, _SIZE, ctypes.POINTER(_U32)),
     "etcs_unit_open_": (_HANDLE, ctypes.c_char_p, _SIZE, _U32, _U32),
     "etcs_unit_telegram_": (_HANDLE, ctypes.c_char_p, _SIZE),
     "etcs_unit_odometer_": (_HANDLE, ctypes.c_int64, _U32),
@@ -312,6 +432,12 @@ _CALLS: dict[str, tuple[object, ...]] = {
     "etcs_unit_state_": (_HANDLE, ctypes.POINTER(_State)),
     "etcs_unit_close_": (_HANDLE,),
     "etcs_unit_format_request_": (_U32, _U32, ctypes.POINTER(_Request), ctypes.c_char_p, _SIZE),
+    "etcs_image_facts_": (ctypes.c_char_p, _SIZE, _U32, ctypes.POINTER(_Image)),
+    "etcs_image_slot_": (ctypes.c_char_p, _SIZE, _U32, ctypes.c_uint64, ctypes.c_uint64, ctypes.POINTER(_Slot)),
+    "etcs_image_block_": (ctypes.c_char_p, _SIZE, _U32, ctypes.c_uint64, ctypes.POINTER(_Block)),
+    "etcs_image_record_": (ctypes.c_char_p, _SIZE, _U32, ctypes.c_uint64, _U32, ctypes.POINTER(_Record)),
+    "etcs_journal_open_": (ctypes.c_char_p, _SIZE, _U32, ctypes.POINTER(_Journal)),
+    "etcs_journal_next_": (ctypes.c_char_p, _SIZE, ctypes.POINTER(_Journal), ctypes.POINTER(_Record)),
     "etcs_decode": (ctypes.c_char_p, _SIZE),
     "etcs_packet_count": (ctypes.c_char_p, _SIZE),
 }
@@ -324,7 +450,7 @@ def library() -> ctypes.CDLL:
     for name, types in _CALLS.items():
         call = getattr(found, name)
         call.restype, call.argtypes = ctypes.c_uint32, types
-    if found.etcs_unit_abi() != ABI:
+    if found.etcs_abi() != ABI:
         raise Refused(Status.OTHER_ABI)
     return found
 
@@ -378,10 +504,59 @@ def format_medium(medium: Medium, slots: int) -> None:
         raise Refused(status)
 
 
+def version() -> str:
+    """The version of the library."""
+    room, count = ctypes.create_string_buffer(VERSION_BYTES), ctypes.c_uint32()
+    _told(_called("etcs_version_", room, VERSION_BYTES, ctypes.byref(count)))
+    return room.raw[:count.value].decode()
+
+
 def decode(digits: str) -> tuple[int, int]:
     """The fault of a telegram, 0 where it has none, and how many packets it has."""
     data = bytes.fromhex(digits)
     return _called("etcs_decode", data, len(data)), _called("etcs_packet_count", data, len(data))
+
+
+# ---- reading
+
+def _record(told: _Record) -> Record:
+    place = bool(told.has_place)
+    return Record(told.event, told.block, told.life, told.format, Kind(told.kind), told.moment_ms, Mode(told.mode), Level(told.level),
+                  Brake(told.brake), Indication(told.indications), told.front_cm if place else None,
+                  told.uncertainty_cm if place else None, told.limit_m_per_h if place else None,
+                  bytes(told.payload[:told.payload_len]))
+
+
+def records(image: bytes) -> Iterator[Record]:
+    """The records of the journal that an image holds, the oldest first. IMAGE_DAMAGED where one can't be read, behind those
+    before it."""
+    cursor, told = _Journal(), _Record()
+    _told(_called("etcs_journal_open_", image, len(image), ABI, ctypes.byref(cursor)))
+    while (status := _called("etcs_journal_next_", image, len(image), ctypes.byref(cursor), ctypes.byref(told))) == Status.OK:
+        yield _record(told)
+    if status != Status.END:
+        raise Refused(status)
+
+
+def journal(path: str | Path) -> Iterator[Record]:
+    """The records of a file's journal, the oldest first; the file is read as a whole, and no lock is taken."""
+    return records(Path(path).read_bytes())
+
+
+def facts(image: bytes) -> Facts:
+    """What an image has at first sight."""
+    told = _Image()
+    _told(_called("etcs_image_facts_", image, len(image), ABI, ctypes.byref(told)))
+    return Facts(told.sectors, told.slots, told.whole, told.newest)
+
+
+def slots(image: bytes) -> Iterator[Slot]:
+    """What each slot holds that an image has with all its sectors, in their order."""
+    seen, told = facts(image), _Slot()
+    for slot in range(seen.whole):
+        _told(_called("etcs_image_slot_", image, len(image), ABI, seen.newest, slot, ctypes.byref(told)))
+        yield Slot(SlotState(told.state), told.number or None, told.is_sound != 0,
+                   (told.fault_record, told.fault_at) if told.has_fault else None)
 
 
 class Unit:
@@ -478,4 +653,5 @@ class Unit:
         """How far it is."""
         told = _State()
         self._call("state", ctypes.byref(told))
-        return State(_output(told.last), told.requests, told.done, told.held, told.has_failed != 0)
+        return State(_output(told.last), told.requests, told.done, told.held, told.has_failed != 0, told.pending,
+                     told.moment_ms, told.front_cm, told.uncertainty_cm)

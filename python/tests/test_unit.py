@@ -9,17 +9,19 @@ import unittest
 from pathlib import Path
 
 from gaknifur import unit as units
-from gaknifur.unit import (Action, Brake, Cold, FileMedium, Indication, Level, MemoryMedium, Mode, Output, Refused, Status,
-                           TrainData, Unit)
+from gaknifur.unit import (Action, Brake, Cold, FileMedium, Indication, Kind, Level, MemoryMedium, Mode, Output, Record, Refused,
+                           SlotState, Status, TrainData, Unit)
 
-HEADER = Path(__file__).resolve().parents[2] / "include" / "etcs_unit.h"
+INCLUDE = Path(__file__).resolve().parents[2] / "include"
+HEADER = INCLUDE / "etcs_unit.h"
 TRAIN = TrainData(20_000, 160_000, 70, 1_000, 15)
 BEFORE = Output(0, Mode.STAND_BY, Level.INVALID, Brake.EMERGENCY, 0, Indication.NOT_REVALIDATED)
 
 
 def of_header(name: str, prefix: str) -> dict[str, int]:
-    """The names and numbers of one of its enums."""
-    found = re.search(rf"enum {name} {{(.*?)}};", HEADER.read_text(), re.DOTALL)
+    """The names and numbers of one of its enums, or of etcs_image.h."""
+    text = HEADER.read_text() + (INCLUDE / "etcs_image.h").read_text()
+    found = re.search(rf"enum {name} {{(.*?)}};", text, re.DOTALL)
     assert found is not None
     return {one: int(number) for one, number in re.findall(rf"{prefix}(\w+) = (\d+)", found[1])}
 
@@ -30,7 +32,7 @@ class Names(unittest.TestCase):
     def test_enums(self) -> None:
         wanted: dict[type[enum.IntEnum], tuple[str, str]] = {
             Status: ("etcs_unit_status", "ETCS_UNIT_"), Cold: ("etcs_cold", "ETCS_COLD_"), Action: ("etcs_action", "ETCS_"),
-            Mode: ("etcs_mode", "ETCS_"), Level: ("etcs_level", "ETCS_"), Brake: ("etcs_brake", "ETCS_BRAKE_")}
+            Kind: ("etcs_kind", "ETCS_"), SlotState: ("etcs_slot_state", "ETCS_SLOT_"), Mode: ("etcs_mode", "ETCS_"), Level: ("etcs_level", "ETCS_"), Brake: ("etcs_brake", "ETCS_BRAKE_")}
         for one, (name, prefix) in wanted.items():
             told = of_header(name, prefix)
             if one is Level:
@@ -40,9 +42,21 @@ class Names(unittest.TestCase):
                          of_header("etcs_indication", "ETCS_SHOWS_"))
 
     def test_numbers(self) -> None:
+        self.assertRegex(HEADER.read_text(), rf"#define ETCS_VERSION_BYTES {units.VERSION_BYTES}\n")
         for name, number in (("ABI", units.ABI), ("SECTOR", units.SECTOR), ("OUTPUTS", units.OUTPUTS),
                              ("REQUEST_BYTES", units.REQUEST_BYTES)):
             self.assertRegex(HEADER.read_text(), rf"#define ETCS_UNIT_{name} {number}\n")
+
+    def test_the_texts_of_statuses(self) -> None:
+        """The header's text of each status is its name, and docs/REFUSALS.md explains each."""
+        text = HEADER.read_text()
+        told = dict(re.findall(r'case ETCS_UNIT_(\w+): return "(\w+)";', text))
+        self.assertEqual(told, {name: name for name in of_header("etcs_unit_status", "ETCS_UNIT_")})
+        page = (INCLUDE.parent / "docs" / "REFUSALS.md").read_text()
+        part = page[page.index("## The unit from C"):page.index("## The program")]
+        rows = re.findall(r"^\| (\d+) \| ([A-Z_]+) \|(?:[^|\n]*\|){3}$", part, re.MULTILINE)
+        self.assertEqual({(int(number), name) for number, name in rows},
+                         {(one.value, one.name) for one in Status})
 
 
 class Failing(MemoryMedium):
@@ -67,7 +81,8 @@ class Calls(unittest.TestCase):
     def test_a_life(self) -> None:
         medium = MemoryMedium.formatted(4)
         with Unit(medium) as unit:
-            self.assertEqual(unit.state(), units.State(BEFORE, 0, 0, 0, False))
+            # An exact start at 0, and 500 cm; a movement of 10 cm adds a twentieth of it, rounded up.
+            self.assertEqual(unit.state(), units.State(BEFORE, 0, 0, 0, False, 0, 0, 0, 500))
             unit.clock(5)
             unit.odometer(-10, 300)
             unit.identity("IC 704")
@@ -75,6 +90,7 @@ class Calls(unittest.TestCase):
             unit.train_data(TRAIN)
             unit.action(Action.CHOOSE_LEVEL_1)
             unit.telegram(b"\0")
+            self.assertEqual(unit.state(), units.State(BEFORE, 0, 0, 0, False, 7, 5, -10, 501))
             outputs = unit.flush()
             self.assertEqual([one.event for one in outputs], list(range(1, 8)))
             self.assertEqual(unit.state().last, outputs[-1])
@@ -153,6 +169,40 @@ class Calls(unittest.TestCase):
                         unit.clock(1)
                         unit.flush()
             self.assertEqual(path.read_bytes(), memory.data)
+
+    def test_a_journal(self) -> None:
+        medium = MemoryMedium.formatted(4)
+        with Unit(medium, Cold.MOVED) as unit:
+            unit.odometer(-10, 300)
+            unit.clock(5)
+            outputs = unit.flush()
+        image = bytes(medium.data)
+        found = list(units.records(image))
+        shown = Indication.NOT_REVALIDATED
+        braked = (Mode.STAND_BY, Level.INVALID, Brake.EMERGENCY, shown)
+        self.assertEqual(found[0], Record(0, 1, 1, 3, Kind.POWER_UP, 0, *braked, 0, 500, 0, b"\1"))
+        self.assertEqual([one.payload for one in found[1:]], [bytes.fromhex("fffffff60000012c"), bytes.fromhex("0000000000000005")])
+        self.assertEqual([(one.event, one.block, one.kind, one.moment_ms, one.front_cm, one.uncertainty_cm) for one in found[1:]],
+                         [(1, 2, Kind.ODOMETER, 0, -10, 501), (2, 2, Kind.CLOCK, 5, -10, 501)])
+        self.assertEqual([(one.event, one.mode, one.brake, one.limit_m_per_h) for one in found[1:]],
+                         [(one.event, one.mode, one.brake, one.limit_m_per_h) for one in outputs])
+        self.assertEqual(units.facts(image), units.Facts(25, 4, 4, 2))
+        self.assertEqual([(one.state, one.number, one.is_sound) for one in units.slots(image)], [
+            (SlotState.EMPTY, None, True), (SlotState.BLOCK, 1, True), (SlotState.BLOCK, 2, True), (SlotState.EMPTY, None, True)])
+        with tempfile.TemporaryDirectory() as folder:
+            path = Path(folder) / "image"
+            path.write_bytes(image)
+            self.assertEqual(list(units.journal(path)), found)
+        with self.refused(Status.IMAGE_NOT_FORMATTED):
+            list(units.records(b""))
+        with self.refused(Status.IMAGE_DAMAGED):
+            list(units.records(image[:-512]))
+
+    def test_the_version(self) -> None:
+        changes = HEADER.parents[1] / "CHANGELOG.md"
+        found = re.search(r"^## ([0-9.]+)$", changes.read_text(), re.MULTILINE)
+        assert found is not None
+        self.assertEqual(units.version(), found[1])
 
     def test_telegrams(self) -> None:
         self.assertEqual(units.decode("90007F8020017FC0"), (0, 0))

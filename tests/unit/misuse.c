@@ -64,6 +64,25 @@ static void not_open(etcs_unit *unit) {
     is("close, not open", etcs_unit_close(unit), wanted);
 }
 
+/* The version into each room, also one that is too small. */
+static void version(void) {
+    const uint32_t wanted = ETCS_UNIT_NULL_POINTER;
+    uint8_t out[ETCS_VERSION_BYTES];
+    uint32_t len = 77;
+    memset(out, 0xAA, sizeof out);
+    is("version, nowhere to write", etcs_version(NULL, sizeof out, &len), wanted);
+    is("version, nowhere to count", etcs_version(out, sizeof out, NULL), wanted);
+    is("version, no room", etcs_version(out, 0, &len), ETCS_UNIT_NO_ROOM);
+    is("version, room for 4", etcs_version(out, 4, &len), ETCS_UNIT_NO_ROOM);
+    is("a refusal writes nothing", out[0] == 0xAA && out[4] == 0xAA && len == 77, 1);
+    is("version, just its room", etcs_version(out, 5, &len), ETCS_UNIT_OK);
+    is("its length", len, 5);
+    is("its first byte", out[0], '0');
+    is("nothing behind it", out[5], 0xAA);
+    is("version", etcs_version(out, sizeof out, &len), ETCS_UNIT_OK);
+    is("its length", len, 5);
+}
+
 /* An opening that is refused leaves the unit as it was. */
 static void refused(const char *what, uint32_t found, uint32_t wanted, const etcs_unit *unit) {
     is(what, found, wanted);
@@ -75,7 +94,7 @@ static void opening(medium *on) {
     uint8_t *other = (uint8_t *)calloc(1, on->len + ETCS_UNIT_SECTOR);
     refused("an older header", etcs_unit_open_(&unit, on->bytes, on->len, 0, ETCS_UNIT_ABI - 1), ETCS_UNIT_OTHER_ABI, &unit);
     refused("a newer header", etcs_unit_open_(&unit, on->bytes, on->len, 0, ETCS_UNIT_ABI + 1), ETCS_UNIT_OTHER_ABI, &unit);
-    is("the number of the interface", etcs_unit_abi(), ETCS_UNIT_ABI);
+    is("the number of the interface", etcs_abi(), ETCS_UNIT_ABI);
     refused("cold 3", etcs_unit_open(&unit, on->bytes, on->len, 3), ETCS_UNIT_OUT_OF_RANGE, &unit);
     refused("cold -1", etcs_unit_open(&unit, on->bytes, on->len, UINT32_MAX), ETCS_UNIT_OUT_OF_RANGE, &unit);
     refused("no byte", etcs_unit_open(&unit, on->bytes, 0, 0), ETCS_UNIT_OPEN_NOT_FORMATTED, &unit);
@@ -182,6 +201,10 @@ static void relaying(medium *on) {
     is("none is done", state.done, 0);
     is("none is held back", state.held, 0);
     is("it hasn't failed", state.has_failed, 0);
+    is("nothing is pending", state.pending, 0);
+    is("no moment yet", state.moment_ms, 0);
+    is("an exact start", (uint64_t)state.front_cm, 0);
+    is("and five metres", state.uncertainty_cm, 500);
     is("before a release: event", state.last.event, 0);
     is("before a release: mode", state.last.mode, ETCS_STAND_BY);
     is("before a release: level", state.last.level, ETCS_LEVEL_INVALID);
@@ -217,6 +240,9 @@ static void relaying(medium *on) {
     is("how many are done", state.done, requests - 1);
     is("release before the last one is done", etcs_unit_release(&unit, outputs, 8, &count), ETCS_UNIT_REQUESTS_OWED);
     is("an input meanwhile", etcs_unit_clock(&unit, 1), ETCS_UNIT_OK);
+    is("state", etcs_unit_state(&unit, &state), ETCS_UNIT_OK);
+    is("one is pending", state.pending, 1);
+    is("the moment", state.moment_ms, 1);
     is("all", etcs_unit_done(&unit, requests), ETCS_UNIT_OK);
     is("release", etcs_unit_release(&unit, outputs, 8, &count), ETCS_UNIT_OK);
     is("a power-up releases nothing", count, 0);
@@ -229,6 +255,7 @@ static void relaying(medium *on) {
     is("prepare twice", etcs_unit_prepare(&unit), ETCS_UNIT_REQUESTS_OWED);
     is("state", etcs_unit_state(&unit, &state), ETCS_UNIT_OK);
     is("eight are held back", state.held, 8);
+    is("none is pending", state.pending, 0);
     is("an input while requests are owed", etcs_unit_clock(&unit, 3), ETCS_UNIT_OK);
     is("carry out", carry_out(on, &unit), ETCS_UNIT_OK);
     is("release", etcs_unit_release(&unit, outputs, 8, &count), ETCS_UNIT_OK);
@@ -240,6 +267,18 @@ static void relaying(medium *on) {
     is("the list is empty", state.requests, 0);
     is("flush of one", flushed(on, &unit, outputs, &count), ETCS_UNIT_OK);
     is("one", count, 1);
+    /* -30 cm and 8,000 cm: the twentieth part of a path of 8,030 cm is 401.5 */
+    is("backward", etcs_unit_odometer(&unit, -30, 300), ETCS_UNIT_OK);
+    is("forward", etcs_unit_odometer(&unit, 8000, 300), ETCS_UNIT_OK);
+    is("state", etcs_unit_state(&unit, &state), ETCS_UNIT_OK);
+    is("the front", (uint64_t)state.front_cm, 7970);
+    is("its uncertainty", state.uncertainty_cm, 902);
+    is("two are pending", state.pending, 2);
+    is("the moment", state.moment_ms, 3);
+    is("flush of two", flushed(on, &unit, outputs, &count), ETCS_UNIT_OK);
+    is("two", count, 2);
+    is("state", etcs_unit_state(&unit, &state), ETCS_UNIT_OK);
+    is("the front is the same", (uint64_t)state.front_cm, 7970);
     is("prepare of nothing", etcs_unit_prepare(&unit), ETCS_UNIT_OK);
     is("its list", etcs_unit_request(&unit, 0, &request, bytes, sizeof bytes), ETCS_UNIT_NO_SUCH_REQUEST);
     is("its release", etcs_unit_release(&unit, outputs, 8, &count), ETCS_UNIT_OK);
@@ -296,6 +335,7 @@ static void formatting(void) {
 int main(void) {
     medium on = formatted(4);
     null_pointers(&on);
+    version();
     etcs_unit unit = {0};
     not_open(&unit);
     opening(&on);
@@ -304,5 +344,5 @@ int main(void) {
     failing(&on);
     formatting();
     free(on.bytes);
-    return told("misuse", 280);
+    return told("misuse", 310);
 }

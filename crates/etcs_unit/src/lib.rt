@@ -1,16 +1,6 @@
-//! The unit, as C programs call it. `include/etcs_unit.h` declares these functions.
+//! What C programs call: each function is the one of `unit_calls` or `image_calls` of the same name with `_call`, which
+//! has the contract. `include/etcs_unit.h` and `etcs_image.h` declare them.
 #![tactic(auto)]
 
-mod events_in;
-mod exports;
-mod formatting;
-mod handle;
-mod inputs;
-mod opening;
-mod outputs;
-mod raw;
-mod relaying;
-mod status;
-mod words;
-
-pub use handle::{EtcsUnit, Opened};
+mod image;
+mod unit;

@@ -7,7 +7,7 @@ use std::fmt;
 use std::mem::size_of;
 use std::ptr;
 
-const ABI: u32 = 1;
+const ABI: u32 = 2;
 const SECTOR: usize = 512;
 const OUTPUTS: usize = 8;
 const REQUEST_BYTES: usize = 8192;
@@ -15,14 +15,15 @@ const SLOTS: u32 = 64;
 const CYCLE_MS: u64 = 500;
 const MOST_CYCLES: u32 = 1000;
 const WRITE: u64 = 1;
+const END: u32 = 38;
 const NO_SUCH_REQUEST: u32 = 249;
 const COLD_UNKNOWN: u32 = 0;
 const CHOOSE_LEVEL_1: u32 = 2;
 const START: u32 = 7;
 
-/// The calls of etcs_unit.h. Its inline functions test pointers first; references are never null.
+/// The calls of etcs_unit.h and etcs_image.h. Their inline functions test pointers first; references are never null.
 mod library {
-    use super::{c_void, Output, Request, TrainData};
+    use super::{c_void, JournalAt, Output, Record, Request, TrainData};
 
     #[repr(C)]
     pub struct Handle {
@@ -31,7 +32,7 @@ mod library {
     }
 
     extern "C" {
-        pub fn etcs_unit_abi() -> u32;
+        pub fn etcs_abi() -> u32;
         pub fn etcs_unit_open_(unit: *mut Handle, image: *const u8, len: usize, cold: u32, abi: u32) -> u32;
         pub fn etcs_unit_telegram_(unit: *mut Handle, bytes: *const u8, len: usize) -> u32;
         pub fn etcs_unit_odometer_(unit: *mut Handle, movement_cm: i64, speed_m_per_h: u32) -> u32;
@@ -45,6 +46,8 @@ mod library {
         pub fn etcs_unit_release_(unit: *mut Handle, outputs: *mut Output, room: usize, count: *mut u32) -> u32;
         pub fn etcs_unit_close_(unit: *mut Handle) -> u32;
         pub fn etcs_unit_format_request_(slots: u32, index: u32, request: *mut Request, bytes: *mut u8, room: usize) -> u32;
+        pub fn etcs_journal_open_(image: *const u8, size: usize, abi: u32, journal: *mut JournalAt) -> u32;
+        pub fn etcs_journal_next_(image: *const u8, size: usize, journal: *mut JournalAt, record: *mut Record) -> u32;
     }
 }
 
@@ -79,6 +82,38 @@ pub struct TrainData {
     category: u32,
 }
 
+/// A record of a journal.
+#[repr(C)]
+#[derive(Clone, Copy)]
+pub struct Record {
+    event: u64,
+    block: u64,
+    moment_ms: u64,
+    front_cm: i64,
+    uncertainty_cm: u64,
+    limit_m_per_h: u32,
+    life: u32,
+    format: u8,
+    kind: u8,
+    mode: u8,
+    level: u8,
+    brake: u8,
+    indications: u8,
+    has_place: u8,
+    payload_len: u8,
+    payload: [u8; 104],
+}
+
+/// How far a journal was read.
+#[repr(C)]
+#[derive(Clone, Copy, Default)]
+pub struct JournalAt {
+    block: u64,
+    last: u64,
+    index: u64,
+}
+
+const _: () = assert!(size_of::<Record>() == 160 && size_of::<JournalAt>() == 24);
 const _: () = assert!(size_of::<library::Handle>() == 16 && size_of::<Output>() == 16);
 const _: () = assert!(size_of::<Request>() == 24 && size_of::<TrainData>() == 20);
 
@@ -212,12 +247,44 @@ impl Drop for Unit {
     }
 }
 
+/// The records of a journal, the oldest first.
+struct Journal<'a> {
+    image: &'a [u8],
+    at: JournalAt,
+}
+
+impl Journal<'_> {
+    fn open(image: &[u8]) -> Result<Journal<'_>, Refused> {
+        let mut at = JournalAt::default();
+        // SAFETY: the image is good for its length, and the journal is written to alone.
+        told(unsafe { library::etcs_journal_open_(image.as_ptr(), image.len(), ABI, &mut at) })?;
+        Ok(Journal { image, at })
+    }
+}
+
+impl Iterator for Journal<'_> {
+    type Item = Result<Record, Refused>;
+
+    fn next(&mut self) -> Option<Result<Record, Refused>> {
+        let mut record = std::mem::MaybeUninit::uninit();
+        // SAFETY: as above; the record is read only where the call wrote it.
+        unsafe {
+            match library::etcs_journal_next_(self.image.as_ptr(), self.image.len(), &mut self.at, record.as_mut_ptr()) {
+                0 => Some(Ok(record.assume_init())),
+                END => None,
+                status => Some(Err(Refused(status))),
+            }
+        }
+    }
+}
+
 /// The train of brake.c.
 struct Train {
     moment_ms: u64,
     speed_m_per_h: i64,
     brake: u8,
     mode: u8,
+    last_event: u64,
 }
 
 impl Train {
@@ -236,7 +303,7 @@ impl Train {
             let Output { event, limit_m_per_h: limit, .. } = output;
             println!("event {event}: mode {mode}, brake {brake}, limit {limit} m/h, speed {} m/h", self.speed_m_per_h);
         }
-        (self.brake, self.mode) = (output.brake, output.mode);
+        (self.brake, self.mode, self.last_event) = (output.brake, output.mode, output.event);
     }
 }
 
@@ -253,9 +320,9 @@ fn make_ready(unit: &mut Unit) -> Result<(), Refused> {
 
 fn run() -> Result<(), Refused> {
     // SAFETY: it takes nothing.
-    assert_eq!(unsafe { library::etcs_unit_abi() }, ABI, "the library is of another interface");
+    assert_eq!(unsafe { library::etcs_abi() }, ABI, "the library is of another interface");
     let mut unit = Unit::open(Medium::formatted(SLOTS)?, COLD_UNKNOWN)?;
-    let mut train = Train { moment_ms: 0, speed_m_per_h: 0, brake: 2, mode: 6 };
+    let mut train = Train { moment_ms: 0, speed_m_per_h: 0, brake: 2, mode: 6, last_event: 0 };
     make_ready(&mut unit)?;
     for _ in 0..MOST_CYCLES {
         for output in unit.flush()? {
@@ -268,6 +335,8 @@ fn run() -> Result<(), Refused> {
         unit.odometer(movement_cm, train.speed_m_per_h as u32)?;
         unit.clock(train.moment_ms)?;
     }
+    let last = Journal::open(&unit.medium.bytes)?.last().ok_or(Refused(END))??;
+    assert_eq!(last.event, train.last_event, "the journal ends with another event");
     println!("the train stands behind {} ms", train.moment_ms);
     Ok(())
 }

@@ -1,0 +1,33 @@
+/* A life of BATCHES batches of eight through the calls of include/etcs_unit.h, on four slots in memory that are used again: readings of 1 cm in
+ * Full Supervision, or moments of the clock in Stand By. bench/unit.sh counts within its calls. */
+#include <stdlib.h>
+
+#include "../tests/unit/medium.h"
+
+static const uint8_t authority[] = {0x90, 0x00, 0x7F, 0x80, 0x20, 0x01, 0x43, 0x20, 0x24, 0xA8, 0x00, 0x7F, 0xE0, 0x07, 0xD0, 0x02,
+                                    0xB0, 0x0D, 0x90, 0x00, 0x10, 0x00, 0x0D, 0xC0, 0x3A, 0x40, 0x00, 0x20, 0x80, 0x1F, 0xE0};
+static const etcs_train_data train = {20000, 160000, 70, 0, 15};
+
+int main(int count, char **words) {
+    etcs_unit_output outputs[ETCS_UNIT_OUTPUTS];
+    etcs_unit unit = {0};
+    uint32_t released, wrong = 0;
+    medium on = formatted(4);
+    const int supervised = count > 2, batches = count > 1 ? atoi(words[1]) : 24;
+    wrong |= powered_up(&on, &unit, ETCS_COLD_UNKNOWN);
+    if (supervised) {
+        wrong |= etcs_unit_telegram(&unit, authority, sizeof authority) | etcs_unit_identity(&unit, (const uint8_t *)"A", 1)
+            | etcs_unit_action(&unit, ETCS_CHOOSE_LEVEL_1) | etcs_unit_train_data(&unit, &train) | etcs_unit_action(&unit, ETCS_START);
+    }
+    wrong |= flushed(&on, &unit, outputs, &released);
+    for (int i = 0; i < batches; i++) {
+        for (int j = 0; j < ETCS_UNIT_OUTPUTS; j++)
+            wrong |= supervised ? etcs_unit_odometer(&unit, 1, 300) : etcs_unit_clock(&unit, 0);
+        wrong |= flushed(&on, &unit, outputs, &released);
+        if (released != ETCS_UNIT_OUTPUTS || (supervised && outputs[7].mode != ETCS_FULL_SUPERVISION))
+            wrong = 1;
+    }
+    etcs_unit_close(&unit);
+    free(on.bytes);
+    return wrong != 0;
+}

@@ -1,2 +1,0 @@
-pub mod Handling
-pub mod Values

@@ -1,0 +1,62 @@
+//! The calls of `include/etcs_image.h`.
+use image_calls::{
+    EtcsBlock, EtcsImage, EtcsJournal, EtcsRecord, EtcsSlot, block_call, facts_call, journal_call,
+    next_call, record_call, slot_call,
+};
+
+/// What an image has at first sight.
+#[unsafe(no_mangle)]
+pub extern "C" fn etcs_image_facts_(image: &[u8], abi: u32, facts: &mut EtcsImage) -> u32 {
+    facts_call(image, abi, facts)
+}
+
+/// What a slot holds, where the newest block has this number.
+#[unsafe(no_mangle)]
+pub extern "C" fn etcs_image_slot_(
+    image: &[u8],
+    abi: u32,
+    newest: u64,
+    slot: u64,
+    told: &mut EtcsSlot,
+) -> u32 {
+    slot_call(image, abi, newest, slot, told)
+}
+
+/// What the head of the block of this number tells.
+#[unsafe(no_mangle)]
+pub extern "C" fn etcs_image_block_(
+    image: &[u8],
+    abi: u32,
+    number: u64,
+    block: &mut EtcsBlock,
+) -> u32 {
+    block_call(image, abi, number, block)
+}
+
+/// A record of the block of this number, from 0 on.
+#[unsafe(no_mangle)]
+pub extern "C" fn etcs_image_record_(
+    image: &[u8],
+    abi: u32,
+    number: u64,
+    index: u32,
+    record: &mut EtcsRecord,
+) -> u32 {
+    record_call(image, abi, number, index, record)
+}
+
+/// Opens the journal of an image.
+#[unsafe(no_mangle)]
+pub extern "C" fn etcs_journal_open_(image: &[u8], abi: u32, journal: &mut EtcsJournal) -> u32 {
+    journal_call(image, abi, journal)
+}
+
+/// Gives the next record of a journal.
+#[unsafe(no_mangle)]
+pub extern "C" fn etcs_journal_next_(
+    image: &[u8],
+    journal: &mut EtcsJournal,
+    record: &mut EtcsRecord,
+) -> u32 {
+    next_call(image, journal, record)
+}

@@ -1,0 +1,157 @@
+//! The calls of `include/etcs_unit.h`.
+use image_calls::abi_call;
+use std::alloc::Global;
+use unit_calls::{
+    EtcsOutput, EtcsRequest, EtcsState, EtcsTrainData, EtcsUnit, action_call, clock_call,
+    close_call, done_call, fail_call, format_request_call, identity_call, odometer_call, open_call,
+    prepare_call, release_call, request_call, running_number_call, state_call, telegram_call,
+    train_data_call, version_call,
+};
+
+/// Takes the bytes that a balise sent.
+#[unsafe(no_mangle)]
+pub extern "C" fn etcs_unit_telegram_(alloc: Global, unit: &mut EtcsUnit, bytes: &[u8]) -> u32 {
+    telegram_call(alloc, unit, bytes)
+}
+
+/// Takes a reading of the odometer, in centimetres and metres per hour.
+#[unsafe(no_mangle)]
+pub extern "C" fn etcs_unit_odometer_(
+    alloc: Global,
+    unit: &mut EtcsUnit,
+    movement: i64,
+    speed: u32,
+) -> u32 {
+    odometer_call(alloc, unit, movement, speed)
+}
+
+/// Takes a moment, in milliseconds.
+#[unsafe(no_mangle)]
+pub extern "C" fn etcs_unit_clock_(alloc: Global, unit: &mut EtcsUnit, moment: u64) -> u32 {
+    clock_call(alloc, unit, moment)
+}
+
+/// Takes an action of the driver, 1 to 15.
+#[unsafe(no_mangle)]
+pub extern "C" fn etcs_unit_action_(alloc: Global, unit: &mut EtcsUnit, action: u32) -> u32 {
+    action_call(alloc, unit, action)
+}
+
+/// Takes an identity that the driver enters.
+#[unsafe(no_mangle)]
+pub extern "C" fn etcs_unit_identity_(alloc: Global, unit: &mut EtcsUnit, bytes: &[u8]) -> u32 {
+    identity_call(alloc, unit, bytes)
+}
+
+/// Takes a running number that the driver enters.
+#[unsafe(no_mangle)]
+pub extern "C" fn etcs_unit_running_number_(
+    alloc: Global,
+    unit: &mut EtcsUnit,
+    number: u32,
+) -> u32 {
+    running_number_call(alloc, unit, number)
+}
+
+/// Takes train data that the driver enters.
+#[unsafe(no_mangle)]
+pub extern "C" fn etcs_unit_train_data_(
+    alloc: Global,
+    unit: &mut EtcsUnit,
+    train: &EtcsTrainData,
+) -> u32 {
+    train_data_call(alloc, unit, train)
+}
+
+/// Puts what is pending onto the copy.
+#[unsafe(no_mangle)]
+pub extern "C" fn etcs_unit_prepare_(alloc: Global, unit: &mut EtcsUnit) -> u32 {
+    prepare_call(alloc, unit)
+}
+
+/// Tells a request of the list, from 0 on, and the bytes that it writes.
+#[unsafe(no_mangle)]
+pub extern "C" fn etcs_unit_request_(
+    alloc: Global,
+    unit: &mut EtcsUnit,
+    index: u32,
+    request: &mut EtcsRequest,
+    bytes: &mut [u8],
+) -> u32 {
+    request_call(alloc, unit, index, request, bytes)
+}
+
+/// Says that so many requests, from the first on, are done.
+#[unsafe(no_mangle)]
+pub extern "C" fn etcs_unit_done_(alloc: Global, unit: &mut EtcsUnit, count: u32) -> u32 {
+    done_call(alloc, unit, count)
+}
+
+/// Says that the medium failed.
+#[unsafe(no_mangle)]
+pub extern "C" fn etcs_unit_fail_(alloc: Global, unit: &mut EtcsUnit) -> u32 {
+    fail_call(alloc, unit)
+}
+
+/// Releases what was held back, all of it, into room for eight.
+#[unsafe(no_mangle)]
+pub extern "C" fn etcs_unit_release_(
+    alloc: Global,
+    unit: &mut EtcsUnit,
+    outputs: &mut [EtcsOutput],
+    count: &mut u32,
+) -> u32 {
+    release_call(alloc, unit, outputs, count)
+}
+
+/// Tells how far the unit is.
+#[unsafe(no_mangle)]
+pub extern "C" fn etcs_unit_state_(
+    alloc: Global,
+    unit: &mut EtcsUnit,
+    state: &mut EtcsState,
+) -> u32 {
+    state_call(alloc, unit, state)
+}
+
+/// The number of this interface.
+#[unsafe(no_mangle)]
+pub extern "C" fn etcs_abi() -> u32 {
+    abi_call()
+}
+
+/// Writes the version of the product into room for it.
+#[unsafe(no_mangle)]
+pub extern "C" fn etcs_version_(out: &mut [u8], len: &mut u32) -> u32 {
+    version_call(out, len)
+}
+
+/// Powers up on these sectors.
+#[unsafe(no_mangle)]
+pub extern "C" fn etcs_unit_open_(
+    alloc: Global,
+    unit: &mut EtcsUnit,
+    image: &[u8],
+    cold: u32,
+    abi: u32,
+) -> u32 {
+    open_call(alloc, unit, image, cold, abi)
+}
+
+/// Closes it.
+#[unsafe(no_mangle)]
+pub extern "C" fn etcs_unit_close_(alloc: Global, unit: &mut EtcsUnit) -> u32 {
+    close_call(alloc, unit)
+}
+
+/// Tells what is to be done, from 0 on, to make a medium of 1 + 6 * slots sectors an empty journal: each gate is closed
+/// by zeros, and then the first sector is written.
+#[unsafe(no_mangle)]
+pub extern "C" fn etcs_unit_format_request_(
+    slots: u32,
+    index: u32,
+    request: &mut EtcsRequest,
+    bytes: &mut [u8],
+) -> u32 {
+    format_request_call(slots, index, request, bytes)
+}

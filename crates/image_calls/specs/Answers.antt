@@ -1,0 +1,41 @@
+-- What calls answer, and its numbers (this project's profile).
+use Rattle.std.specs.Prelude.{◌≡◌, ℕ, ◌==◌, Bool, true, false}
+use Rattle.image_calls.specs.declared.answer.Answer.{Answer}
+use Rattle.image_calls.specs.declared.answer.Answer.TheVariants as an_answer
+
+abbrev pub answer_number : Answer → ℕ
+answer_number an_answer.Done = 0
+answer_number an_answer.NotFormatted = 31
+answer_number an_answer.Damaged = 32
+answer_number an_answer.NoSuchSlot = 35
+answer_number an_answer.NoSuchBlock = 36
+answer_number an_answer.NoSuchRecord = 37
+answer_number an_answer.AtEnd = 38
+answer_number an_answer.NotOpen = 250
+answer_number an_answer.OtherAbi = 254
+answer_number an_answer.OutOfRange = 255
+
+-- the number of the interface
+abbrev pub this_abi : ℕ
+this_abi = 2
+
+-- the number is that of an answer of which this holds
+abbrev pub IsAnswered : ℕ → (Answer → Type 0) → Type 0
+IsAnswered number So = (answer : Answer) × (number ≡ answer_number answer) × So answer
+
+-- the first where this is so, else the second
+abbrev pub Where : Bool → Type 0 → Type 0 → Type 0
+Where true So Else = So
+Where false So Else = Else
+
+-- the call answers so, and what it would write stays as it was
+abbrev pub Refuses : {T : Type 0} → Answer → T → T → Answer → Type 0
+Refuses wanted old new answer = (answer ≡ wanted) × (new ≡ old)
+
+-- it is done, and this is written
+abbrev pub Gives : {T : Type 0} → T → T → Answer → Type 0
+Gives told new answer = (answer ≡ an_answer.Done) × (new ≡ told)
+
+-- with a header of this interface the call is so; else it is refused
+abbrev pub ByAbi : {T : Type 0} → ℕ → T → T → Answer → Type 0 → Type 0
+ByAbi abi old new answer So = Where (abi == this_abi) So (Refuses an_answer.OtherAbi old new answer)

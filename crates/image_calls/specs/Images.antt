@@ -1,0 +1,34 @@
+-- What an image has (this project's profile): the bytes of a disk, which may be cut off. Slots are numbered from 0,
+-- blocks from 1.
+use Rattle.std.specs.Prelude.{◌≡◌, ◌⊎◌, ℕ, List, Option, Some, None, option_map}
+use Rattle.blocks.specs.declared.block.Block.{Block}
+use Rattle.examination.specs.Lost.{whole_of, slots_in, IsLost}
+use Rattle.examination.specs.States.{whole_valid_at}
+use Rattle.ring.specs.Slots.{IsBlockAt}
+use Rattle.image_calls.specs.Answers.{Refuses}
+use Rattle.image_calls.specs.ImageDisk.{sectors_in, image_of}
+use Rattle.image_calls.specs.declared.answer.Answer.{Answer}
+use Rattle.image_calls.specs.declared.answer.Answer.TheVariants as an_answer
+use Rattle.image_calls.specs.declared.images.Ring.{Ring}
+
+-- the slots that the first sector tells, and those that are there with all their sectors
+abbrev pub ring_in : List ℕ → Option Ring
+ring_in bytes = option_map (λ slots. record { slots = slots; whole = whole_of (sectors_in bytes) slots }) (slots_in (sectors_in bytes) (image_of bytes))
+
+-- where the image tells its slots the call is so; else it is refused
+abbrev pub OfRing : {T : Type 0} → Option Ring → T → T → Answer → (Ring → Type 0) → Type 0
+OfRing None old new answer So = Refuses an_answer.NotFormatted old new answer
+OfRing (Some ring) old new answer So = So ring
+
+-- the slot of this number is there, is valid with it, and spells the block
+abbrev pub Holds : List ℕ → Ring → ℕ → Block → Type 0
+Holds bytes ring number block = IsBlockAt ring.slots (whole_valid_at ring.slots ring.whole (image_of bytes)) number block
+
+-- it holds none
+abbrev pub HoldsNone : List ℕ → Ring → ℕ → Type 0
+HoldsNone bytes ring number = IsLost ring.slots (whole_valid_at ring.slots ring.whole (image_of bytes)) number
+
+-- the call is so of the block of this number, where there is one; else it is refused with this
+abbrev pub OfBlock : {T : Type 0} → List ℕ → Ring → ℕ → Answer → T → T → Answer → (Block → Type 0) → Type 0
+OfBlock bytes ring number wanted old new answer So =
+    ((block : Block) × Holds bytes ring number block × So block) ⊎ (HoldsNone bytes ring number × Refuses wanted old new answer)

@@ -1,0 +1,82 @@
+-- What is told of what a block keeps (this project's profile). Lengths and distances are centimetres, speeds metres per
+-- hour, times milliseconds. What isn't known is told by zeros.
+use Rattle.std.specs.Prelude.{◌≡◌, ℕ, pos, Bool, if◌then◌else◌, List, ◌++◌, length, drop, replicate, Option, Some, None, is_some}
+use Rattle.driver.specs.Limits.{Train}
+use Rattle.driver.specs.declared.datum.Datum.{Datum}
+use Rattle.driver.specs.declared.datum.Datum.TheVariants as a_datum
+use Rattle.events.specs.Kept.{PositionFrom}
+use Rattle.events.specs.declared.kept.Kept.{Kept}
+use Rattle.mode_table.specs.declared.level.TrainLevel.{TrainLevel}
+use Rattle.image_calls.specs.NationalItems.{TellsNational}
+use Rattle.image_calls.specs.Numbers.{level_code}
+use Rattle.image_calls.specs.declared.kept_items.EtcsKept.{EtcsKept}
+use Rattle.image_calls.specs.declared.kept_items.EtcsTrain.{EtcsTrain}
+use Rattle.image_calls.specs.declared.kept_items.Group.{Group}
+use Rattle.image_calls.specs.declared.national_items.EtcsNational.{EtcsNational}
+
+abbrev pub flag_of : Bool → ℕ
+flag_of set = if set then 1 else 0
+
+abbrev pub or_zero : Option ℕ → ℕ
+or_zero None = 0
+or_zero (Some n) = n
+
+abbrev pub status_number : {A : Type 0} → Datum A → ℕ
+status_number a_datum.Unknown = 0
+status_number (a_datum.Valid value) = 1
+status_number (a_datum.Invalid value) = 2
+
+abbrev pub level_told : Datum TrainLevel → ℕ
+level_told a_datum.Unknown = 0
+level_told (a_datum.Valid level) = level_code level
+level_told (a_datum.Invalid level) = level_code level
+
+abbrev pub train_told : Option Train → EtcsTrain
+train_told None = record { length = 0; maximum = 0; deceleration = 0; reaction = 0; category = 0 }
+train_told (Some t) = record {
+  length = t.length;
+  maximum = t.maximum;
+  deceleration = t.brakes.deceleration;
+  reaction = t.brakes.reaction;
+  category = t.category;
+}
+
+abbrev pub group_of : PositionFrom → Group
+group_of place = record { country = place.group.country; number = place.group.number; distance = place.distance }
+
+abbrev pub group_told : Datum PositionFrom → Group
+group_told a_datum.Unknown = record { country = 0; number = 0; distance = pos 0 }
+group_told (a_datum.Valid place) = group_of place
+group_told (a_datum.Invalid place) = group_of place
+
+-- an identity, and zeros behind it
+abbrev pub identity_told : Option (List ℕ) → List ℕ
+identity_told None = replicate 16 0
+identity_told (Some bytes) = bytes ++ drop (length bytes) (replicate 16 0)
+
+abbrev pub identity_bytes : Option (List ℕ) → ℕ
+identity_bytes None = 0
+identity_bytes (Some bytes) = length bytes
+
+-- as C sees it, with these national values
+abbrev pub kept_told : Kept → EtcsNational → EtcsKept
+kept_told kept national = record {
+  distance = (group_told kept.position).distance;
+  train = train_told kept.train_data;
+  running_number = or_zero kept.running_number;
+  country = (group_told kept.position).country;
+  group = (group_told kept.position).number;
+  identity = identity_told kept.identity;
+  identity_len = identity_bytes kept.identity;
+  has_running_number = flag_of (is_some kept.running_number);
+  has_train = flag_of (is_some kept.train_data);
+  level_status = status_number kept.level;
+  level = level_told kept.level;
+  position_status = status_number kept.position;
+  trip_outstanding = flag_of kept.trip_outstanding;
+  reserved = 0;
+  national = national;
+}
+
+abbrev pub TellsKept : Kept → EtcsKept → Type 0
+TellsKept kept told = (national : EtcsNational) × TellsNational kept.national national × (told ≡ kept_told kept national)

@@ -1,0 +1,11 @@
+pub mod Answers
+pub mod BlockHeads
+pub mod Facts
+pub mod ImageDisk
+pub mod Images
+pub mod Journals
+pub mod KeptItems
+pub mod NationalItems
+pub mod Numbers
+pub mod Records
+pub mod Slots

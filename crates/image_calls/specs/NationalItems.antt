@@ -1,0 +1,37 @@
+-- What is told of national values (this project's profile). Speeds are metres per hour, distances centimetres, times
+-- milliseconds.
+use Rattle.std.specs.Prelude.{◌≡◌, ℕ, ◌-◌, ◌^◌, ◌<◌, List, length, get_or, Option, Some, None}
+use Rattle.national.specs.Values.{ValuesFor}
+use Rattle.national.specs.declared.values.Values.{Values}
+use Rattle.image_calls.specs.declared.national_items.EtcsNational.{EtcsNational}
+
+-- what has no end is told by the greatest number
+abbrev pub open_told : Option ℕ → ℕ
+open_told None = 2 ^ 32 - 1
+open_told (Some n) = n
+
+-- the countries are in the first places
+abbrev pub AreCountries : List ℕ → List ℕ → Type 0
+AreCountries countries told = (length told ≡ 32) × ((k : ℕ) → k < length countries → get_or told k 0 ≡ get_or countries k 0)
+
+-- as C sees them
+abbrev pub national_told : Values → ℕ → List ℕ → EtcsNational
+national_told v count countries = record {
+  shunting = v.shunting;
+  staff_responsible = v.staff_responsible;
+  on_sight = v.on_sight;
+  unfitted = v.unfitted;
+  release = v.release;
+  roll = v.roll;
+  override_allowed = v.override_allowed;
+  override_speed = v.override_speed;
+  override_distance = v.override_distance;
+  override_time = open_told v.override_time;
+  staff_responsible_distance = open_told v.staff_responsible_distance;
+  count = count;
+  countries = countries;
+}
+
+abbrev pub TellsNational : ValuesFor → EtcsNational → Type 0
+TellsNational national told = (countries : List ℕ) × AreCountries national.countries countries
+    × (told ≡ national_told national.values (length national.countries) countries)

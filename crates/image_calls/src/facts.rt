@@ -1,0 +1,55 @@
+//! What an image has at first sight.
+ghost use Rattle.image_calls.specs.Answers.{IsAnswered, ByAbi};
+ghost use Rattle.image_calls.specs.Facts.{AsksFacts, TellsFacts};
+
+use crate::answer::Answer;
+use crate::images::survey_in;
+use crate::version::ABI;
+use examination::Survey;
+
+/// What an image has at first sight.
+#[repr(C)]
+#[derive(Clone, Copy)]
+pub struct EtcsImage {
+    /// How many whole sectors.
+    pub sectors: u64,
+    /// How many slots its first sector tells.
+    pub slots: u64,
+    /// How many of them are there with all their sectors.
+    pub whole: u64,
+    /// The greatest number of a block that is valid in these, 0 where there is none.
+    pub newest: u64,
+}
+
+// Tells what was seen.
+fn tell(survey: Survey, out: &mut EtcsImage) -> Answer
+    ensures { TellsFacts survey out.old out.new result }
+{
+    let Some(slots) = survey.slots else {
+        return Answer::NotFormatted;
+    };
+    *out = EtcsImage {
+        sectors: survey.sectors,
+        slots,
+        whole: survey.whole,
+        newest: survey.newest,
+    };
+    Answer::Done
+}
+
+// What an image has at first sight.
+fn facts(image: &[u8], abi: u32, out: &mut EtcsImage) -> Answer
+    ensures { ByAbi abi out.old out.new result (AsksFacts image.now out.old out.new result) }
+{
+    if abi != ABI {
+        return Answer::OtherAbi;
+    }
+    tell(survey_in(image), out)
+}
+
+/// What an image has at first sight.
+pub fn facts_call(image: &[u8], abi: u32, out: &mut EtcsImage) -> u32
+    ensures { IsAnswered result (λ answer. ByAbi abi out.old out.new answer (AsksFacts image.now out.old out.new answer)) }
+{
+    facts(image, abi, out).number()
+}

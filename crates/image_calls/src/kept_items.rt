@@ -1,0 +1,181 @@
+//! What a block keeps, as C gets it.
+ghost use Rattle.std.specs.Prelude.{◌≡◌};
+ghost use Rattle.image_calls.specs.KeptItems.{status_number, level_told, train_told, group_told, identity_told, identity_bytes, or_zero, flag_of, TellsKept};
+
+use crate::national_items::{EtcsNational, national_told};
+use crate::numbers::level_code;
+use driver::{Datum, DriverIdentity, RunningNumber, TrainData};
+use events::{Kept, Position};
+use mode_table::TrainLevel;
+use vars::Variable;
+
+/// Train data, as C gets them.
+#[repr(C)]
+#[derive(Clone, Copy)]
+pub struct EtcsTrain {
+    /// In centimetres.
+    pub length: u32,
+    /// In metres per hour.
+    pub maximum: u32,
+    /// In cm/s^2.
+    pub deceleration: u32,
+    /// In milliseconds.
+    pub reaction: u32,
+    /// NC_TRAIN, 0 to 15.
+    pub category: u32,
+}
+
+/// What is kept behind the events of a block. What isn't known is zero.
+#[repr(C)]
+#[derive(Clone, Copy)]
+pub struct EtcsKept {
+    /// How far behind the group the estimated front lies, in centimetres.
+    pub distance: i64,
+    /// The train data.
+    pub train: EtcsTrain,
+    /// The running number.
+    pub running_number: u32,
+    /// The country of the group that the position is told by (NID_C).
+    pub country: u32,
+    /// The number of that group (NID_BG).
+    pub group: u32,
+    /// The driver's identity, and zeros behind it.
+    pub identity: [u8; 16],
+    /// How many bytes the identity has, 0 where none is known.
+    pub identity_len: u8,
+    /// 1 where a running number is known.
+    pub has_running_number: u8,
+    /// 1 where train data are known.
+    pub has_train: u8,
+    /// The status of the level: 0 unknown, 1 valid, 2 invalid.
+    pub level_status: u8,
+    /// The level, 0 or 1.
+    pub level: u8,
+    /// The status of the position.
+    pub position_status: u8,
+    /// 1 where a trip isn't acknowledged yet.
+    pub trip_outstanding: u8,
+    /// 0.
+    pub reserved: u8,
+    /// The national values in force.
+    pub national: EtcsNational,
+}
+
+// The status of a datum.
+fn status_number<T: Copy>(datum: &Datum<T>) -> u8
+    ensures { result ≡ status_number datum.now }
+{
+    match datum {
+        Datum::Unknown => 0,
+        Datum::Valid(_) => 1,
+        Datum::Invalid(_) => 2,
+    }
+}
+
+fn level_told(level: Datum<TrainLevel>) -> u8
+    ensures { result ≡ level_told level }
+{
+    match level {
+        Datum::Unknown => 0,
+        Datum::Valid(level) | Datum::Invalid(level) => level_code(level),
+    }
+}
+
+fn train_told(train: Option<TrainData>) -> EtcsTrain
+    ensures { result ≡ train_told train }
+{
+    match train {
+        None => EtcsTrain {
+            length: 0,
+            maximum: 0,
+            deceleration: 0,
+            reaction: 0,
+            category: 0,
+        },
+        Some(train) => EtcsTrain {
+            length: train.length().get() as u32,
+            maximum: train.maximum().get(),
+            deceleration: u32::from(train.brakes().deceleration.get()),
+            reaction: u32::from(train.brakes().reaction.get()),
+            category: train.category().number() as u32,
+        },
+    }
+}
+
+/// A group, and how far it is.
+#[derive(Clone, Copy)]
+pub(crate) struct Group {
+    pub(crate) country: u32,
+    pub(crate) number: u32,
+    pub(crate) distance: i64,
+}
+
+fn group_told(position: Datum<Position>) -> Group
+    ensures { result ≡ group_told position }
+{
+    match position {
+        Datum::Unknown => Group {
+            country: 0,
+            number: 0,
+            distance: 0,
+        },
+        Datum::Valid(place) | Datum::Invalid(place) => Group {
+            country: place.group().country.number() as u32,
+            number: place.group().number.number() as u32,
+            distance: place.distance().get(),
+        },
+    }
+}
+
+fn identity_told(identity: &Option<DriverIdentity>) -> [u8; 16]
+    ensures { result ≡ identity_told identity.now }
+{
+    let mut all = [0; 16];
+    if let Some(identity) = identity {
+        let bytes = identity.bytes();
+        all[..bytes.len()].copy_from_slice(bytes);
+    }
+    all
+}
+
+fn identity_bytes(identity: &Option<DriverIdentity>) -> u8
+    ensures { result ≡ identity_bytes identity.now }
+{
+    match identity {
+        Some(identity) => identity.bytes().len() as u8,
+        None => 0,
+    }
+}
+
+fn number_told(number: Option<RunningNumber>) -> u32
+    ensures { result ≡ or_zero number }
+{
+    match number {
+        Some(number) => number.get(),
+        None => 0,
+    }
+}
+
+/// As C sees it.
+pub(crate) fn kept_told(kept: &Kept) -> EtcsKept
+    ensures { TellsKept kept.now result }
+{
+    let group = group_told(kept.position);
+    EtcsKept {
+        distance: group.distance,
+        train: train_told(kept.train_data),
+        running_number: number_told(kept.running_number),
+        country: group.country,
+        group: group.number,
+        identity: identity_told(&kept.identity),
+        identity_len: identity_bytes(&kept.identity),
+        has_running_number: u8::from(kept.running_number.is_some()),
+        has_train: u8::from(kept.train_data.is_some()),
+        level_status: status_number(&kept.level),
+        level: level_told(kept.level),
+        position_status: status_number(&kept.position),
+        trip_outstanding: u8::from(kept.trip_outstanding),
+        reserved: 0,
+        national: national_told(&kept.national),
+    }
+}

@@ -1,0 +1,65 @@
+//! The numbers by which C is told what is one of several values.
+ghost use Rattle.std.specs.Prelude.{◌≡◌};
+ghost use Rattle.blocks.specs.Codes.{kind_number, output_level_number, brake_number};
+ghost use Rattle.blocks.specs.Records.{kind_name};
+ghost use Rattle.image_calls.specs.Numbers.{format_number, level_code};
+
+use blocks::Format;
+use events::{Brake, Event, Input};
+use mode_table::TrainLevel;
+
+/// The number of a format, 1 to 3.
+pub(crate) fn format_number(format: Format) -> u8
+    ensures { result ≡ format_number format }
+{
+    match format {
+        Format::One => 1,
+        Format::Two => 2,
+        Format::Three => 3,
+    }
+}
+
+/// The number of the kind of an event, 1 to 5.
+pub(crate) fn kind_number(event: &Event) -> u8
+    ensures { result ≡ kind_number (kind_name event.now) }
+{
+    match event {
+        Event::PowerUp(_) => 1,
+        Event::Input(Input::Telegram(_)) => 2,
+        Event::Input(Input::Odometer(_)) => 3,
+        Event::Input(Input::Clock(_)) => 4,
+        Event::Input(Input::Driver(_)) => 5,
+    }
+}
+
+/// The number of a level.
+pub(crate) fn level_code(level: TrainLevel) -> u8
+    ensures { result ≡ level_code level }
+{
+    match level {
+        TrainLevel::Level0 => 0,
+        TrainLevel::Level1 => 1,
+    }
+}
+
+/// The number of the level of an output, 255 where none is valid.
+pub(crate) fn level_number(level: Option<TrainLevel>) -> u8
+    ensures { result ≡ output_level_number level }
+{
+    match level {
+        Some(TrainLevel::Level0) => 0,
+        Some(TrainLevel::Level1) => 1,
+        None => 255,
+    }
+}
+
+/// The number of a command to the brakes.
+pub(crate) fn brake_number(brake: Brake) -> u8
+    ensures { result ≡ brake_number brake }
+{
+    match brake {
+        Brake::None => 0,
+        Brake::Service => 1,
+        Brake::Emergency => 2,
+    }
+}

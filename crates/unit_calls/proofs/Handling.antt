@@ -1,0 +1,21 @@
+-- A call on what a handle holds, step by step.
+use Rattle.std.proofs.Common.{◌≡◌, Option, Some, None, refl, sym, subst}
+use Rattle.unit_calls.specs.Handles.{OnHandle}
+use Rattle.unit_calls.specs.declared.handle.Opened.{Opened}
+use Rattle.unit_calls.specs.declared.status.Status.{Status}
+use Rattle.unit_calls.specs.declared.status.Status.TheVariants as a_status
+
+-- no unit is open
+pub not_open : (old new : Option Opened) (So : Opened → Opened → Status → Type 0) → old ≡ None → new ≡ None → OnHandle old new a_status.NotOpen So
+not_open old new So was is =
+    let N : Option Opened → Type 0 = λ n. OnHandle old n a_status.NotOpen So in
+    let O : Option Opened → Type 0 = λ o. OnHandle o None a_status.NotOpen So in
+    subst N (sym is) (subst O (sym was) refl)
+
+-- one is, and stays open
+pub on_open : (old new : Option Opened) (before after : Opened) (status : Status) (So : Opened → Opened → Status → Type 0)
+    → old ≡ Some before → new ≡ Some after → So before after status → OnHandle old new status So
+on_open old new before after status So was is so =
+    let N : Option Opened → Type 0 = λ n. OnHandle old n status So in
+    let O : Option Opened → Type 0 = λ o. OnHandle o (Some after) status So in
+    subst N (sym is) (subst O (sym was) so)

@@ -1,0 +1,55 @@
+-- What C is told of a request (this project's profile). Requests are counted from the first of the list.
+use Rattle.std.specs.Prelude.{◌≡◌, ℕ, ◌+◌, ◌*◌, ◌<◌, ◌≤◌, nat_lt, Bool, true, false, List, [], ◌∷◌, ◌++◌, length, take, drop, Option, Some, None}
+use Rattle.disk.specs.declared.record.Call.{Call}
+use Rattle.disk.specs.declared.record.Call.TheVariants.{Quiet, Synced, Written, Torn}
+use Rattle.relayed_unit.specs.Relayed.{list_of, written_of}
+use Rattle.unit_calls.specs.declared.handle.Opened.{Opened}
+use Rattle.unit_calls.specs.declared.status.Status.{Status}
+use Rattle.unit_calls.specs.declared.status.Status.TheVariants as a_status
+use Rattle.unit_calls.specs.declared.words.EtcsRequest.{EtcsRequest}
+
+-- the first where this is so, else the second
+abbrev pub Where : Bool → Type 0 → Type 0 → Type 0
+Where true So Else = So
+Where false So Else = Else
+
+-- The request and the bytes that the caller has room for, before a call and behind it, and its status.
+pub record Telling : Type 0 where
+  pub request : EtcsRequest
+  pub told : EtcsRequest
+  pub room : List ℕ
+  pub bytes : List ℕ
+  pub status : Status
+
+-- the call is refused so, and writes nothing
+abbrev pub Refuses : Status → Telling → Type 0
+Refuses status t = (t.status ≡ status) × (t.told ≡ t.request) × (t.bytes ≡ t.room)
+
+-- so many sectors from this one on are to be written with these bytes, for which the caller has room
+abbrev pub Writes : ℕ → ℕ → List ℕ → Telling → Type 0
+Writes sector sectors content t =
+    Where (nat_lt (length t.room) (length content)) (Refuses a_status.NoRoom t)
+    ((t.status ≡ a_status.Done) × (t.told ≡ record { sector = sector; sectors = sectors; kind = 1 })
+    × (t.bytes ≡ content ++ drop (length content) t.room))
+
+-- a sync is to be done
+abbrev pub Syncs : Telling → Type 0
+Syncs t = (t.status ≡ a_status.Done) × (t.told ≡ record { sector = 0; sectors = 0; kind = 2 }) × (t.bytes ≡ t.room)
+
+-- the request at this place of a list; None behind the last one
+abbrev pub IsAt : ℕ → List Call → Option Call → Type 0
+IsAt index requests None = length requests ≤ index
+IsAt index requests (Some request) = (index < length requests) × (take (index + 1) requests ≡ take index requests ++ request ∷ [])
+
+-- what C is told of it, where it writes some of these bytes
+abbrev pub IsToldAs : List ℕ → Option Call → Telling → Type 0
+IsToldAs written None t = Refuses a_status.NoSuchRequest t
+IsToldAs written (Some Quiet) t = Syncs t
+IsToldAs written (Some Synced) t = Syncs t
+IsToldAs written (Some (Written span)) t = Writes span.first span.sectors (take (512 * span.sectors) (drop span.from written)) t
+IsToldAs written (Some (Torn span)) t = Syncs t
+
+-- a request of the unit's list is told
+abbrev pub TellsRequest : ℕ → Opened → Telling → Type 0
+TellsRequest index opened t = (found : Option Call) × IsAt index (list_of opened.unit.moored) found
+    × IsToldAs (written_of opened.unit.moored) found t

@@ -1,0 +1,15 @@
+-- Which library this is (this project's profile).
+use Rattle.std.specs.Prelude.{◌≡◌, ℕ, List, ◌++◌, length, drop, codes, nat_lt}
+use Rattle.unit_calls.specs.Requests.{Where}
+use Rattle.unit_calls.specs.declared.status.Status.{Status}
+use Rattle.unit_calls.specs.declared.status.Status.TheVariants as a_status
+
+-- the version of the product
+abbrev pub version : List ℕ
+version = codes "0.1.0"
+
+-- the version is written into the first of the caller's bytes, and its length told; NoRoom writes nothing
+abbrev pub TellsVersion : List ℕ → List ℕ → ℕ → ℕ → Status → Type 0
+TellsVersion room bytes len told status =
+    Where (nat_lt (length room) (length version)) ((status ≡ a_status.NoRoom) × (bytes ≡ room) × (told ≡ len))
+    ((status ≡ a_status.Done) × (bytes ≡ version ++ drop (length version) room) × (told ≡ length version))

@@ -1,0 +1,94 @@
+//! Taking inputs.
+ghost use Rattle.std.specs.Prelude.{Option};
+ghost use Rattle.driver.specs.Limits.{IsIdentity, IsRunningNumber};
+ghost use Rattle.driver.specs.declared.action.Action.TheVariants.{EnterIdentity, EnterRunningNumber, EnterTrainData};
+ghost use Rattle.events.specs.Limits.{AreOfATelegram};
+ghost use Rattle.events.specs.declared.input.Input.{Input as an_input};
+ghost use Rattle.events.specs.declared.input.Input.TheVariants.{Telegram, Odometer, Clock, Driver};
+ghost use Rattle.units.specs.Limits.{IsMovement, IsMph, IsMs};
+ghost use Rattle.unit_calls.specs.Handles.{OnHandle, Takes, IsTold};
+ghost use Rattle.unit_calls.specs.Inputs.{Tells, ActsAs, AreTrainData, train_of, action_by};
+
+use crate::handle::{EtcsUnit, Opened, handle_of, taken};
+use crate::inputs::{self, EtcsTrainData};
+use crate::status::{Status, of_accept};
+use events::Input;
+use std::alloc::Global;
+
+// Hands an input to the unit; None is one outside its limits.
+fn accept(opened: &mut Opened, alloc: Global, input: Option<Input>) -> Status
+    ensures { Takes input opened.old opened.new result }
+{
+    match input {
+        Some(input) => of_accept(opened.unit.accept(alloc, input)),
+        None => Status::OutOfRange,
+    }
+}
+
+// The same through a handle.
+fn take(alloc: Global, handle: &mut EtcsUnit, input: Option<Input>) -> Status
+    ensures { OnHandle handle.old.raw.value handle.new.raw.value result (Takes input) }
+{
+    let Some(mut opened) = taken(alloc, handle) else {
+        return Status::NotOpen;
+    };
+    let status = accept(&mut opened, alloc, input);
+    *handle = handle_of(Some(opened));
+    status
+}
+
+/// Takes the bytes that a balise sent.
+pub fn telegram_call(alloc: Global, unit: &mut EtcsUnit, bytes: &[u8]) -> u32
+    ensures { IsTold result (λ status. (told : Option an_input) × Tells (AreOfATelegram bytes.now) (Telegram bytes.now) told
+        × OnHandle unit.old.raw.value unit.new.raw.value status (Takes told)) }
+{
+    take(alloc, unit, inputs::telegram(bytes)).number()
+}
+
+/// Takes a reading of the odometer, in centimetres and metres per hour.
+pub fn odometer_call(alloc: Global, unit: &mut EtcsUnit, movement: i64, speed: u32) -> u32
+    ensures { IsTold result (λ status. (told : Option an_input) × Tells (IsMovement movement × IsMph speed) (Odometer (record { movement = movement; speed = speed })) told
+        × OnHandle unit.old.raw.value unit.new.raw.value status (Takes told)) }
+{
+    take(alloc, unit, inputs::odometer(movement, speed)).number()
+}
+
+/// Takes a moment, in milliseconds.
+pub fn clock_call(alloc: Global, unit: &mut EtcsUnit, moment: u64) -> u32
+    ensures { IsTold result (λ status. (told : Option an_input) × Tells (IsMs moment) (Clock moment) told
+        × OnHandle unit.old.raw.value unit.new.raw.value status (Takes told)) }
+{
+    take(alloc, unit, inputs::clock(moment)).number()
+}
+
+/// Takes an action of the driver, 1 to 15.
+pub fn action_call(alloc: Global, unit: &mut EtcsUnit, action: u32) -> u32
+    ensures { IsTold result (λ status. (told : Option an_input) × ActsAs (action_by action) told
+        × OnHandle unit.old.raw.value unit.new.raw.value status (Takes told)) }
+{
+    take(alloc, unit, inputs::action(action)).number()
+}
+
+/// Takes an identity that the driver enters.
+pub fn identity_call(alloc: Global, unit: &mut EtcsUnit, bytes: &[u8]) -> u32
+    ensures { IsTold result (λ status. (told : Option an_input) × Tells (IsIdentity bytes.now) (Driver (EnterIdentity bytes.now)) told
+        × OnHandle unit.old.raw.value unit.new.raw.value status (Takes told)) }
+{
+    take(alloc, unit, inputs::identity(bytes)).number()
+}
+
+/// Takes a running number that the driver enters.
+pub fn running_number_call(alloc: Global, unit: &mut EtcsUnit, number: u32) -> u32
+    ensures { IsTold result (λ status. (told : Option an_input) × Tells (IsRunningNumber number) (Driver (EnterRunningNumber number)) told
+        × OnHandle unit.old.raw.value unit.new.raw.value status (Takes told)) }
+{
+    take(alloc, unit, inputs::running_number(number)).number()
+}
+
+/// Takes train data that the driver enters.
+pub fn train_data_call(alloc: Global, unit: &mut EtcsUnit, train: &EtcsTrainData) -> u32
+    ensures { IsTold result (λ status. (told : Option an_input) × Tells (AreTrainData train.now) (Driver (EnterTrainData (train_of train.now))) told
+        × OnHandle unit.old.raw.value unit.new.raw.value status (Takes told)) }
+{
+    take(alloc, unit, inputs::train_data(train)).number()
+}

@@ -1,0 +1,29 @@
+//! The unit, as C programs call it: the calls behind the exports of `etcs_unit`, with their contracts.
+#![tactic(auto)]
+
+mod events_in;
+mod formatting;
+mod handle;
+mod inputs;
+mod laws;
+mod opening;
+mod outputs;
+mod raw;
+mod relaying;
+mod status;
+mod version;
+mod words;
+
+pub use events_in::{
+    action_call, clock_call, identity_call, odometer_call, running_number_call, telegram_call,
+    train_data_call,
+};
+pub use formatting::format_request_call;
+pub use handle::{EtcsUnit, Opened};
+pub use inputs::EtcsTrainData;
+pub use laws::format_empties;
+pub use opening::{close_call, open_call};
+pub use outputs::{EtcsOutput, EtcsState};
+pub use relaying::{done_call, fail_call, prepare_call, release_call, request_call, state_call};
+pub use version::version_call;
+pub use words::EtcsRequest;

@@ -1,0 +1,82 @@
+//! Opening and closing.
+ghost use Rattle.std.specs.Prelude.{◌≡◌, None};
+ghost use Rattle.unit_calls.specs.Handles.{IsTold, IsLeft, OpensFrom, PowersUp, closing};
+ghost use Rattle.unit_calls.specs.Statuses.{status_number};
+
+use crate::handle::{EtcsUnit, Opened, handle_of, taken};
+use crate::status::{Status, of_open};
+use crate::words::word_of;
+use image_calls::ABI;
+use mode_table::Cold;
+use onboard::{OpenError, Released};
+use relayed_unit::RelayedUnit;
+use std::alloc::Global;
+
+// Puts a unit that was powered up into a handle that has none.
+fn put(alloc: Global, handle: &mut EtcsUnit, told: Result<RelayedUnit, OpenError>) -> Status
+    requires { handle.old.raw.value ≡ None }
+    ensures { IsLeft told handle.new.raw.value result }
+{
+    let unit = match told {
+        Ok(unit) => unit,
+        Err(error) => return of_open(error),
+    };
+    let last = Released::default();
+    match Box::new(alloc, Opened { unit, last }) {
+        Ok(opened) => {
+            *handle = handle_of(Some(opened));
+            Status::Done
+        }
+        Err(_) => Status::OpenNoMemory,
+    }
+}
+
+// Powers up into a handle that has no unit.
+fn power_up(alloc: Global, handle: &mut EtcsUnit, image: &[u8], cold: Option<Cold>) -> Status
+    requires { handle.old.raw.value ≡ None }
+    ensures { PowersUp image.now cold handle.new.raw.value result }
+{
+    let Some(cold) = cold else {
+        return Status::OutOfRange;
+    };
+    let told = RelayedUnit::open(alloc, image, cold);
+    put(alloc, handle, told)
+}
+
+// The same, from a header of this interface.
+fn power_up_handle(
+    alloc: Global,
+    handle: &mut EtcsUnit,
+    image: &[u8],
+    cold: u32,
+    abi: u32,
+) -> Status
+    ensures { OpensFrom image.now cold abi handle.old.raw.value handle.new.raw.value result }
+{
+    if let Some(before) = taken(alloc, handle) {
+        *handle = handle_of(Some(before));
+        return Status::IsOpen;
+    }
+    if abi != ABI {
+        return Status::OtherAbi;
+    }
+    power_up(alloc, handle, image, word_of(cold))
+}
+
+/// Powers up on these sectors.
+pub fn open_call(alloc: Global, unit: &mut EtcsUnit, image: &[u8], cold: u32, abi: u32) -> u32
+    ensures { IsTold result (OpensFrom image.now cold abi unit.old.raw.value unit.new.raw.value) }
+{
+    power_up_handle(alloc, unit, image, cold, abi).number()
+}
+
+/// Closes it.
+pub fn close_call(alloc: Global, unit: &mut EtcsUnit) -> u32
+    ensures closed { unit.new.raw.value ≡ None }
+    ensures told { result ≡ status_number (closing unit.old.raw.value) }
+{
+    match taken(alloc, unit) {
+        Some(_) => Status::Done.number(),
+        None => Status::NotOpen.number(),
+    }
+}

@@ -1,0 +1,50 @@
+// A pointer that C may hold: of no type that C can't know.
+ghost use Rattle.std.specs.Prelude.{◌≡◌, Option, None};
+ghost use Rattle.unit_calls.specs.declared.handle.Opened.{Opened as OpenedValue};
+
+use crate::handle::Opened;
+use held::Held;
+use std::alloc::Global;
+use std::marker::Model;
+
+/// The pointer to a unit, or any where there is none.
+#[repr(C)]
+#[derive(Drop)]
+pub struct Raw {
+    at: *mut u8,
+    pub ghost value: { Option OpenedValue },
+}
+
+impl Model for Raw {
+    ghost use Rattle.unit_calls.specs.Owned.{raw_owns};
+
+    ghost also_owns = { λ r. raw_owns r.at r.value };
+}
+
+impl Raw {
+    /// No unit; the pointer may be any.
+    pub fn none(nowhere: *mut u8) -> Raw
+        ensures { result.value ≡ None }
+    {
+        Raw { at: nowhere }
+    }
+
+    /// What is held, for C.
+    pub fn of(held: Held<Opened, Global>) -> Raw
+        ensures { result.value ≡ held.value }
+    {
+        let Held { at, alloc: _ } = held;
+        Raw { at: at as *mut u8 }
+    }
+
+    /// The same again.
+    pub fn into_held(self, alloc: Global) -> Held<Opened, Global>
+        ensures { result.value ≡ self.value }
+    {
+        let Raw { at } = self;
+        Held {
+            at: at as *mut Opened,
+            alloc,
+        }
+    }
+}

@@ -1,0 +1,204 @@
+//! From inputs to outputs: preparing, requests, releasing.
+ghost use Rattle.std.specs.Prelude.{◌≡◌};
+ghost use Rattle.unit_calls.specs.Handles.{OnHandle, IsTold, Prepares, Says, Fails, Releases, TellsState};
+ghost use Rattle.unit_calls.specs.declared.status.Status.TheVariants.{Done};
+ghost use Rattle.unit_calls.specs.Requests.{TellsRequest};
+
+use crate::handle::{EtcsUnit, Opened, handle_of, taken};
+use crate::outputs::{EtcsOutput, EtcsState, hand_out, told_of};
+use crate::status::{Status, of_prepare, of_release};
+use crate::words::{EtcsRequest, sync, tell_write};
+use disk::Call;
+use events::MOST_PENDING;
+use onboard::Released;
+use std::alloc::Global;
+
+// Puts what is pending onto the copy.
+fn prepare(opened: &mut Opened) -> Status
+    ensures { Prepares opened.old opened.new result }
+{
+    of_prepare(opened.unit.prepare())
+}
+
+/// Puts what is pending onto the copy.
+pub fn prepare_call(alloc: Global, unit: &mut EtcsUnit) -> u32
+    ensures { IsTold result (λ status. OnHandle unit.old.raw.value unit.new.raw.value status Prepares) }
+{
+    let Some(mut opened) = taken(alloc, unit) else {
+        return Status::NotOpen.number();
+    };
+    let status = prepare(&mut opened);
+    *unit = handle_of(Some(opened));
+    status.number()
+}
+
+// Tells a request of a unit.
+fn tell(opened: &Opened, index: u32, request: &mut EtcsRequest, bytes: &mut [u8]) -> Status
+    ensures { TellsRequest index opened.now
+        (record { request = request.old; told = request.new; room = bytes.old; bytes = bytes.new; status = result }) }
+{
+    match opened.unit.request(index as usize) {
+        Some(Call::Written(span)) => {
+            tell_write(
+                span.first,
+                span.sectors,
+                opened.unit.bytes_of(span),
+                request,
+                bytes,
+            )
+        }
+        Some(_) => {
+            *request = sync();
+            Status::Done
+        }
+        None => Status::NoSuchRequest,
+    }
+}
+
+/// Tells a request of the list, from 0 on, and the bytes that it writes.
+pub fn request_call(
+    alloc: Global,
+    unit: &mut EtcsUnit,
+    index: u32,
+    request: &mut EtcsRequest,
+    bytes: &mut [u8],
+) -> u32
+    ensures { IsTold result (λ status. OnHandle unit.old.raw.value unit.new.raw.value status
+        (λ before after told. (after ≡ before) × TellsRequest index before
+        (record { request = request.old; told = request.new; room = bytes.old; bytes = bytes.new; status = told }))) }
+{
+    let Some(opened) = taken(alloc, unit) else {
+        return Status::NotOpen.number();
+    };
+    let status = tell(&opened, index, request, bytes);
+    *unit = handle_of(Some(opened));
+    status.number()
+}
+
+// Says that so many requests, from the first on, are done.
+fn say(opened: &mut Opened, count: u32) -> Status
+    ensures { Says count opened.old opened.new result }
+{
+    if opened.unit.done(count as usize) {
+        Status::Done
+    } else {
+        Status::WrongCount
+    }
+}
+
+/// Says that so many requests, from the first on, are done.
+pub fn done_call(alloc: Global, unit: &mut EtcsUnit, count: u32) -> u32
+    ensures { IsTold result (λ status. OnHandle unit.old.raw.value unit.new.raw.value status (Says count)) }
+{
+    let Some(mut opened) = taken(alloc, unit) else {
+        return Status::NotOpen.number();
+    };
+    let status = say(&mut opened, count);
+    *unit = handle_of(Some(opened));
+    status.number()
+}
+
+// Says that the medium failed.
+fn fail(opened: &mut Opened) -> Status
+    ensures { Fails opened.old opened.new result }
+{
+    opened.unit.fail();
+    Status::Done
+}
+
+/// Says that the medium failed.
+pub fn fail_call(alloc: Global, unit: &mut EtcsUnit) -> u32
+    ensures { IsTold result (λ status. OnHandle unit.old.raw.value unit.new.raw.value status Fails) }
+{
+    let Some(mut opened) = taken(alloc, unit) else {
+        return Status::NotOpen.number();
+    };
+    let status = fail(&mut opened);
+    *unit = handle_of(Some(opened));
+    status.number()
+}
+
+// The last output, or the one before.
+fn last_of(released: &[Released], before: Released) -> Released {
+    match released.last() {
+        Some(last) => *last,
+        None => before,
+    }
+}
+
+// Releases what was held back into room for eight.
+fn release(opened: &mut Opened, outputs: &mut [EtcsOutput], count: &mut u32) -> Status
+    ensures { Releases outputs.old outputs.new count.new opened.old opened.new result }
+{
+    *count = 0;
+    if outputs.len() < MOST_PENDING {
+        return Status::NoRoom;
+    }
+    match opened.unit.release() {
+        Ok(released) => {
+            hand_out(released.as_slice(), outputs);
+            *count = released.len() as u32;
+            opened.last = last_of(released.as_slice(), opened.last);
+            Status::Done
+        }
+        Err(error) => of_release(error),
+    }
+}
+
+/// Releases what was held back, all of it, into room for eight.
+pub fn release_call(
+    alloc: Global,
+    unit: &mut EtcsUnit,
+    outputs: &mut [EtcsOutput],
+    count: &mut u32,
+) -> u32
+    ensures { IsTold result (λ status. OnHandle unit.old.raw.value unit.new.raw.value status
+        (Releases outputs.old outputs.new count.new)) }
+{
+    *count = 0;
+    let Some(mut opened) = taken(alloc, unit) else {
+        return Status::NotOpen.number();
+    };
+    let status = release(&mut opened, outputs, count);
+    *unit = handle_of(Some(opened));
+    status.number()
+}
+
+// How far this unit is.
+fn state_of(opened: &Opened) -> EtcsState
+    ensures { TellsState opened.now result }
+{
+    let life = opened.unit.life_now();
+    EtcsState {
+        last: told_of(&opened.last),
+        requests: opened.unit.count() as u64,
+        done: opened.unit.done_count() as u64,
+        held: opened.unit.held() as u64,
+        has_failed: u64::from(opened.unit.has_failed()),
+        pending: life.pending as u64,
+        moment: life.moment.get(),
+        estimate: life.estimate.get(),
+        uncertainty: life.uncertainty,
+    }
+}
+
+// Tells how far this unit is.
+fn tell_state(opened: &Opened, state: &mut EtcsState) -> Status
+    ensures { (result ≡ Done) × TellsState opened.now state.new }
+{
+    *state = state_of(opened);
+    Status::Done
+}
+
+/// Tells how far the unit is.
+pub fn state_call(alloc: Global, unit: &mut EtcsUnit, state: &mut EtcsState) -> u32
+    ensures { IsTold result (λ status. OnHandle unit.old.raw.value unit.new.raw.value status
+        (λ before after told. (after ≡ before) × (told ≡ Done) × TellsState before state.new)) }
+{
+    let Some(opened) = taken(alloc, unit) else {
+        return Status::NotOpen.number();
+    };
+    let status = tell_state(&opened, state);
+    *unit = handle_of(Some(opened));
+    status.number()
+}

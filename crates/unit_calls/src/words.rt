@@ -1,0 +1,65 @@
+//! Requests as C gets them, and words that it hands in.
+ghost use Rattle.std.specs.Prelude.{◌≡◌};
+ghost use Rattle.unit_calls.specs.Requests.{Writes};
+ghost use Rattle.unit_calls.specs.Words.{word_by};
+
+use crate::status::Status;
+use mode_table::Cold;
+
+/// Something to be done on the medium.
+#[repr(C)]
+#[derive(Clone, Copy)]
+pub struct EtcsRequest {
+    /// Of a write: its first sector; else 0.
+    pub sector: u64,
+    /// Of a write: how many sectors; else 0.
+    pub sectors: u64,
+    /// 1 write, 2 sync.
+    pub kind: u64,
+}
+
+/// Tells a write of so many sectors from this one on, and copies its bytes into room for them.
+pub fn tell_write(
+    sector: u64,
+    sectors: u64,
+    written: &[u8],
+    request: &mut EtcsRequest,
+    bytes: &mut [u8],
+) -> Status
+    ensures { Writes sector sectors written.now
+        (record { request = request.old; told = request.new; room = bytes.old; bytes = bytes.new; status = result }) }
+{
+    if bytes.len() < written.len() {
+        return Status::NoRoom;
+    }
+    bytes[..written.len()].copy_from_slice(written);
+    *request = EtcsRequest {
+        sector,
+        sectors,
+        kind: 1,
+    };
+    Status::Done
+}
+
+/// To sync.
+pub fn sync() -> EtcsRequest
+    ensures { result ≡ record { sector = 0; sectors = 0; kind = 2 } }
+{
+    EtcsRequest {
+        sector: 0,
+        sectors: 0,
+        kind: 2,
+    }
+}
+
+/// The word on movements without power by its number, 0 to 2.
+pub fn word_of(number: u32) -> Option<Cold>
+    ensures { result ≡ word_by number }
+{
+    match number {
+        0 => Some(Cold::Unknown),
+        1 => Some(Cold::Moved),
+        2 => Some(Cold::NotMoved),
+        _ => None,
+    }
+}

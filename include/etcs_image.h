@@ -1,0 +1,220 @@
+/*
+ * What a program asks an image: the bytes of a journal of the onboard unit (ERTMS/ETCS level 1, UNISIG SUBSET-026 issue
+ * 2.3.0), as `etcs run` and etcs_file.h leave them, for C, C++ and whatever calls C.
+ *
+ * Link with libetcs_unit.a or libetcs_unit.so, which `tools/library PREFIX` builds and installs with this header.
+ *
+ * The image comes in as bytes: a file that was read or mapped, or a copy of the unit's medium. Nothing is held, taken or
+ * closed, so there is no handle; any thread may call, and many at once on the same bytes. The bytes are never written to.
+ *
+ *     etcs_journal journal;
+ *     etcs_record record;
+ *     uint32_t answer = etcs_journal_open(image, size, &journal);
+ *
+ *     while (answer == ETCS_UNIT_OK && (answer = etcs_journal_next(image, size, &journal, &record)) == ETCS_UNIT_OK)
+ *         tell(&record);
+ *     if (answer != ETCS_UNIT_END)
+ *         complain(etcs_status_text(answer));
+ *
+ * Every call returns, whatever the bytes and the numbers are, and answers a number of enum etcs_unit_status. What a call
+ * writes to, it writes to where it answers ETCS_UNIT_OK alone, but for etcs_journal_next behind a block that can't be
+ * read. A null pointer is answered with ETCS_UNIT_NULL_POINTER. What no call can test, the caller owes:
+ *
+ * - `size` bytes from `image` on may be read, and nobody writes to them while a call runs, this call neither: what is
+ *   written to doesn't lie in them;
+ * - each other pointer is good for what it points to, and nobody else writes there while the call runs.
+ *
+ * What the bytes mean is in docs/FORMAT.md. Sectors, slots, events and the records of a block are counted from 0, blocks
+ * from 1. Places are centimetres, speeds metres per hour, moments milliseconds. An image may be cut off, or damaged at
+ * any place; the calls tell what is there.
+ */
+#ifndef ETCS_IMAGE_H
+#define ETCS_IMAGE_H
+
+#include "etcs_unit.h"
+
+#ifdef __cplusplus
+extern "C" {
+#endif
+
+/* The bytes of a record's payload, at most. */
+#define ETCS_PAYLOAD_BYTES 104
+
+/* A time or a distance that has no end. */
+#define ETCS_ENDLESS UINT32_C(0xFFFFFFFF)
+
+/* What a slot holds (docs/FORMAT.md). */
+enum etcs_slot_state {
+    ETCS_SLOT_EMPTY = 0,      /* all its bytes are zero */
+    ETCS_SLOT_BLOCK = 1,      /* its gate is open, and head and records spell the block of this number, which belongs there */
+    ETCS_SLOT_UNREADABLE = 2, /* its gate is open and its head begins with this number, but they spell no block */
+    ETCS_SLOT_MISPLACED = 3,  /* its gate is open, and its head begins with this number, which belongs to another slot */
+    ETCS_SLOT_FOREIGN = 4,    /* its gate is open, and its head begins with no mark and number */
+    ETCS_SLOT_UNWRITTEN = 5,  /* its gate is closed, behind it is the block after the newest: none of its outputs was released */
+    ETCS_SLOT_REPLACED = 6,   /* its gate is closed, behind it is another block of this slot: one that was being replaced */
+    ETCS_SLOT_REMAINS = 7     /* its gate is closed, and behind it are neither zeros nor a block of this slot */
+};
+
+/* The kind of an event. */
+enum etcs_kind { ETCS_POWER_UP = 1, ETCS_TELEGRAM = 2, ETCS_ODOMETER = 3, ETCS_CLOCK = 4, ETCS_DRIVER = 5 };
+
+/* Whether a datum may be relied on (SUBSET-026, 4.10). */
+enum etcs_datum { ETCS_DATUM_UNKNOWN = 0, ETCS_DATUM_VALID = 1, ETCS_DATUM_INVALID = 2 };
+
+/* What an image has at first sight. */
+typedef struct {
+    uint64_t sectors; /* how many whole sectors */
+    uint64_t slots;   /* how many slots its first sector tells, 2 to 1,048,576 */
+    uint64_t whole;   /* how many of them are there with all their sectors */
+    uint64_t newest;  /* the greatest number of a block that is valid in these, 0 where there is none */
+} etcs_image;
+
+/* What a slot holds. */
+typedef struct {
+    uint64_t number;       /* the number that its state tells, 0 where it tells none */
+    uint64_t fault_at;     /* the offset of the first field that isn't one, from the first byte behind the gate; 0 where all are */
+    uint32_t state;        /* enum etcs_slot_state */
+    uint32_t is_sound;     /* 1 where it is as a unit leaves it: empty, or a block behind its own gate; else 0 */
+    uint32_t has_fault;    /* 1 where a field isn't one, else 0 */
+    uint32_t fault_record; /* in which record that field is, from 1 on; 0 where in none */
+} etcs_slot;
+
+/* National values (SUBSET-026, 3.18.2). */
+typedef struct {
+    uint32_t shunting_m_per_h;
+    uint32_t staff_responsible_m_per_h;
+    uint32_t on_sight_m_per_h;
+    uint32_t unfitted_m_per_h;
+    uint32_t release_m_per_h;
+    uint32_t roll_cm;
+    uint32_t override_allowed_m_per_h;
+    uint32_t override_m_per_h;
+    uint32_t override_distance_cm;
+    uint32_t override_time_ms;              /* or ETCS_ENDLESS */
+    uint32_t staff_responsible_distance_cm; /* or ETCS_ENDLESS */
+    uint32_t count;                         /* how many countries they are for, at most 32 */
+    uint16_t countries[32];                 /* NID_C of each */
+} etcs_national;
+
+/* What is kept behind a block (SUBSET-026, 4.10). What isn't known is zero. */
+typedef struct {
+    int64_t distance_cm; /* how far behind the group the estimated front lies */
+    etcs_train_data train;
+    uint32_t running_number;
+    uint32_t country;    /* NID_C of the group that the position is told by */
+    uint32_t group;      /* NID_BG of that group */
+    uint8_t identity[16];
+    uint8_t identity_len; /* 0 where no identity is known */
+    uint8_t has_running_number;
+    uint8_t has_train;
+    uint8_t level_status;    /* enum etcs_datum */
+    uint8_t level;           /* enum etcs_level */
+    uint8_t position_status; /* enum etcs_datum */
+    uint8_t trip_outstanding;
+    uint8_t reserved;
+    etcs_national national;
+} etcs_kept;
+
+/* What the head of a block tells. */
+typedef struct {
+    uint64_t number;
+    uint64_t first_event; /* the number of its first event, over all lives */
+    uint64_t events;      /* how many events there were up to and with its last one */
+    uint32_t lives;       /* how many power-ups there were up to and with them */
+    uint8_t format;       /* 1 to 3 */
+    uint8_t records;      /* how many records it has, 1 to 16 */
+    uint16_t reserved;
+    etcs_kept kept;
+} etcs_block;
+
+/* A record with all that its block tells of it. */
+typedef struct {
+    uint64_t event;          /* the number of the event, over all lives */
+    uint64_t block;
+    uint64_t moment_ms;      /* of its life */
+    int64_t front_cm;        /* where the front was thought to be, from where its life began; 0 in format 1 */
+    uint64_t uncertainty_cm; /* how far that may have been wrong to either side; 0 in format 1 */
+    uint32_t limit_m_per_h;  /* 0 in format 1 */
+    uint32_t life;           /* how many power-ups there were up to and with its block */
+    uint8_t format;          /* of its block, 1 to 3 */
+    uint8_t kind;            /* enum etcs_kind */
+    uint8_t mode;            /* enum etcs_mode */
+    uint8_t level;           /* enum etcs_level */
+    uint8_t brake;           /* enum etcs_brake */
+    uint8_t indications;     /* the sum of enum etcs_indication */
+    uint8_t has_place;       /* 1 where place, uncertainty and limit are told: from format 2 on */
+    uint8_t payload_len;
+    uint8_t payload[ETCS_PAYLOAD_BYTES]; /* what the event tells (docs/FORMAT.md), and zeros behind it */
+} etcs_record;
+
+/* How far a journal was read. Its fields are for the calls below; it may be copied, to read on from there again. */
+typedef struct {
+    uint64_t block;
+    uint64_t last;
+    uint64_t index;
+} etcs_journal;
+
+ETCS_UNIT_ASSERT(sizeof(etcs_image) == 32 && offsetof(etcs_image, newest) == 24);
+ETCS_UNIT_ASSERT(sizeof(etcs_slot) == 32 && offsetof(etcs_slot, state) == 16 && offsetof(etcs_slot, fault_record) == 28);
+ETCS_UNIT_ASSERT(sizeof(etcs_national) == 112 && offsetof(etcs_national, count) == 44 && offsetof(etcs_national, countries) == 48);
+ETCS_UNIT_ASSERT(sizeof(etcs_kept) == 176 && offsetof(etcs_kept, train) == 8 && offsetof(etcs_kept, running_number) == 28
+                 && offsetof(etcs_kept, identity) == 40 && offsetof(etcs_kept, identity_len) == 56 && offsetof(etcs_kept, national) == 64);
+ETCS_UNIT_ASSERT(sizeof(etcs_block) == 208 && offsetof(etcs_block, lives) == 24 && offsetof(etcs_block, format) == 28 && offsetof(etcs_block, kept) == 32);
+ETCS_UNIT_ASSERT(sizeof(etcs_record) == 160 && offsetof(etcs_record, limit_m_per_h) == 40 && offsetof(etcs_record, format) == 48
+                 && offsetof(etcs_record, payload_len) == 55 && offsetof(etcs_record, payload) == 56);
+ETCS_UNIT_ASSERT(sizeof(etcs_journal) == 24 && offsetof(etcs_journal, index) == 16);
+
+/* ---- the library's own names; the calls below test pointers first, hand over the header's interface, and then call these */
+
+uint32_t etcs_image_facts_(const uint8_t *image, size_t size, uint32_t abi, etcs_image *facts);
+uint32_t etcs_image_slot_(const uint8_t *image, size_t size, uint32_t abi, uint64_t newest, uint64_t slot, etcs_slot *told);
+uint32_t etcs_image_block_(const uint8_t *image, size_t size, uint32_t abi, uint64_t number, etcs_block *block);
+uint32_t etcs_image_record_(const uint8_t *image, size_t size, uint32_t abi, uint64_t number, uint32_t index, etcs_record *record);
+uint32_t etcs_journal_open_(const uint8_t *image, size_t size, uint32_t abi, etcs_journal *journal);
+uint32_t etcs_journal_next_(const uint8_t *image, size_t size, etcs_journal *journal, etcs_record *record);
+
+/* ---- the calls */
+
+/* What an image has at first sight. It reads the first sector, each gate, and the head behind each open one. Answers OK,
+ * OTHER_ABI, or IMAGE_NOT_FORMATTED. */
+static inline uint32_t etcs_image_facts(const uint8_t *image, size_t size, etcs_image *facts) {
+    return image && facts ? etcs_image_facts_(image, size, ETCS_UNIT_ABI, facts) : (uint32_t)ETCS_UNIT_NULL_POINTER;
+}
+
+/* What a slot holds, where the newest block has this number, as etcs_image_facts tells it. Answers OK, OTHER_ABI,
+ * IMAGE_NOT_FORMATTED, OUT_OF_RANGE (a newest number above 2^40), or NO_SUCH_SLOT. */
+static inline uint32_t etcs_image_slot(const uint8_t *image, size_t size, uint64_t newest, uint64_t slot, etcs_slot *told) {
+    return image && told ? etcs_image_slot_(image, size, ETCS_UNIT_ABI, newest, slot, told) : (uint32_t)ETCS_UNIT_NULL_POINTER;
+}
+
+/* What the head of the block of this number tells. Answers OK, OTHER_ABI, IMAGE_NOT_FORMATTED, or NO_SUCH_BLOCK where its
+ * slot doesn't hold it behind an open gate. */
+static inline uint32_t etcs_image_block(const uint8_t *image, size_t size, uint64_t number, etcs_block *block) {
+    return image && block ? etcs_image_block_(image, size, ETCS_UNIT_ABI, number, block) : (uint32_t)ETCS_UNIT_NULL_POINTER;
+}
+
+/* A record of the block of this number. Answers OK, OTHER_ABI, IMAGE_NOT_FORMATTED, NO_SUCH_BLOCK, or NO_SUCH_RECORD. */
+static inline uint32_t etcs_image_record(const uint8_t *image, size_t size, uint64_t number, uint32_t index, etcs_record *record) {
+    return image && record ? etcs_image_record_(image, size, ETCS_UNIT_ABI, number, index, record) : (uint32_t)ETCS_UNIT_NULL_POINTER;
+}
+
+/* Begins at the oldest record of the journal: of the longest unbroken run of blocks up to the newest, which `etcs journal`
+ * lists. It reads what etcs_image_facts reads. Answers OK, OTHER_ABI, IMAGE_NOT_FORMATTED, or IMAGE_DAMAGED where the
+ * image hasn't just 1 + 6 * slots sectors. */
+static inline uint32_t etcs_journal_open(const uint8_t *image, size_t size, etcs_journal *journal) {
+    return image && journal ? etcs_journal_open_(image, size, ETCS_UNIT_ABI, journal) : (uint32_t)ETCS_UNIT_NULL_POINTER;
+}
+
+/* The next record of the journal. It reads one slot, and takes as long whatever size the image has. Answers OK, END,
+ * NOT_OPEN (a journal of zeros), OUT_OF_RANGE (one that no call left), IMAGE_NOT_FORMATTED, NO_SUCH_RECORD (one of another
+ * image), or IMAGE_DAMAGED where a block of the journal can't be read: then the journal is behind that block, and the next
+ * call goes on there. */
+static inline uint32_t etcs_journal_next(const uint8_t *image, size_t size, etcs_journal *journal, etcs_record *record) {
+    return image && journal && record ? etcs_journal_next_(image, size, journal, record) : (uint32_t)ETCS_UNIT_NULL_POINTER;
+}
+
+#ifdef __cplusplus
+}
+#endif
+
+#endif

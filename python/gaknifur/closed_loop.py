@@ -13,8 +13,8 @@ def check_library() -> None:
     except OSError as error:
         raise Failed(f"there is no library of the onboard unit ({error}); tools/library PREFIX makes it, and "
                      "GAKNIFUR_ETCS_UNIT names its libetcs_unit.so", DEVICE) from error
-    except Refused as refused:
-        raise Failed(f"the library of the onboard unit is of another interface: {refused}", DEVICE) from refused
+    except (Refused, AttributeError) as error:
+        raise Failed(f"the library of the onboard unit is of another interface: {error}", DEVICE) from error
 
 
 def over_image(data: bytes, scenario: scenarios.Scenario, drive: Drive) -> tuple[driving.Driven, bytes]:

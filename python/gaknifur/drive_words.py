@@ -121,7 +121,6 @@ def write_bytes(path: Path, data: bytes) -> None:
 
 def on_file(path: Path, scenario: scenarios.Scenario, drive: Drive) -> driving.Driven:
     """A life on the image of a file, under its lock. One that isn't there is made."""
-    check_library()
     try:
         if not path.exists():
             FileMedium.formatted(path, slots_for(scenario, drive)).close()
@@ -145,7 +144,8 @@ def build_ups_of(text: str, drive: Drive) -> list[int]:
 
 
 def play_drive(given: argparse.Namespace, progress: Progress) -> None:
-    """The word `drive`."""
+    """The word `drive`. The library is looked for first, since telegrams may take a while where `etcs` isn't built."""
+    check_library()
     scenario, drive = read(given.yaml)
     if drive is None:
         raise Failed(f"{given.yaml}: has no drive", REFUSED)

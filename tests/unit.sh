@@ -97,7 +97,7 @@ link=(-L "$prefix/lib" -letcs_unit)
 for name in misuse two reading; do build "$name.shared" "$top/tests/unit/$name.c" gcc -x c -std=c99 -O2; done
 rustc --edition 2021 -D warnings -O -L "$prefix/lib" -l static=etcs_unit "$top/examples/embedding/rust/brake.rs" -o "$made/brake.rs" &&
     built=$((built + 1)) || fails "examples/embedding/rust doesn't compile"
-counted "programs built" $built 33
+counted "programs built" $built 27
 
 # ---- what they answer
 
@@ -123,7 +123,7 @@ for program in misuse.gcc two.gcc reading.gcc "files.gcc $made/room" "brake.gcc 
     # shellcheck disable=SC2086
     runs_well valgrind -q --error-exitcode=9 --leak-check=full --errors-for-leak-kinds=all --show-leak-kinds=all $(echo "$made/$program")
 done
-counted "runs of them, 6 of them under valgrind" $runs 25
+counted "runs of them, 6 of them under valgrind" $runs 23
 
 # ---- the examples: the same train in each language, over the same file
 

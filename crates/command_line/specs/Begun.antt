@@ -1,8 +1,7 @@
 -- Words that are told apart as far as some place, and those behind it (this project's profile).
-use Rattle.std.specs.Prelude.{◌≡◌, ℕ, Bool, true, false, if◌then◌else◌, List, [], ◌∷◌, ◌++◌, Option, Some, None}
+use Rattle.std.specs.Prelude.{◌≡◌, ℕ, if◌then◌else◌, List, [], ◌∷◌, ◌++◌, None}
 use Rattle.command_line.specs.Words.{options, values, one_or_none, given}
 use Rattle.command_line.specs.declared.command.Begun.{Begun}
-use Rattle.command_line.specs.declared.command.Words.{Words}
 
 -- the values that were told
 abbrev pub told_values : Begun → List (List ℕ)

@@ -1,10 +1,14 @@
 pub mod EndLines
+pub mod Examinations
 pub mod ImageLines
 pub mod JournalLines
 pub mod KeptLines
 pub mod NationalLines
 pub mod NumberLines
+pub mod NumberList
+pub mod Openings
 pub mod SlotLines
+pub mod SlotList
 pub mod Texts
 pub mod Verdicts
 pub mod Walks

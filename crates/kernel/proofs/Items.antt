@@ -26,7 +26,7 @@ use Rattle.mode_table.specs.declared.statuses.Item.TheVariants as item
 use Rattle.mode_table.specs.Statuses.{power_up_status}
 use Rattle.odometry.specs.Place.{KnownPlace as Place}
 use Rattle.track_picture.specs.Entry.{Outcome}
-use Rattle.track_picture.specs.History.{after_fixing, fixed_by, group_of_fix, place_of}
+use Rattle.track_picture.specs.History.{latest_fixed, fixed_by, group_of_fix, place_of}
 use Rattle.vars.specs.declared.group.GroupIdentity.{GroupIdentity}
 use Rattle.mode_control.specs.declared.deed.Deed.{Deed}
 use Rattle.mode_control.specs.Entry.{SupervisionEntry}
@@ -201,10 +201,10 @@ first_of : {A : Type 0} (one two three : Option A) → option_or (option_or one 
 first_of None two three = refl
 first_of (Some v) two three = refl
 
-fixing_behind : (outcomes : List Outcome) (group other : Option GroupIdentity) → option_or (after_fixing outcomes group) other ≡ after_fixing outcomes (option_or group other)
+fixing_behind : (outcomes : List Outcome) (group other : Option GroupIdentity) → option_or (latest_fixed outcomes group) other ≡ latest_fixed outcomes (option_or group other)
 fixing_behind [] group other = refl
 fixing_behind (outcome ∷ outcomes) group other =
-    first_of (fixed_by outcome) (after_fixing outcomes group) other ∙ ap (option_or (fixed_by outcome)) (fixing_behind outcomes group other)
+    first_of (fixed_by outcome) (latest_fixed outcomes group) other ∙ ap (option_or (fixed_by outcome)) (fixing_behind outcomes group other)
 
 going_on : (near : Bool) (one two : PositionFrom) → one.group ≡ two.group → group_in (cond near (Valid one) (Invalid two)) ≡ Some two.group
 going_on true one two same = ap Some same
@@ -237,7 +237,7 @@ groups_are (PowerUp c ∷ events) = still_there c (kept_by events).position ∙ 
 groups_are (Input input ∷ events) =
     let life = life_of events in
     let outcomes = (entry_of life input).track.used.groups in
-    fixing_behind outcomes (group_of_fix (tracks life.entries)) (group_in (position_at_power_up life)) ∙ ap (after_fixing outcomes) (groups_are events)
+    fixing_behind outcomes (group_of_fix (tracks life.entries)) (group_in (position_at_power_up life)) ∙ ap (latest_fixed outcomes) (groups_are events)
 
 pub position_so : (events : List Event) → group_in (kept_by events).position ≡ last_group events
 position_so events = group_of_life (life_of events) ∙ groups_are events

@@ -17,7 +17,7 @@ use Rattle.mode_table.specs.declared.statuses.Cold.{Cold}
 use Rattle.mode_control.specs.History.{deeds}
 use Rattle.mode_control.specs.Life.{left_at_power_up}
 use Rattle.mode_control.specs.Sentences.{entry_of}
-use Rattle.track_picture.specs.History.{after_fixing}
+use Rattle.track_picture.specs.History.{latest_fixed}
 use Rattle.vars.specs.declared.group.GroupIdentity.{GroupIdentity}
 use Rattle.kernel.specs.Lives.{life_of, kept_by}
 use Rattle.kernel.specs.Output.{output_after}
@@ -64,7 +64,7 @@ TripSo = (events : List Event) → IsTrue (kept_by events).trip_outstanding ↔ 
 abbrev pub last_group : List Event → Option GroupIdentity
 last_group [] = None
 last_group (PowerUp cold ∷ events) = last_group events
-last_group (Input input ∷ events) = after_fixing (entry_of (life_of events) input).track.used.groups (last_group events)
+last_group (Input input ∷ events) = latest_fixed (entry_of (life_of events) input).track.used.groups (last_group events)
 
 abbrev pub group_in : Datum PositionFrom → Option GroupIdentity
 group_in Unknown = None

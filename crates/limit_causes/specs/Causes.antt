@@ -6,8 +6,7 @@ use Rattle.driver.specs.declared.datum.Datum.TheVariants.{Unknown, Valid, Invali
 use Rattle.driver.specs.Limits.{Train}
 use Rattle.mode_table.specs.declared.mode.Mode.{Mode}
 use Rattle.mode_table.specs.declared.mode.Mode.TheVariants.{FullSupervision, OnSight, StaffResponsible, Shunting, Unfitted, StandBy, Trip, PostTrip, SystemFailure}
-use Rattle.track_store.specs.Restrictions.{in_force}
-use Rattle.track_picture.specs.History.{restrictions, gradients_of}
+use Rattle.track_picture.specs.History.{restrictions_of, gradients_of}
 use Rattle.mode_control.specs.Conditions.{is_overridden}
 use Rattle.mode_control.specs.History.{tracks, mode_of}
 use Rattle.mode_control.specs.Life.{Life, driver_of}
@@ -44,7 +43,7 @@ IsMaximum limit (Invalid train) = ⊥
 abbrev pub IsOwnCause : Life → ℕ → LimitCause → Type 0
 IsOwnCause life limit (cause.Speed (speed.OverTrain over.Maximum)) = IsMaximum limit (driver_of life).train_data
 IsOwnCause life limit (cause.Speed (speed.OverTrain (over.Restriction restriction))) =
-    IsRestrictionOver (in_force (restrictions (tracks life.entries))) (standing_in life) limit restriction
+    IsRestrictionOver (restrictions_of (tracks life.entries)) (standing_in life) limit restriction
 IsOwnCause life limit other = ⊥
 
 abbrev pub IsResponsibleCause : Life → ℕ → LimitCause → Type 0

@@ -1,7 +1,6 @@
 //! What decides the limit, by the mode.
 ghost use Rattle.std.specs.Prelude.{◌≡◌, ◌==◌, ◌&&◌, ℕ, MatchOption, MatchBool};
-ghost use Rattle.track_store.specs.Restrictions.{in_force};
-ghost use Rattle.track_picture.specs.History.{restrictions};
+ghost use Rattle.track_picture.specs.History.{restrictions_of};
 ghost use Rattle.mode_control.specs.Conditions.{is_overridden};
 ghost use Rattle.mode_control.specs.History.{tracks};
 ghost use Rattle.mode_control.specs.Life.{Life, driver_of};
@@ -113,7 +112,7 @@ fn restriction_in<G: ProfileStore<Permille> + Drop, S: ProfileStore<CategorySpee
 ) -> Option<Restriction>
     ensures { (life : Life) → StandsForLife G.profile S.profile supervision.now life
         → MatchOption result ((speed : ℕ) → restricted life speed ≡ limit → speed ≡ limit)
-        (IsRestrictionOver (in_force (restrictions (tracks life.entries))) (standing_in life) limit) }
+        (IsRestrictionOver (restrictions_of (tracks life.entries)) (standing_in life) limit) }
 {
     let stretch = supervision.standing();
     restriction_over(supervision.track().restrictions(), &stretch, limit)

@@ -19,7 +19,8 @@ use Rattle.mode_table.specs.declared.statuses.Item.TheVariants as item
 use Rattle.mode_table.specs.Modes.{is_mode}
 use Rattle.mode_table.specs.Statuses.{status_on}
 use Rattle.track_picture.specs.Entry as track
-use Rattle.track_picture.specs.History.{place_of, is_deleted}
+use Rattle.track_picture.specs.History.{place_of}
+use Rattle.track_picture.specs.Live.{is_deleted}
 use Rattle.mode_control.specs.declared.deed.Deed.{Deed}
 use Rattle.mode_control.specs.declared.calls.Call.{Call}
 use Rattle.mode_control.specs.declared.calls.Calls.{Calls}

@@ -34,8 +34,11 @@ use Rattle.packets.specs.Packets.{as_movement_authority}
 use Rattle.units.specs.Stretches.{Span}
 use Rattle.vars.specs.declared.scale.Scale.{Scale}
 use Rattle.vars.specs.declared.group.GroupIdentity.{GroupIdentity}
-use Rattle.track_picture.specs.Entry.{TrackEntry, Begun, Used, Outcome, Fact, blank, added, asking_for}
-use Rattle.track_picture.specs.History.{moment_of, is_deleted, after_column, after_clock, after_authority, after_facts, after_told, facts_in, authority_deleted, authorities, groups_of}
+use Rattle.track_picture.specs.Entry.{TrackEntry, Begun, Used, Outcome, Fact, blank, added, asking_for, facts_in}
+use Rattle.track_picture.specs.Live.{is_deleted}
+use Rattle.track_picture.specs.History.{moment_of, groups_of}
+use Rattle.track_picture.specs.Columns.{after_column, after_clock, after_authority, after_facts, after_told, authority_deleted, authorities}
+use Rattle.track_picture.proofs.SameParts.{same_end}
 use Rattle.track_picture.specs.Sentences.{begun, happened_first, with_closed, closed_by, used_by, outcome, outcome_at_first, judged}
 use Rattle.mode_control.specs.History.{tracks, mode_of}
 use Rattle.mode_control.specs.Sentences.{told, entry_of}
@@ -249,10 +252,12 @@ never_forward events input new none order is =
     let before = authorities (tracks life.entries) in
     let clock = event.begun.clock in
     let here : Span = train life input in
-    let kept = past_mode (entry_of life input).track.entered (Passed here ∷ after_told after_authority event.used.groups (after_clock clock before)) new is in
+    let told_so = sym (same_end (tracks (life_of (an_event.Input input ∷ events)).entries)) ∙ is in
+    let kept = past_mode (entry_of life input).track.entered (Passed here ∷ after_told after_authority event.used.groups (after_clock clock before)) new told_so in
     let alone : end_of (Passed here ∷ after_clock clock before) ≡ Some new =
     sym (ap (λ (entries : List AuthorityEntry). end_of (Passed here ∷ entries)) (no_groups event.used.groups (after_clock clock before) none)) ∙ kept in
     let at : now_of before ≡ moment_of (tracks life.entries) = now_is events in
     let sooner : now_of before ≤ unwrap_or clock (now_of before) =
     subst (λ (n : ℕ). n ≤ unwrap_or clock n) (sym at) order in
-    no_farther clock here before new sooner alone
+    let found = no_farther clock here before new sooner alone in
+    (found.0, same_end (tracks life.entries) ∙ found.1, found.2)

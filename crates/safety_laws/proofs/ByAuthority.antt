@@ -1,5 +1,5 @@
 -- In Full Supervision and On Sight an authority is stored.
-use Rattle.std.proofs.Common.{◌≡◌, Bool, true, false, List, [], ◌∷◌, cond, refl, inl, inr, ◌⊎◌, ℕ}
+use Rattle.std.proofs.Common.{◌≡◌, Bool, true, false, List, [], ◌∷◌, cond, refl, sym, subst, inl, inr, ◌⊎◌, ℕ}
 use Rattle.std.specs.Prelude.{Option, Some, None, unwrap_or, is_some}
 use Rattle.std.specs.Option.{option_map, option_map_or}
 use Rattle.authority.specs.Entries as authority
@@ -17,8 +17,10 @@ use Rattle.mode_table.specs.Modes.{is_mode, is_one_of}
 use Rattle.mode_table.specs.Rows.{next_mode}
 use Rattle.packets.specs.declared.authority.MovementAuthority.{MovementAuthority}
 use Rattle.packets.specs.Packets.{as_movement_authority}
-use Rattle.track_picture.specs.Entry.{Outcome, Fact}
-use Rattle.track_picture.specs.History.{after_column, after_clock, after_authority, after_facts, after_told, facts_in, authority_deleted, authorities}
+use Rattle.track_picture.specs.Entry.{TrackEntry, Outcome, Fact, facts_in}
+use Rattle.track_picture.specs.History as picture
+use Rattle.track_picture.specs.Columns.{after_column, after_clock, after_authority, after_facts, after_told, authority_deleted, authorities}
+use Rattle.track_picture.proofs.SameParts.{same_accepted}
 use Rattle.mode_control.specs.Conditions.{is_full_to}
 use Rattle.mode_control.specs.History.{tracks, mode_of}
 use Rattle.mode_control.specs.Life.{Life, grown}
@@ -149,11 +151,23 @@ full_stored : (fact : Option authority.Fact) (end : authority.Fact → End) (tes
 full_stored None end test h = absurd (let no : false ≡ true = h in cc)
 full_stored (Some fact) end test h = refl
 
+-- ---- one is stored by the entries exactly where one counts
+
+by_column : (events : List TrackEntry) → stored (picture.authorities events) → stored (authorities events)
+by_column events = subst (λ (fact : Option authority.Fact). is_some fact ≡ true) (same_accepted events)
+
+by_fact : (events : List TrackEntry) → stored (authorities events) → stored (picture.authorities events)
+by_fact events = subst (λ (fact : Option authority.Fact). is_some fact ≡ true) (sym (same_accepted events))
+
 -- ---- one event, and all
 
 module _ (life : Life) (input : Input) where
   abbrev seen : List authority.AuthorityEntry
   seen = authorities (tracks (event_seen life input ∷ life.entries))
+
+  -- as it is read off the facts that count
+  abbrev read : List authority.AuthorityEntry
+  read = picture.authorities (tracks (event_seen life input ∷ life.entries))
 
   one_event : (runs (mode_of life.entries) ≡ true → stored (authorities (tracks life.entries))) →
       runs (mode_of (entry_of life input ∷ life.entries)) ≡ true → stored (authorities (tracks (entry_of life input ∷ life.entries)))
@@ -167,8 +181,9 @@ module _ (life : Life) (input : Input) where
       past_turn (is_mode old new) old new seen now (λ h. still (before h))
       (λ h. elim (enters old c h) [
         | inl runs ↦ still (before runs)
-        | inr full ↦ full_stored (authority.accepted seen) (λ (fact : authority.Fact). end_now fact (authority.now_of seen) (authority.sights seen))
-            (is_full_to (grown life (event_seen life input)) (train life input).max_front) full
+        | inr full ↦ by_column (tracks (event_seen life input ∷ life.entries))
+            (full_stored (authority.accepted read) (λ (fact : authority.Fact). end_now fact (authority.now_of read) (authority.sights read))
+            (is_full_to (grown life (event_seen life input)) (train life input).max_front) full)
       ])
 
 runs_stored : (events : List Event) → runs (mode_of (life_of events).entries) ≡ true → stored (authorities (tracks (life_of events).entries))
@@ -181,7 +196,8 @@ end_there None end h = absurd (let no : false ≡ true = h in cc)
 end_there (Some fact) end h = (end fact, refl)
 
 pub runs_by_end : (events : List Event) → runs (mode_of (life_of events).entries) ≡ true →
-    (end : End) × (end_of (authorities (tracks (life_of events).entries)) ≡ Some end)
+    (end : End) × (end_of (picture.authorities (tracks (life_of events).entries)) ≡ Some end)
 runs_by_end events h =
-    let entries = authorities (tracks (life_of events).entries) in
-    end_there (authority.accepted entries) (λ (fact : authority.Fact). end_now fact (authority.now_of entries) (authority.sights entries)) (runs_stored events h)
+    let entries = picture.authorities (tracks (life_of events).entries) in
+    end_there (authority.accepted entries) (λ (fact : authority.Fact). end_now fact (authority.now_of entries) (authority.sights entries))
+    (by_fact (tracks (life_of events).entries) (runs_stored events h))

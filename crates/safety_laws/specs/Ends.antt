@@ -12,8 +12,8 @@ use Rattle.events.specs.declared.input.Event.{Event}
 use Rattle.events.specs.declared.input.Event.TheVariants as an_event
 use Rattle.events.specs.declared.input.Input.{Input}
 use Rattle.packets.specs.Packets.{as_movement_authority}
-use Rattle.track_picture.specs.Entry.{Fact, Outcome}
-use Rattle.track_picture.specs.History.{authorities, facts_in, moment_of}
+use Rattle.track_picture.specs.Entry.{Fact, Outcome, facts_in}
+use Rattle.track_picture.specs.History.{authorities, moment_of}
 use Rattle.mode_control.specs.History.{tracks}
 use Rattle.mode_control.specs.Sentences.{entry_of}
 use Rattle.kernel.specs.Lives.{life_of}

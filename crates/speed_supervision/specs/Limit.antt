@@ -18,8 +18,8 @@ use Rattle.speed_profile.specs.declared.limit.Bounds.{Bounds}
 use Rattle.speed_profile.specs.Ahead.{permitted_ahead}
 use Rattle.speed_profile.specs.Limit.{limit_on}
 use Rattle.speed_profile.specs.Track.{TrackSpeeds}
-use Rattle.track_store.specs.Restrictions.{in_force, least_speed}
-use Rattle.track_picture.specs.History.{restrictions, authorities, areas_of, gradients_of, speeds_of}
+use Rattle.track_store.specs.Restrictions.{least_speed}
+use Rattle.track_picture.specs.History.{restrictions_of, authorities, areas_of, gradients_of, speeds_of}
 use Rattle.mode_control.specs.Conditions.{is_overridden}
 use Rattle.mode_control.specs.History.{tracks, mode_of}
 use Rattle.mode_control.specs.Life.{Life, driver_of}
@@ -38,7 +38,7 @@ abbrev pub maximum_in : Life → ℕ → ℕ
 maximum_in life speed = within_maximum (driver_of life).train_data speed
 
 abbrev pub restricted : Life → ℕ → ℕ
-restricted life speed = least_speed (in_force (restrictions (tracks life.entries))) (standing_in life) speed
+restricted life speed = least_speed (restrictions_of (tracks life.entries)) (standing_in life) speed
 
 abbrev pub while_overridden : Life → ℕ → ℕ
 while_overridden life speed = if is_overridden life then min speed (values_of life).override_speed else speed
@@ -69,7 +69,7 @@ abbrev pub along : Life → TrackSpeeds
 along life =
     record {
       static = (speeds_of (tracks life.entries)).value;
-      restrictions = in_force (restrictions (tracks life.entries));
+      restrictions = restrictions_of (tracks life.entries);
       areas = areas_of (tracks life.entries);
       national = in_areas (values_of life);
     }

@@ -5,8 +5,9 @@ use Rattle.std.specs.Option.{option_map_or}
 use Rattle.packets.specs.Packets.{as_speed_restriction, as_revocation}
 use Rattle.track_store.specs.Restrictions as track
 use Rattle.track_store.specs.Restrictions.RestrictionEntry.{Restricted, Revoked}
-use Rattle.track_picture.specs.Entry.{TrackEntry, Fact, Outcome}
-use Rattle.track_picture.specs.History.{after_facts, restriction_of, after_restriction, after_revocation, facts_in, after_messages, after_mark, restrictions, mark_of}
+use Rattle.track_picture.specs.Entry.{TrackEntry, Fact, Outcome, facts_in}
+use Rattle.track_picture.specs.Columns.{after_facts, after_restriction, after_revocation, after_messages, after_mark, restrictions, mark_of}
+use Rattle.track_picture.specs.Live.{restriction_of}
 
 facts_unmarked : (tell : Fact → List track.RestrictionEntry → List track.RestrictionEntry) →
     ((fact : Fact) (told : List track.RestrictionEntry) → track.mark_of (tell fact told) ≡ track.mark_of told) →

@@ -1,7 +1,7 @@
 -- What all packets of a message tell, walk by walk: each part is told on its own.
 use Rattle.std.proofs.Common.{◌≡◌, List, [], ◌∷◌, refl}
 use Rattle.track_picture.specs.Entry.{Fact}
-use Rattle.track_picture.specs.History.{after_facts, after_values, after_links, after_authority, after_stop, after_grant, after_areas, after_level, after_gradients, after_speeds, after_restriction, after_revocation}
+use Rattle.track_picture.specs.Columns.{after_facts, after_values, after_links, after_authority, after_stop, after_grant, after_areas, after_level, after_gradients, after_speeds, after_restriction, after_revocation}
 use Rattle.track_picture.specs.Told.{TrackTold, after_earlier, after_later}
 
 abbrev pub each_earlier : List Fact → TrackTold → TrackTold

@@ -7,10 +7,11 @@ use Rattle.packets.specs.declared.packet.Packet.{Packet}
 use Rattle.packets.specs.Packets.{as_revocation, as_mode_profile}
 use Rattle.track_picture.specs.declared.using.Use.{Use}
 use Rattle.track_picture.specs.Entry.{Fact}
-use Rattle.track_picture.specs.History.{after_facts}
+use Rattle.track_picture.specs.Columns.{after_facts}
 use Rattle.track_picture.specs.Sentences.{is_used}
 use Rattle.track_picture.specs.Steps.{fact_of, facts}
-use Rattle.track_picture.specs.Told.{TrackTold, comes_later, after_later}
+use Rattle.track_picture.specs.Told.{TrackTold, after_later}
+use Rattle.track_picture.specs.Happenings.{comes_later}
 
 module _ {A : Type 0} (tell : Fact → A → A) (used : Use) (packet : Packet) (rest : List Packet) (told : A) where
   by_use : (b : Bool) →

@@ -6,7 +6,7 @@ use Rattle.odometry.specs.Place as odometry
 use Rattle.odometry.specs.Sums.{Sums}
 use Rattle.odometry.specs.declared.fix.Fix.{Fix}
 use Rattle.track_picture.specs.declared.fixing.Wanted.{Wanted}
-use Rattle.track_picture.specs.History.{after_fix}
+use Rattle.track_picture.specs.History.{with_fix}
 use Rattle.track_picture.specs.Sentences.{made, fix_of, fix_at, own_place, place_by}
 use Rattle.track_picture.specs.Steps.{fix_wanted}
 
@@ -35,6 +35,6 @@ counted_from own now message wanted b is =
 
 -- what the place is told by a fix, by whether it was made
 pub after_made : (b : Bool) (fix : Fix) (entries : List odometry.PlaceEntry) →
-    cond b (odometry.PlaceEntry.Fixed fix ∷ entries) entries ≡ after_fix (cond b (Some fix) None) entries
+    cond b (odometry.PlaceEntry.Fixed fix ∷ entries) entries ≡ with_fix (cond b (Some fix) None) entries
 after_made true fix entries = refl
 after_made false fix entries = refl

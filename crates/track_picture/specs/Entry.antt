@@ -31,6 +31,13 @@ pub data Outcome : Type 0 where
   Rejected : Message → Announcement → Outcome  -- it was found too early or in the wrong direction
   Accepted : Message → Option Announcement → Option Fix → List Fact → Outcome
 
+-- the packets of a group that were used; only an accepted group has some
+abbrev pub facts_in : Outcome → List Fact
+facts_in (Outcome.Broken b) = []
+facts_in (Outcome.Ignored message) = []
+facts_in (Outcome.Rejected message a) = []
+facts_in (Outcome.Accepted message announced fix facts) = facts
+
 -- what the input itself did
 pub record Begun : Type 0 where
   pub clock : Option ℕ  -- the moment that the clock told

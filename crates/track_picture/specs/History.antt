@@ -1,54 +1,62 @@
--- What each part sees of the entries of a life (this project's profile). What a mode deletes that is entered follows
--- the table of statuses. Distances and places are centimetres, moments milliseconds. Lists of entries and of the
--- groups that closed have the newest first; the packets of a message stand in its order. A reader may take for granted
--- that an entry holds all that its event brought.
-use Rattle.std.specs.Prelude.{ℕ, ◌*◌, ◌^◌, ◌==◌, ◌||◌, ℤ, pos, neg_ℤ, ◌+ℤ◌, Bool, true, false, if◌then◌else◌, Option, Some, None, unwrap_or, List, [], ◌∷◌}
-use Rattle.std.specs.Int.{int_max}
+-- What is known of the track and of the train on it, read off the entries of a life (SUBSET-026, 3.4.4, 3.7, 3.8, 3.11,
+-- 3.12.4, 3.18.2 and 5.10; the rest: this project's profile). What the track told is read off the facts that count
+-- behind the happenings of the life (`live`); place, speed, moment and groups are no facts that something ends, and are
+-- read off the entries themselves. Distances and places are centimetres, moments milliseconds. Lists have the newest
+-- first. A reader may take for granted that an entry holds all that its event brought.
+use Rattle.std.specs.Prelude.{ℕ, ◌==◌, ℤ, Bool, false, Option, Some, None, unwrap_or, List, [], ◌∷◌}
+use Rattle.std.specs.List.{list_any}
 use Rattle.std.specs.Option.{option_map, option_map_or, option_or}
-use Rattle.units.specs.Stretches.{Span}
-use Rattle.vars.specs.Meanings.{centimetres_of}
-use Rattle.packets.specs.declared.restrictions.SpeedRestriction.{SpeedRestriction}
 use Rattle.vars.specs.declared.group.GroupIdentity.{GroupIdentity}
 use Rattle.events.specs.declared.input.Reading.{Reading}
-use Rattle.track_picture.specs.declared.happened.Happened.{Happened}
-use Rattle.packets.specs.Packets.{as_national_values, as_linking, as_movement_authority, as_gradients, as_static_speeds, as_level_transition, as_speed_restriction, as_revocation, as_mode_profile}
+use Rattle.packets.specs.Packets.{as_movement_authority}
 use Rattle.areas.specs.declared.announcement.Announcement.{Announcement as AnnouncedLevel}
 use Rattle.areas.specs.declared.area.Area.{Area}
-use Rattle.areas.specs.Areas.{stored}
-use Rattle.areas.specs.Entries as areas
-use Rattle.areas.specs.Entries.AreaEntry.{Told as AreasTold, Cleared as AreasCleared}
-use Rattle.areas.specs.Levels as levels
-use Rattle.areas.specs.Levels.{waiting}
-use Rattle.areas.specs.Levels.LevelEntry.{Announced as LevelAnnounced, Reached as LevelReached, Forgotten as LevelForgotten}
-use Rattle.authority.specs.Entries as authority
-use Rattle.authority.specs.Entries.AuthorityEntry.{Ticked, Accepted as Granted, Passed}
+use Rattle.authority.specs.Entries.{AuthorityEntry}
 use Rattle.authority.specs.Known.{known as known_authority, KnownAuthority as Authority}
 use Rattle.balise_groups.specs.Groups as groups
-use Rattle.linking.specs.declared.judgement.Verdict.TheVariants.{Accept, Ignore, Reaction}
-use Rattle.linking.specs.Linking as linking
-use Rattle.linking.specs.Linking.LinkEntry.{Announced}
-use Rattle.linking.specs.Judging.{after_verdict, after_broken}
-use Rattle.mode_table.specs.declared.mode.Mode.{Mode}
-use Rattle.mode_table.specs.declared.statuses.Fate.{Fate}
-use Rattle.mode_table.specs.declared.statuses.Fate.TheVariants as fate
-use Rattle.mode_table.specs.declared.statuses.Item.{Item}
-use Rattle.mode_table.specs.declared.statuses.Item.TheVariants as item
-use Rattle.mode_table.specs.Statuses.{status_on}
-use Rattle.national.specs.InForce as national
-use Rattle.national.specs.InForce.NationalEntry.{Announced as Told, Entered, Reached}
+use Rattle.linking.specs.Linking.{KnownLinks}
 use Rattle.odometry.specs.Place as odometry
 use Rattle.odometry.specs.declared.fix.Fix.{Fix}
 use Rattle.odometry.specs.Place.PlaceEntry.{Fixed}
 use Rattle.speed_profile.specs.declared.told.CategorySpeeds.{CategorySpeeds}
-use Rattle.speed_profile.specs.Told.{gradient_fact, speed_fact}
-use Rattle.restriction.specs.declared.restriction.Restriction.{Restriction}
 use Rattle.track_store.specs.Facts as profiles
 use Rattle.track_store.specs.Profiles.{Profile}
-use Rattle.track_store.specs.Restrictions as track
-use Rattle.track_store.specs.Restrictions.RestrictionEntry.{Restricted, Revoked, Forgotten}
-use Rattle.track_picture.specs.Announcing.{announcements_of}
-use Rattle.track_picture.specs.Entry.{TrackEntry, Outcome, Fact, nothing_happened}
+use Rattle.track_store.specs.Restrictions.{InForce}
+use Rattle.track_picture.specs.declared.happened.Happened.{Happened}
+use Rattle.track_picture.specs.Entry.{TrackEntry, Outcome, Fact, nothing_happened, facts_in}
 use Rattle.track_picture.specs.Entry.Outcome.{Broken, Ignored, Rejected, Accepted}
+use Rattle.track_picture.specs.Happenings.{happenings}
+use Rattle.track_picture.specs.Parts.{gradients_in, speeds_in, mark_in, restrictions_in, areas_in, level_in, links_in, authorities_in}
+
+-- ---- the facts that count: linking, the restrictions in force, the mode areas, the announced level
+
+abbrev pub links_of : List TrackEntry → KnownLinks
+links_of entries = links_in (happenings entries)
+
+abbrev pub restrictions_of : List TrackEntry → InForce
+restrictions_of entries = restrictions_in (happenings entries)
+
+abbrev pub areas_of : List TrackEntry → List Area
+areas_of entries = areas_in (happenings entries)
+
+abbrev pub announced_level : List TrackEntry → Option AnnouncedLevel
+announced_level entries = level_in (happenings entries)
+
+-- the authority, and what its timers have seen, as the entries by which `authority` tells its end
+abbrev pub authorities : List TrackEntry → List AuthorityEntry
+authorities entries = authorities_in (happenings entries)
+
+abbrev pub authority_of : List TrackEntry → Authority
+authority_of entries = known_authority (authorities entries)
+
+-- the gradient and the static speeds of each centimetre, from the forgetting mark on
+abbrev pub gradients_of : List TrackEntry → Profile ℤ
+gradients_of entries =
+    profiles.profile_of (record { mark = mark_in (happenings entries); facts = gradients_in (happenings entries) })
+
+abbrev pub speeds_of : List TrackEntry → Profile CategorySpeeds
+speeds_of entries =
+    profiles.profile_of (record { mark = mark_in (happenings entries); facts = speeds_in (happenings entries) })
 
 -- ---- the moment: that of the last clock input, 0 before the first
 
@@ -62,43 +70,15 @@ abbrev pub speed_of : List TrackEntry → ℕ
 speed_of [] = 0
 speed_of (entry ∷ entries) = option_map_or (λ reading. reading.speed) entry.begun.reading (speed_of entries)
 
--- ---- what the mode that an event enters deletes
+-- ---- the place: movements, and behind them the fixes of the groups
 
-abbrev pub is_deleted : Fate → Bool
-is_deleted fate.Kept = false
-is_deleted fate.Invalid = false
-is_deleted fate.Deleted = true
+abbrev pub with_movement : Option Reading → List odometry.PlaceEntry → List odometry.PlaceEntry
+with_movement None entries = entries
+with_movement (Some reading) entries = odometry.after_movement entries reading.movement
 
-abbrev pub after_column : {A : Type 0} → Item → (A → A) → Option Mode → A → A
-after_column item deleted None told = told
-after_column item deleted (Some mode) told = if is_deleted (status_on item mode) then deleted told else told
-
--- ---- what facts give a part, one after another, and what the groups of an event give it
-
--- the packets of a group that were used; only an accepted group has some
-abbrev pub facts_in : Outcome → List Fact
-facts_in (Broken b) = []
-facts_in (Ignored message) = []
-facts_in (Rejected message a) = []
-facts_in (Accepted message announced fix facts) = facts
-
-abbrev pub after_facts : {A : Type 0} → (Fact → A → A) → List Fact → A → A
-after_facts tell [] told = told
-after_facts tell (fact ∷ facts) told = after_facts tell facts (tell fact told)
-
-abbrev pub after_told : {A : Type 0} → (Fact → A → A) → List Outcome → A → A
-after_told tell [] told = told
-after_told tell (outcome ∷ outcomes) told = after_facts tell (facts_in outcome) (after_told tell outcomes told)
-
--- ---- what bears on the place: movements, and fixes behind them
-
-abbrev pub after_movement : Option Reading → List odometry.PlaceEntry → List odometry.PlaceEntry
-after_movement None entries = entries
-after_movement (Some reading) entries = odometry.after_movement entries reading.movement
-
-abbrev pub after_fix : Option Fix → List odometry.PlaceEntry → List odometry.PlaceEntry
-after_fix None entries = entries
-after_fix (Some fix) entries = Fixed fix ∷ entries
+abbrev pub with_fix : Option Fix → List odometry.PlaceEntry → List odometry.PlaceEntry
+with_fix None entries = entries
+with_fix (Some fix) entries = Fixed fix ∷ entries
 
 abbrev pub fix_in : Outcome → Option Fix
 fix_in (Broken b) = None
@@ -106,249 +86,56 @@ fix_in (Ignored message) = None
 fix_in (Rejected message a) = None
 fix_in (Accepted message announced fix facts) = fix
 
-abbrev pub after_fixes : List Outcome → List odometry.PlaceEntry → List odometry.PlaceEntry
-after_fixes [] entries = entries
-after_fixes (outcome ∷ outcomes) entries = after_fix (fix_in outcome) (after_fixes outcomes entries)
+abbrev pub with_fixes : List Outcome → List odometry.PlaceEntry → List odometry.PlaceEntry
+with_fixes [] entries = entries
+with_fixes (outcome ∷ outcomes) entries = with_fix (fix_in outcome) (with_fixes outcomes entries)
 
 abbrev pub places : List TrackEntry → List odometry.PlaceEntry
 places [] = []
-places (entry ∷ entries) = after_fixes entry.used.groups (after_movement entry.begun.reading (places entries))
+places (entry ∷ entries) = with_fixes entry.used.groups (with_movement entry.begun.reading (places entries))
 
 abbrev pub place_of : List TrackEntry → odometry.KnownPlace
 place_of entries = odometry.known (places entries)
 
--- the group of the last fix; None before the first
+-- the group of the newest fix, and without a fix another one
 abbrev pub fixed_by : Outcome → Option GroupIdentity
 fixed_by (Broken b) = None
 fixed_by (Ignored message) = None
 fixed_by (Rejected message a) = None
 fixed_by (Accepted message announced fix facts) = option_map (λ f. message.group) fix
 
-abbrev pub after_fixing : List Outcome → Option GroupIdentity → Option GroupIdentity
-after_fixing [] group = group
-after_fixing (outcome ∷ outcomes) group = option_or (fixed_by outcome) (after_fixing outcomes group)
+abbrev pub latest_fixed : List Outcome → Option GroupIdentity → Option GroupIdentity
+latest_fixed [] group = group
+latest_fixed (outcome ∷ outcomes) group = option_or (fixed_by outcome) (latest_fixed outcomes group)
 
+-- the group of the last fix; None before the first
 abbrev pub group_of_fix : List TrackEntry → Option GroupIdentity
 group_of_fix [] = None
-group_of_fix (entry ∷ entries) = after_fixing entry.used.groups (group_of_fix entries)
+group_of_fix (entry ∷ entries) = latest_fixed entry.used.groups (group_of_fix entries)
 
--- ---- what bears on balise groups: the telegrams that were read, and the path
+-- ---- balise groups: the telegrams that were read, and the path
 
-abbrev pub after_heard : Option groups.GroupEntry → List groups.GroupEntry → List groups.GroupEntry
-after_heard None entries = entries
-after_heard (Some heard) entries = heard ∷ entries
+abbrev pub with_heard : Option groups.GroupEntry → List groups.GroupEntry → List groups.GroupEntry
+with_heard None entries = entries
+with_heard (Some heard) entries = heard ∷ entries
 
 abbrev pub all_heard : List TrackEntry → List groups.GroupEntry
 all_heard [] = []
-all_heard (entry ∷ entries) = after_heard entry.begun.heard (all_heard entries)
+all_heard (entry ∷ entries) = with_heard entry.begun.heard (all_heard entries)
 
 abbrev pub groups_of : List TrackEntry → groups.KnownGroups
 groups_of entries = groups.known (all_heard entries)
 
--- ---- what bears on linking: the groups that were missed; then of each group that closed what became of it, and behind
--- that its lists of links (packet 5)
+-- ---- what the last event brought about
 
-abbrev pub after_ruling : Outcome → List linking.LinkEntry → List linking.LinkEntry
-after_ruling (Broken b) entries = after_broken (linking.known entries) b.group b.linked entries
-after_ruling (Ignored message) entries = after_verdict Ignore entries
-after_ruling (Rejected message a) entries = after_verdict (Reaction a) entries
-after_ruling (Accepted message announced fix facts) entries = after_verdict (Accept announced) entries
-
-abbrev pub after_links : Fact → List linking.LinkEntry → List linking.LinkEntry
-after_links fact entries =
-    option_map_or (λ p. Announced (announcements_of fact.group fact.place p) ∷ entries) (as_linking fact.packet) entries
-
-abbrev pub after_groups : List Outcome → List linking.LinkEntry → List linking.LinkEntry
-after_groups [] entries = entries
-after_groups (outcome ∷ outcomes) entries =
-    after_facts after_links (facts_in outcome) (after_ruling outcome (after_groups outcomes entries))
-
-abbrev pub links_deleted : List linking.LinkEntry → List linking.LinkEntry
-links_deleted entries = Announced [] ∷ entries
-
-abbrev pub links : List TrackEntry → List linking.LinkEntry
-links [] = []
-links (entry ∷ entries) =
-    after_column item.Linking links_deleted entry.entered
-    (after_groups entry.used.groups (linking.after_misses entry.begun.missed (links entries)))
-
-abbrev pub links_of : List TrackEntry → linking.KnownLinks
-links_of entries = linking.known (links entries)
-
--- ---- what bears on the national values: of each group that was accepted its country, and behind that its values
--- (packet 3); behind all groups where the maximum safe front is
-
-abbrev pub after_country : Outcome → List national.NationalEntry → List national.NationalEntry
-after_country (Broken b) entries = entries
-after_country (Ignored message) entries = entries
-after_country (Rejected message a) entries = entries
-after_country (Accepted message announced fix facts) entries = Entered message.group.country ∷ entries
-
-abbrev pub after_values : Fact → List national.NationalEntry → List national.NationalEntry
-after_values fact entries =
-    option_map_or (λ p. Told (national.fact_of p fact.group.country fact.place) ∷ entries) (as_national_values fact.packet) entries
-
-abbrev pub after_countries : List Outcome → List national.NationalEntry → List national.NationalEntry
-after_countries [] entries = entries
-after_countries (outcome ∷ outcomes) entries =
-    after_facts after_values (facts_in outcome) (after_country outcome (after_countries outcomes entries))
-
-abbrev pub after_front : Option Span → List national.NationalEntry → List national.NationalEntry
-after_front None entries = entries
-after_front (Some train) entries = Reached train.max_front ∷ entries
-
-abbrev pub national_entries : List TrackEntry → List national.NationalEntry
-national_entries [] = []
-national_entries (entry ∷ entries) = after_front entry.train (after_countries entry.used.groups (national_entries entries))
-
--- ---- what bears on the restrictions. Packets are taken in rising number, equal numbers in the order of the message:
--- the restrictions (packet 65), then the revocations (packet 66); behind all groups the forgetting mark
-
-abbrev pub restriction_of : ℤ → SpeedRestriction → Restriction
-restriction_of place p =
-    record {
-      number = p.number;
-      start = place +ℤ pos (p.start * centimetres_of p.scale);
-      length = p.length * centimetres_of p.scale;
-      delay = p.delay;
-      speed = 5_000 * p.speed;
-    }
-
-abbrev pub after_restriction : Fact → List track.RestrictionEntry → List track.RestrictionEntry
-after_restriction fact entries =
-    option_map_or (λ p. Restricted (restriction_of fact.place p) ∷ entries) (as_speed_restriction fact.packet) entries
-
-abbrev pub after_revocation : Fact → List track.RestrictionEntry → List track.RestrictionEntry
-after_revocation fact entries = option_map_or (λ p. Revoked p.number ∷ entries) (as_revocation fact.packet) entries
-
-abbrev pub after_messages : List Outcome → List track.RestrictionEntry → List track.RestrictionEntry
-after_messages [] entries = entries
-after_messages (outcome ∷ outcomes) entries =
-    after_facts after_revocation (facts_in outcome) (after_facts after_restriction (facts_in outcome) (after_messages outcomes entries))
-
-abbrev pub after_mark : Option ℤ → List track.RestrictionEntry → List track.RestrictionEntry
-after_mark None entries = entries
-after_mark (Some mark) entries = Forgotten mark ∷ entries
-
-abbrev pub restrictions : List TrackEntry → List track.RestrictionEntry
-restrictions [] = []
-restrictions (entry ∷ entries) = after_mark entry.mark (after_messages entry.used.groups (restrictions entries))
-
--- ---- what bears on the authority: the clock; then the authorities (packet 12); behind all groups where the
--- train is
-
-abbrev pub after_clock : Option ℕ → List authority.AuthorityEntry → List authority.AuthorityEntry
-after_clock None entries = entries
-after_clock (Some moment) entries = Ticked moment ∷ entries
-
-abbrev pub after_authority : Fact → List authority.AuthorityEntry → List authority.AuthorityEntry
-after_authority fact entries =
-    option_map_or (λ p. Granted (authority.fact_of p fact.place fact.moment) ∷ entries) (as_movement_authority fact.packet) entries
-
-abbrev pub after_train : Option Span → List authority.AuthorityEntry → List authority.AuthorityEntry
-after_train None entries = entries
-after_train (Some train) entries = Passed train ∷ entries
-
-abbrev pub authority_deleted : List authority.AuthorityEntry → List authority.AuthorityEntry
-authority_deleted entries = authority.AuthorityEntry.Cleared ∷ entries
-
-abbrev pub authorities : List TrackEntry → List authority.AuthorityEntry
-authorities [] = []
-authorities (entry ∷ entries) =
-    after_column item.Authority authority_deleted entry.entered
-    (after_train entry.train (after_told after_authority entry.used.groups (after_clock entry.begun.clock (authorities entries))))
-
-abbrev pub authority_of : List TrackEntry → Authority
-authority_of entries = known_authority (authorities entries)
-
--- whether an authority whose speed is 0 was used in the last event
-abbrev pub after_stop : Fact → Bool → Bool
-after_stop fact stopped = option_map_or (λ p. p.speed == 0 || stopped) (as_movement_authority fact.packet) stopped
+-- whether an authority whose speed is 0 (V_MAIN) was used in it
+abbrev pub is_stop : Fact → Bool
+is_stop fact = option_map_or (λ p. p.speed == 0) (as_movement_authority fact.packet) false
 
 abbrev pub is_stopped : List TrackEntry → Bool
 is_stopped [] = false
-is_stopped (entry ∷ entries) = after_told after_stop entry.used.groups false
+is_stopped (entry ∷ entries) = list_any (λ outcome. list_any is_stop (facts_in outcome)) entry.used.groups
 
--- what the last event brought about
 abbrev pub happened_of : List TrackEntry → Happened
 happened_of [] = nothing_happened
 happened_of (entry ∷ entries) = entry.used.happened
-
--- ---- what bears on the mode areas. Packets are taken in rising number, equal numbers in the order of the message: an
--- authority (packet 12) deletes the areas of before, and then new ones come (packet 80)
-
-abbrev pub after_grant : Fact → List areas.AreaEntry → List areas.AreaEntry
-after_grant fact entries = option_map_or (λ p. AreasCleared ∷ entries) (as_movement_authority fact.packet) entries
-
-abbrev pub after_areas : Fact → List areas.AreaEntry → List areas.AreaEntry
-after_areas fact entries = option_map_or (λ p. AreasTold (areas.fact_of p fact.place) ∷ entries) (as_mode_profile fact.packet) entries
-
-abbrev pub after_area_groups : List Outcome → List areas.AreaEntry → List areas.AreaEntry
-after_area_groups [] entries = entries
-after_area_groups (outcome ∷ outcomes) entries =
-    after_facts after_areas (facts_in outcome) (after_facts after_grant (facts_in outcome) (after_area_groups outcomes entries))
-
-abbrev pub areas_deleted : List areas.AreaEntry → List areas.AreaEntry
-areas_deleted entries = AreasCleared ∷ entries
-
-abbrev pub all_areas : List TrackEntry → List areas.AreaEntry
-all_areas [] = []
-all_areas (entry ∷ entries) =
-    after_column item.ModeAreas areas_deleted entry.entered (after_area_groups entry.used.groups (all_areas entries))
-
-abbrev pub areas_of : List TrackEntry → List Area
-areas_of entries = stored (all_areas entries)
-
--- ---- what bears on the announced level: the announcements (packet 41); behind all groups where the maximum safe front
--- is
-
-abbrev pub after_level : Fact → List levels.LevelEntry → List levels.LevelEntry
-after_level fact entries = option_map_or (λ p. LevelAnnounced (levels.fact_of p fact.place) ∷ entries) (as_level_transition fact.packet) entries
-
-abbrev pub after_reach : Option Span → List levels.LevelEntry → List levels.LevelEntry
-after_reach None entries = entries
-after_reach (Some train) entries = LevelReached train.max_front ∷ entries
-
-abbrev pub level_deleted : List levels.LevelEntry → List levels.LevelEntry
-level_deleted entries = LevelForgotten ∷ entries
-
-abbrev pub announced_levels : List TrackEntry → List levels.LevelEntry
-announced_levels [] = []
-announced_levels (entry ∷ entries) =
-    after_column item.LevelAnnouncement level_deleted entry.entered
-    (after_reach entry.train (after_told after_level entry.used.groups (announced_levels entries)))
-
-abbrev pub announced_level : List TrackEntry → Option AnnouncedLevel
-announced_level entries = waiting (announced_levels entries)
-
--- ---- what bears on the gradient and the static speed: their packets (21 and 27), and the forgetting mark
-
-abbrev pub after_gradients : Fact → List (profiles.Fact ℤ) → List (profiles.Fact ℤ)
-after_gradients fact told = option_map_or (λ p. gradient_fact fact.place p ∷ told) (as_gradients fact.packet) told
-
-abbrev pub none_told : {A : Type 0} → List A → List A
-none_told told = []
-
-abbrev pub gradients : List TrackEntry → List (profiles.Fact ℤ)
-gradients [] = []
-gradients (entry ∷ entries) =
-    after_column item.Profiles none_told entry.entered (after_told after_gradients entry.used.groups (gradients entries))
-
-abbrev pub after_speeds : Fact → List (profiles.Fact CategorySpeeds) → List (profiles.Fact CategorySpeeds)
-after_speeds fact told = option_map_or (λ p. speed_fact fact.place p ∷ told) (as_static_speeds fact.packet) told
-
-abbrev pub speeds : List TrackEntry → List (profiles.Fact CategorySpeeds)
-speeds [] = []
-speeds (entry ∷ entries) =
-    after_column item.Profiles none_told entry.entered (after_told after_speeds entry.used.groups (speeds entries))
-
--- the greatest forgetting mark; without one, the least place that there is
-abbrev pub mark_of : List TrackEntry → ℤ
-mark_of [] = neg_ℤ (pos (2 ^ 42))
-mark_of (entry ∷ entries) = option_map_or (λ mark. int_max mark (mark_of entries)) entry.mark (mark_of entries)
-
-abbrev pub gradients_of : List TrackEntry → Profile ℤ
-gradients_of entries = profiles.profile_of (record { mark = mark_of entries; facts = gradients entries })
-
-abbrev pub speeds_of : List TrackEntry → Profile CategorySpeeds
-speeds_of entries = profiles.profile_of (record { mark = mark_of entries; facts = speeds entries })

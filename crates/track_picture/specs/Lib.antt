@@ -1,8 +1,13 @@
 pub mod Bytes
 pub mod Announcing
 pub mod Entry
+pub mod Live
+pub mod Happenings
+pub mod Parts
 pub mod History
 pub mod Sentences
 pub mod Steps
 pub mod StandsFor
+pub mod Ending
+pub mod Columns
 pub mod Told

@@ -14,7 +14,9 @@ use Rattle.track_store.specs.Restrictions as track
 use Rattle.vars.specs.declared.group.GroupIdentity.{GroupIdentity}
 use Rattle.track_picture.specs.declared.happened.Happened.{Happened}
 use Rattle.track_picture.specs.Entry.{TrackEntry, Begun, Used, blank}
-use Rattle.track_picture.specs.History.{place_of, group_of_fix, speed_of, groups_of, links_of, national_entries, restrictions, moment_of, authority_of, areas_of, announced_level, gradients_of, speeds_of, happened_of, is_stopped}
+use Rattle.track_picture.specs.History.{place_of, group_of_fix, speed_of, groups_of, links_of, restrictions_of, moment_of, authority_of, areas_of, announced_level, gradients_of, speeds_of, happened_of, is_stopped}
+use Rattle.track_picture.specs.Happenings.{happenings}
+use Rattle.track_picture.specs.Parts.{national_in}
 
 -- the national values that were kept as the life began, and what its events brought, the newest first
 pub record Life : Type 0 where
@@ -22,7 +24,7 @@ pub record Life : Type 0 where
   pub entries : List TrackEntry
 
 abbrev pub national_of : Life → national.KnownValues
-national_of life = national.known life.kept (national_entries life.entries)
+national_of life = national_in life.kept (happenings life.entries)
 
 -- what each part knows but for the restrictions and the profiles of the track
 pub record KnownTrack : Type 0 where
@@ -67,7 +69,7 @@ parts_of life =
 -- It represents a life; what the two stores give is read off them so.
 pub record StandsForLife {G S : Type 0} (gradients_in : G → Profile ℤ) (speeds_in : S → Profile CategorySpeeds) (known : Knowledge G S) (life : Life) : Type 0 where
   pub parts_are : known.parts ≡ parts_of life
-  pub restrictions_are : known.restrictions.track ≡ track.in_force (restrictions life.entries)
+  pub restrictions_are : known.restrictions.track ≡ restrictions_of life.entries
   pub gradients_are : gradients_in known.gradients ≡ gradients_of life.entries
   pub speeds_are : speeds_in known.speeds ≡ speeds_of life.entries
 

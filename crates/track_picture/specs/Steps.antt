@@ -1,33 +1,17 @@
 -- What lies between the sentences of one event (this project's profile). Places are centimetres, moments milliseconds.
-use Rattle.std.specs.Prelude.{ℕ, ◌+◌, ◌*◌, ◌≤◌, ℤ, Bool, if◌then◌else◌, Option, Some, None, is_none, List, [], length, map, filter}
+use Rattle.std.specs.Prelude.{ℕ, ◌+◌, ◌*◌, ◌≤◌, ℤ, Bool, if◌then◌else◌, Option, Some, None, is_none, List, length, map, filter}
 use Rattle.std.specs.Option.{option_map_or}
 use Rattle.packets.specs.declared.packet.Packet.{Packet}
 use Rattle.linking.specs.declared.announcement.Announcement.{Announcement}
 use Rattle.track_picture.specs.declared.fixing.Wanted.{Wanted}
-use Rattle.balise_groups.specs.declared.message.Closed.{Closed}
 use Rattle.balise_groups.specs.Rooms.{packets_in}
 use Rattle.events.specs.declared.input.Input.{Input}
 use Rattle.events.specs.declared.input.Input.TheVariants.{Telegram, Odometer, Clock, Driver}
-use Rattle.events.specs.declared.input.Reading.{Reading}
 use Rattle.track_picture.specs.declared.using.Use.{Use}
 use Rattle.track_picture.specs.Bytes.{telegram_in}
-use Rattle.track_picture.specs.Entry.{TrackEntry, Fact, Used}
-use Rattle.track_picture.specs.History.{groups_of}
-use Rattle.track_picture.specs.Sentences.{is_used, moved, happened_by, closed_by}
-use Rattle.track_picture.specs.StandsFor.{Life, KnownTrack, Knowledge, parts_of, grown_so_far, room_in}
-
--- the group that a movement leaves
-abbrev pub left_by : List TrackEntry → Reading → Option Closed
-left_by entries reading = (closed_by (groups_of entries) (moved entries reading).heard).ended
-
--- what a movement brings about, before the groups are used that it closes
-abbrev pub after_moving : List TrackEntry → Reading → Used
-after_moving entries reading = record { groups = []; happened = happened_by entries reading }
-
--- what the parts know after a movement, but that the group being read hasn't taken it yet
-abbrev pub still_reading : Life → Reading → KnownTrack
-still_reading life reading =
-    record (parts_of (grown_so_far life (moved life.entries reading) (after_moving life.entries reading))) { groups = groups_of life.entries }
+use Rattle.track_picture.specs.Entry.{Fact}
+use Rattle.track_picture.specs.Sentences.{is_used}
+use Rattle.track_picture.specs.StandsFor.{KnownTrack, Knowledge, room_in}
 
 -- a packet that is used so, and all that are used of a message
 abbrev pub fact_of : Use → Packet → Fact

@@ -1,9 +1,8 @@
--- What the packets of a message bring to the parts, walk by walk (this project's profile). Packets are taken in rising
--- number: the revocations (packet 66) come behind the restrictions (packet 65), the mode areas (packet 80) behind the
--- authorities (packet 12), and all others go to parts of their own. Places are centimetres.
-use Rattle.std.specs.Prelude.{◌≡◌, ℤ, Bool, ◌||◌, is_some, List}
-use Rattle.packets.specs.declared.packet.Packet.{Packet}
-use Rattle.packets.specs.Packets.{as_revocation, as_mode_profile}
+-- A scaffold for proofs alone, as Columns: what the packets of a message bring to the parts, walk by walk (this project's
+-- profile). Packets are taken in rising number: the revocations (packet 66) come behind the restrictions (packet 65), the
+-- mode areas (packet 80) behind the authorities (packet 12), and all others go to parts of their own. Places are
+-- centimetres.
+use Rattle.std.specs.Prelude.{◌≡◌, ℤ, Bool, List}
 use Rattle.areas.specs.Areas.{stored}
 use Rattle.areas.specs.Entries as areas
 use Rattle.areas.specs.Levels as levels
@@ -17,7 +16,7 @@ use Rattle.track_store.specs.Facts as profiles
 use Rattle.track_store.specs.Profiles.{Profile}
 use Rattle.track_store.specs.Restrictions as track
 use Rattle.track_picture.specs.Entry.{Fact}
-use Rattle.track_picture.specs.History.{after_values, after_links, after_authority, after_stop, after_grant, after_areas, after_level, after_gradients, after_speeds, after_restriction, after_revocation}
+use Rattle.track_picture.specs.Columns.{after_values, after_links, after_authority, after_stop, after_grant, after_areas, after_level, after_gradients, after_speeds, after_restriction, after_revocation}
 use Rattle.track_picture.specs.StandsFor.{KnownTrack, Knowledge}
 
 -- what the parts took that packets concern, and what the others know
@@ -68,10 +67,6 @@ after_earlier fact told =
       gradients = after_gradients fact told.gradients;
       speeds = after_speeds fact told.speeds;
     }
-
--- whether a packet is for the second walk
-abbrev pub comes_later : Packet → Bool
-comes_later packet = is_some (as_revocation packet) || is_some (as_mode_profile packet)
 
 -- what a packet brings in the second walk
 abbrev pub after_later : Fact → TrackTold → TrackTold

@@ -5,14 +5,14 @@ ghost use Rattle.balise_groups.specs.declared.message.Closed.TheVariants as clos
 ghost use Rattle.balise_groups.specs.declared.message.Message.{Message};
 ghost use Rattle.balise_groups.specs.Rooms.{packets_of_closed};
 ghost use Rattle.linking.specs.declared.announcement.Announcement.{Announcement};
-ghost use Rattle.linking.specs.Judging.{broken_effect};
+ghost use Rattle.linking.specs.Judging.{judgement, broken_effect};
 ghost use Rattle.odometry.specs.declared.fix.Fix.{Fix};
 ghost use Rattle.track_picture.specs.Entry.{Begun, Used, added, asking_for, blank};
 ghost use Rattle.track_picture.specs.Entry.Outcome.{Accepted, Broken as NoMessage};
-ghost use Rattle.track_picture.specs.History.{links_of};
-ghost use Rattle.track_picture.specs.Sentences.{judged, accepted, outcome_at_first, outcome, after_group, with_closed};
+ghost use Rattle.track_picture.specs.Sentences.{group_read, accepted, outcome_at_first, outcome, after_group, with_closed};
 ghost use Rattle.track_picture.specs.Steps.{facts};
-ghost use Rattle.track_picture.specs.StandsFor.{Life, StandsForLife, SameTrack, parts_of, grown, grown_so_far, room_in};
+ghost use Rattle.track_picture.specs.StandsFor.{Life, SameTrack, grown, grown_so_far, room_in};
+ghost use Rattle.track_picture.specs.Columns.{StandsForColumns, columns_of};
 
 use crate::parts::Parts;
 use crate::state::TracksideOver;
@@ -29,11 +29,10 @@ impl Parts {
     // Linking judges a group, and asks for something. One that is accepted counts for the national values by its
     // country.
     fn judge(&mut self, message: &Message) -> Verdict
-        ensures answer { (life : Life) (begun : Begun) (used : Used) → self.old ≡ parts_of (grown_so_far life begun used)
-            → result ≡ (judged (record blank { begun = begun; used = used } ∷ life.entries) message.now).verdict }
-        ensures stands { (life : Life) (begun : Begun) (used : Used) → self.old ≡ parts_of (grown_so_far life begun used)
-            → (let j = judged (record blank { begun = begun; used = used } ∷ life.entries) message.now in
-            self.new ≡ parts_of (grown_so_far life begun (added (outcome_at_first message.now j.verdict) (asking_for j.effect used)))) }
+        ensures answer { result ≡ (judgement self.old.links (group_read self.old.place message.now)).verdict }
+        ensures stands { (life : Life) (begun : Begun) (used : Used) → self.old ≡ columns_of (grown_so_far life begun used)
+            → (let j = judgement self.old.links (group_read self.old.place message.now) in
+            self.new ≡ columns_of (grown_so_far life begun (added (outcome_at_first message.now j.verdict) (asking_for j.effect used)))) }
     {
         let place = self.place.place_at(&message.sums);
         let judgement = self.links.judge(&GroupRead {
@@ -51,9 +50,9 @@ impl Parts {
 
     // A broken group: what linking asks for it.
     fn give_up(&mut self, group: &Broken)
-        ensures { (life : Life) (begun : Begun) (used : Used) → self.old ≡ parts_of (grown_so_far life begun used)
-            → self.new ≡ parts_of (grown_so_far life begun (added (NoMessage group.now)
-            (asking_for (broken_effect (links_of (record blank { begun = begun; used = used } ∷ life.entries)) group.now.group group.now.linked) used))) }
+        ensures { (life : Life) (begun : Begun) (used : Used) → self.old ≡ columns_of (grown_so_far life begun used)
+            → self.new ≡ columns_of (grown_so_far life begun (added (NoMessage group.now)
+            (asking_for (broken_effect self.old.links group.now.group group.now.linked) used))) }
     {
         let asked = self.links.broken(group.group, group.linked);
         self.happened = self.happened.asking(asked);
@@ -67,8 +66,8 @@ impl<G: ProfileStore<Permille> + Drop, S: ProfileStore<CategorySpeeds> + Drop> T
     fn take_packets(&mut self, packets: &GroupPackets, used: &Use)
         requires { length packets.now ≤ room_in G.room S.room self.old }
         ensures stands { (life : Life) (begun : Begun) (groups : Used) (message : Message) (announced : Option Announcement) (fix : Option Fix)
-            → StandsForLife G.profile S.profile self.old (grown_so_far life begun (added (Accepted message announced fix []) groups))
-            → StandsForLife G.profile S.profile self.new (grown_so_far life begun (added (Accepted message announced fix (facts used.now packets.now)) groups)) }
+            → StandsForColumns G.profile S.profile self.old (grown_so_far life begun (added (Accepted message announced fix []) groups))
+            → StandsForColumns G.profile S.profile self.new (grown_so_far life begun (added (Accepted message announced fix (facts used.now packets.now)) groups)) }
         ensures room { room_in G.room S.room self.old ≤ room_in G.room S.room self.new + length packets.now }
         ensures idle { length packets.now ≡ 0 → SameTrack self.old self.new }
     {
@@ -82,8 +81,8 @@ impl<G: ProfileStore<Permille> + Drop, S: ProfileStore<CategorySpeeds> + Drop> T
         requires { length message.now.packets ≤ room_in G.room S.room self.old }
         ensures stands { (life : Life) (begun : Begun) (used : Used)
             → (let judged_only = record blank { begun = begun; used = added (Accepted message.now announced.now None []) used } in
-            StandsForLife G.profile S.profile self.old (grown life judged_only)
-            → StandsForLife G.profile S.profile self.new (grown_so_far life begun (added (accepted mode (judged_only ∷ life.entries) message.now announced.now) used))) }
+            StandsForColumns G.profile S.profile self.old (grown life judged_only)
+            → StandsForColumns G.profile S.profile self.new (grown_so_far life begun (added (accepted mode (judged_only ∷ life.entries) message.now announced.now) used))) }
         ensures room { room_in G.room S.room self.old ≤ room_in G.room S.room self.new + length message.now.packets }
         ensures idle { length message.now.packets ≡ 0 → SameTrack self.old self.new }
     {
@@ -104,8 +103,8 @@ impl<G: ProfileStore<Permille> + Drop, S: ProfileStore<CategorySpeeds> + Drop> T
         requires { length message.now.packets ≤ room_in G.room S.room self.old }
         ensures stands { (life : Life) (begun : Begun) (used : Used)
             → (let judged_only = record blank { begun = begun; used = added (outcome_at_first message.now verdict) used } in
-            StandsForLife G.profile S.profile self.old (grown life judged_only)
-            → StandsForLife G.profile S.profile self.new (grown_so_far life begun (added (outcome mode (judged_only ∷ life.entries) message.now verdict) used))) }
+            StandsForColumns G.profile S.profile self.old (grown life judged_only)
+            → StandsForColumns G.profile S.profile self.new (grown_so_far life begun (added (outcome mode (judged_only ∷ life.entries) message.now verdict) used))) }
         ensures room { room_in G.room S.room self.old ≤ room_in G.room S.room self.new + length message.now.packets }
         ensures idle { length message.now.packets ≡ 0 → SameTrack self.old self.new }
     {
@@ -118,8 +117,8 @@ impl<G: ProfileStore<Permille> + Drop, S: ProfileStore<CategorySpeeds> + Drop> T
     // A whole group.
     fn close_whole(&mut self, mode: Mode, message: &Message)
         requires { length message.now.packets ≤ room_in G.room S.room self.old }
-        ensures stands { (life : Life) (begun : Begun) (used : Used) → StandsForLife G.profile S.profile self.old (grown_so_far life begun used)
-            → StandsForLife G.profile S.profile self.new (grown_so_far life begun (after_group mode life.entries begun used (closed.Whole message.now))) }
+        ensures stands { (life : Life) (begun : Begun) (used : Used) → StandsForColumns G.profile S.profile self.old (grown_so_far life begun used)
+            → StandsForColumns G.profile S.profile self.new (grown_so_far life begun (after_group mode life.entries begun used (closed.Whole message.now))) }
         ensures room { room_in G.room S.room self.old ≤ room_in G.room S.room self.new + length message.now.packets }
         ensures idle { length message.now.packets ≡ 0 → SameTrack self.old self.new }
     {
@@ -131,8 +130,8 @@ impl<G: ProfileStore<Permille> + Drop, S: ProfileStore<CategorySpeeds> + Drop> T
     #[inline(never)]
     fn close_one(&mut self, mode: Mode, group: &Closed)
         requires { packets_of_closed (Some group.now) ≤ room_in G.room S.room self.old }
-        ensures stands { (life : Life) (begun : Begun) (used : Used) → StandsForLife G.profile S.profile self.old (grown_so_far life begun used)
-            → StandsForLife G.profile S.profile self.new (grown_so_far life begun (after_group mode life.entries begun used group.now)) }
+        ensures stands { (life : Life) (begun : Begun) (used : Used) → StandsForColumns G.profile S.profile self.old (grown_so_far life begun used)
+            → StandsForColumns G.profile S.profile self.new (grown_so_far life begun (after_group mode life.entries begun used group.now)) }
         ensures room { room_in G.room S.room self.old ≤ room_in G.room S.room self.new + packets_of_closed (Some group.now) }
         ensures idle { packets_of_closed (Some group.now) ≡ 0 → SameTrack self.old self.new }
     {
@@ -145,8 +144,8 @@ impl<G: ProfileStore<Permille> + Drop, S: ProfileStore<CategorySpeeds> + Drop> T
     /// A group that closed, if one did.
     pub(crate) fn close(&mut self, mode: Mode, group: &Option<Closed>)
         requires { packets_of_closed group.now ≤ room_in G.room S.room self.old }
-        ensures stands { (life : Life) (begun : Begun) (used : Used) → StandsForLife G.profile S.profile self.old (grown_so_far life begun used)
-            → StandsForLife G.profile S.profile self.new (grown_so_far life begun (with_closed mode life.entries begun group.now used)) }
+        ensures stands { (life : Life) (begun : Begun) (used : Used) → StandsForColumns G.profile S.profile self.old (grown_so_far life begun used)
+            → StandsForColumns G.profile S.profile self.new (grown_so_far life begun (with_closed mode life.entries begun group.now used)) }
         ensures room { room_in G.room S.room self.old ≤ room_in G.room S.room self.new + packets_of_closed group.now }
         ensures idle { packets_of_closed group.now ≡ 0 → SameTrack self.old self.new }
     {

@@ -11,8 +11,9 @@ ghost use Rattle.mode_table.specs.Statuses.{status_on};
 ghost use Rattle.track_store.specs.Facts.{MarkedFacts, profile_of};
 ghost use Rattle.track_store.specs.Profiles.{profile_with};
 ghost use Rattle.track_picture.specs.Entry.{TrackEntry};
-ghost use Rattle.track_picture.specs.History.{is_deleted, after_column, links_deleted, authority_deleted, areas_deleted, level_deleted, none_told};
-ghost use Rattle.track_picture.specs.StandsFor.{Life, StandsForLife, parts_of, grown, size_in};
+ghost use Rattle.track_picture.specs.Live.{is_deleted};
+ghost use Rattle.track_picture.specs.Columns.{after_column, links_deleted, authority_deleted, areas_deleted, level_deleted, none_told, columns_of};
+ghost use Rattle.track_picture.specs.StandsFor.{Life, StandsForLife, grown, size_in};
 
 use crate::parts::Parts;
 use crate::state::TracksideOver;
@@ -80,8 +81,8 @@ fn leave_profile<T, P: ProfileStore<T>>(profile: &mut P, mode: Mode)
 impl Parts {
     // A mode is entered.
     fn enter(&mut self, mode: Mode)
-        ensures { (life : Life) (event : TrackEntry) → self.old ≡ parts_of (grown life (record event { entered = None }))
-            → self.new ≡ parts_of (grown life (record event { entered = Some mode })) }
+        ensures { (life : Life) (event : TrackEntry) → self.old ≡ columns_of (grown life (record event { entered = None }))
+            → self.new ≡ columns_of (grown life (record event { entered = Some mode })) }
     {
         leave_links(&mut self.links, mode);
         leave_authority(&mut self.authority, mode);

@@ -7,6 +7,7 @@
 mod asking;
 mod closing;
 mod column;
+mod ending;
 mod fixing;
 mod happened;
 mod laws;
@@ -17,6 +18,10 @@ mod rooms;
 mod state;
 mod using;
 
+pub use ending::{
+    counts_while_not_ended, each_by_its_line, ended_counts_no_more, latest_counts_alone,
+    modes_delete_by_the_table, none_at_power_up, place_is_read,
+};
 pub use happened::Happened;
 pub use laws::telegrams_are_carried;
 pub use state::{Trackside, TracksideOver};

@@ -5,7 +5,8 @@ ghost use Rattle.areas.specs.Levels.{coming};
 ghost use Rattle.track_picture.specs.Entry.{TrackEntry};
 ghost use Rattle.track_picture.specs.History.{announced_level};
 ghost use Rattle.track_picture.specs.Sentences.{standing, mark_behind};
-ghost use Rattle.track_picture.specs.StandsFor.{Life, StandsForLife, parts_of, grown, size_in};
+ghost use Rattle.track_picture.specs.StandsFor.{Life, StandsForLife, grown, size_in};
+ghost use Rattle.track_picture.specs.Columns.{StandsForColumns, columns_of};
 
 use crate::parts::Parts;
 use crate::state::TracksideOver;
@@ -29,10 +30,9 @@ impl Parts {
     // The authority's timers see where the train is, and national values and the level come into force where the
     // maximum safe front has reached their places.
     fn look(&mut self, train: &Stretch) -> Option<TrainLevel>
-        ensures level { (life : Life) (event : TrackEntry) → self.old ≡ parts_of (grown life (record event { train = None; entered = None }))
-            → result ≡ coming train.now.max_front (announced_level (record event { train = None; entered = None } ∷ life.entries)) }
-        ensures stands { (life : Life) (event : TrackEntry) → self.old ≡ parts_of (grown life (record event { train = None; entered = None }))
-            → self.new ≡ parts_of (grown life (record event { train = Some train.now; entered = None })) }
+        ensures level { result ≡ coming train.now.max_front self.old.level }
+        ensures stands { (life : Life) (event : TrackEntry) → self.old ≡ columns_of (grown life (record event { train = None; entered = None }))
+            → self.new ≡ columns_of (grown life (record event { train = Some train.now; entered = None })) }
     {
         self.authority.pass(train);
         self.national.reach(train.max_front());
@@ -60,8 +60,8 @@ impl<G: ProfileStore<Permille> + Drop, S: ProfileStore<CategorySpeeds> + Drop> T
 
     // The track before a place is forgotten.
     fn forget_before(&mut self, mark: Cm)
-        ensures stands { (life : Life) (event : TrackEntry) → StandsForLife G.profile S.profile self.old (grown life (record event { mark = None }))
-            → StandsForLife G.profile S.profile self.new (grown life (record event { mark = Some mark })) }
+        ensures stands { (life : Life) (event : TrackEntry) → StandsForColumns G.profile S.profile self.old (grown life (record event { mark = None }))
+            → StandsForColumns G.profile S.profile self.new (grown life (record event { mark = Some mark })) }
         ensures size { size_in G.size S.size self.new ≤ size_in G.size S.size self.old }
     {
         self.restrictions.drop_behind(mark);

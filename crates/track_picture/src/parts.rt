@@ -1,6 +1,6 @@
 //! What is known of train and track that takes no memory: place, groups, links, authority, areas and others.
 ghost use Rattle.std.specs.Prelude.{◌≡◌, []};
-ghost use Rattle.track_picture.specs.StandsFor.{parts_of};
+ghost use Rattle.track_picture.specs.Columns.{columns_of};
 
 use crate::happened::Happened;
 use areas::{AnnouncedLevel, Areas};
@@ -66,7 +66,7 @@ impl Model for Parts {
 impl Parts {
     /// What is known as a life begins.
     pub fn new(kept: CountryValues) -> Self
-        ensures { result ≡ parts_of (record { kept = kept; entries = [] }) }
+        ensures { result ≡ columns_of (record { kept = kept; entries = [] }) }
     {
         Parts {
             place: Place::new(),

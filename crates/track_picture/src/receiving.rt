@@ -5,10 +5,11 @@ ghost use Rattle.balise_groups.specs.Rooms.{packets_in, packets_of_closed};
 ghost use Rattle.track_picture.specs.Bytes.{telegram_in};
 ghost use Rattle.track_picture.specs.Entry.{nothing_happened, no_groups, nothing};
 ghost use Rattle.track_picture.specs.History.{groups_of};
-ghost use Rattle.track_picture.specs.Sentences.{moved, happened_by, heard, begun, closed_by, with_groups, used_by, received};
-ghost use Rattle.track_picture.specs.StandsFor.{Life, StandsForLife, SameTrack, parts_of, grown, grown_so_far, room_in, size_in};
+ghost use Rattle.track_picture.specs.Sentences.{heard, begun, closed_by, with_groups, used_by, received};
+ghost use Rattle.track_picture.specs.StandsFor.{Life, StandsForLife, SameTrack, grown, grown_so_far, room_in, size_in};
 ghost use Rattle.events.specs.declared.input.Input.TheVariants as inputs;
-ghost use Rattle.track_picture.specs.Steps.{left_by, after_moving, still_reading, packets_by, HasRoomFor};
+ghost use Rattle.track_picture.specs.Columns.{StandsForColumns, columns_of, moved, happened_by, left_by, after_moving, still_reading};
+ghost use Rattle.track_picture.specs.Steps.{packets_by, HasRoomFor};
 
 use crate::happened::Happened;
 use crate::parts::Parts;
@@ -32,7 +33,7 @@ impl Parts {
 
     // An input without effect here.
     fn pass_over(&mut self)
-        ensures { (life : Life) → self.old ≡ parts_of life → self.new ≡ parts_of (grown_so_far life nothing no_groups) }
+        ensures { (life : Life) → self.old ≡ columns_of life → self.new ≡ columns_of (grown_so_far life nothing no_groups) }
     {
         self.begin();
     }
@@ -40,12 +41,12 @@ impl Parts {
     // A movement: announced groups are missed that the train has passed. A movement that leads too far isn't added.
     // Answers whether the group being read is left by it, and so has to end.
     fn go(&mut self, reading: &Reading) -> bool
-        ensures moved { (life : Life) → self.old ≡ parts_of life → self.new ≡ still_reading life reading.now }
-        ensures none { (life : Life) → self.old ≡ parts_of life → result ≡ false → left_by life.entries reading.now ≡ None }
+        ensures moved { (life : Life) → self.old ≡ columns_of life → self.new ≡ still_reading life reading.now }
+        ensures none { (life : Life) → self.old ≡ columns_of life → result ≡ false → left_by life.entries reading.now ≡ None }
         ensures idle { is_none self.old.groups.current ≡ true → result ≡ false }
         ensures groups { self.new.groups ≡ self.old.groups }
-        ensures stands { (life : Life) → self.old ≡ parts_of life → result ≡ false
-            → self.new ≡ parts_of (grown_so_far life (moved life.entries reading.now) (after_moving life.entries reading.now)) }
+        ensures stands { (life : Life) → self.old ≡ columns_of life → result ≡ false
+            → self.new ≡ columns_of (grown_so_far life (moved life.entries reading.now) (after_moving life.entries reading.now)) }
     {
         self.begin();
         self.speed = reading.speed;
@@ -59,7 +60,7 @@ impl Parts {
     fn leave(&mut self) -> Option<Closed>
         ensures answer { (life : Life) (reading : Told) → self.old ≡ still_reading life reading → result ≡ left_by life.entries reading }
         ensures stands { (life : Life) (reading : Told) → self.old ≡ still_reading life reading
-            → self.new ≡ parts_of (grown_so_far life (moved life.entries reading) (after_moving life.entries reading)) }
+            → self.new ≡ columns_of (grown_so_far life (moved life.entries reading) (after_moving life.entries reading)) }
         ensures packets { packets_of_closed result ≤ packets_in self.old.groups.readings }
     {
         self.groups.moved(self.place.sums().path())
@@ -67,10 +68,10 @@ impl Parts {
 
     // A telegram: the groups that it closes.
     fn hear(&mut self, telegram: Received) -> Taken
-        ensures answer { (life : Life) (bytes : List ℕ) → self.old ≡ parts_of life → telegram_in bytes ≡ Some telegram
+        ensures answer { (life : Life) (bytes : List ℕ) → self.old ≡ columns_of life → telegram_in bytes ≡ Some telegram
             → result ≡ closed_by (groups_of life.entries) (heard life.entries bytes).heard }
-        ensures stands { (life : Life) (bytes : List ℕ) → self.old ≡ parts_of life → telegram_in bytes ≡ Some telegram
-            → self.new ≡ parts_of (grown_so_far life (heard life.entries bytes) no_groups) }
+        ensures stands { (life : Life) (bytes : List ℕ) → self.old ≡ columns_of life → telegram_in bytes ≡ Some telegram
+            → self.new ≡ columns_of (grown_so_far life (heard life.entries bytes) no_groups) }
         ensures packets { packets_of_closed result.ended + packets_of_closed result.whole
             ≤ packets_in self.old.groups.readings + length telegram.packets.items }
     {
@@ -83,8 +84,8 @@ impl Parts {
 
     // The clock gives a moment.
     fn tick(&mut self, moment: Ms)
-        ensures { (life : Life) → self.old ≡ parts_of life
-            → self.new ≡ parts_of (grown_so_far life (record nothing { clock = Some moment }) no_groups) }
+        ensures { (life : Life) → self.old ≡ columns_of life
+            → self.new ≡ columns_of (grown_so_far life (record nothing { clock = Some moment }) no_groups) }
     {
         self.begin();
         self.moment = moment;
@@ -97,8 +98,8 @@ impl<G: ProfileStore<Permille> + Drop, S: ProfileStore<CategorySpeeds> + Drop> T
     fn move_on(&mut self, mode: Mode, reading: &Reading)
         requires { packets_in self.old.parts.groups.readings ≤ room_in G.room S.room self.old }
         ensures idle { packets_in self.old.parts.groups.readings ≡ 0 → SameTrack self.old self.new }
-        ensures stands { (life : Life) → StandsForLife G.profile S.profile self.old life
-            → StandsForLife G.profile S.profile self.new (grown_so_far life (moved life.entries reading.now)
+        ensures stands { (life : Life) → StandsForColumns G.profile S.profile self.old life
+            → StandsForColumns G.profile S.profile self.new (grown_so_far life (moved life.entries reading.now)
             (with_groups mode life.entries (moved life.entries reading.now) (happened_by life.entries reading.now))) }
     {
         if self.parts.go(reading) {
@@ -111,8 +112,8 @@ impl<G: ProfileStore<Permille> + Drop, S: ProfileStore<CategorySpeeds> + Drop> T
     fn move_by(&mut self, mode: Mode, reading: &Reading) -> Result<(), NoMemory>
         ensures quiet { HasRoomFor G.room S.room self.old (inputs.Odometer reading.now) → IsOk result }
         ensures idle { packets_by self.old.parts (inputs.Odometer reading.now) ≡ 0 → OnOk result (SameTrack self.old self.new) }
-        ensures stands { OnOk result ((life : Life) → StandsForLife G.profile S.profile self.old life
-            → StandsForLife G.profile S.profile self.new (grown_so_far life (moved life.entries reading.now)
+        ensures stands { OnOk result ((life : Life) → StandsForColumns G.profile S.profile self.old life
+            → StandsForColumns G.profile S.profile self.new (grown_so_far life (moved life.entries reading.now)
             (with_groups mode life.entries (moved life.entries reading.now) (happened_by life.entries reading.now)))) }
         ensures err { OnErr result (self.new ≡ self.old) }
     {
@@ -131,8 +132,8 @@ impl<G: ProfileStore<Permille> + Drop, S: ProfileStore<CategorySpeeds> + Drop> T
     fn take(&mut self, mode: Mode, telegram: Received)
         requires { packets_in self.old.parts.groups.readings + length telegram.packets.items ≤ room_in G.room S.room self.old }
         ensures idle { packets_in self.old.parts.groups.readings + length telegram.packets.items ≡ 0 → SameTrack self.old self.new }
-        ensures stands { (life : Life) (bytes : List ℕ) → StandsForLife G.profile S.profile self.old life → telegram_in bytes ≡ Some telegram
-            → StandsForLife G.profile S.profile self.new (grown_so_far life (heard life.entries bytes)
+        ensures stands { (life : Life) (bytes : List ℕ) → StandsForColumns G.profile S.profile self.old life → telegram_in bytes ≡ Some telegram
+            → StandsForColumns G.profile S.profile self.new (grown_so_far life (heard life.entries bytes)
             (with_groups mode life.entries (heard life.entries bytes) nothing_happened)) }
     {
         let taken = self.parts.hear(telegram);
@@ -146,8 +147,8 @@ impl<G: ProfileStore<Permille> + Drop, S: ProfileStore<CategorySpeeds> + Drop> T
     fn read(&mut self, mode: Mode, telegram: Received) -> Result<(), NoMemory>
         ensures quiet { packets_in self.old.parts.groups.readings + length telegram.packets.items ≤ room_in G.room S.room self.old → IsOk result }
         ensures idle { packets_in self.old.parts.groups.readings + length telegram.packets.items ≡ 0 → OnOk result (SameTrack self.old self.new) }
-        ensures stands { OnOk result ((life : Life) (bytes : List ℕ) → StandsForLife G.profile S.profile self.old life → telegram_in bytes ≡ Some telegram
-            → StandsForLife G.profile S.profile self.new (grown_so_far life (heard life.entries bytes)
+        ensures stands { OnOk result ((life : Life) (bytes : List ℕ) → StandsForColumns G.profile S.profile self.old life → telegram_in bytes ≡ Some telegram
+            → StandsForColumns G.profile S.profile self.new (grown_so_far life (heard life.entries bytes)
             (with_groups mode life.entries (heard life.entries bytes) nothing_happened))) }
         ensures err { OnErr result (self.new ≡ self.old) }
     {
@@ -161,8 +162,8 @@ impl<G: ProfileStore<Permille> + Drop, S: ProfileStore<CategorySpeeds> + Drop> T
     fn listen(&mut self, mode: Mode, bytes: &[u8]) -> Result<(), NoMemory>
         ensures quiet { HasRoomFor G.room S.room self.old (inputs.Telegram bytes.now) → IsOk result }
         ensures idle { packets_by self.old.parts (inputs.Telegram bytes.now) ≡ 0 → OnOk result (SameTrack self.old self.new) }
-        ensures stands { OnOk result ((life : Life) → StandsForLife G.profile S.profile self.old life
-            → StandsForLife G.profile S.profile self.new (grown_so_far life (heard life.entries bytes.now)
+        ensures stands { OnOk result ((life : Life) → StandsForColumns G.profile S.profile self.old life
+            → StandsForColumns G.profile S.profile self.new (grown_so_far life (heard life.entries bytes.now)
             (with_groups mode life.entries (heard life.entries bytes.now) nothing_happened))) }
         ensures err { OnErr result (self.new ≡ self.old) }
     {

@@ -1,6 +1,7 @@
 //! Room for all that the groups of an event may add, so that behind it nothing can be refused.
 ghost use Rattle.std.specs.Prelude.{◌≡◌, ◌≤◌, IsOk, OnOk, OnErr};
-ghost use Rattle.track_picture.specs.StandsFor.{Life, StandsForLife, room_in};
+ghost use Rattle.track_picture.specs.StandsFor.{Life, room_in};
+ghost use Rattle.track_picture.specs.Columns.{StandsForColumns};
 
 use crate::state::TracksideOver;
 use speed_profile::CategorySpeeds;
@@ -23,8 +24,8 @@ impl<G: ProfileStore<Permille> + Drop, S: ProfileStore<CategorySpeeds> + Drop> T
         ensures same { packets ≤ room_in G.room S.room self.old → self.new ≡ self.old }
         ensures room { OnOk result (packets ≤ room_in G.room S.room self.new) }
         ensures parts { OnOk result (self.new.parts ≡ self.old.parts) }
-        ensures stands { OnOk result ((life : Life) → StandsForLife G.profile S.profile self.old life
-            → StandsForLife G.profile S.profile self.new life) }
+        ensures stands { OnOk result ((life : Life) → StandsForColumns G.profile S.profile self.old life
+            → StandsForColumns G.profile S.profile self.new life) }
         ensures err { OnErr result (self.new ≡ self.old) }
     {
         if packets <= self.room() {

@@ -4,11 +4,12 @@
 ghost use Rattle.std.specs.Prelude.{◌≡◌, ◌+◌, ◌≤◌, ◌||◌, ℕ, length, if◌then◌else◌};
 ghost use Rattle.std.specs.List.{list_any};
 ghost use Rattle.track_picture.specs.Entry.{Fact};
-ghost use Rattle.track_picture.specs.History.{after_facts};
+ghost use Rattle.track_picture.specs.Columns.{after_facts};
 ghost use Rattle.track_picture.specs.Sentences.{is_valid, valid_in, is_used};
 ghost use Rattle.track_picture.specs.StandsFor.{room_in};
 ghost use Rattle.track_picture.specs.Steps.{fact_of, facts};
-ghost use Rattle.track_picture.specs.Told.{TrackTold, IsTold as IsAllTold, known_of, comes_later, after_earlier, after_later};
+ghost use Rattle.track_picture.specs.Told.{TrackTold, IsTold as IsAllTold, known_of, after_earlier, after_later};
+ghost use Rattle.track_picture.specs.Happenings.{comes_later};
 
 mod gradients;
 mod grants;

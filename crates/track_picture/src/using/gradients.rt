@@ -2,7 +2,7 @@
 ghost use Rattle.std.specs.Prelude.{◌≡◌, ℤ, ◌≤◌, ◌+◌};
 ghost use Rattle.track_store.specs.Facts.{MarkedFacts, profile_of};
 ghost use Rattle.track_store.specs.Profiles.{profile_with};
-ghost use Rattle.track_picture.specs.History.{after_gradients};
+ghost use Rattle.track_picture.specs.Columns.{after_gradients};
 ghost use Rattle.track_picture.specs.Steps.{fact_of};
 
 use crate::using::Use;

@@ -3,7 +3,7 @@ ghost use Rattle.std.specs.Prelude.{◌≡◌, List};
 ghost use Rattle.authority.specs.Entries.{AuthorityEntry};
 ghost use Rattle.authority.specs.Known.{known};
 ghost use Rattle.track_picture.specs.Entry.{Fact};
-ghost use Rattle.track_picture.specs.History.{after_authority, after_stop};
+ghost use Rattle.track_picture.specs.Columns.{after_authority, after_stop};
 ghost use Rattle.track_picture.specs.Steps.{fact_of};
 
 use crate::using::Use;

@@ -1,7 +1,7 @@
 //! Announced levels (packet 41).
 ghost use Rattle.std.specs.Prelude.{◌≡◌, List};
 ghost use Rattle.areas.specs.Levels.{LevelEntry, waiting};
-ghost use Rattle.track_picture.specs.History.{after_level};
+ghost use Rattle.track_picture.specs.Columns.{after_level};
 ghost use Rattle.track_picture.specs.Steps.{fact_of};
 
 use crate::using::Use;

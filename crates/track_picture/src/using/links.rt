@@ -4,7 +4,7 @@ ghost use Rattle.std.specs.Int.RustNames.{unsigned_abs};
 ghost use Rattle.units.specs.Limits.{reach, HasReach};
 ghost use Rattle.linking.specs.Linking.{LinkEntry, known};
 ghost use Rattle.track_picture.specs.Announcing.{announced, announcements_of};
-ghost use Rattle.track_picture.specs.History.{after_links};
+ghost use Rattle.track_picture.specs.Columns.{after_links};
 ghost use Rattle.track_picture.specs.Steps.{fact_of};
 
 use crate::using::Use;

@@ -3,7 +3,7 @@ ghost use Rattle.std.specs.Prelude.{◌≡◌, List};
 ghost use Rattle.areas.specs.Areas.{stored};
 ghost use Rattle.areas.specs.Entries.{AreaEntry};
 ghost use Rattle.track_picture.specs.Entry.{Fact};
-ghost use Rattle.track_picture.specs.History.{after_grant, after_areas};
+ghost use Rattle.track_picture.specs.Columns.{after_grant, after_areas};
 ghost use Rattle.track_picture.specs.Steps.{fact_of};
 
 use crate::using::Use;

@@ -1,7 +1,8 @@
 //! Temporary speed restrictions (packet 65).
 ghost use Rattle.std.specs.Prelude.{◌≡◌, ◌≤◌, ◌+◌, List};
 ghost use Rattle.track_store.specs.Restrictions.{RestrictionEntry, in_force};
-ghost use Rattle.track_picture.specs.History.{restriction_of, after_restriction};
+ghost use Rattle.track_picture.specs.Live.{restriction_of};
+ghost use Rattle.track_picture.specs.Columns.{after_restriction};
 ghost use Rattle.track_picture.specs.Steps.{fact_of};
 
 use crate::using::Use;

@@ -1,7 +1,7 @@
 //! Revocations of temporary speed restrictions (packet 66).
 ghost use Rattle.std.specs.Prelude.{◌≡◌, List};
 ghost use Rattle.track_store.specs.Restrictions.{RestrictionEntry, in_force};
-ghost use Rattle.track_picture.specs.History.{after_revocation};
+ghost use Rattle.track_picture.specs.Columns.{after_revocation};
 ghost use Rattle.track_picture.specs.Steps.{fact_of};
 
 use crate::using::Use;

@@ -3,7 +3,7 @@ ghost use Rattle.std.specs.Prelude.{◌≡◌, ◌≤◌, ◌+◌};
 ghost use Rattle.speed_profile.specs.declared.told.CategorySpeeds.{CategorySpeeds};
 ghost use Rattle.track_store.specs.Facts.{MarkedFacts, profile_of};
 ghost use Rattle.track_store.specs.Profiles.{profile_with};
-ghost use Rattle.track_picture.specs.History.{after_speeds};
+ghost use Rattle.track_picture.specs.Columns.{after_speeds};
 ghost use Rattle.track_picture.specs.Steps.{fact_of};
 
 use crate::using::Use;

@@ -2,7 +2,7 @@
 ghost use Rattle.std.specs.Prelude.{◌≡◌, List};
 ghost use Rattle.national.specs.InForce.{NationalEntry, known};
 ghost use Rattle.national.specs.Values.{ValuesFor};
-ghost use Rattle.track_picture.specs.History.{after_values};
+ghost use Rattle.track_picture.specs.Columns.{after_values};
 ghost use Rattle.track_picture.specs.Steps.{fact_of};
 
 use crate::using::Use;

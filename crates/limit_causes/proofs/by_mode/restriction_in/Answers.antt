@@ -1,8 +1,8 @@
 use Rattle.std.proofs.Common.{◌≡◌, ℕ, ap, subst, ◌∙◌}
 use Rattle.std.specs.Prelude.{MatchOption}
 use Rattle.units.specs.Stretches.{Span}
-use Rattle.track_store.specs.Restrictions.{InForce, Held, in_force, least_speed}
-use Rattle.track_picture.specs.History.{restrictions}
+use Rattle.track_store.specs.Restrictions.{InForce, Held, least_speed}
+use Rattle.track_picture.specs.History.{restrictions_of}
 use Rattle.mode_control.specs.History.{tracks}
 use Rattle.mode_control.specs.Sentences.{standing_in}
 use Rattle.limit_causes.specs.Over.{IsRestrictionOver}
@@ -12,7 +12,7 @@ pub returns : goal.returns
 returns g c life s =
     let limit = c.args.limit in
     let stretch : c.standing-stretch.result ≡ standing_in life = c.standing-stretch.ensures life s in
-    let held : c.restrictions.result.now.track ≡ in_force (restrictions (tracks life.entries)) =
+    let held : c.restrictions.result.now.track ≡ restrictions_of (tracks life.entries) =
     ap (λ (h : Held). h.track) (c.restrictions.ensures ∙ ap (λ (k : _). k.restrictions) c.track.ensures) ∙ s.track_is.restrictions_are in
     let P : InForce → Span → Type 0 = λ track train.
     MatchOption c.restriction_over.result ((speed : ℕ) → least_speed track train speed ≡ limit → speed ≡ limit)

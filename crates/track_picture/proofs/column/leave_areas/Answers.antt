@@ -1,6 +1,6 @@
 use Rattle.std.proofs.Common.{Bool, cond, ap, sym, ◌∙◌}
 use Rattle.areas.specs.Areas.{stored}
-use Rattle.track_picture.specs.History.{areas_deleted}
+use Rattle.track_picture.specs.Columns.{areas_deleted}
 use Rattle.track_picture.proofs.column.leave_areas.Goals as goal
 
 pub returns-then-is_deleted : goal.returns-then-is_deleted

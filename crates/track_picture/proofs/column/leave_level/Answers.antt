@@ -1,6 +1,6 @@
 use Rattle.std.proofs.Common.{Bool, cond, ap, sym, ◌∙◌}
 use Rattle.areas.specs.Levels.{waiting}
-use Rattle.track_picture.specs.History.{level_deleted}
+use Rattle.track_picture.specs.Columns.{level_deleted}
 use Rattle.track_picture.proofs.column.leave_level.Goals as goal
 
 pub returns-then-is_deleted : goal.returns-then-is_deleted

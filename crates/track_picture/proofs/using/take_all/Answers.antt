@@ -2,9 +2,9 @@ use Rattle.std.proofs.Common.{◌≡◌, ℕ, ◌+◌, Bool, true, false, List, 
 use Rattle.std.specs.Prelude.{◌||◌}
 use Rattle.std.specs.List.{list_any}
 use Rattle.packets.specs.declared.packet.Packet.{Packet}
-use Rattle.track_picture.specs.History.{after_facts}
+use Rattle.track_picture.specs.Columns.{after_facts}
 use Rattle.track_picture.specs.Steps.{facts}
-use Rattle.track_picture.specs.Told.{comes_later}
+use Rattle.track_picture.specs.Happenings.{comes_later}
 use Rattle.track_picture.proofs.Walking.{one_packet}
 use Rattle.track_picture.proofs.using.take_all.Goals as goal
 

@@ -1,9 +1,9 @@
 use Rattle.std.proofs.Common.{◌≡◌, ℕ, ◌≤◌, length}
 use Rattle.std.specs.Prelude.{◌||◌}
 use Rattle.std.specs.List.{list_any}
-use Rattle.track_picture.specs.History.{after_facts}
+use Rattle.track_picture.specs.Columns.{after_facts}
 use Rattle.track_picture.specs.Steps.{facts}
-use Rattle.track_picture.specs.Told.{comes_later}
+use Rattle.track_picture.specs.Happenings.{comes_later}
 use Rattle.track_picture.proofs.using.take_all.Given as goal
 
 -- what the packets still to come make of what was told now is what all of them make of what was told before; the room

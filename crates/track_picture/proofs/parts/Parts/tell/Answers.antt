@@ -1,5 +1,5 @@
 use Rattle.std.proofs.Common.{refl, ap, ◌∙◌}
-use Rattle.track_picture.specs.History.{after_stop}
+use Rattle.track_picture.specs.Columns.{after_stop}
 use Rattle.track_picture.specs.Steps.{fact_of}
 use Rattle.track_picture.specs.StandsFor.{KnownTrack}
 use Rattle.track_picture.proofs.parts.Parts.tell.Goals as goal

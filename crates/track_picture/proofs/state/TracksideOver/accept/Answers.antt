@@ -5,9 +5,11 @@ use Rattle.track_picture.specs.Entry.Outcome.{Accepted}
 use Rattle.track_picture.specs.History.{place_of}
 use Rattle.track_picture.specs.Sentences.{own_place, fix_of, place_by}
 use Rattle.track_picture.specs.Steps.{facts}
-use Rattle.track_picture.specs.StandsFor.{KnownTrack, StandsForLife, grown, grown_so_far}
+use Rattle.track_picture.specs.StandsFor.{KnownTrack, grown, grown_so_far}
+use Rattle.track_picture.specs.Columns.{StandsForColumns}
 use Rattle.track_picture.proofs.Idling.{same_seen}
-use Rattle.track_picture.proofs.Standing.{seen}
+use Rattle.track_picture.proofs.SameParts.{by_facts}
+use Rattle.track_picture.proofs.Standing.{seen_columns as seen}
 use Rattle.track_picture.proofs.state.TracksideOver.accept.Goals as goal
 
 pub returns-clause-idle : goal.returns-clause-idle
@@ -22,13 +24,13 @@ returns-clause-stands g c life begun used s =
     let entry : TrackEntry = record blank { begun = begun; used = added (Accepted m a None []) used } in
     let here = place_of (entry ∷ life.entries) in
     let inside = seen c.self.view_is s in
-    let free = c.is_free-free.ensures (grown life entry) s in
+    let free = c.is_free-free.ensures (grown life entry) (by_facts (grown life entry) s) in
     let fix = ap (λ b. fix_of here b m a) free in
     let place = c.fix-place.ensures.answer life begun used inside.parts_are ∙ ap (λ b. place_by (own_place here m) (fix_of here b m a)) free in
     let fixed = c.fix-place.ensures.stands life begun used inside.parts_are in
     let moment = ap (λ (k : KnownTrack). k.moment) (ap (λ w. w.parts) c.self-inside.view_is ∙ fixed) in
     let direction = c.direction_by.ensures in
-    subst (λ (o : Option Fix × List Fact). StandsForLife g.G.ProfileStore.profile g.S.ProfileStore.profile c.take_packets.new.self (grown_so_far life begun (added (Accepted m a o.0 o.1) used)))
+    subst (λ (o : Option Fix × List Fact). StandsForColumns g.G.ProfileStore.profile g.S.ProfileStore.profile c.take_packets.new.self (grown_so_far life begun (added (Accepted m a o.0 o.1) used)))
     (λ i. (fix i, facts (record { mode = c.args.mode; group = m.group; place = place i; moment = moment i; direction = direction i }) m.packets))
     (c.take_packets.ensures.stands life begun used m a (fix_of here c.is_free-free.result m a)
     (record { parts_are = fixed; restrictions_are = inside.restrictions_are; gradients_are = inside.gradients_are; speeds_are = inside.speeds_are }))

@@ -1,20 +1,27 @@
-use Rattle.std.proofs.Common.{◌∷◌, subst}
+use Rattle.std.proofs.Common.{◌≡◌, ◌∷◌, ap, sym, subst, ◌∙◌}
+use Rattle.linking.specs.declared.judgement.Judgement.{Judgement}
 use Rattle.linking.specs.declared.judgement.Verdict.{Verdict}
+use Rattle.linking.specs.Judging.{judgement}
 use Rattle.track_picture.specs.Entry.{blank, added, asking_for}
-use Rattle.track_picture.specs.Sentences.{judged, outcome_at_first, outcome}
-use Rattle.track_picture.specs.StandsFor.{StandsForLife, grown, grown_so_far}
+use Rattle.track_picture.specs.Sentences.{group_read, judged, outcome_at_first, outcome}
+use Rattle.track_picture.specs.StandsFor.{KnownTrack, grown, grown_so_far}
+use Rattle.track_picture.specs.Columns.{StandsForColumns, columns_of}
 use Rattle.track_picture.proofs.Judging.{judged_only}
-use Rattle.track_picture.proofs.Standing.{seen}
+use Rattle.track_picture.proofs.SameParts.{same_parts}
+use Rattle.track_picture.proofs.Standing.{seen_columns as seen}
 use Rattle.track_picture.proofs.state.TracksideOver.close_whole.Goals as goal
 
 pub returns-clause-stands : goal.returns-clause-stands
 returns-clause-stands g c life begun used s =
     let m = c.args.message.now in
     let inside = seen c.self.view_is s in
+    let found = judgement c.self.inside.parts.links (group_read c.self.inside.parts.place m) in
     let j = judged (record blank { begun = begun; used = used } ∷ life.entries) m in
+    let same : found ≡ j = ap (λ (k : KnownTrack). judgement k.links (group_read k.place m)) (inside.parts_are ∙ sym (same_parts (grown_so_far life begun used))) in
     let asking = asking_for j.effect used in
-    let verdict = c.judge-verdict.ensures.answer life begun used inside.parts_are in
-    let parts = c.judge-verdict.ensures.stands life begun used inside.parts_are in
-    subst (λ (v : Verdict). StandsForLife g.G.ProfileStore.profile g.S.ProfileStore.profile (record { parts = c.judge-verdict.new.self; restrictions = c.self.inside.restrictions; gradients = c.self.inside.gradients; speeds = c.self.inside.speeds }) (grown life (record blank { begun = begun; used = added (outcome_at_first m v) asking }))
-    → StandsForLife g.G.ProfileStore.profile g.S.ProfileStore.profile c.follow.new.self (grown_so_far life begun (added (outcome c.args.mode (record blank { begun = begun; used = added (outcome_at_first m v) asking } ∷ life.entries) m v) asking)))
+    let verdict = c.judge-verdict.ensures.answer ∙ ap (λ (x : Judgement). x.verdict) same in
+    let parts = subst (λ (x : Judgement). c.judge-verdict.new.self ≡ columns_of (grown_so_far life begun (added (outcome_at_first m x.verdict) (asking_for x.effect used))))
+    same (c.judge-verdict.ensures.stands life begun used inside.parts_are) in
+    subst (λ (v : Verdict). StandsForColumns g.G.ProfileStore.profile g.S.ProfileStore.profile (record { parts = c.judge-verdict.new.self; restrictions = c.self.inside.restrictions; gradients = c.self.inside.gradients; speeds = c.self.inside.speeds }) (grown life (record blank { begun = begun; used = added (outcome_at_first m v) asking }))
+    → StandsForColumns g.G.ProfileStore.profile g.S.ProfileStore.profile c.follow.new.self (grown_so_far life begun (added (outcome c.args.mode (record blank { begun = begun; used = added (outcome_at_first m v) asking } ∷ life.entries) m v) asking)))
     verdict (c.follow.ensures.stands life begun asking) (judged_only life begun used j.effect m j.verdict parts inside)

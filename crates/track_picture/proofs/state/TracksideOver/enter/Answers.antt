@@ -1,6 +1,8 @@
-use Rattle.std.proofs.Common.{◌∷◌, None}
+use Rattle.std.proofs.Common.{◌∷◌, None, Some}
 use Rattle.track_picture.specs.Entry.{TrackEntry}
-use Rattle.track_picture.specs.History.{mark_of, gradients, speeds}
+use Rattle.track_picture.specs.Columns.{mark_of, gradients, speeds}
+use Rattle.track_picture.specs.StandsFor.{grown}
+use Rattle.track_picture.proofs.SameParts.{by_columns, by_facts}
 use Rattle.track_picture.proofs.Standing.{seen}
 use Rattle.track_picture.proofs.state.TracksideOver.enter.Goals as goal
 
@@ -8,10 +10,11 @@ pub returns-clause-stands : goal.returns-clause-stands
 returns-clause-stands g c life event s =
     let entry : TrackEntry = record event { entered = None } in
     let all = entry ∷ life.entries in
-    let before = seen c.self.view_is s in
-    record {
+    let before = by_columns (grown life entry) (seen c.self.view_is s) in
+    by_facts (grown life (record event { entered = Some c.args.mode }))
+    (record {
       parts_are = c.enter.ensures life event before.parts_are;
       restrictions_are = before.restrictions_are;
       gradients_are = c.leave_profile.ensures.profile (record { mark = mark_of all; facts = gradients all }) before.gradients_are;
       speeds_are = c.leave_profile-2.ensures.profile (record { mark = mark_of all; facts = speeds all }) before.speeds_are;
-    }
+    })

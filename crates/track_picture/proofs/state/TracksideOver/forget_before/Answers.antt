@@ -2,8 +2,8 @@ use Rattle.std.proofs.Common.{◌∷◌, None, sym, ◌∙◌}
 use Rattle.track_store.specs.Profiles.{profile_with}
 use Rattle.track_store.proofs.Telling.{marked_at}
 use Rattle.track_picture.specs.Entry.{TrackEntry}
-use Rattle.track_picture.specs.History.{mark_of, restrictions, gradients, speeds}
-use Rattle.track_picture.proofs.Standing.{seen}
+use Rattle.track_picture.specs.Columns.{mark_of, restrictions, gradients, speeds}
+use Rattle.track_picture.proofs.Standing.{seen_columns as seen}
 use Rattle.track_picture.proofs.state.TracksideOver.forget_before.Goals as goal
 
 pub returns-clause-stands : goal.returns-clause-stands

@@ -7,9 +7,10 @@ use Rattle.balise_groups.specs.Rooms.{packets_in}
 use Rattle.track_picture.specs.Entry.{Begun, nothing_happened, nothing}
 use Rattle.track_picture.specs.History.{place_of}
 use Rattle.track_picture.specs.Sentences.{with_groups}
-use Rattle.track_picture.specs.StandsFor.{Life, StandsForLife, grown_so_far, room_in}
+use Rattle.track_picture.specs.StandsFor.{Life, grown_so_far, room_in}
+use Rattle.track_picture.specs.Columns.{StandsForColumns}
 use Rattle.track_picture.proofs.Carrying.{carried_in, refused_none}
-use Rattle.track_picture.proofs.Standing.{seen}
+use Rattle.track_picture.proofs.Standing.{seen_columns as seen}
 use Rattle.track_picture.proofs.state.TracksideOver.listen.Goals as goal
 
 pub returns-in-Ok-clause-stands : goal.returns-in-Ok-clause-stands
@@ -39,6 +40,6 @@ returns-in-Err-clause-stands g c life s =
     let none = refused_none _ _ ((c.in-Err.ensures.fault _).0 refl) in
     let before = seen c.self.view_is s in
     subst
-    (λ (o : Option Telegram). StandsForLife g.G.ProfileStore.profile g.S.ProfileStore.profile (record { parts = c.pass_over.new.self; restrictions = c.self.inside.restrictions; gradients = c.self.inside.gradients; speeds = c.self.inside.speeds }) (grown_so_far life (with_telegram life o) (with_groups c.args.mode life.entries (with_telegram life o) nothing_happened)))
+    (λ (o : Option Telegram). StandsForColumns g.G.ProfileStore.profile g.S.ProfileStore.profile (record { parts = c.pass_over.new.self; restrictions = c.self.inside.restrictions; gradients = c.self.inside.gradients; speeds = c.self.inside.speeds }) (grown_so_far life (with_telegram life o) (with_groups c.args.mode life.entries (with_telegram life o) nothing_happened)))
     (sym none)
     (record { parts_are = c.pass_over.ensures life before.parts_are; restrictions_are = before.restrictions_are; gradients_are = before.gradients_are; speeds_are = before.speeds_are })

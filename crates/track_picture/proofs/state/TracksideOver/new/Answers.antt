@@ -2,16 +2,18 @@ use Rattle.std.proofs.Common.{[], ap, ◌∙◌}
 use Rattle.track_store.specs.Restrictions.{Held}
 use Rattle.track_store.specs.Profiles.{profile_with}
 use Rattle.track_store.proofs.Telling.{none_told}
-use Rattle.track_picture.specs.History.{mark_of}
+use Rattle.track_picture.specs.Columns.{mark_of}
+use Rattle.track_picture.proofs.SameParts.{by_facts}
 use Rattle.track_picture.proofs.state.TracksideOver.new.Goals as goal
 
 pub returns-clause-stands : goal.returns-clause-stands
 returns-clause-stands g c =
-    record {
+    by_facts (record { kept = c.args.kept; entries = [] })
+    (record {
       parts_are = c.new.ensures;
       restrictions_are = ap (λ (h : Held). h.track) c.new-2.ensures;
       gradients_are = g.met.G.ProfileStore.profile_is _
           ∙ none_told (profile_with g.G.Profile.value c.empty.result) (mark_of []) c.empty.ensures.value;
       speeds_are = g.met.S.ProfileStore.profile_is _
           ∙ none_told (profile_with g.S.Profile.value c.empty-2.result) (mark_of []) c.empty-2.ensures.value;
-    }
+    })

@@ -7,10 +7,11 @@ use Rattle.speed_profile.specs.declared.told.CategorySpeeds.{CategorySpeeds}
 use Rattle.track_store.specs.Profiles.{Profile}
 use Rattle.track_picture.specs.Entry.{TrackEntry, Begun, Used, Fact, blank, added}
 use Rattle.track_picture.specs.Entry.Outcome.{Accepted}
-use Rattle.track_picture.specs.History.{after_facts, links, national_entries, authorities, is_stopped, all_areas, announced_levels, restrictions, mark_of, gradients, speeds}
+use Rattle.track_picture.specs.Columns.{after_facts, links, national_entries, authorities, is_stopped, all_areas, announced_levels, restrictions, mark_of, gradients, speeds, StandsForColumns, columns_of}
 use Rattle.track_picture.specs.Steps.{facts}
-use Rattle.track_picture.specs.StandsFor.{Life, Knowledge, StandsForLife, parts_of, grown, grown_so_far, room_in}
-use Rattle.track_picture.specs.Told.{TrackTold, IsTold, comes_later, after_earlier, after_later}
+use Rattle.track_picture.specs.StandsFor.{Life, Knowledge, grown, grown_so_far, room_in}
+use Rattle.track_picture.specs.Told.{TrackTold, IsTold, after_earlier, after_later}
+use Rattle.track_picture.specs.Happenings.{comes_later}
 use Rattle.track_picture.proofs.Marking.{one_mark}
 use Rattle.track_picture.proofs.Telling.{each_later, all_earlier, all_later}
 use Rattle.track_picture.proofs.Walking.{none_later}
@@ -21,7 +22,7 @@ abbrev before : Life → TrackEntry → TrackTold
 before life entry =
     let all = entry ∷ life.entries in
     record {
-      others = parts_of (grown life entry);
+      others = columns_of (grown life entry);
       kept = life.kept;
       values = national_entries all;
       links = links all;
@@ -36,7 +37,7 @@ before life entry =
     }
 
 module _ {G S : Type 0} (gradients_in : G → Profile ℤ) (speeds_in : S → Profile CategorySpeeds) (known : Knowledge G S) (life : Life) where
-  stood : (entry : TrackEntry) → StandsForLife gradients_in speeds_in known (grown life entry) → IsTold gradients_in speeds_in known (before life entry)
+  stood : (entry : TrackEntry) → StandsForColumns gradients_in speeds_in known (grown life entry) → IsTold gradients_in speeds_in known (before life entry)
   stood entry s = record {
     parts_are = s.parts_are;
     restrictions_are = s.restrictions_are;
@@ -48,7 +49,7 @@ module _ {G S : Type 0} (gradients_in : G → Profile ℤ) (speeds_in : S → Pr
   -- behind both walks
   stands : (told : List Fact) (begun : Begun) (groups : Used) (message : Message) (announced : Option Announcement) (fix : Option Fix) →
       IsTold gradients_in speeds_in known (after_facts after_later told (after_facts after_earlier told (before life (record blank { begun = begun; used = added (Accepted message announced fix []) groups })))) →
-      StandsForLife gradients_in speeds_in known (grown_so_far life begun (added (Accepted message announced fix told) groups))
+      StandsForColumns gradients_in speeds_in known (grown_so_far life begun (added (Accepted message announced fix told) groups))
   stands told begun groups message announced fix t =
       let was = before life (record blank { begun = begun; used = added (Accepted message announced fix []) groups }) in
       let is = all_later told _ ∙ ap (each_later told) (all_earlier told was) in

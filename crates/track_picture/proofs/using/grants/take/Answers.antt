@@ -1,7 +1,7 @@
 use Rattle.std.proofs.Common.{ap, sym, ◌∙◌}
 use Rattle.packets.specs.declared.packet.Packet.{Packet}
 use Rattle.authority.specs.Known.{known}
-use Rattle.track_picture.specs.History.{after_authority}
+use Rattle.track_picture.specs.Columns.{after_authority}
 use Rattle.track_picture.specs.Steps.{fact_of}
 use Rattle.track_picture.proofs.using.grants.take.Goals as goal
 

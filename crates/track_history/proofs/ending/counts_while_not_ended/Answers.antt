@@ -1,5 +1,0 @@
-use Rattle.track_history.proofs.Counted.{counts_while_not_ended}
-use Rattle.track_history.proofs.ending.counts_while_not_ended.Goals as goal
-
-pub returns : goal.returns
-returns c = counts_while_not_ended

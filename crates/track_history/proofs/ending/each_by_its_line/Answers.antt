@@ -1,5 +1,0 @@
-use Rattle.track_history.proofs.ByLine.{each_by_its_line}
-use Rattle.track_history.proofs.ending.each_by_its_line.Goals as goal
-
-pub returns : goal.returns
-returns c = each_by_its_line

@@ -1,5 +1,0 @@
-use Rattle.track_history.proofs.ByLine.{modes_delete_by_the_table}
-use Rattle.track_history.proofs.ending.modes_delete_by_the_table.Goals as goal
-
-pub returns : goal.returns
-returns c = modes_delete_by_the_table

@@ -1,5 +1,0 @@
-use Rattle.track_history.proofs.ByLine.{none_at_power_up}
-use Rattle.track_history.proofs.ending.none_at_power_up.Goals as goal
-
-pub returns : goal.returns
-returns c = none_at_power_up

@@ -1,0 +1,55 @@
+use Rattle.std.proofs.Common.{◌∷◌, ap, sym, ◌∙◌}
+use Rattle.linking.specs.declared.judgement.Judgement.{Judgement}
+use Rattle.linking.specs.declared.judgement.Verdict.{Verdict}
+use Rattle.linking.specs.Judging.{judgement, after_verdict}
+use Rattle.linking.specs.Linking.{known as known_links}
+use Rattle.national.specs.InForce as national
+use Rattle.odometry.specs.declared.earlier.EarlierPlace.{EarlierPlace}
+use Rattle.track_picture.specs.Entry.{TrackEntry, blank, added, asking, asking_for}
+use Rattle.track_picture.specs.Sentences.{group_read, outcome_at_first}
+use Rattle.track_picture.specs.StandsFor.{KnownTrack, grown_so_far}
+use Rattle.track_picture.specs.Columns.{columns_of, links, national_entries}
+use Rattle.track_picture.proofs.Judging.{entered_by, not_entered, is_judged}
+use Rattle.track_picture.proofs.parts.Parts.judge.Goals as goal
+
+pub returns-in-Accept-clause-stands : goal.returns-in-Accept-clause-stands
+returns-in-Accept-clause-stands c life begun used s =
+    let m = c.args.message.now in
+    let parts = c.self.view_is ∙ s in
+    let entry : TrackEntry = record blank { begun = begun; used = used } in
+    let all = entry ∷ life.entries in
+    let it = c.judge-judgement.result in
+    let found = c.judge-judgement.ensures.answer
+    ∙ ap (λ (p : EarlierPlace). judgement c.self.inside.links (record { group = m.group; linked = m.linked; direction = m.direction; place = p })) c.place_at-place.ensures
+    ∙ ap (λ (k : KnownTrack). judgement k.links (group_read k.place m)) c.self.view_is in
+    let left = c.judge-judgement.ensures.stands (links all) (ap (λ (k : KnownTrack). k.links) parts)
+    ∙ ap (λ (x : Judgement). known_links (after_verdict x.verdict (links all))) (sym c.judge-judgement.ensures.answer) in
+    let values = c.enter.ensures.stands life.kept (national_entries all) (ap (λ (k : KnownTrack). k.national) parts)
+    ∙ ap (λ (v : Verdict). national.known life.kept (entered_by v m (national_entries all))) (sym c.in-Accept.is) in
+    let happened = c.asking-self-inside.ensures ∙ ap (λ (k : KnownTrack). asking k.happened it.effect) parts in
+    (λ i. record (parts i) { links = left i; national = values i; happened = happened i })
+    ∙ is_judged life begun used it.effect m it.verdict
+    ∙ ap (λ (x : Judgement). columns_of (grown_so_far life begun (added (outcome_at_first m x.verdict) (asking_for x.effect used)))) found
+
+pub returns-in_default : goal.returns-in_default
+returns-in_default c =
+    let m = c.args.message.now in
+    let it = c.judge-judgement.result in
+    let found = c.judge-judgement.ensures.answer
+    ∙ ap (λ (p : EarlierPlace). judgement c.self.inside.links (record { group = m.group; linked = m.linked; direction = m.direction; place = p })) c.place_at-place.ensures
+    ∙ ap (λ (k : KnownTrack). judgement k.links (group_read k.place m)) c.self.view_is in
+    record {
+      answer = ap (λ (x : Judgement). x.verdict) found;
+      stands = λ life begun used s. (
+          let parts = c.self.view_is ∙ s in
+          let entry : TrackEntry = record blank { begun = begun; used = used } in
+          let all = entry ∷ life.entries in
+          let left = c.judge-judgement.ensures.stands (links all) (ap (λ (k : KnownTrack). k.links) parts)
+          ∙ ap (λ (x : Judgement). known_links (after_verdict x.verdict (links all))) (sym c.judge-judgement.ensures.answer) in
+          let values = ap (λ (k : KnownTrack). k.national) parts
+          ∙ ap (national.known life.kept) (sym (not_entered it.verdict m (national_entries all) c.in_default.not-Accept)) in
+          let happened = c.asking-self-inside.ensures ∙ ap (λ (k : KnownTrack). asking k.happened it.effect) parts in
+          (λ i. record (parts i) { links = left i; national = values i; happened = happened i })
+          ∙ is_judged life begun used it.effect m it.verdict
+          ∙ ap (λ (x : Judgement). columns_of (grown_so_far life begun (added (outcome_at_first m x.verdict) (asking_for x.effect used)))) found);
+    }

@@ -4,6 +4,7 @@ use crate::examined::examined;
 use crate::help::HELP;
 use crate::linted::linted;
 use crate::listed::events_told;
+use crate::played::played;
 use crate::replayed::replayed;
 use crate::status::{Status, unwritten, usage};
 use crate::telegrams::{decode_told, schema_told, telegram_told};
@@ -84,6 +85,7 @@ pub(crate) fn lab_main<R: Files<File = File> + Input + AllocGlobal + Eprint, W: 
         Some(("lint", inner)) => {
             linted(rt, word(inner, "SCENARIO"), inner.get_flag("json"), out)
         }
+        Some(("run", inner)) => played(rt, word(inner, "SCENARIO"), out),
         _ if matches.get_flag("help") => helped(rt, out),
         _ => usage(rt),
     }

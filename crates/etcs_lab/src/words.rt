@@ -75,6 +75,12 @@ fn lint_words<'a>(alloc: Global) -> Result<Command<'a>, AllocError> {
         .arg(Arg::new(alloc, "SCENARIO").required(true))
 }
 
+fn run_words<'a>(alloc: Global) -> Result<Command<'a>, AllocError> {
+    Command::new(alloc, "run")
+        .disable_help_flag(true)
+        .arg(Arg::new(alloc, "SCENARIO").required(true))
+}
+
 // The words over an image.
 fn image_commands<'a>(alloc: Global, command: Command<'a>) -> Result<Command<'a>, AllocError> {
     command
@@ -96,7 +102,8 @@ fn command<'a>(alloc: Global) -> Result<Command<'a>, AllocError> {
     image_commands(alloc, command)?
         .subcommand(telegram_words(alloc)?)?
         .subcommand(decode_words(alloc)?)?
-        .subcommand(lint_words(alloc)?)
+        .subcommand(lint_words(alloc)?)?
+        .subcommand(run_words(alloc)?)
 }
 
 /// What the words behind the program's name ask for.

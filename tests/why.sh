@@ -1,13 +1,17 @@
 #!/bin/bash
-# Why each brake was commanded, on the program etcs_lab that the gate leaves behind, beside the causes that a plain program works out.
+# Why each brake was commanded, on the program etcs_lab that the gate leaves behind, beside the causes that a plain program works out: of images
+# (etcs_lab why), and of scenarios that are played (etcs_lab run), which etcs has to play alike.
 #
-#     tests/why.sh [PROGRAM..]    on another program, with its words
-lab=$(dirname "$0")/../crates/etcs_lab/out/etcs_lab
-if [ $# -eq 0 ]; then
-    lab=$(realpath "$lab") || exit 1
-    [ -x "$lab" ] || { echo "there is no program $lab: rt ci makes it"; exit 1; }
-    set -- "$lab" why
-fi
+#     tests/why.sh [ETCS_LAB ETCS]    on other programs
+lab=${1:-$(dirname "$0")/../crates/etcs_lab/out/etcs_lab}
+etcs=${2:-$(dirname "$0")/../crates/etcs/out/etcs}
+lab=$(realpath "$lab") && etcs=$(realpath "$etcs") || exit 1
 cd "$(dirname "$0")" || exit 1
 export PYTHONDONTWRITEBYTECODE=1
-exec python3 lab/why_rows.py "$@"
+for program in "$lab" "$etcs"; do
+    [ -x "$program" ] || { echo "there is no program $program: rt ci makes it"; exit 1; }
+done
+status=0
+python3 lab/why_rows.py "$lab" why || status=1
+python3 lab/run_rows.py "$lab" "$etcs" || status=1
+exit $status

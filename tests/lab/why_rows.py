@@ -16,11 +16,11 @@ HERE = Path(__file__).resolve().parent
 sys.path[:0] = [str(HERE), str(HERE.parents[1] / "tests/plain"), str(HERE.parents[1] / "tests/hostile")]
 from journal import COLD  # noqa: E402
 from limit_reasons import KINDS  # noqa: E402
-from limit_tracks import BY_HAND as LIMITS_BY_HAND, forces, inputs_of, tracks, unanswered, without  # noqa: E402
+from limit_tracks import BY_HAND as LIMITS_BY_HAND, FAST, LEVEL, TRAIN, authority, forces, heard, inputs_of, tracks, unanswered, without  # noqa: E402
 from onboard import Unit  # noqa: E402
 from random_lists import SUPERVISION, TRACK, Numbers, event  # noqa: E402
 from replay_rows import blocks_of, bytes_of, damaged, examples, formats, formatted, image_of, on, parts, random_lives  # noqa: E402
-from why import WORDS, told_of, walked  # noqa: E402
+from why import TRIPS, WORDS, told_of, walked  # noqa: E402
 
 LEAST = 400  # so many comparisons at least
 LEAST_LINES = 2_000  # so many lines with what decides a limit
@@ -46,6 +46,32 @@ BY_HAND = (
     ("moves in Stand By", ("move 5 1",), 1,
      "the train moves where it must stand (since event 1, ends when the train stands, or in another mode)"),
 )
+# Why Trip was entered, for each row that leads there: in the event that is asked for the mode is Trip. Where that is by the end of authority
+# the examples have it, below.
+SUPERVISED = (heard(authority(3_000), LEVEL, FAST), *SR)
+NATIONAL = ("3: D_VALIDNV 32767, N_ITER 0, V_NVSHUNT 6, V_NVSTFF 8, V_NVONSIGHT 6, V_NVUNFIT 20, V_NVREL 8, D_NVROLL 2, V_NVALLOWOVTRP 0, "
+            "V_NVSUPOVTRP 6, D_NVOVTRP 200, T_NVOVTRP 60, D_NVSTFF 40")
+TRIPS_BY_HAND = (
+    # Group 3 is announced 10 m ahead, to 5 m, with the reaction "trip". At 3,000 the minimum safe front is at 3,000 - 500 - 150.
+    ("a group is missed", (heard("5: D_LINK 10, Q_NEWCOUNTRY 0, NID_BG 3, Q_LINKORIENTATION 1, Q_LINKREACTION 0, Q_LOCACC 5, N_ITER 0",
+                                 authority(3_000), LEVEL, FAST), *SR, "move 3000 20000"), 6,
+     "; the train was tripped: linking or a balise group asked for it (event 6, 3.4.4, 3.16.2); no train may run in this mode: 0 m/h (4.4)\n"),
+    ("V_MAIN 0", (*SUPERVISED, heard(authority(3_000, main=0), group=3)), 6,
+     "; the train was tripped: an authority with V_MAIN 0 was used (event 6, 3.8); no train may run in this mode: 0 m/h (4.4)\n"),
+    # D_NVSTFF is 40 m: a path of 4,000 cm isn't above it, one of 4,001 cm is.
+    ("too far in Staff Responsible", (*SR, heard(NATIONAL, group=9), "move 4000 10000", "move 1 10000"), 7,
+     "; the train was tripped: the path in Staff Responsible was above D_NVSTFF (event 7, 4.4); no train may run in this mode: 0 m/h (4.4)\n"),
+    ("just as far in Staff Responsible", (*SR, heard(NATIONAL, group=9), "move 4000 10000", "move 1 10000"), 6,
+     "event 6: brake none, limit 40000 m/h, speed 10000 m/h, rolled backward 0 cm of 200 cm; the limit is the national value V_NVSTFF: "
+     "40000 m/h (3.11.7, 3.18.2)\n"),
+    ("level 1 in Unfitted", ("enter-identity A 1", "choose-level 0", TRAIN, "start",
+                             heard("41: D_LEVELTR 32767, M_LEVELTR 2, L_ACKLEVELTR 0, N_ITER 0")), 5,
+     "; the train was tripped: the level was 1, and the authority or the track ahead was not known (event 5, 5.10); no train may run in this "
+     "mode: 0 m/h (4.4)\n"),
+    # It stays told while the trip is owed.
+    ("the event behind a trip", (*SUPERVISED, heard(authority(3_000, main=0), group=3), "move 10 0"), 7,
+     "; the train was tripped: an authority with V_MAIN 0 was used (event 6, 3.8); no train may run in this mode: 0 m/h (4.4)\n"),
+)
 # .. and of the examples: in "trip" the minimum safe front is past the end of authority at event 10, which the driver acknowledges at event 13;
 # in "linking_fault" a group that was announced with the service brake is missed at event 11; in "on_sight" the acknowledgement that a
 # transition asked for at event 11 is owed for 5 s at event 12.
@@ -54,10 +80,13 @@ IN_EXAMPLES = (
      "than 10000 m/h, and the train has not stood since (since event 8, ends when the train stands)"),
     ("trip", 10, "; the mode is Trip (since event 10, ends when the driver acknowledges the trip at standstill); a trip is not acknowledged "
      "(since event 10, ends when the driver acknowledges the trip at standstill); the speed was above the limit by more than 10000 m/h, and the "
-     "train has not stood since (since event 8, ends when the train stands)"),
+     "train has not stood since (since event 8, ends when the train stands); the speed was above the limit by more than 5000 m/h, and not within "
+     "it since (since event 8, ends when the speed is within the limit); the train was tripped: the minimum safe front was past the end of "
+     "authority (event 10, 3.8); no train may run in this mode: 0 m/h (4.4)\n"),
     ("trip", 11, "rolled backward 0 cm of 200 cm; the mode is Trip (since event 10, ends when the driver acknowledges the trip at standstill); a "
-     "trip is not acknowledged (since event 10, ends when the driver acknowledges the trip at standstill); no train may run in this mode: 0 m/h "
-     "(4.4)\n"),
+     "trip is not acknowledged (since event 10, ends when the driver acknowledges the trip at standstill); the train was tripped: the minimum "
+     "safe front was past the end of authority (event 10, 3.8); no train may run in this mode: 0 m/h (4.4)\n"),
+    ("trip", 13, "event 13: brake none, limit 0 m/h, speed 0 m/h, rolled backward 0 cm of 200 cm; no train may run in this mode: 0 m/h (4.4)\n"),
     ("linking_fault", 11, "; linking or a balise group asked for the service brake, and the train has not stood since (since event 11, ends when "
      "the train stands); the limit is the static speed over the train: 120000 m/h at 42250 cm (3.11.3)\n"),
     ("on_sight", 12, "; an acknowledgement has been owed for 5000 ms or longer (since event 12, ends when the driver acknowledges, a mode "
@@ -66,7 +95,7 @@ IN_EXAMPLES = (
 
 
 def by_hand():
-    for name, inputs, asked, says in BY_HAND:
+    for name, inputs, asked, says in (*BY_HAND, *TRIPS_BY_HAND):
         yield name, image_of(64, blocks_of([("unknown", inputs)], 3)), asked, says
     for name, inputs, says in LIMITS_BY_HAND:
         yield name, image_of(64, blocks_of([("unknown", inputs)], 3)), len(inputs), says
@@ -119,6 +148,7 @@ class Tried:
         for name, data, asked, says in by_hand():
             self.met.update(word for word, sentence, _ in WORDS.values() if sentence in says)
             self.met.update(kind for kind, (sentence, _) in KINDS.items() if f"; {sentence}: " in says)
+            self.met.update(f"trip {why}" for why, (sentence, _) in TRIPS.items() if f"tripped: {sentence} (" in says)
             status, text = self.run(data, "@", str(asked))
             self.tried += 1
             if status or says not in text:
@@ -142,6 +172,7 @@ class Tried:
             self.lines += 1
             self.met.update(word for word, *_ in WORDS.values() if told[word] is not None)
             self.met[told["limit_cause"]] += 1
+            self.met[f"trip {told['trip_cause']}"] += 1
 
     def decided(self, inputs):
         """What decides the limit behind the last event of a life, or None where the program tells nothing."""
@@ -176,7 +207,7 @@ class Tried:
         print(f"why: {self.tried} comparisons, {self.lines} lines with what decides a limit, {self.differ} differ")
         print(f"tracks without what decides: limit greater {counted['greater']}, another of equal force {counted['of equal force']}, left out "
               f"{counted['of more than one thing']}")
-        for word in [*(word for word, *_ in WORDS.values()), *KINDS]:
+        for word in [*(word for word, *_ in WORDS.values()), *KINDS, *(f"trip {why}" for why in TRIPS)]:
             if not self.met[word] and word not in UNMET:
                 self.tell(f"no image has the cause {word}")
         if self.tried < LEAST or self.lines < LEAST_LINES or counted["greater"] < LEAST_RAISED:

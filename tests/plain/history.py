@@ -38,6 +38,7 @@ class Entry:
     seen: object = None
     row: int = None  # of the mode table
     entered: str = None  # the mode that it led to
+    tripped: list = None  # where that is Trip by rows 3 to 5: which of the conditions of a trip held
     acknowledgements: dict = None
     output: object = None
 
@@ -218,10 +219,17 @@ class History:
     def trips(self):
         """The least front is above the end while V_LOA is not in force, linking asks for it, or V_MAIN 0 was used; and no override
         is active."""
+        return not self.is_overridden() and bool(self.why_trips())
+
+    def why_trips(self):
+        """Which of these hold, but for the override."""
         end = self.end()
-        beyond = end is not None and end.speed == 0 and self.stretch().min_front > end.place
-        stopped = any(f.packet.kind == 12 and f.packet.speed == 0 and f.entry == len(self.entries) - 1 for f in self.facts)
-        return not self.is_overridden() and (beyond or self.now.trips() or stopped)
+        held = {
+            "end_passed": end is not None and end.speed == 0 and self.stretch().min_front > end.place,
+            "linking": self.now.trips(),
+            "stop": any(f.packet.kind == 12 and f.packet.speed == 0 and f.entry == len(self.entries) - 1 for f in self.facts),
+        }
+        return [name for name, holds in held.items() if holds]
 
     def is_full(self):
         """An authority is stored, its end is above the greatest front, and static speed and gradient are stored at each centimetre

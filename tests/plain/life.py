@@ -16,6 +16,7 @@ from place import FARTHEST_CM, POWER_UP, Sums
 
 REMEMBERED_CM = 100_000
 
+TRIPPED = (3, 4, 5)  # the rows that lead to Trip where the train is to be tripped
 KIND_OF_ROW = {7: "on-sight", 31: "on-sight", 32: "on-sight", 29: "shunting", 30: "shunting"}
 
 
@@ -83,6 +84,8 @@ class Life(History):
         row = row_of(self.mode(), self.conditions(accepted))
         told = self.acknowledgements(accepted, *(row or (None, self.mode())))
         if row:
+            if row[0] in TRIPPED:
+                self.now.tripped = self.why_trips()
             self.now.row, self.now.entered = row
             if fate("linking", self.mode()) == "D":
                 self.links.left = []

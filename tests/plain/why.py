@@ -40,12 +40,22 @@ WORDS = {
         "ends when the driver acknowledges, a mode deletes it, or a further transition begins it anew"),
 }
 
+# Of each row that led to Trip, and of rows 3 to 5 by the first condition that held: what it says, and the sections that it is from.
+TRIPS = {
+    "end_passed": ("the minimum safe front was past the end of authority", "3.8"),
+    "linking": ("linking or a balise group asked for it", "3.4.4, 3.16.2"),
+    "stop": ("an authority with V_MAIN 0 was used", "3.8"),
+    "staff_distance": ("the path in Staff Responsible was above D_NVSTFF", "4.4"),
+    "level": ("the level was 1, and the authority or the track ahead was not known", "5.10"),
+}
+TRIP_OF_ROW = {6: "staff_distance", 9: "level"}
+
 
 class Reasons:
-    """A life, and since which event each cause holds."""
+    """A life, since which event each cause holds, and by which event Trip was entered and why, while the trip is owed."""
 
     def __init__(self, life, number):
-        self.life, self.since, self.shown = life, {}, None
+        self.life, self.since, self.shown, self.trip = life, {}, None, None
         self.note(number)
 
     def take(self, event, number):
@@ -57,6 +67,11 @@ class Reasons:
         held = output.causes(self.life, self.life.mode(), answer.limit)
         self.since = {wanted: self.since.get(wanted, number) for (_, wanted), holds in held.items() if holds}
         self.decides = limit_cause(self.life)
+        now = self.life.now
+        if now.entered == "TR":
+            self.trip = TRIP_OF_ROW.get(now.row) or now.tripped[0], number
+        elif not self.life.is_tripped():
+            self.trip = None
 
     def is_new(self):
         """Whether brake, limit, the causes or the kind of the limit's is another one than at the event before."""
@@ -74,6 +89,7 @@ class Reasons:
         return {
             "event": number, "brake": answer.brake, "limit_m_per_h": answer.limit, "speed_m_per_h": speed, "backward_cm": backward,
             "allowed_backward_cm": allowed, **{word: self.since.get(wanted) for wanted, (word, _, _) in WORDS.items()},
+            **dict(zip(("trip_cause", "trip_cause_event", "trip_cause_section"), (*self.trip, TRIPS[self.trip[0]][1]) if self.trip else (None,) * 3)),
             "limit_cause": decides.kind, "limit_cause_speed_m_per_h": decides.speed, "limit_cause_place_cm": decides.place,
             "limit_cause_number": decides.number, "limit_cause_section": KINDS[decides.kind][1],
         }
@@ -81,6 +97,9 @@ class Reasons:
     def line(self, number):
         (answer, speed, backward, allowed), decides = self.numbers(), self.decides
         causes = [f"; {why} (since event {self.since[wanted]}, {ends})" for wanted, (_, why, ends) in WORDS.items() if wanted in self.since]
+        if self.trip:
+            why, sections = TRIPS[self.trip[0]]
+            causes.append(f"; the train was tripped: {why} (event {self.trip[1]}, {sections})")
         says, sections = KINDS[decides.kind]
         place = "" if decides.place is None else f" at {decides.place} cm"
         named = "" if decides.number is None else f", number {decides.number}"

@@ -22,11 +22,14 @@ carries, how one is written, and what is wrong in a scenario.
   etcs_lab lint [--json] SCENARIO    tells each fault of a scenario at its place, the first being that of etcs run; of
                                      a scenario with none, telegrams that are refused, packets that are skipped, and
                                      balises that no drive reaches
+  etcs_lab run SCENARIO              plays a scenario on an empty image in memory, and tells each output that is
+                                     released as a JSON object on a line, with the step of the scenario that it comes
+                                     from, the causes of its brake and what decides its limit
   etcs_lab --help                    prints this
 
-  0 all is whole   1 refused: not formatted, damaged first sector, no telegram; or nothing can be written
-  2 wrong words   3 a file or the device   4 something is lost, damaged, contradicts or differs, or lint has something
-  to tell; all that can be read was told
+  0 all is whole   1 refused: not formatted, damaged first sector, no telegram, no scenario or one that stops; or
+  nothing can be written   2 wrong words   3 a file or the device   4 something is lost, damaged, contradicts or
+  differs, or lint has something to tell; all that can be read was told
 
 examine, replay, why and lint print lines, or with --json JSON: examine one object, the others one a line. Errors go to
 standard error. Behind -- a word may begin with -.

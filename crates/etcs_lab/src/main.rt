@@ -8,6 +8,7 @@ mod help;
 mod images;
 mod linted;
 mod listed;
+mod played;
 mod program;
 mod replayed;
 mod running;

@@ -24,18 +24,22 @@ pub(crate) enum Asked<'a> {
     Decode(&'a str, bool),
     /// What is wrong in a scenario, in lines or as JSON.
     Lint(&'a str, bool),
+    /// To play a scenario.
+    Run(&'a str),
 }
 
 fn form_of(is_json: bool) -> Form {
     if is_json { Form::Json } else { Form::People }
 }
 
-// The option of a command.
+// The option of a command; no word is that of `run`, which has none.
 fn option_of(name: &str) -> &'static str {
     if name == "events" {
         "--all"
     } else if name == "telegram" {
         "--schema"
+    } else if name == "run" {
+        ""
     } else {
         "--json"
     }
@@ -58,6 +62,7 @@ fn command<'a>(name: &str, words: &'a [String]) -> Option<Asked<'a>> {
         (Some(file), None) if name == "telegram" && !has_option => Some(Asked::Telegram(file)),
         (Some(digits), None) if name == "decode" => Some(Asked::Decode(digits, has_option)),
         (Some(scenario), None) if name == "lint" => Some(Asked::Lint(scenario, has_option)),
+        (Some(scenario), None) if name == "run" => Some(Asked::Run(scenario)),
         _ => None,
     }
 }

@@ -12,6 +12,9 @@ use Rattle.reasons.specs.Words.{word_of, sentence_of, ending_of}
 use Rattle.reasons.specs.declared.limit_words.LimitKind.{LimitKind}
 use Rattle.reasons.specs.declared.limit_words.LimitTold.{LimitTold}
 use Rattle.reasons.specs.LimitWords.{limit_word_of, limit_sentence_of, limit_section_of}
+use Rattle.mode_control.specs.declared.tripping.TripCause.{TripCause}
+use Rattle.reasons.specs.declared.trips.TripTold.{TripTold}
+use Rattle.reasons.specs.TripWords.{trip_word_of, trip_sentence_of, trip_section_of}
 use Rattle.why_lines.specs.declared.lines.Answer.{Answer}
 use Rattle.why_lines.specs.declared.lines.Told.{Told}
 
@@ -60,6 +63,22 @@ told_of runs =
     ∷ cause_told a_cause.OwesTooLong runs.owes_too_long
     ∷ []
 
+-- the trip that is owed, where it is known why: why, its event and the sections
+abbrev pub trip_known_text : Form → TripCause → ℕ → List ℕ
+trip_known_text form cause event =
+    joined (text_in form (codes "; the train was tripped: ") (codes ",\"trip_cause\":\"")
+    ∷ text_in form (trip_sentence_of cause) (trip_word_of cause)
+    ∷ text_in form (codes " (event ") (codes "\",\"trip_cause_event\":") ∷ decimal event
+    ∷ text_in form (codes ", ") (codes ",\"trip_cause_section\":\"") ∷ trip_section_of cause ∷ text_in form (codes ")") (codes "\"") ∷ [])
+
+abbrev pub trip_unknown_text : Form → List ℕ
+trip_unknown_text form =
+    text_in form [] (codes ",\"trip_cause\":null,\"trip_cause_event\":null,\"trip_cause_section\":null")
+
+abbrev pub trip_text : Form → Option TripTold → List ℕ
+trip_text form (Some told) = trip_known_text form told.cause told.event
+trip_text form None = trip_unknown_text form
+
 -- what decides the limit, its speed, and where it has them its place and its number
 abbrev pub decides_text : Form → LimitKind → ℕ → List ℕ
 decides_text form kind speed =
@@ -80,13 +99,15 @@ abbrev pub section_text : Form → LimitKind → List ℕ
 section_text form kind =
     joined (text_in form (codes " (") (codes ",\"limit_cause_section\":\"") ∷ limit_section_of kind ∷ text_in form (codes ")") (codes "\"") ∷ [])
 
-abbrev pub limit_text : Form → LimitTold → List ℕ
-limit_text form told =
-    decides_text form told.kind told.speed ++ place_text form told.place ++ number_text form told.number ++ section_text form told.kind
-
 abbrev pub end_text : Form → List ℕ
 end_text form = text_in form (codes "\n") (codes "}\n")
 
-abbrev pub line_of : Form → Answer → List Told → LimitTold → List ℕ
-line_of form answer told decides =
-    front_text form answer ++ flat_map (cause_text form) told ++ limit_text form decides ++ end_text form
+-- behind the causes: the trip, what decides the limit, and the end of the line
+abbrev pub last_text : Form → Option TripTold → LimitTold → List ℕ
+last_text form trip told =
+    trip_text form trip ++ decides_text form told.kind told.speed ++ place_text form told.place ++ number_text form told.number
+    ++ section_text form told.kind ++ end_text form
+
+abbrev pub line_of : Form → Answer → List Told → Option TripTold → LimitTold → List ℕ
+line_of form answer told trip decides =
+    front_text form answer ++ (flat_map (cause_text form) told ++ last_text form trip decides)

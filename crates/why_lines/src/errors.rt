@@ -23,6 +23,17 @@ pub enum WhyError {
     NoMemory,
 }
 
+/// Why a life was not told to its end (this project's profile).
+#[derive(Clone, Copy, Debug, PartialEq, Eq, Error)]
+pub enum PlayError {
+    /// The text could not be written.
+    #[error("Write")]
+    Write,
+    /// Memory was refused.
+    #[error("NoMemory")]
+    NoMemory,
+}
+
 /// Why a walk stopped behind its first sector, but for the device.
 #[derive(Clone, Copy)]
 pub(crate) enum LateError {

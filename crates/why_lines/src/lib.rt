@@ -6,10 +6,15 @@
 mod course;
 mod errors;
 mod lines;
+mod played;
+mod playing;
 mod steps;
 mod walk;
 
-pub use errors::WhyError;
+pub use errors::{PlayError, WhyError};
 pub use lines::{Answer, Told, told_of, write_line};
+pub use onboard::{FlushError, LiveError, OpenError};
 pub use pieces::Form;
+pub use played::{Played, write_played_line};
+pub use playing::{PlayedLife, play};
 pub use walk::tell_why;

@@ -1,16 +1,17 @@
 //! The line of an event with the causes of its brake and of its limit.
-ghost use Rattle.std.specs.Prelude.{◌≡◌, OnOk, flat_map};
+ghost use Rattle.std.specs.Prelude.{◌≡◌, ◌++◌, OnOk, flat_map};
 ghost use Rattle.std.specs.Io.KnownBytes.{Appends};
 ghost use Rattle.pieces.specs.Pieces.{texts};
 ghost use Rattle.pieces.specs.declared.piece.Form.{Form as a_form};
-ghost use Rattle.why_lines.specs.Lines.{front_text, held_text, free_text, cause_text, told_of, decides_text, place_text, number_text, section_text, limit_text, end_text, line_of};
+ghost use Rattle.why_lines.specs.Lines.{front_text, held_text, free_text, cause_text, told_of, trip_known_text, trip_unknown_text, trip_text, decides_text, place_text, number_text, section_text, end_text, last_text, line_of};
 
 use events::Brake;
-use kernel::BrakeCause;
+use kernel::{BrakeCause, TripCause};
 use output_lines::brake_word;
-use pieces::{Form, Piece, both, write_pieces};
+use pieces::{Form, Piece, both, write_parts, write_pieces};
 use reasons::{
-    LimitKind, LimitTold, Runs, ending, limit_section, limit_sentence, limit_word, sentence, word,
+    LimitKind, LimitTold, Runs, TripTold, ending, limit_section, limit_sentence, limit_word,
+    sentence, trip_section, trip_sentence, trip_word, word,
 };
 use std::io;
 use std::io::Write;
@@ -187,6 +188,40 @@ fn section_pieces(kind: LimitKind) -> [Piece; 3]
     ]
 }
 
+fn known_trip_pieces(cause: TripCause, event: u64) -> [Piece; 7]
+    ensures { (form : a_form) → texts form result ≡ trip_known_text form cause event }
+{
+    [
+        Piece::Text("; the train was tripped: ", ",\"trip_cause\":\""),
+        Piece::Text(trip_sentence(cause), trip_word(cause)),
+        Piece::Text(" (event ", "\",\"trip_cause_event\":"),
+        Piece::Number(event),
+        Piece::Text(", ", ",\"trip_cause_section\":\""),
+        Piece::Same(trip_section(cause)),
+        Piece::Text(")", "\""),
+    ]
+}
+
+fn unknown_trip_pieces() -> [Piece; 7]
+    ensures { (form : a_form) → texts form result ≡ trip_unknown_text form }
+{
+    let none = Piece::Nothing;
+    let null = Piece::Text(
+        "",
+        ",\"trip_cause\":null,\"trip_cause_event\":null,\"trip_cause_section\":null",
+    );
+    [null, none, none, none, none, none, none]
+}
+
+fn trip_pieces(trip: &Option<TripTold>) -> [Piece; 7]
+    ensures { (form : a_form) → texts form result ≡ trip_text form trip.now }
+{
+    match trip {
+        Some(told) => known_trip_pieces(told.cause, told.event),
+        None => unknown_trip_pieces(),
+    }
+}
+
 fn end_piece() -> [Piece; 1]
     ensures { (form : a_form) → texts form result ≡ end_text form }
 {
@@ -211,67 +246,65 @@ fn write_causes<W: Write>(form: Form, told: &[Told], out: &mut W) -> io::Result<
     Ok(())
 }
 
-fn write_front<W: Write>(form: Form, answer: &Answer, out: &mut W) -> io::Result<()>
+pub(crate) fn write_front<W: Write>(form: Form, answer: &Answer, out: &mut W) -> io::Result<()>
     ensures { OnOk result (Appends (W.contents out.old) (W.contents out.new) (front_text form answer.now)) }
 {
     write_pieces(form, &front_pieces(answer), out)
 }
 
-fn write_decides<W: Write>(form: Form, told: &LimitTold, out: &mut W) -> io::Result<()>
-    ensures { OnOk result (Appends (W.contents out.old) (W.contents out.new) (decides_text form told.now.kind told.now.speed)) }
+// What follows the causes.
+fn write_last<W: Write>(
+    form: Form,
+    trip: &Option<TripTold>,
+    told: &LimitTold,
+    out: &mut W,
+) -> io::Result<()>
+    ensures { OnOk result (Appends (W.contents out.old) (W.contents out.new) (last_text form trip.now told.now)) }
 {
     let speed = u64::from(told.speed.get());
-    write_pieces(form, &decides_pieces(told.kind, speed), out)
+    write_parts(
+        form,
+        &[
+            &trip_pieces(trip),
+            &decides_pieces(told.kind, speed),
+            &place_pieces(told.place),
+            &number_pieces(told.number),
+            &section_pieces(told.kind),
+            &end_piece(),
+        ],
+        out,
+    )
 }
 
-fn write_place<W: Write>(form: Form, place: Option<i64>, out: &mut W) -> io::Result<()>
-    ensures { OnOk result (Appends (W.contents out.old) (W.contents out.new) (place_text form place)) }
+/// Behind what the line begins with: the causes, and what follows them.
+pub(crate) fn write_why<W: Write>(
+    form: Form,
+    told: &[Told],
+    trip: &Option<TripTold>,
+    decides: &LimitTold,
+    out: &mut W,
+) -> io::Result<()>
+    ensures { OnOk result (Appends (W.contents out.old) (W.contents out.new) (flat_map (cause_text form) told.now
+        ++ last_text form trip.now decides.now)) }
 {
-    write_pieces(form, &place_pieces(place), out)
-}
-
-fn write_number<W: Write>(form: Form, number: Option<u64>, out: &mut W) -> io::Result<()>
-    ensures { OnOk result (Appends (W.contents out.old) (W.contents out.new) (number_text form number)) }
-{
-    write_pieces(form, &number_pieces(number), out)
-}
-
-fn write_section<W: Write>(form: Form, kind: LimitKind, out: &mut W) -> io::Result<()>
-    ensures { OnOk result (Appends (W.contents out.old) (W.contents out.new) (section_text form kind)) }
-{
-    write_pieces(form, &section_pieces(kind), out)
-}
-
-fn write_limit<W: Write>(form: Form, told: &LimitTold, out: &mut W) -> io::Result<()>
-    ensures { OnOk result (Appends (W.contents out.old) (W.contents out.new) (limit_text form told.now)) }
-{
-    write_decides(form, told, out)?;
-    write_place(form, told.place, out)?;
-    write_number(form, told.number, out)?;
-    write_section(form, told.kind, out)?;
+    write_causes(form, told, out)?;
+    write_last(form, trip, decides, out)?;
     Ok(())
 }
 
-fn write_end<W: Write>(form: Form, out: &mut W) -> io::Result<()>
-    ensures { OnOk result (Appends (W.contents out.old) (W.contents out.new) (end_text form)) }
-{
-    write_pieces(form, &end_piece(), out)
-}
-
-/// Writes the line of an event with these causes of its brake, and with what decides its limit. The error is that of a
-/// write.
+/// Writes the line of an event with these causes of its brake, with the trip that is owed, where it is known why, and
+/// with what decides its limit. The error is that of a write.
 pub fn write_line<W: Write>(
     form: Form,
     answer: &Answer,
     told: &[Told],
+    trip: &Option<TripTold>,
     decides: &LimitTold,
     out: &mut W,
 ) -> io::Result<()>
-    ensures { OnOk result (Appends (W.contents out.old) (W.contents out.new) (line_of form answer.now told.now decides.now)) }
+    ensures { OnOk result (Appends (W.contents out.old) (W.contents out.new) (line_of form answer.now told.now trip.now decides.now)) }
 {
     write_front(form, answer, out)?;
-    write_causes(form, told, out)?;
-    write_limit(form, decides, out)?;
-    write_end(form, out)?;
+    write_why(form, told, trip, decides, out)?;
     Ok(())
 }

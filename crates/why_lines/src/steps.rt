@@ -84,7 +84,7 @@ fn write_event<W: Write>(
         allowed: state.allowed_backward(),
     };
     let told = told_of(&shown.runs);
-    match write_line(form, &answer, &told, &shown.decides, out) {
+    match write_line(form, &answer, &told, &life.trip(), &shown.decides, out) {
         Ok(()) => Ok(()),
         Err(error) => Err(writing_error(&error)),
     }

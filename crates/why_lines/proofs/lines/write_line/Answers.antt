@@ -2,6 +2,4 @@ use Rattle.std.proofs.KnownBytes.{Appends-trans}
 use Rattle.why_lines.proofs.lines.write_line.Goals as goal
 
 pub returns : goal.returns
-returns g c =
-    let causes = Appends-trans _ _ _ _ _ c.in_ok-write_front.ensures c.in_ok-write_causes.ensures in
-    Appends-trans _ _ _ _ _ (Appends-trans _ _ _ _ _ causes c.in_ok-write_limit.ensures) c.in_ok-write_end.ensures
+returns g c = Appends-trans _ _ _ _ _ c.in_ok-write_front.ensures c.in_ok-write_why.ensures

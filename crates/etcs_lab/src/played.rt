@@ -1,0 +1,59 @@
+//! The command `run`.
+
+use crate::status::{Status, fail, unwritten};
+use simulator::{Scenario, ScenarioFault, ends_of, events_of};
+use std::alloc::Global;
+use std::fs;
+use std::fs::File;
+use std::io::Write;
+use std::rt::Files;
+use why_lines::{FlushError, LiveError, OpenError, PlayError, PlayedLife, play};
+
+// The life that a scenario asks for, or its first fault.
+fn life_of(alloc: Global, scenario: &Scenario) -> Result<PlayedLife, ScenarioFault> {
+    let (cold, steps) = events_of(alloc, scenario)?;
+    let ends = ends_of(alloc, scenario)?;
+    Ok(PlayedLife { cold, steps, ends })
+}
+
+// Says the fault of a scenario, as `etcs run` does.
+fn refused<R: Eprint>(rt: &R, path: &str, fault: ScenarioFault) -> Status {
+    let number = fault.number();
+    let _ = eprintln!(rt; "etcs_lab: {path}: refused {number} {fault}");
+    Status::Refused
+}
+
+fn status_of(stopped: Option<LiveError>) -> Status {
+    match stopped {
+        None => Status::Whole,
+        Some(
+            LiveError::Open(OpenError::DeviceFault) | LiveError::Flush(_, FlushError::DeviceFault),
+        ) => Status::Device,
+        Some(_) => Status::Refused,
+    }
+}
+
+/// Plays a scenario on an image in memory, tells each output that is released, and answers the status.
+pub(crate) fn played<R: Files<File = File> + AllocGlobal + Eprint, W: Write>(
+    rt: &R,
+    path: &str,
+    out: &mut W,
+) -> Status {
+    let Ok(bytes) = fs::read(rt, path) else {
+        return fail(rt, "can't be read", path, Status::Device);
+    };
+    let life = match life_of(rt.alloc(), &Scenario { bytes }) {
+        Ok(life) => life,
+        Err(fault) => return refused(rt, path, fault),
+    };
+    match play(rt.alloc(), &life, out) {
+        Ok(stopped) => status_of(stopped),
+        Err(PlayError::Write) => unwritten(rt, path),
+        Err(PlayError::NoMemory) => fail(
+            rt,
+            "can't be played: memory is refused",
+            path,
+            Status::Refused,
+        ),
+    }
+}

@@ -1,0 +1,57 @@
+-- The line of an output that was released while a scenario was played, as a JSON object (this project's profile). Events
+-- and the steps of a scenario are numbered from 0; speeds are metres per hour, distances centimetres; lists of events
+-- have the newest first.
+use Rattle.std.specs.Prelude.{ℕ, ◌-◌, ◌^◌, ℤ, min, Option, List, [], ◌∷◌, ◌++◌, codes, decimal, flat_map}
+use Rattle.std.specs.Fmt.{signed_decimal}
+use Rattle.events.specs.declared.input.Event.{Event}
+use Rattle.kernel.specs.Brake.{rolled_backward}
+use Rattle.kernel.specs.Lives.{life_of}
+use Rattle.mode_control.specs.History.{tracks}
+use Rattle.mode_control.specs.Sentences.{values_of}
+use Rattle.onboard.specs.Releases.{Release}
+use Rattle.output_lines.specs.Words.{mode_text}
+use Rattle.pieces.specs.Pieces.{joined}
+use Rattle.pieces.specs.declared.piece.Form.TheVariants.{Json}
+use Rattle.reasons.specs.declared.limit_words.LimitTold.{LimitTold}
+use Rattle.reasons.specs.declared.trips.TripTold.{TripTold}
+use Rattle.record_objects.specs.Signs.{signs_of}
+use Rattle.record_objects.specs.Words.{level_value}
+use Rattle.track_picture.specs.History.{speed_of}
+use Rattle.why_lines.specs.Lines.{front_text, cause_text, last_text}
+use Rattle.why_lines.specs.declared.lines.Answer.{Answer}
+use Rattle.why_lines.specs.declared.lines.Told.{Told}
+use Rattle.why_lines.specs.declared.played.Played.{Played}
+
+-- the step, the mode and the level, up to the list of the indications
+abbrev pub step_text : Played → List ℕ
+step_text p =
+    joined (codes ",\"step\":" ∷ decimal p.step ∷ codes ",\"mode\":\"" ∷ mode_text p.mode ∷ codes "\",\"level\":" ∷ level_value p.level
+    ∷ codes ",\"indications\":[" ∷ [])
+
+-- where the front is thought to be, and how far from there it may be
+abbrev pub where_text : ℤ → ℕ → List ℕ
+where_text place uncertainty =
+    joined (codes "],\"place_cm\":" ∷ signed_decimal place ∷ codes ",\"uncertainty_cm\":" ∷ decimal uncertainty ∷ [])
+
+abbrev pub output_text : Played → List ℕ
+output_text p = step_text p ++ signs_of p.shown ++ where_text p.place p.uncertainty
+
+abbrev pub played_text : Answer → Played → List ℕ
+played_text answer p = front_text Json answer ++ output_text p
+
+-- the line: its members are those of `line_of`, and these
+abbrev pub played_line_of : Answer → Played → List Told → Option TripTold → LimitTold → List ℕ
+played_line_of answer played told trip decides =
+    played_text answer played ++ (flat_map (cause_text Json) told ++ last_text Json trip decides)
+
+-- ---- the answer to the last of these events, whose output was released
+
+abbrev pub answer_of : List Event → Release → Answer
+answer_of events one = record {
+  event = one.number;
+  brake = one.output.brake;
+  limit = one.output.limit;
+  speed = speed_of (tracks (life_of events).entries);
+  backward = min (rolled_backward (life_of events)) (2 ^ 64 - 1);
+  allowed = (values_of (life_of events)).roll;
+}

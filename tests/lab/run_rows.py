@@ -1,0 +1,239 @@
+#!/usr/bin/env python3
+"""What `etcs_lab run` is to print of scenarios: by hand, and beside the plain program all lines of the examples and of random scenarios, with
+the causes that it works out (tests/plain/why.py); and what `etcs run` prints of the same scenario on an empty image says the same of each
+output.
+
+    tests/lab/run_rows.py ETCS_LAB ETCS     runs both programs on each scenario, and compares
+"""
+import json
+import subprocess
+import sys
+import tempfile
+from collections import Counter
+from pathlib import Path
+
+HERE = Path(__file__).resolve().parent
+TOP = HERE.parents[1]
+sys.path[:0] = [str(HERE), str(TOP / "tests/plain"), str(TOP / "tests/hostile")]
+import program  # noqa: E402
+from items import Kept  # noqa: E402
+from life import Life  # noqa: E402
+from random_inputs import Made  # noqa: E402
+from random_lists import Numbers  # noqa: E402
+from why import TRIPS, WORDS, Reasons  # noqa: E402
+
+SCENARIOS, SEED = 2_000, 42
+LEAST_LINES = 20_000  # so many outputs at least
+MOST_PENDING = 8
+COLD = ("unknown", "moved", "not_moved")
+SIGNS = ("on_sight", "shunting", "level_0", "trip", "overridden", "not_revalidated", "overspeed")
+BEHIND = "allowed_backward_cm"  # behind this member come those of the step and of the output
+
+# By hand. Each step of a scenario gives the events that it says: a drive of 250 m three readings, and a telegram where it passes a balise.
+SR_STEPS = [{"driver": [1, "A 1"]}, {"driver": [4, 1]}, {"driver": [3, 20000, 160000, 70, 0, 15]}, {"driver": [6]}]
+STEPS_BY_HAND = (
+    ("no step", [], [], "done"),
+    ("one step each", SR_STEPS, [0, 1, 2, 3], "done"),
+    ("flushes give no event", [{"flush": True}, {"clock": 5}, {"flush": True}, {"clock": 6}], [1, 3], "done"),
+    ("a drive gives readings", [{"clock": 1}, {"drive": [25000, 10000]}, {"drive": [0, 0]}], [0, 1, 1, 1, 2], "done"),
+    ("a drive over a balise", [{"drive": [30000, 10000]}, {"clock": 1}], [0, 0, 0, 0, 0, 1], "done"),  # 100, 100, 50 m, a telegram, 50 m
+    ("more than eight events", [{"clock": 1}] * 20, list(range(20)), "done"),
+    ("many flushes", [{"clock": 1}] * 4_000, list(range(4_000)), "done"),
+    ("a clock that falls", [{"clock": 9}, {"flush": True}, {"clock": 10}, {"clock": 3}, {"clock": 11}], [0], (3, 11, "ClockBack")),
+)
+BALISE = [{"at": 25000, "spacing": 1, "balises": ["90007F802001FFC0"]}]
+
+
+def ends_of(end):
+    return {"end": "done"} if end == "done" else dict(zip(("end", "step", "number", "name"), ("stopped", *end)))
+
+
+def placed(scenario):
+    """The inputs of a scenario, each with the step that it comes from; None is a flush."""
+    laid, front = program.balises(scenario["groups"]), 0
+    for at, step in enumerate(scenario["steps"]):
+        (key, value), = step.items()
+        if key == "drive":
+            yield from ((at, asked) for asked in program.drive(laid, front, *value))
+            front += value[0]
+        elif key == "flush":
+            yield at, None
+        else:
+            yield at, (key, *(value if key == "driver" else [value]))
+
+
+class Told(Life):
+    """A life that tells of each event what `etcs_lab run` does, but for the step."""
+
+    def __init__(self, kept=Kept(), cold="unknown"):
+        super().__init__(kept, cold)
+        self.reasons, self.lines = Reasons(self, 0), []
+
+    def take(self, word, value):
+        output = super().take(word, value)
+        number = len(self.lines) + 1
+        self.reasons.note(number)
+        shown, place = output.indications, self.place()
+        more = {
+            "mode": output.mode, "level": None if output.level == "-" else int(output.level), "indications": [sign for at, sign in enumerate(SIGNS) if shown >> at & 1],
+            "place_cm": place[0], "uncertainty_cm": place[1],
+        }
+        self.lines.append((self.reasons.members(number), more))
+        return output
+
+
+def joined(members, step, more):
+    """One object, its members in their order."""
+    told = {}
+    for name, value in members.items():
+        told[name] = value
+        if name == BEHIND:
+            told |= {"step": step} | more
+    return told
+
+
+def wanted_of(scenario, lines):
+    """The lines of a run and its status, by what is told of each event of the life."""
+    steps = scenario["steps"]
+    told, pending, moment, event = [{"scenario": {"cold": COLD[scenario.get("cold", 0)], "steps": len(steps)}}], [], 0, 0
+    for at, asked in placed(scenario):
+        if asked is None or len(pending) == MOST_PENDING:
+            told += pending
+            pending = []
+        if asked is None:
+            continue
+        if asked[0] == "clock":
+            if asked[1] < moment:
+                return [*told, ends_of((at, 11, "ClockBack"))], 1
+            moment = asked[1]
+        members, more = lines[event]
+        pending.append(joined(members, at, more))
+        event += 1
+    return [*told, *pending, ends_of("done")], 0
+
+
+def text_of(told):
+    return "".join(json.dumps(line, separators=(",", ":")) + "\n" for line in told)
+
+
+def lived(scenario):
+    """What is told of each event of a scenario, worked out anew."""
+    life = Told(Kept(), program.WORDS[scenario.get("cold", 0)])
+    for asked in program.inputs_of(scenario):
+        if asked is not None:
+            life.take(*program.event_of(*asked)[1:3])
+    return life.lines
+
+
+class Played(Made):
+    """A random scenario, made beside a life that is told."""
+
+    def __init__(self, numbers):
+        super().__init__(numbers, self)
+
+    lives = property(lambda self: [None])  # an image in which it is the first life
+
+    @staticmethod
+    def begun(cold):
+        return Told(Kept(), cold)
+
+
+class Tried:
+    def __init__(self, lab, etcs, folder):
+        self.lab, self.etcs, self.folder = lab, etcs, folder
+        self.path, self.image = folder / "scenario.json", folder / "image"
+        self.tried = self.differ = self.outputs = 0
+        self.met = Counter()
+
+    def ran(self, *words):
+        done = subprocess.run(list(map(str, words)), stdin=subprocess.DEVNULL, capture_output=True, timeout=60)
+        return done.returncode, done.stdout.decode(), done.stderr.decode()
+
+    def unless(self, holds, text):
+        self.tried += 1
+        if not holds:
+            self.differ += 1
+            if self.differ <= 10:
+                print(text)
+
+    def play(self, text):
+        self.path.write_text(text)
+        return self.ran(self.lab, "run", self.path)
+
+    def by_hand(self):
+        for name, steps, places, end in STEPS_BY_HAND:
+            status, text, said = self.play(json.dumps({"groups": BALISE if "balise" in name else [], "steps": steps}))
+            told = [json.loads(line) for line in text.splitlines()]
+            first, events, last = told[:1], told[1:-1], told[-1:]
+            self.unless(
+                status == (0 if end == "done" else 1) and not said and first == [{"scenario": {"cold": "unknown", "steps": len(steps)}}]
+                and [line["step"] for line in events] == places and [line["event"] for line in events] == list(range(1, len(places) + 1))
+                and last == [ends_of(end)], f"by hand: {name}: status {status}, {said}{text}")
+
+    def faults(self):
+        """What is no scenario is told on standard error, as `etcs run` does, and plays nothing."""
+        for text in ("", "[]", '{"groups":[],"steps":[{"clock":-1}]}', '{"groups":[],"steps":[{"telegram":"9"}]}'):
+            status, out, said = self.play(text)
+            other, refusal, _ = self.ran(self.etcs, "run", self.path, self.image)
+            self.unless((status, out, said) == (other, "", f"etcs_lab: {self.path}: {refusal}"), f"{text!r}: {status} {out} {said}, {refusal}")
+        status, out, said = self.ran(self.lab, "run", self.folder / "nothing")
+        self.unless((status, out) == (3, "") and said, f"no file: status {status}, {out}{said}")
+        self.path.write_text('{"groups":[],"steps":[{"clock":1}]}')
+        with open("/dev/full", "w", encoding="ascii") as full:
+            status = subprocess.run([self.lab, "run", self.path], stdout=full, stderr=subprocess.DEVNULL, timeout=60).returncode
+        self.unless(status == 1, f"a full device: status {status}")
+
+    def beside(self, name, scenario, lines):
+        """Beside the plain program, and beside `etcs run` on an empty image."""
+        status, text, said = self.play(json.dumps(scenario))
+        told, wanted = wanted_of(scenario, lines)
+        self.unless((status, text, said) == (wanted, text_of(told), ""), f"{name}: {json.dumps(scenario)}\n  printed {status} {said}{text}\n"
+                    f"  wanted  {wanted} {text_of(told)}")
+        self.ran(self.etcs, "format", self.image, 2)
+        other, lines, _ = self.ran(self.etcs, "run", self.path, self.image)
+        self.unless((status, self.as_printed(text)) == (other, lines), f"{name}: {text}  etcs run prints {other} {lines}")
+        for line in told[1:-1]:
+            self.outputs += 1
+            self.met.update(word for word, *_ in WORDS.values() if line[word] is not None)
+            self.met[f"trip {line['trip_cause']}"] += 1
+        self.met["stopped"] += told[-1]["end"] == "stopped"
+
+    @staticmethod
+    def as_printed(text):
+        """The lines of `etcs run` that say the same."""
+        said = []
+        for line in map(json.loads, text.splitlines()):
+            if "event" in line:
+                shown = sum(1 << SIGNS.index(sign) for sign in line["indications"])
+                level = "-" if line["level"] is None else line["level"]
+                said.append(f"event {line['event']} mode {line['mode']} level {level} brake {line['brake']} limit {line['limit_m_per_h']} "
+                            f"ind {shown}")
+            elif line.get("end") == "stopped":
+                said.append(f"stopped {line['number']} {line['name']}")
+        return "".join(line + "\n" for line in said)
+
+    def judged(self):
+        self.by_hand()
+        self.faults()
+        for path in sorted((TOP / "examples").glob("*/*.json")):
+            scenario = json.loads(path.read_text())
+            self.beside(f"example {path.parent.name}", scenario, lived(scenario))
+        numbers = Numbers(SEED)
+        for number in range(SCENARIOS):
+            made = Played(numbers)
+            self.beside(f"scenario {number}", made.scenario(), made.life.lines)
+        print(f"run: {self.tried} comparisons, {self.outputs} outputs of {SCENARIOS} random scenarios and the examples, {self.differ} differ")
+        for word in ["stopped", *(word for word, *_ in WORDS.values()), *(f"trip {why}" for why in TRIPS)]:
+            if not self.met[word] and word != "in_system_failure":  # 2^40 cm would take more events than a scenario has
+                self.unless(False, f"no scenario has {word}")
+        self.unless(self.outputs >= LEAST_LINES, f"{self.outputs} outputs are too few")
+        return 1 if self.differ else 0
+
+
+def main(lab, etcs):
+    with tempfile.TemporaryDirectory() as folder:
+        return Tried(lab, etcs, Path(folder)).judged()
+
+
+if __name__ == "__main__":
+    sys.exit(main(*sys.argv[1:]))

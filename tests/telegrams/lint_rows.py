@@ -9,6 +9,8 @@ import sys
 import tempfile
 from pathlib import Path
 
+import yaml
+
 TOP = Path(__file__).resolve().parents[2]
 sys.path[:0] = [str(TOP / "tests" / part) for part in ("plain", "hostile")]
 
@@ -21,7 +23,7 @@ from named import written
 from random_inputs import Made, cut_text
 from random_lists import Numbers
 
-RANDOM, SEED, LEAST_FAULTS, LEAST_ACTIONS = 300, 2026, 100, 100
+RANDOM, SEED, LEAST_FAULTS, LEAST_ACTIONS, LEAST_POSITIONS = 300, 2026, 100, 100, 20
 GOOD = written("NID_BG 2, N_TOTAL 2; 65: NID_TSR 7, D_TSR 100, L_TSR 50, Q_FRONT 1, V_TSR 4").upper()
 SKIPPED = written("NID_BG 2; 44: ; 136: ").upper()
 SPARE = written("NID_BG 2, M_DUP 3").upper()
@@ -62,6 +64,17 @@ FAULTS = [
      [("/cold", RANGE), ("/groups/0/at", RANGE), ("/groups/1/balises/0", HEX), ("/steps/0/clock", SHAPE), ("/steps/1/drive", RANGE)]),
 ]
 
+# A text, the place of its first fault, and line and column there: counted by hand. A tab is one column, and so is each byte.
+POSITIONS = [
+    ('{"groups": [],\n "steps": [{"flush": 1}]}', "/steps/0/flush", 2, 22),
+    ('{"groups": [], "steps": [], "steps": 7}', "/steps", 1, 38),
+    ('{"groups": [{"at": "\\"steps\\"", "spacing": 1, "balises": []}], "steps": []}', "/groups/0/at", 1, 20),
+    ('{"groups": [{"at": 1, "steps": {"flush": [1, {"steps": 2}]}}], "steps": [[{"flush": true}]]}', "/groups/0", 1, 13),
+    ('{\r\n\t"groups": [],\r\n\t"steps":\t5}', "/steps", 3, 11),
+    ('{"groups": [], "steps": [{"flush": true}, [2, "\u00e4"], {"driver": [12]}]}', "/steps/1", 1, 43),
+    # A name that is written with an escape isn't found.
+    ('{"groups": [], "step\\u0073": 7}', "/steps"),
+]
 REFUSED = "the kernel refuses the telegram: 3 Spare"
 READY = [{"driver": action} for action in ([1, "IC 704"], [4, 1], [3, 20_000, 160_000, 70, 0, 15])]
 START, SHUNTING, LEAVE, OVERRIDE, CLOSE, STANDS = *({"driver": [code]} for code in (6, 7, 8, 9, 11)), {"drive": [0, 0]}
@@ -98,12 +111,36 @@ ADVICE = [
 ]
 
 
-def people(found):
-    return "".join(f"{place or 'scenario'}: {what if isinstance(what, str) else 'refused %d %s' % what}\n" for place, what in found)
+def position_in(text, pointer):
+    """Line and column at which the value begins, by YAML's reader; None where there is none. Of members of one name the last one counts."""
+    node = yaml.compose(text, Loader=yaml.CSafeLoader if hasattr(yaml, "CSafeLoader") else yaml.SafeLoader)
+    for part in pointer.split("/")[1:]:
+        if isinstance(node, yaml.MappingNode):
+            node = next((value for key, value in reversed(node.value) if key.value == part), None)
+        elif isinstance(node, yaml.SequenceNode) and part.isdigit() and int(part) < len(node.value):
+            node = node.value[int(part)]
+        else:
+            node = None
+        if node is None:
+            return None
+    return node.start_mark.line + 1, node.start_mark.column + 1
 
 
-def objects(found):
-    return [{"pointer": place} | ({"advice": what} if isinstance(what, str) else {"fault": what[0], "name": what[1]}) for place, what in found]
+def people(found, text):
+    lines = []
+    for place, what in found:
+        at = None if isinstance(what, str) else position_in(text, place)
+        lines.append(f"{place or 'scenario'}: {what if isinstance(what, str) else 'refused %d %s' % what}{' at line %d, column %d' % at if at else ''}\n")
+    return "".join(lines)
+
+
+def objects(found, text):
+    told = []
+    for place, what in found:
+        at = None if isinstance(what, str) else position_in(text, place)
+        told.append({"pointer": place} | ({"advice": what} if isinstance(what, str) else {"fault": what[0], "name": what[1]})
+                    | ({"line": at[0], "column": at[1]} if at else {}))
+    return told
 
 
 def loaded(text):
@@ -163,7 +200,7 @@ def advice_on(told):
 
 class Compared:
     def __init__(self, etcs, lab, room):
-        self.etcs, self.lab, self.room, self.count, self.differ = etcs, lab, room, 0, 0
+        self.etcs, self.lab, self.room, self.count, self.differ, self.positions = etcs, lab, room, 0, 0, 0
 
     def same(self, name, found, wanted):
         self.count += 1
@@ -176,13 +213,16 @@ class Compared:
         return done.stdout, done.stderr, done.returncode
 
     def lint(self, told, found):
-        """Both forms."""
+        """Both forms, one of a text in one line, and the other of one in many."""
         file = self.room / "scenario.json"
-        file.write_text(json.dumps(told))
         status = 4 if found else 0
-        self.same(f"lint {told}", self.run(["lint", str(file)]), (people(found), "", status))
+        text = json.dumps(told)
+        file.write_text(text)
+        self.same(f"lint {told}", self.run(["lint", str(file)]), (people(found, text), "", status))
+        text = json.dumps(told, indent=3, separators=(" ,", " :  "))
+        file.write_text(text)
         printed, said, ended = self.run(["lint", "--json", str(file)])
-        self.same(f"lint --json {told}", ([loaded(line) for line in printed.splitlines()], said, ended), (objects(found), "", status))
+        self.same(f"lint --json {told}", ([loaded(line) for line in printed.splitlines()], said, ended), (objects(found, text), "", status))
 
     def changed(self, text):
         """The first fault is that for which the program `etcs run` refuses the scenario."""
@@ -195,6 +235,11 @@ class Compared:
             return False
         first = json.loads(printed.splitlines()[0])
         self.same(f"lint {text}", (f"refused {first['fault']} {first['name']}\n", said, status), (done.stdout, "", 4))
+        if first["name"] != "NotJson":
+            self.positions += 1
+            for line in map(json.loads, printed.splitlines()):
+                told = (line["line"], line["column"]) if "line" in line else None
+                self.same(f"where {line['pointer']} is in {text}", told, position_in(text, line["pointer"]))
         return True
 
 
@@ -209,6 +254,11 @@ def main(words):
         compared.same("no JSON", compared.run(["lint", str(file)]), ("scenario: refused 1 NotJson at line 2, column 13\n", "", 4))
         compared.same("no JSON, as JSON", compared.run(["lint", "--json", str(file)]),
                       ('{"pointer":"","fault":1,"name":"NotJson","line":2,"column":13}\n', "", 4))
+        for text, pointer, *at in POSITIONS:
+            file.write_text(text, newline="")
+            printed = compared.run(["lint", "--json", str(file)])[0]
+            wanted = {"pointer": pointer, "fault": 2, "name": "Shape"} | dict(zip(("line", "column"), at))
+            compared.same(f"where {pointer} is in {text}", json.loads(printed.splitlines()[0]), wanted)
         compared.same("no file", compared.run(["lint", str(compared.room / "nothing")])[::2], ("", 3))
         for more in ([], [str(file), "x"], ["--jso", str(file)]):
             compared.same(f"words {more}", compared.run(["lint", *more])[::2], ("", 2))
@@ -221,9 +271,10 @@ def main(words):
             actions += sum("accept" in what for _, what in found)
             compared.lint(told, found)
             faults += compared.changed(cut_text(json.dumps(told), numbers))
-    print(f"lint: {len(FAULTS) + len(ADVICE)} by hand, {RANDOM} random ones, {faults} with a fault, {actions} actions that aren't accepted, "
-          f"{compared.count} comparisons, {compared.differ} differ")
-    return 0 if compared.differ == 0 and faults >= LEAST_FAULTS and actions >= LEAST_ACTIONS else 1
+    print(f"lint: {len(FAULTS) + len(ADVICE) + len(POSITIONS)} by hand, {RANDOM} random ones, {faults} with a fault, {compared.positions} of these in JSON, "
+          f"{actions} actions that aren't accepted, {compared.count} comparisons, {compared.differ} differ")
+    is_enough = faults >= LEAST_FAULTS and actions >= LEAST_ACTIONS and compared.positions >= LEAST_POSITIONS
+    return 0 if compared.differ == 0 and is_enough else 1
 
 
 if __name__ == "__main__":

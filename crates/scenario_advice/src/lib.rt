@@ -7,7 +7,9 @@ mod advice;
 mod lines;
 mod locating;
 mod places;
+mod positions;
 
 pub use lines::{Form, LintError, lint};
 pub use locating::{Faults, LocatedFault, faults_of};
 pub use places::Place;
+pub use positions::Position;

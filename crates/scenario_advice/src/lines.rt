@@ -4,6 +4,7 @@ use crate::accepting::refusals;
 use crate::advice::{LocatedAdvice, advice_on};
 use crate::locating::{Faults, LocatedFault, faults_of};
 use crate::places::Place;
+use crate::positions::Position;
 use events::Step;
 use mode_table::Cold;
 use serde_json::Value;
@@ -57,13 +58,13 @@ fn write_fault<W: Write>(found: &LocatedFault, form: Form, out: &mut W) -> io::R
 
 // Where it is in the text, and the end of the line.
 fn end_fault<W: Write>(found: &LocatedFault, form: Form, out: &mut W) -> io::Result<()> {
-    match (form, found.line) {
+    match (form, found.position) {
         (Form::People, None) => writeln!(out),
-        (Form::People, Some((line, column))) => {
+        (Form::People, Some(Position { line, column })) => {
             writeln!(out, " at line {line}, column {column}")
         }
         (Form::Json, None) => writeln!(out, "}}"),
-        (Form::Json, Some((line, column))) => {
+        (Form::Json, Some(Position { line, column })) => {
             writeln!(out, ",\"line\":{line},\"column\":{column}}}")
         }
     }

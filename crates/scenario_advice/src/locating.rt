@@ -4,6 +4,7 @@ ghost use Rattle.std.specs.Prelude.{◌≡◌, ◌⊎◌, IfOk, IfErr};
 ghost use Rattle.simulator.specs.Scenarios.{Tells, FaultOf};
 
 use crate::places::Place;
+use crate::positions::{Position, position_of};
 use events::Step;
 use mode_table::Cold;
 use scenario_values::life_of;
@@ -18,8 +19,9 @@ pub struct LocatedFault {
     pub fault: ScenarioFault,
     /// Where it is.
     pub place: Place,
-    /// Line and column in the text, where the text is no JSON; else none is known.
-    pub line: Option<(usize, usize)>,
+    /// Where the text is no JSON, where the reader of JSON stood. Else where the value at the place begins; None where
+    /// the place isn't there, or a name on the way to it is written with an escape.
+    pub position: Option<Position>,
 }
 
 /// The faults of a scenario, at least one.
@@ -37,7 +39,7 @@ fn at(fault: ScenarioFault, place: Place) -> LocatedFault
     LocatedFault {
         fault,
         place,
-        line: None,
+        position: None,
     }
 }
 
@@ -207,6 +209,19 @@ fn with_first(fault: ScenarioFault, found: Vec<LocatedFault>) -> Faults
     Faults { first, others }
 }
 
+// The faults, each with where its place begins in the text.
+fn positioned(text: &[u8], faults: Faults) -> Faults
+    ensures { result.first.fault ≡ faults.first.fault }
+{
+    let Faults { first, mut others } = faults;
+    for found in others.iter_mut() {
+        found.position = position_of(text, found.place);
+    }
+    let position = position_of(text, first.place);
+    let first = LocatedFault { position, ..first };
+    Faults { first, others }
+}
+
 // Where the fault of a text is, and the others.
 fn located(alloc: Global, text: &[u8], fault: ScenarioFault) -> Faults
     ensures { result.first.fault ≡ fault }
@@ -215,14 +230,17 @@ fn located(alloc: Global, text: &[u8], fault: ScenarioFault) -> Faults
         Ok(value) => value,
         Err(error) => {
             let mut first = at(fault, Place::Whole);
-            first.line = Some((error.line(), error.column()));
+            first.position = Some(Position {
+                line: error.line(),
+                column: error.column(),
+            });
             let others = Vec::new(alloc);
             return Faults { first, others };
         }
     };
     match in_parts(alloc, &value) {
-        Ok(found) => with_first(fault, found),
-        Err(_) => with_first(fault, Vec::new(alloc)),
+        Ok(found) => positioned(text, with_first(fault, found)),
+        Err(_) => positioned(text, with_first(fault, Vec::new(alloc))),
     }
 }
 

@@ -169,6 +169,8 @@ class Tried:
                 status == (0 if end == "done" else 1) and not said and first == [{"scenario": {"cold": "unknown", "steps": len(steps)}}]
                 and [line["step"] for line in events] == places and [line["event"] for line in events] == list(range(1, len(places) + 1))
                 and last == [ends_of(end)], f"by hand: {name}: status {status}, {said}{text}")
+            self.as_run(f"by hand: {name}", status, text)
+            self.met["stopped"] += end != "done"
 
     def faults(self):
         """What is no scenario is told on standard error, as `etcs run` does, and plays nothing."""
@@ -189,14 +191,18 @@ class Tried:
         told, wanted = wanted_of(scenario, lines)
         self.unless((status, text, said) == (wanted, text_of(told), ""), f"{name}: {json.dumps(scenario)}\n  printed {status} {said}{text}\n"
                     f"  wanted  {wanted} {text_of(told)}")
-        self.ran(self.etcs, "format", self.image, 2)
-        other, lines, _ = self.ran(self.etcs, "run", self.path, self.image)
-        self.unless((status, self.as_printed(text)) == (other, lines), f"{name}: {text}  etcs run prints {other} {lines}")
+        self.as_run(name, status, text)
         for line in told[1:-1]:
             self.outputs += 1
             self.met.update(word for word, *_ in WORDS.values() if line[word] is not None)
             self.met[f"trip {line['trip_cause']}"] += 1
         self.met["stopped"] += told[-1]["end"] == "stopped"
+
+    def as_run(self, name, status, text):
+        """As `etcs run` does on an empty image."""
+        self.ran(self.etcs, "format", self.image, 2)
+        other, lines, _ = self.ran(self.etcs, "run", self.path, self.image)
+        self.unless((status, self.as_printed(text)) == (other, lines), f"{name}: {text}  etcs run prints {other} {lines}")
 
     @staticmethod
     def as_printed(text):

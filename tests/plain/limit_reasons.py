@@ -35,11 +35,11 @@ KINDS = {
 
 
 def numbered(life):
-    """The restrictions in force with their numbers, the newest first."""
+    """The restrictions in force with their numbers, the oldest first."""
     facts = life.facts_of(65, 66)
     numbers = [fact.packet.number for at, fact in enumerate(facts) if fact.packet.kind == 65 and (
         fact.packet.number == 255 or fact.packet.number not in [later.packet.number for later in facts[at + 1:]])]
-    return list(zip(life.restrictions(), numbers, strict=True))[::-1]
+    return list(zip(life.restrictions(), numbers, strict=True))
 
 
 def met_restriction(life, it, limit):

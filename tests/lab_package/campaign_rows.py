@@ -53,7 +53,7 @@ def by_two_workers(room, lives):
     """The lives by a scheduler and two workers; one is killed once some rows are there."""
     told = room / "scheduler.json"
     quiet = {"stdout": subprocess.DEVNULL, "stderr": subprocess.DEVNULL, "cwd": room,
-             "env": os.environ | {"PYTHONPATH": str(TOP / "python")}}
+             "env": os.environ | {"PYTHONPATH": str(TOP / "python"), "DASK_DISTRIBUTED__WORKER__PROFILE__ENABLED": "False"}}
     start = lambda module, *words: subprocess.Popen([PYTHON, "-m", f"distributed.cli.{module}", *words], **quiet)
     scheduler = start("dask_scheduler", "--host", "127.0.0.1", "--port", "0", "--no-dashboard", "--no-show", "--scheduler-file", str(told))
     workers = []

@@ -1,38 +1,22 @@
 #!/bin/sh
-# Prints what an event of a life costs over a disk in memory, in batches of eight, by crates/test_onboard: the instructions within
+# Prints what an event of a life costs over a disk in memory, in batches of eight (bench/calls/onboard): the instructions within
 # `Onboard::accept` and within an eighth of `Onboard::flush`, and how often memory is asked for in an accept. What callgrind counts for
 # 48 batches less what it counts for 24, by their events: all on slots that are used again. Beside them an eighth of a commit in plain Rust,
-# which makes the same calls of the disk (bench/plain_journal.rs). Then the events a second of `live` in memory, with the printing of the
-# first 84 released pairs; and those of `etcs run` and of plain Rust over a file, with the syncs of each batch. The program must be there
-# (./etcs --prove). Builds all else first; what the builds have to say goes to standard error.
+# which makes the same calls of the disk (bench/plain_journal.rs). Then the events a second of lives in memory; and those of `etcs run` and of
+# plain Rust over a file, with the syncs of each batch. The program must be there (./etcs --prove). Builds all else first; what the builds have
+# to say goes to standard error.
 #
 #     bench/onboard.sh [BATCHES]
 set -e
 top=$(cd "$(dirname "$0")/.." && pwd)
 out=$top/bench/out
 batches=${1:-10000}
-mkdir -p "$out"
-(cd "$top/crates/test_rows" && rt run -- test_onboard </dev/null) >&2
-program=$top/crates/test_rows/out/test_rows
-python3 "$top/tests/rows/test_onboard.py" "$program" >&2
+# What the library calls to take memory is in the toolchain's C library.
+memory=$(dirname "$(rt doc)")/c/liblibc_c.a
+"$top/bench/library" onboard >&2
+gcc -O2 -g -Wall -Wextra "$top/bench/onboard.c" "$out/libbench_onboard.a" "$memory" -o "$out/onboard" >&2
 rustc -O -C target-cpu=x86-64-v2 -g "$top/bench/plain_journal.rs" -o "$out/plain_journal" >&2
 cd "$out"
-
-# The start of a life in Full Supervision, on a track of one gradient and one speed.
-start='hear 90007F802001432024A8007FE007D002B00D900010000DC03A400020801FE0; enter-identity A; choose-level 1; enter-train-data 20000 160000 70 0 15; start; flush'
-
-# life START INPUT BATCHES [RUN]: the rows of a life, in numbers
-life() {
-    said "$@" | python3 "$top/tests/rows/onboard_words.py"
-}
-
-# said START INPUT BATCHES [RUN]: its commands
-said() {
-    awk -v start="$1" -v input="$2" -v batches="$3" -v run="$4" 'BEGIN {
-        printf "format 4; live unknown; %s", start
-        for (i = 0; i < batches; i++) { for (j = 0; j < 8; j++) printf "; %s", input; printf "; flush" }
-        print run }'
-}
 
 # collected FUNCTION PROGRAM [ARGUMENT]: the instructions within the function, with all that it calls
 collected() {
@@ -56,21 +40,19 @@ row() {
     printf '%-60s %10d\n' "$1" $((($3 - $2 + $4 / 2) / $4))
 }
 
-# unit TITLE START INPUT: an event of such a life
+# unit TITLE MOVES: an event of such a life
 unit() {
-    life "$2" "$3" 24 '; run' >few
-    life "$2" "$3" 48 '; run' >many
     for within in accept flush; do
-        first=$(collected "onboard::onboard::Onboard::$within*" "$program" test_onboard <few)
-        memory=$(asked)
-        second=$(collected "onboard::onboard::Onboard::$within*" "$program" test_onboard <many)
+        first=$(collected "bench_onboard::${within}_one" ./onboard "$2" 24)
+        few=$(asked)
+        second=$(collected "bench_onboard::${within}_one" ./onboard "$2" 48)
         row "$1: $within" "$first" "$second" 192
-        printf '%-60s %10d\n' "memory asked for in 192 of them" $(($(asked) - memory))
+        printf '%-60s %10d\n' "memory asked for in 192 of them" $(($(asked) - few))
     done
 }
 
-unit 'a moment of the clock in Stand By' flush 'clock 0'
-unit 'a reading of 1 cm in Full Supervision' "$start" 'move 1'
+unit 'a moment of the clock in Stand By' 0
+unit 'a reading of 1 cm in Full Supervision' 1
 row 'plain Rust: an eighth of a commit' "$(collected '*plain_journal::commit*' ./plain_journal 24)" \
     "$(collected '*plain_journal::commit*' ./plain_journal 48)" 192
 
@@ -82,10 +64,8 @@ milliseconds() {
 }
 
 # 200 lives of 70 batches, and the same with nothing lived
-for run in '; run' ''; do
-    life "$start" 'move 1' 70 "$run" >one
-    for _ in $(seq 200); do cat one; done >rows
-    echo "200 lives of 560 readings, '$run': $(milliseconds "$program" test_onboard <rows) ms"
+for lived in 70 0; do
+    echo "200 lives of $((8 * lived)) readings: $(milliseconds ./onboard 1 "$lived" 200) ms"
 done
 
 etcs=$top/crates/etcs/out/etcs

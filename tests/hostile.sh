@@ -1,5 +1,5 @@
 #!/bin/bash
-# The built programs under hostile use: every request for memory refused in turn, power cut at each write of an image file, altered bytes,
+# The built program under hostile use: every request for memory refused in turn, power cut at each write of an image file, altered bytes,
 # the bytes and the calls of image files over random lives, random telegrams and scenarios. What they must answer stands in the plain
 # programs, or in the tests themselves.
 #
@@ -8,12 +8,11 @@
 #     tests/hostile.sh files [LIVES [SEED]]                   lives on image files, more or others
 #     tests/hostile.sh inputs [TELEGRAMS SCENARIOS [SEED]]    random inputs, more or others
 #
-# ETCS=PROGRAM names another program than the one that the gate leaves behind, and TESTS=FOLDER where another test_rows is.
+# ETCS=PROGRAM names another program than the one that the gate leaves behind.
 [ -z "$ETCS" ] || ETCS=$(realpath "$ETCS") || exit 1
-[ -z "$TESTS" ] || TESTS=$(realpath "$TESTS") || exit 1
 cd "$(dirname "$0")" || exit 1
 export PYTHONDONTWRITEBYTECODE=1
-memory() { ./refuse_memory.sh 2>&1; }
+memory() { python3 hostile/refused_memory.py ../examples/*/scenario.json 2>&1; }
 cuts() { python3 hostile/cut_files.py 2>&1; }
 bytes() { python3 hostile/altered_bytes.py 2>&1; }
 files() { python3 hostile/lives_in_files.py "$@" 2>&1; }

@@ -1,31 +1,35 @@
 #!/bin/bash
-# The rows of the crates, by the proved program test_rows. Each module of rows/ makes numbers of its rows, asks the
-# program, makes words of what that tells, and compares with the answers that are wanted. Fails where one differs, where
-# a program is missing, where fewer rows were tried than stand here, and where a question that is too long for a program
-# is asked.
+# The rows of the crates, by a program that is compiled for them of the crates' sources, unproved (rows/tried). Each module of rows/ makes
+# numbers of its rows, all are asked in one go, and each makes words of what it was told, and compares with the answers that are wanted.
+# Fails where one differs, where the sources don't compile, where a run came to no end or an answer is missing, where fewer rows were tried
+# than stand here, and where a question that is too long for the program is asked.
 #
-#     tests/rows.sh            the programs that rt ci leaves in crates/
-#     tests/rows.sh FOLDER     FOLDER/test_rows and FOLDER/etcs
-folder=${1:+$(realpath "$1")}
+#     tests/rows.sh          with the program etcs that rt ci leaves in crates/, for the rows that ask it
+#     tests/rows.sh ETCS     with another one
+ETCS=$(realpath "${1:-$(dirname "$0")/../crates/etcs/out/etcs}") || exit 1
+export ETCS PYTHONDONTWRITEBYTECODE=1
 cd "$(dirname "$0")/rows" || exit 1
-export PYTHONDONTWRITEBYTECODE=1
+[ -x "$ETCS" ] || { echo "rows: no program $ETCS"; exit 1; }
+made=$(mktemp -d) || exit 1
+trap 'rm -rf "$made"' EXIT
+mkdir "$made/cases" "$made/answers" || exit 1
+modules=(test_decode test_parts test_modes test_disk test_blocks test_journal test_onboard test_kernel)
 status=0
-programs=()
-for name in test_rows etcs; do
-    programs+=("${folder:-../../crates/$name/out}/$name")
-    [ -x "${programs[-1]}" ] || { echo "rows: no program ${programs[-1]}"; exit 1; }
-done
 
-# rows NAME FLOOR: the rows of a crate
+# rows NAME FLOOR: the rows of a module
 rows() {
     local found count
-    found=$(python3 "$1.py" "${programs[@]}") || status=1
+    found=$(python3 "$1.py" --told "$made/answers") || status=1
     echo "$found"
     count=$(sed -n '$s/.*: \([0-9]*\) rows, .*/\1/p' <<< "$found")
     [ "${count:-0}" -ge "$2" ] || { echo "$1: fewer rows than $2"; status=1; }
 }
 
 python3 long_questions.py || status=1
+for name in "${modules[@]}"; do
+    python3 "$name.py" --ask "$made/cases" || exit 1
+done
+./tried "$made/cases" "$made/answers" || exit 1
 rows test_decode 291
 rows test_parts 2732
 rows test_modes 2613

@@ -1,7 +1,8 @@
 #!/bin/bash
 # The unit as C, C++, Python and Rust programs call it, all of it built from the folder that tools/library makes: the headers alone, the names
 # that the library shows, sizes and places, wrong calls, files, two units at once, the examples, images beside `etcs journal`, random lives
-# beside `etcs run`, and the commands of docs/EMBEDDING.md. It needs gcc, g++, valgrind, rustc and Debian's Python; clang is tried where it is there.
+# beside `etcs run`, memory that is refused, and the commands of docs/EMBEDDING.md. It needs gcc, g++, valgrind, rustc and Debian's Python; clang
+# is tried where it is there.
 #
 #     tests/unit.sh [PREFIX [LIVES]]    builds and installs the library first, or takes the one below PREFIX; 400 lives; $ETCS names another
 #                                       program than the gate's
@@ -93,11 +94,14 @@ for name in brake flash; do
     build "$name.checked" "$top/examples/embedding/$name.c" gcc -x c -std=c99 -O1 "${sanitizers[@]}"
 done
 build brake.cpp "$top/examples/embedding/brake.cpp" g++ -x c++ -std=c++17 -O2
+link=("$archive" -Wl,--wrap=malloc,--wrap=realloc,--wrap=free)
+build refused.gcc "$top/tests/unit/refused.c" gcc -x c -std=c99 -O2
+build refused.checked "$top/tests/unit/refused.c" gcc -x c -std=c99 -O1 "${sanitizers[@]}"
 link=(-L "$prefix/lib" -letcs_unit)
 for name in misuse two reading; do build "$name.shared" "$top/tests/unit/$name.c" gcc -x c -std=c99 -O2; done
 rustc --edition 2021 -D warnings -O -L "$prefix/lib" -l static=etcs_unit "$top/examples/embedding/rust/brake.rs" -o "$made/brake.rs" &&
     built=$((built + 1)) || fails "examples/embedding/rust doesn't compile"
-counted "programs built" $built 27
+counted "programs built" $built 29
 
 # ---- what they answer
 
@@ -144,10 +148,19 @@ counted "trains that brake" $trains 5
 
 "$python" "$top/tests/unit/images.py" "$made/listing.gcc" "$made/listing.checked" "$made"/image.* || status=1
 
-# ---- lives beside the program, the package in Python, and the page
+# ---- lives beside the program
 
 "$python" "$top/tests/unit/lives.py" "$made/life.gcc" "${2:-400}" || status=1
 "$python" "$top/tests/unit/lives.py" "$made/life.checked" "$((${2:-400} / 20))" 7 || status=1
+
+# ---- memory that is refused
+
+others=$(nm -u "$archive" | grep -Ew 'calloc|aligned_alloc|posix_memalign|memalign|mmap|sbrk' | tr -s ' \n' ' ')
+[ -z "$others" ] || fails "the library takes memory in a way that no test refuses:$others"
+for program in "$made"/refused.*; do "$python" "$top/tests/unit/refused_lives.py" "$program" || status=1; done
+
+# ---- the package in Python, and the page
+
 (cd "$top/python" && "$python" -m unittest -q tests.test_unit) >"$made/said" 2>&1 && grep -q '^Ran 12 tests' "$made/said" && ! grep -q skipped "$made/said" ||
     { cat "$made/said"; fails "python/tests/test_unit.py: failures, or other than 12 tests"; }
 ETCS_UNIT_ARCHIVE=$archive ETCS_C_ARCHIVE=$archive "$python" "$top/tests/unit/page.py" || status=1

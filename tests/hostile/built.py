@@ -1,7 +1,4 @@
-"""The built programs, as tests run them, and what is given to them.
-
-`ETCS` names another program than the one that the gate leaves behind, `TESTS` a folder with another program of rows.
-"""
+"""The built program, as tests run it, and what is given to it. `ETCS` names another one than the gate leaves behind."""
 import os
 import struct
 import subprocess
@@ -12,12 +9,6 @@ from pathlib import Path
 HERE = Path(__file__).resolve().parent
 TOP = HERE.parents[1]
 PROGRAM = os.environ.get("ETCS") or str(TOP / "crates/etcs/out/etcs")
-
-
-def test_program(name):
-    """The words that start the program of rows for a crate's."""
-    return [Path(os.environ.get("TESTS") or TOP / "crates/test_rows/out") / "test_rows", name]
-
 
 sys.path.insert(0, str(TOP / "tests/plain"))
 

@@ -1,15 +1,30 @@
-"""Rows of text as rows of numbers: what the programs of tests are asked, and what they answer.
+"""Rows of text as rows of numbers: what the program of rows is asked, and what it answers.
 
 A file of rows holds each question with its wanted answer behind it: `QUESTION: ANSWER`, or `QUESTION:` and lines that
 are indented. Empty lines, and lines that begin with `#`, are comments.
+
+Each module `test_..` takes these words:
+
+    test_disk.py                  asks the program, and compares its answers with those that are wanted
+    test_disk.py --ask FOLDER     writes the questions into FOLDER alone, as cases of the program
+    test_disk.py --told FOLDER    compares the answers that FOLDER has to these cases
+
+tests/rows.sh has all of them ask first, so that the program is compiled once (tests/rows/tried). A case is a file of
+questions, of which the program answers each on what those before it left. Since a case has bounds, a module's questions
+are split: a `Block` can be asked behind the one before, or begin a case behind questions that make what it needs.
 """
 import subprocess
 import sys
+import tempfile
+from collections import namedtuple
 from pathlib import Path
 
 HERE = Path(__file__).resolve().parent
-PROGRAM = HERE.parents[1] / "crates/test_rows/out/test_rows"  # its word names the crate that answers
-MOST = 512  # numbers that a program takes in a row (number_rows::MOST); it drops those behind them
+MOST = 512  # numbers that the program takes in a row (number_rows::MOST); it drops those behind them
+MOST_QUESTIONS = 8_000  # of a case, so that its answers stay below the 1 MiB that is taken of a run
+
+Block = namedtuple("Block", "before questions")
+Case = namedtuple("Case", "name before questions")  # so many answers stand before those that are asked for
 
 
 def rows_of(text):
@@ -62,24 +77,56 @@ class Told:
             raise ValueError("too many numbers")
 
 
-def refuse_long(words, questions):
-    """Ends the run where a question has more numbers than a program takes in a row."""
+def text_of(name, questions):
+    """Rows of numbers as the program reads them. Ends the run where a question has more numbers than it takes in a row."""
     for place, numbers in enumerate(questions, 1):
         if len(numbers) > MOST:
-            raise SystemExit(f"{words[-1]}: question {place} has {len(numbers)} numbers, and a row {MOST} at most")
+            raise SystemExit(f"{name}: question {place} has {len(numbers)} numbers, and a row {MOST} at most")
+    return "".join(" ".join(map(str, numbers)) + "\n" for numbers in questions)
 
 
-def asked(words, questions):
-    """The rows of numbers that a program, run with these words, answers to rows of numbers."""
-    refuse_long(words, questions)
-    text = "".join(" ".join(map(str, numbers)) + "\n" for numbers in questions)
-    ran = subprocess.run(words, input=text.encode(), capture_output=True, timeout=120)
-    if ran.returncode or ran.stderr:
-        raise SystemExit(f"{words[-1]}: status {ran.returncode} {ran.stderr.decode()}")
-    answers = [[int(word) for word in line.split()] for line in ran.stdout.decode().splitlines()]
-    if len(answers) != len(questions):
-        raise SystemExit(f"{words[-1]}: {len(questions)} rows, {len(answers)} answers")
+def cases_of(name, blocks):
+    """The cases of a module: blocks behind one another, up to so many questions."""
+    cases = []
+    for block in blocks:
+        if not cases or len(cases[-1].questions) + len(block.questions) > MOST_QUESTIONS:
+            cases.append(Case(f"{name}.{len(cases) + 1}", len(block.before), list(block.before)))
+        cases[-1].questions.extend(block.questions)
+    return cases
+
+
+def ask(cases, folder):
+    for case in cases:
+        (Path(folder) / case.name).write_text(text_of(case.name, case.questions))
+
+
+def told(cases, folder):
+    """The rows of numbers that a folder has as answers, one to each question of the blocks."""
+    answers = []
+    for case in cases:
+        lines = (Path(folder) / case.name).read_text().splitlines()
+        if len(lines) != len(case.questions):
+            raise SystemExit(f"{case.name}: {len(case.questions)} rows, {len(lines)} answers")
+        answers += ([int(word) for word in line.split()] for line in lines[case.before:])
     return answers
+
+
+def run(name, blocks, compare):
+    """Does what a module's words say. The exit status is 1 where an answer differs."""
+    cases = cases_of(name, blocks)
+    match sys.argv[1:]:
+        case ["--ask", folder]:
+            ask(cases, folder)
+            return 0
+        case ["--told", folder]:
+            return 0 if compare(told(cases, folder)) else 1
+        case []:
+            with tempfile.TemporaryDirectory() as asked, tempfile.TemporaryDirectory() as answered:
+                ask(cases, asked)
+                if subprocess.run([HERE / "tried", asked, answered]).returncode:
+                    return 1
+                return 0 if compare(told(cases, answered)) else 1
+    raise SystemExit(f"{name}: no words, or --ask or --told and a folder")
 
 
 def words_of(answer, numbers):
@@ -93,12 +140,8 @@ def words_of(answer, numbers):
         return [f"no answer ({fault}): {numbers}"]
 
 
-def compare(name, program, question_of, answer_of):
-    """Runs the rows of a file, prints what differs, and how many rows were tried. Whether all agree.
-
-    `question_of` makes numbers of a question, `answer_of` makes lines of a question and `Told`."""
-    rows = rows_of((HERE / f"{name}.row").read_text())
-    answers = asked([program, name], [question_of(question) for _, question, _ in rows])
+def compare(name, rows, answers, answer_of):
+    """Compares the rows of a file, prints what differs, and how many rows were tried. Whether all agree."""
     differ = 0
     for (place, question, wanted), numbers in zip(rows, answers):
         found = words_of(lambda told: answer_of(question, told), numbers)
@@ -111,6 +154,7 @@ def compare(name, program, question_of, answer_of):
 
 
 def main(name, question_of, answer_of):
-    """Runs a file of rows over the program of the first word. The exit status is 1 where one differs."""
-    program = sys.argv[1] if len(sys.argv) > 1 else PROGRAM
-    return 0 if compare(name, program, question_of, answer_of) else 1
+    """Runs a file of rows. `question_of` makes numbers of a question, `answer_of` makes lines of a question and `Told`."""
+    rows = rows_of((HERE / f"{name}.row").read_text())
+    questions = [question_of(question) for _, question, _ in rows]
+    return run(name, [Block([], questions)], lambda answers: compare(name, rows, answers, answer_of))

@@ -1,4 +1,4 @@
-"""What happens in the kernel's rows as numbers for the program `test_kernel`, and its answers as words.
+"""What happens in the kernel's rows as numbers for the module `test_kernel` of the program of rows, and its answers as words.
 
     power-up unknown                 or moved, not-moved: another life begins
     hear 90007F8020017FC0            the bytes of a balise
@@ -18,15 +18,13 @@
                                      lives), and national (the values, and the countries that they are of)
 
 An event is answered by the mode, the level, the brake, the limit (m/h) and the indications: `SR 1 none 40000 0`. The
-numbers stand in crates/test_kernel/src."""
-from collections import namedtuple
-
+numbers stand in program/src/test_kernel.rt.txt."""
 from asking import Told, packed, signed
 
 NEW = [0]  # equipment that never had power
 KNOWN = [3]  # where the train is, and what is kept
 WAYS = ("step", "apply", "power_up")
-ANSWERED, REFUSED = 1, 2
+REFUSED = 2  # stands in place of an output
 
 COLD = {"unknown": 0, "moved": 1, "not-moved": 2}
 ALONE = {"start": 6, "choose-shunting": 7, "leave-shunting": 8, "override": 9, "close-desk": 11}
@@ -82,14 +80,10 @@ def data(part):
 
 # ---- what is answered
 
-# What one way answers: the words, and place and items where it was refused memory first, else None.
-Answer = namedtuple("Answer", "text refused")
-
-
 def answers(word, value, numbers):
     """What each way answers to a line. ValueError and the like where the numbers say nothing."""
     told = Told(numbers)
-    read = output if question(word, value) != KNOWN else lambda told: Answer(known(told)[item(word, value)], None)
+    read = output if question(word, value) != KNOWN else lambda told: known(told)[item(word, value)]
     found = [read(told) for _ in WAYS]
     told.end()
     return dict(zip(WAYS, found))
@@ -99,22 +93,11 @@ def item(word, value):
     return value if word == "kept" else word
 
 
-def states(numbers):
-    """Place and items by each way."""
-    told = Told(numbers)
-    found = {way: known(told) for way in WAYS}
-    told.end()
-    return found
-
-
 def output(told):
-    kind, stood = told.take(), None
-    if kind == REFUSED:
-        stood, kind = known(told), told.take()
-    if kind != ANSWERED:
-        raise ValueError("memory was refused again")
+    if told.take() == REFUSED:
+        return "no memory"
     mode, level, brake, limit, indications = told.take(5)
-    return Answer(f"{MODES[mode]} {LEVELS[level]} {BRAKES[brake]} {limit} {indications}", stood)
+    return f"{MODES[mode]} {LEVELS[level]} {BRAKES[brake]} {limit} {indications}"
 
 
 def known(told):

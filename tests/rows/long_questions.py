@@ -1,17 +1,17 @@
 #!/usr/bin/env python3
-"""A question of more numbers than a program takes in a row is refused, before any program is asked.
+"""A question of more numbers than the program takes in a row is refused, before the program is asked.
 
-The program is `cat`, which answers each row by itself. The exit status is 1 where a row goes another way."""
+The exit status is 1 where a row goes another way."""
 import sys
 
-from asking import MOST, asked
+from asking import MOST, text_of
 
 
 def is_refused(numbers):
     try:
-        return asked(["cat"], [[1], numbers, [2]]) != [[1], numbers, [2]]
+        return text_of("rows", [[1], numbers, [2]]) != "\n".join(["1", " ".join(map(str, numbers)), "2", ""])
     except SystemExit as refusal:
-        return str(refusal) == f"cat: question 2 has {len(numbers)} numbers, and a row {MOST} at most"
+        return str(refusal) == f"rows: question 2 has {len(numbers)} numbers, and a row {MOST} at most"
 
 
 def main():

@@ -1,4 +1,4 @@
-"""Commands of the onboard unit's rows as numbers for the program `test_onboard`, and its answers as words.
+"""Commands of the onboard unit's rows as numbers for the module `test_onboard` of the program of rows, and its answers as words.
 
     format 4                 a disk for so many slots, and an empty journal on it
     less                     the same disk with one sector less
@@ -31,7 +31,7 @@
     list                     a line for each record that is retained
     bytes                    a digest of all bytes of the blocks that are retained
 
-The numbers stand in crates/test_onboard/src. Where it is run, it prints the numbers of the commands on standard input,
+The numbers stand in program/src/test_onboard.rt.txt. Where it is run, it prints the numbers of the commands on standard input,
 which stand on lines with `;` between them: tests/rows/onboard_words.py <ROWS"""
 import sys
 from functools import lru_cache

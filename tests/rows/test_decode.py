@@ -1,8 +1,9 @@
 #!/usr/bin/env python3
-"""Runs test_decode.row over the program: tests/rows/test_decode.py [PROGRAM [ETCS]]
+"""Runs test_decode.row over the program of rows (asking.py has the words).
 
-What is asked and told, in numbers, stands in crates/test_decode/src. The rows `decode` and `short` ask the program
-`etcs`; so does what is said of the agreement of all ways of reading."""
+What is asked and told, in numbers, stands in program/src/test_decode.rt.txt. Each word of a row is a function that yields
+its questions, is sent what they were told, and returns the lines. The rows `decode` and `short` ask the program `etcs`;
+so does what is said of the agreement of all ways of reading. $ETCS names another one than the gate's."""
 import os
 import resource
 import subprocess
@@ -10,12 +11,13 @@ import sys
 import tempfile
 from concurrent.futures import ThreadPoolExecutor
 
-from asking import HERE, PROGRAM, Told, asked, rows_of
+from asking import HERE, Block, Told, rows_of, run
 
 FAULTS = {0: "decoded", 1: "Truncated", 2: "WrongLength", 3: "Spare", 4: "OutOfRange", 5: "WrongVersion",
           6: "NotUplink", 7: "NotBalise", 8: "NoEnd", 9: "TooLong"}
 COUNTED = [1, 2, 3, 4, 8, 9]
 HEADER_BITS, HEADER_BYTES = 50, 7
+ETCS = os.environ.get("ETCS") or HERE.parents[1] / "crates/etcs/out/etcs"
 KINDS = {"links": 1, "level": 2, "start": 3, "area": 4, "speeds": 5, "other": 6}
 TRUTH = ["false", "true"]
 
@@ -40,37 +42,31 @@ def spell(data):
     return data.hex().upper()
 
 
-class Programs:
-    """The program of rows, asked for many rows at once, and the program `etcs`."""
-
-    def __init__(self, program, etcs):
-        self.program, self.etcs = program, etcs
-
-    def ask(self, questions):
-        return [Told(numbers) for numbers in asked([self.program, "test_decode"], questions)]
-
-    def told(self, text):
-        """What `etcs decode` prints, and its status."""
-        ran = subprocess.run([self.etcs, "decode", text], capture_output=True)
-        return ran.stdout.decode().splitlines(), ran.returncode
-
-    def told_all(self, texts):
-        with ThreadPoolExecutor(8) as pool:
-            return list(pool.map(self.told, texts))
+def printed(text):
+    """What `etcs decode` prints, and its status."""
+    ran = subprocess.run([ETCS, "decode", text], capture_output=True)
+    return ran.stdout.decode().splitlines(), ran.returncode
 
 
-def decode(programs, words):
-    lines, status = programs.told(words[0])
+def printed_all(texts):
+    with ThreadPoolExecutor(8) as pool:
+        return list(pool.map(printed, texts))
+
+
+def decode(words):
+    yield []
+    lines, status = printed(words[0])
     return [*lines, f"status {status}"]
 
 
-def short(programs, words):
+def short(words):
     """Where a file takes so many bytes and no more."""
     def limited():
         resource.setrlimit(resource.RLIMIT_FSIZE, (int(words[0]), int(words[0])))
+    yield []
     with tempfile.TemporaryFile() as out:
         # (a signal that Python ignores stays ignored)
-        ran = subprocess.run([programs.etcs, "decode", words[1]], stdout=out, stderr=subprocess.DEVNULL,
+        ran = subprocess.run([ETCS, "decode", words[1]], stdout=out, stderr=subprocess.DEVNULL,
                              preexec_fn=limited, restore_signals=False)
         if os.fstat(out.fileno()).st_size > int(words[0]):
             return ["more was taken"]
@@ -85,9 +81,9 @@ def put_over(data, at, width, number):
     return whole.to_bytes(len(data), "big")
 
 
-def numbers(programs, words):
+def numbers(words):
     at, width, data = int(words[0]), int(words[1]), data_of(words[2])
-    told = programs.ask([of_bytes(1, put_over(data, at, width, number)) for number in range(1 << width)])
+    told = yield [of_bytes(1, put_over(data, at, width, number)) for number in range(1 << width)]
     faults = [FAULTS[one.take()] for one in told]
     lines, first = [], 0
     for number in range(1, len(faults) + 1):
@@ -114,8 +110,8 @@ def without_end(data):
     return text
 
 
-def again(programs, words):
-    [told] = programs.ask([of_bytes(2, data_of(words[0]))])
+def again(words):
+    [told] = yield [of_bytes(2, data_of(words[0]))]
     data = written(told)
     if data is None:
         return ["no telegram"]
@@ -134,8 +130,8 @@ def walk_of(told):
     return fault, packets
 
 
-def places(programs, words):
-    [told] = programs.ask([of_bytes(3, data_of(words[0]))])
+def places(words):
+    [told] = yield [of_bytes(3, data_of(words[0]))]
     fault, packets = walk_of(told)
     if fault:
         return [FAULTS[fault]]
@@ -143,8 +139,8 @@ def places(programs, words):
             *(f"packet {number} from bit {offset} of {spell(data)}" for number, offset, data in packets)]
 
 
-def packet(programs, words):
-    [told] = programs.ask([of_bytes(4, data_of(words[0]))])
+def packet(words):
+    [told] = yield [of_bytes(4, data_of(words[0]))]
     fault = told.take()
     if fault:
         told.end()
@@ -155,17 +151,17 @@ def packet(programs, words):
     return [f"{elements} elements, {differences} differences", spell(data) if has_room else "no room"]
 
 
-def long(programs, words):
-    [told] = programs.ask([of_bytes(5, data_of(words[0]))])
+def long(words):
+    [told] = yield [of_bytes(5, data_of(words[0]))]
     less, more, found, fits, stays = told.take(5)
     told.end()
     return [f"in 160 bytes: {TRUTH[less]}", f"in 161 bytes: {TRUTH[more]}",
             f"in a telegram: {TRUTH[fits]}, array as it was: {TRUTH[stays]}" if found else "no packet"]
 
 
-def bits(programs, words):
+def bits(words):
     pairs = [(int(width), int(number)) for width, number in zip(words[::2], words[1::2])]
-    [told] = programs.ask([[6, len(pairs), *(word for pair in pairs for word in pair)]])
+    [told] = yield [[6, len(pairs), *(word for pair in pairs for word in pair)]]
     lines = []
     for width, number in pairs:
         has_room, size, *data = told.take(4)
@@ -175,19 +171,19 @@ def bits(programs, words):
     return lines
 
 
-def sizes(programs, words):
-    [told] = programs.ask([[7]])
+def sizes(words):
+    [told] = yield [[7]]
     packet_is, telegram_is = told.take(2)
     told.end()
     return [f"a packet within 480 bytes: {TRUTH[packet_is]}", f"a telegram within 16384 bytes: {TRUTH[telegram_is]}"]
 
 
-def spelling(programs, words):
+def spelling(words):
     kind, *others = words
     others = [int(word) for word in others]
     if kind == "speeds":
         others = [others[0], len(others) - 1, *others[1:]]
-    [told] = programs.ask([[8, KINDS[kind], *others]])
+    [told] = yield [[8, KINDS[kind], *others]]
     found, is_spelled, alone, beside = told.take(4)
     told.end()
     if not found:
@@ -222,13 +218,11 @@ def mutated_of(chance, data):
     return bytes(data)
 
 
-def agreeing(programs, all_data, faults):
+def agreeing(all_data, faults, copies, walks):
     """How many telegrams of these all ways of reading agree on."""
-    texts = programs.told_all([spell(data) for data in all_data])
-    copies = [written(told) for told in programs.ask([of_bytes(2, data) for data in all_data])]
-    walks = [walk_of(told) for told in programs.ask([of_bytes(3, data) for data in all_data])]
+    texts = printed_all([spell(data) for data in all_data])
     fronts = [b"" if copy is None else data_of(without_end(copy)) for copy in copies]
-    texts_again = programs.told_all([spell(front) for front in fronts])
+    texts_again = printed_all([spell(front) for front in fronts])
     count = 0
     for data, fault, (lines, status), copy, (walk_fault, packets), front, (lines_again, _) in zip(
             all_data, faults, texts, copies, walks, fronts, texts_again):
@@ -241,37 +235,53 @@ def agreeing(programs, all_data, faults):
     return count
 
 
-def mutated(programs, words):
+def mutated(words):
     chance, data = Chance(), data_of(words[1])
     all_data = [mutated_of(chance, data) for _ in range(int(words[0]))]
-    faults = [told.take() for told in programs.ask([of_bytes(1, one) for one in all_data])]
+    told = yield [of_bytes(way, data) for way in (1, 2, 3) for data in all_data]
+    count = len(all_data)
+    faults = [one.take() for one in told[:count]]
+    copies, walks = [written(one) for one in told[count:2 * count]], [walk_of(one) for one in told[2 * count:]]
     return [f"decoded: {faults.count(0)}", *(f"refused {FAULTS[fault]}: {faults.count(fault)}" for fault in COUNTED),
-            f"in agreement: {agreeing(programs, all_data, faults)}"]
+            f"in agreement: {agreeing(all_data, faults, copies, walks)}"]
 
 
 ASKED = {"decode": decode, "short": short, "numbers": numbers, "again": again, "packet": packet, "places": places,
          "long": long, "bits": bits, "sizes": sizes, "spelling": spelling, "mutated": mutated}
 
 
-def main(words):
-    top = HERE.parents[1]
-    program = words[0] if words else PROGRAM
-    programs = Programs(program, words[1] if len(words) > 1 else top / "crates/etcs/out/etcs")
-    rows = rows_of((HERE / "test_decode.row").read_text())
-    differ = 0
-    for place, question, wanted in rows:
-        word, *others = ["" if it == "''" else it for it in question.split(" ")]
-        try:
-            found = ["  " + line for line in ASKED[word](programs, others)]
-        except (ValueError, KeyError, IndexError, OverflowError) as fault:
-            found = [f"no answer ({fault})"]
+def answer_to(asking, told):
+    """The lines of a row that has asked, of what it was told."""
+    try:
+        asking.send(told)
+    except StopIteration as end:
+        return ["  " + line for line in end.value]
+    except (ValueError, KeyError, IndexError, OverflowError) as fault:
+        return [f"no answer ({fault})"]
+    return ["a second question"]
+
+
+def compare(rows, askings, questions, answers):
+    """Compares all rows, prints what differs, and how many were tried. Whether all agree."""
+    told, differ = iter(map(Told, answers)), 0
+    for (place, question, wanted), asking, asked in zip(rows, askings, questions):
+        found = answer_to(asking, [next(told) for _ in asked])
         if found != wanted:
             differ += 1
             print(f"test_decode.row:{place}: {question[:160]}", *(f"  wanted {line}" for line in wanted),
                   *(f"  found  {line}" for line in found), sep="\n")
     print(f"test_decode: {len(rows)} rows, {differ} differ")
-    return 0 if differ == 0 else 1
+    return differ == 0
+
+
+def main():
+    rows, askings = rows_of((HERE / "test_decode.row").read_text()), []
+    for _, question, _ in rows:
+        word, *others = ["" if it == "''" else it for it in question.split(" ")]
+        askings.append(ASKED[word](others))
+    questions = [next(asking) for asking in askings]
+    return run("test_decode", [Block([], asked) for asked in questions], lambda answers: compare(rows, askings, questions, answers))
 
 
 if __name__ == "__main__":
-    sys.exit(main(sys.argv[1:]))
+    sys.exit(main())

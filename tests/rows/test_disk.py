@@ -1,5 +1,5 @@
 #!/usr/bin/env python3
-"""Runs test_disk.row over the program: tests/rows/test_disk.py [PROGRAM]
+"""Runs test_disk.row over the program of rows (asking.py has the words).
 
 A row's first word names what it is for: `memory` is a disk in memory that can lose power, `liar` a disk that lies,
 `file` a disk over an honest file in memory, and `raw` such a file itself.
@@ -30,7 +30,7 @@ What each disk is asked:
     memory sectors            how many there are
     memory whole 3 512        whether so many bytes from a sector on are whole sectors of the disk
 
-The numbers of the words stand in crates/test_disk/src."""
+The numbers of the words stand in program/src/test_disk.rt.txt."""
 import sys
 
 from asking import main

@@ -1,5 +1,5 @@
 #!/usr/bin/env python3
-"""Runs test_journal.row over the program: tests/rows/test_journal.py [PROGRAM]
+"""Runs test_journal.row over the program of rows (asking.py has the words).
 
 A row is a call of the journal over a disk in memory, or what befalls the disk. The rows are done in turn.
 
@@ -24,7 +24,7 @@ A row is a call of the journal over a disk in memory, or what befalls the disk. 
     list 40 memory            .. to one that is refused memory behind so many bytes
 
 The answer of a call ends with how many calls of the disk were made, and, where the count of its faults went up, with
-that. The numbers of the words stand in crates/test_journal/src."""
+that. The numbers of the words stand in program/src/test_journal.rt.txt."""
 import sys
 
 from asking import main, packed

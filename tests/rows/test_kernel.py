@@ -1,5 +1,5 @@
 #!/usr/bin/env python3
-"""Runs test_kernel.row over the program: tests/rows/test_kernel.py [PROGRAM]
+"""Runs test_kernel.row over the program of rows (asking.py has the words).
 
     # a comment
     row NAME                         new equipment, that never had power
@@ -11,10 +11,10 @@
 Each line that gets another answer is printed: by `step` over stores that keep all that was told, by `apply` in place
 over stores that stay short, or by `apply` where each life begins by `power_up` with what was kept. So is each that is
 refused memory, and each whose answer says nothing. What is asked and told, in numbers, stands in
-crates/test_kernel/src; tests/plain/check_rows.py works out the wanted answers by the plain program."""
+program/src/test_kernel.rt.txt; tests/plain/check_rows.py works out the wanted answers by the plain program."""
 import sys
 
-from asking import HERE, PROGRAM, asked
+from asking import HERE, Block, run
 from kernel_words import NEW, answers, question
 
 sys.path.insert(0, str(HERE.parent / "plain"))
@@ -39,18 +39,17 @@ def differences(line, numbers):
         found = answers(line.word, line.value, numbers)
     except (ValueError, KeyError, IndexError, OverflowError) as fault:
         return [f"no answer ({fault}): {numbers}"]
-    refused = [f"no memory by {way}" for way, answer in found.items() if answer.refused]
-    others = [f"{answer.text} by {way}" for way, answer in found.items() if not is_met(line.wanted, answer.text)]
-    return refused + others
+    return [f"{text} by {way}" for way, text in found.items() if not is_met(line.wanted, text)]
 
 
 def is_met(wanted, found):
-    return wanted is None or rows.is_met(wanted, found)
+    """A line that wants nothing still wants an answer."""
+    return found != "no memory" if wanted is None else rows.is_met(wanted, found)
 
 
-def told(lists, program):
+def told(lists, answers):
     """Each line of the lists with its row and the numbers that it is answered."""
-    numbers = iter(asked([program, NAME], [one for row in lists for one in questions(row)]))
+    numbers = iter(answers)
     for row in lists:
         if next(numbers):
             raise SystemExit(f"{NAME}: new equipment is answered")
@@ -58,11 +57,10 @@ def told(lists, program):
             yield row, line, next(numbers)
 
 
-def compare(program):
-    """Runs all rows, prints what differs, and how many lines were tried. Whether all agree."""
-    lists = rows.read((HERE / f"{NAME}.row").read_text())
+def compare(lists, answers):
+    """Compares all rows, prints what differs, and how many lines were tried. Whether all agree."""
     differ = 0
-    for row, line, numbers in told(lists, program):
+    for row, line, numbers in told(lists, answers):
         for found in differences(line, numbers):
             differ += 1
             print(f"{NAME}.row:{line.number}: {row.name}: {line.word} {line.value}", f"  wanted {line.wanted}",
@@ -75,8 +73,8 @@ def compare(program):
 
 
 def main():
-    program = sys.argv[1] if len(sys.argv) > 1 else PROGRAM
-    return 0 if compare(program) else 1
+    lists = rows.read((HERE / f"{NAME}.row").read_text())
+    return run(NAME, [Block([], list(questions(row))) for row in lists], lambda answers: compare(lists, answers))
 
 
 if __name__ == "__main__":

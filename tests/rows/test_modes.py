@@ -1,5 +1,5 @@
 #!/usr/bin/env python3
-"""Runs test_modes.row over the program: tests/rows/test_modes.py [PROGRAM]
+"""Runs test_modes.row over the program of rows (asking.py has the words).
 
 `new` begins a life of new equipment, on another track. What else there is, with what a word stands for where its row
 shows nothing of it:
@@ -52,7 +52,7 @@ shows nothing of it:
     either 0 160000 10000 40000 20000 0
 
 A first word that isn't here has no number. The program is asked 0 then, which is no row of its own either. What is
-asked and told in numbers stands in crates/test_modes/src."""
+asked and told in numbers stands in program/src/test_modes.rt.txt."""
 import sys
 
 from asking import main, signed

@@ -1,13 +1,13 @@
 #!/usr/bin/env python3
-"""Runs test_onboard.row over the program: tests/rows/test_onboard.py [PROGRAM]
+"""Runs test_onboard.row over the program of rows (asking.py has the words).
 
 A row is one or several commands with `;` between them, which are done in turn. What each is to answer stands behind
 `->`. Some lines stand for many, and of the lines in a group the digest of the answers alone is wanted
 (tests/plain/row_lines.py). What the commands mean stands in onboard_words.py, and what is asked and told, in numbers,
-in crates/test_onboard/src."""
+in program/src/test_onboard.rt.txt."""
 import sys
 
-from asking import HERE, PROGRAM, asked
+from asking import HERE, Block, run
 from onboard_words import answer, questions
 
 sys.path.insert(0, str(HERE.parent / "plain"))
@@ -48,16 +48,36 @@ def rows_of(text):
 class Answers:
     """The rows of answers to those of all questions, taken one command after the other."""
 
-    def __init__(self, program, rows):
-        self.rows = iter(asked([program, NAME], rows))
+    def __init__(self, rows):
+        self.rows = iter(rows)
 
     def take(self, said):
         return answer(said, [next(self.rows) for _ in questions(said)])
 
 
-def questions_in(rows):
-    lines = [line for _, lines, _ in rows for line in lines]
-    return [numbers for line in lines for said, _ in commands_of(line) for numbers in questions(said)]
+def questions_in(line):
+    return [numbers for said, _ in commands_of(line) for numbers in questions(said)]
+
+
+def blocks_of(rows):
+    """The questions. A line of a group that goes back to the disk that was kept can begin a case, behind what made that disk: the lines
+    from the last that formats it up to the one that keeps it."""
+    blocks, made, kept = [Block([], [])], [], []
+    for _, lines, wanted in rows:
+        for line in lines:
+            asked, words = questions_in(line), [said.partition(" ")[0] for said, _ in commands_of(line)]
+            if wanted is not None and words[0] == "again":
+                blocks.append(Block(kept, []))
+            blocks[-1].questions.extend(asked)
+            if words[0] == "format":
+                made = asked
+            elif words[0] != "again":
+                made = made + asked
+            elif "keep" in words:
+                made = kept + asked
+            if "keep" in words:
+                kept = made
+    return blocks
 
 
 def digest(lines, answers):
@@ -77,10 +97,9 @@ def differences(lines, wanted, answers):
     return [(said, want, found) for said, want, found in told if want != found]
 
 
-def compare(program):
-    """Runs all rows, prints what differs, and how many lines were tried. Whether all agree."""
-    rows = list(rows_of((HERE / f"{NAME}.row").read_text()))
-    answers, differ = Answers(program, questions_in(rows)), 0
+def compare(rows, answers):
+    """Compares all rows, prints what differs, and how many lines were tried. Whether all agree."""
+    differ = 0
     for place, lines, wanted in rows:
         found = differences(lines, wanted, answers)
         differ += bool(found)
@@ -91,8 +110,8 @@ def compare(program):
 
 
 def main():
-    program = sys.argv[1] if len(sys.argv) > 1 else PROGRAM
-    return 0 if compare(program) else 1
+    rows = list(rows_of((HERE / f"{NAME}.row").read_text()))
+    return run(NAME, blocks_of(rows), lambda answers: compare(rows, Answers(answers)))
 
 
 if __name__ == "__main__":

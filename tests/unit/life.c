@@ -3,9 +3,9 @@
  *     life IMAGE COLD [CUT]    reads inputs from standard input, one a line; with CUT it stops behind so many requests
  *     life format IMAGE SLOTS
  *
- * The inputs: `telegram HEX`, `odometer CM SPEED`, `clock MS`, `action N`, `identity HEX`, `number N`,
- * `train LENGTH MAXIMUM DECELERATION REACTION CATEGORY`, and `flush`. */
+ * The inputs stand in inputs.h; a line may also be `flush`. */
 #include "etcs_file.h"
+#include "inputs.h"
 
 #include <inttypes.h>
 #include <stdio.h>
@@ -75,40 +75,6 @@ static uint32_t flush(etcs_file *file, etcs_unit *unit, int prepares) {
     for (uint32_t i = 0; status == ETCS_UNIT_OK && i < count; i++)
         print(&outputs[i]);
     return status;
-}
-
-static size_t bytes_of(const char *hex, uint8_t *bytes, size_t room) {
-    size_t length = 0;
-    unsigned byte;
-    for (; hex[0] && hex[1] && length < room && sscanf(hex, "%2x", &byte) == 1; hex += 2)
-        bytes[length++] = (uint8_t)byte;
-    return length;
-}
-
-/* Hands in the input of a line. */
-static uint32_t take(etcs_unit *unit, const char *line) {
-    char hex[512];
-    uint8_t bytes[256];
-    int64_t movement;
-    uint64_t moment;
-    uint32_t number;
-    etcs_train_data data;
-    uint32_t *const to = (uint32_t *)&data; /* five numbers of 32 bits, in the order of the header */
-    if (sscanf(line, "telegram %511s", hex) == 1)
-        return etcs_unit_telegram(unit, bytes, bytes_of(hex, bytes, sizeof bytes));
-    if (sscanf(line, "identity %511s", hex) == 1)
-        return etcs_unit_identity(unit, bytes, bytes_of(hex, bytes, sizeof bytes));
-    if (sscanf(line, "odometer %" SCNd64 " %" SCNu32, &movement, &number) == 2)
-        return etcs_unit_odometer(unit, movement, number);
-    if (sscanf(line, "clock %" SCNu64, &moment) == 1)
-        return etcs_unit_clock(unit, moment);
-    if (sscanf(line, "action %" SCNu32, &number) == 1)
-        return etcs_unit_action(unit, number);
-    if (sscanf(line, "number %" SCNu32, &number) == 1)
-        return etcs_unit_running_number(unit, number);
-    if (sscanf(line, "train %" SCNu32 " %" SCNu32 " %" SCNu32 " %" SCNu32 " %" SCNu32, &to[0], &to[1], &to[2], &to[3], &to[4]) == 5)
-        return etcs_unit_train_data(unit, &data);
-    return ETCS_UNIT_OUT_OF_RANGE;
 }
 
 /* The whole life; a flush comes of itself before a ninth pending event, and at the end. */

@@ -1,0 +1,181 @@
+/* Refuses memory to the unit: lives one life on an image again and again, and refuses in each run one request for memory of the library's,
+ * in turn, until a run meets no refusal.
+ *
+ *     refused IMAGE    reads the life from standard input: `open COLD`, an input (inputs.h), `flush` or `close` on each line
+ *
+ * A call that is refused memory says so and changes nothing that is told; it is made once more. All else is as in a run without a refusal:
+ * each status, request, byte and output, and what the medium holds in the end. Only `open` and the inputs ask for memory, and behind the
+ * life all of it is given back. Where the life meets no refusal the run fails. Built with --wrap for malloc, realloc and free. */
+#include "inputs.h"
+#include "medium.h"
+
+enum { MOST_LINES = 256, MOST_BYTES = 1 << 16 };
+
+/* ---- memory, as the library asks for it */
+
+static unsigned long asked, refused_at; /* requests so far in this run; which one is refused, from 1 on */
+static long held;                       /* how many pieces are out */
+static int is_refused;                  /* whether the call that runs met the refusal */
+
+void *__real_malloc(size_t size);
+void *__real_realloc(void *old, size_t size);
+void __real_free(void *old);
+void *__wrap_malloc(size_t size);
+void *__wrap_realloc(void *old, size_t size);
+void __wrap_free(void *old);
+
+static int refuses(void) {
+    if (++asked != refused_at)
+        return 0;
+    is_refused = 1;
+    return 1;
+}
+
+void *__wrap_malloc(size_t size) {
+    void *const made = refuses() ? NULL : __real_malloc(size);
+    held += made != NULL;
+    return made;
+}
+
+void *__wrap_realloc(void *old, size_t size) {
+    void *const made = refuses() ? NULL : __real_realloc(old, size);
+    held += old == NULL && made != NULL;
+    return made;
+}
+
+void __wrap_free(void *old) {
+    held -= old != NULL;
+    __real_free(old);
+}
+
+/* ---- a run */
+
+/* What a line is answered: a status, and a digest of the requests with their bytes and of the outputs. */
+typedef struct {
+    uint64_t status, digest;
+} answer;
+
+static char lines[MOST_LINES][1024];
+static unsigned many;
+static uint8_t image[MOST_BYTES], bytes[MOST_BYTES];
+static medium on = {bytes, 0};
+static etcs_unit unit;
+static unsigned refused_open, refused_inputs;
+
+/* Goes on with a digest of bytes (FNV-1a). */
+static void digest(uint64_t *to, const void *from, size_t len) {
+    for (size_t i = 0; i < len; i++)
+        *to = (*to ^ ((const uint8_t *)from)[i]) * UINT64_C(0x100000001B3);
+}
+
+/* Opens, or hands in an input. Where it is refused memory it is made once more. */
+static uint32_t asks(const char *line, int opens, uint32_t cold) {
+    etcs_unit_state_told before, after;
+    memset(&before, 0, sizeof before);
+    memset(&after, 0, sizeof after);
+    const uint32_t was = etcs_unit_state(&unit, &before);
+    const long had = held;
+    is_refused = 0;
+    const uint32_t status = opens ? etcs_unit_open(&unit, on.bytes, on.len, cold) : take(&unit, line);
+    if (!is_refused)
+        return status;
+    is(line, status, opens ? ETCS_UNIT_OPEN_NO_MEMORY : ETCS_UNIT_NO_MEMORY);
+    is("its state", etcs_unit_state(&unit, &after), was);
+    is("what that tells", (uint64_t)memcmp(&before, &after, sizeof before), 0);
+    if (opens) {
+        is("what a refused power-up holds", (uint64_t)held, (uint64_t)had);
+        refused_open++;
+    } else {
+        refused_inputs++;
+    }
+    return opens ? etcs_unit_open(&unit, on.bytes, on.len, cold) : take(&unit, line);
+}
+
+/* Carries out the list and releases. */
+static uint32_t carries_out(uint64_t *to) {
+    etcs_unit_request_told request;
+    etcs_unit_output outputs[ETCS_UNIT_OUTPUTS];
+    uint8_t written[ETCS_UNIT_REQUEST_BYTES];
+    uint32_t index = 0, count = 0;
+    for (; etcs_unit_request(&unit, index, &request, written, sizeof written) == ETCS_UNIT_OK; index++) {
+        digest(to, &request, sizeof request);
+        digest(to, written, (size_t)request.sectors * ETCS_UNIT_SECTOR);
+        do_on(&on, &request, written);
+    }
+    is("done", etcs_unit_done(&unit, index), ETCS_UNIT_OK);
+    const uint32_t status = etcs_unit_release(&unit, outputs, ETCS_UNIT_OUTPUTS, &count);
+    digest(to, outputs, count * sizeof outputs[0]);
+    return status;
+}
+
+static answer answer_to(const char *line) {
+    answer found = {0, UINT64_C(0xCBF29CE484222325)};
+    uint32_t cold;
+    const int opens = sscanf(line, "open %" SCNu32, &cold) == 1;
+    const int flushes = strcmp(line, "flush") == 0, closes = strcmp(line, "close") == 0;
+    if (!flushes && !closes)
+        found.status = asks(line, opens, cold);
+    const unsigned long before = asked;
+    if (flushes)
+        found.status = etcs_unit_prepare(&unit);
+    if (closes)
+        found.status = etcs_unit_close(&unit);
+    if (found.status == ETCS_UNIT_OK && (opens || flushes))
+        found.status = carries_out(&found.digest);
+    is("requests for memory of a call that takes no input", asked - before, 0);
+    return found;
+}
+
+/* Lives the life, with a request refused. */
+static void live(unsigned long at, answer *found) {
+    memcpy(bytes, image, on.len);
+    memset(&unit, 0, sizeof unit);
+    asked = 0;
+    refused_at = at;
+    for (unsigned i = 0; i < many; i++)
+        found[i] = answer_to(lines[i]);
+    etcs_unit_close(&unit);
+    is("what is held behind the life", (uint64_t)held, 0);
+}
+
+/* That a run was answered as the undisturbed one, and left the same bytes. */
+static void compare(const answer *found, const answer *wanted, const uint8_t *left) {
+    for (unsigned i = 0; i < many; i++) {
+        is(lines[i], found[i].status, wanted[i].status);
+        is("its requests and outputs", found[i].digest, wanted[i].digest);
+    }
+    is("what the medium holds", (uint64_t)memcmp(bytes, left, on.len), 0);
+}
+
+static int read_all(const char *path) {
+    FILE *const file = fopen(path, "rb");
+    if (!file)
+        return 0;
+    on.len = fread(image, 1, sizeof image, file);
+    fclose(file);
+    while (many < MOST_LINES && fgets(lines[many], sizeof lines[0], stdin)) {
+        lines[many][strcspn(lines[many], "\n")] = 0;
+        many++;
+    }
+    return on.len > 0 && on.len < sizeof image && many > 0 && many < MOST_LINES;
+}
+
+int main(int count, char **words) {
+    static answer wanted[MOST_LINES], found[MOST_LINES];
+    static uint8_t left[MOST_BYTES];
+    if (count != 2 || !read_all(words[1]))
+        return 2;
+    live(0, wanted);
+    memcpy(left, bytes, on.len);
+    for (unsigned i = 0; i < many; i++)
+        is(lines[i], wanted[i].status, ETCS_UNIT_OK);
+    const unsigned long all = asked;
+    for (unsigned long at = 1; at <= all + 1; at++) {
+        const unsigned before = refused_open + refused_inputs;
+        live(at, found);
+        compare(found, wanted, left);
+        is("refusals of a run", refused_open + refused_inputs - before, at <= all);
+    }
+    printf("refused: %u power-ups, %u inputs\n", refused_open, refused_inputs);
+    return told("refused", 2 * many) || refused_open == 0 || refused_inputs == 0;
+}

@@ -1,0 +1,133 @@
+#!/usr/bin/env python3
+"""Refuses memory to the unit from C, each request of a life in turn (refused.c): lives on new images, on rings with blocks of all formats, and
+the events of rows of the kernel, which take memory in each of the lists that it keeps.
+
+    tests/unit/refused_lives.py REFUSED    REFUSED is refused.c with the library
+
+The exit status is 1 where a life is answered otherwise than without a refusal, or where no power-up or no input of it was refused memory.
+"""
+import re
+import subprocess
+import sys
+import tempfile
+from pathlib import Path
+
+TOP = Path(__file__).resolve().parents[2]
+sys.path[:0] = [str(TOP / "tests/hostile"), str(TOP / "tests/plain"), str(TOP / "tests/rows")]
+
+from built import AUTHORITY, RESTRICTION, Failures  # noqa: E402
+from onboard_lives import RINGS, Made  # noqa: E402
+from onboard_words import ACKNOWLEDGED, ACTIONS, COLD, CONFIRMED  # noqa: E402
+
+PENDING = 8
+ENTRIES = ["enter-identity A", "choose-level 1", "enter-train-data 20000 160000 70 0 15", "start"]
+READINGS = ["move 9046 10000", "move 1 10000", "move 7268 10000", "move 1 10000"]
+NEW = {
+    "staff responsible": ["open unknown", f"hear {RESTRICTION}", *ENTRIES, "flush", *READINGS, "flush", "close", "open not-moved", "confirm identity", "flush"],
+    "full supervision": ["open unknown", f"hear {AUTHORITY}", *ENTRIES, "flush", "move 100 20000", "clock 5", "flush", "close", "open moved", "flush"],
+    "a life and an opening": ["open unknown", f"hear {RESTRICTION}", ENTRIES[0], "flush", *ENTRIES[1:], "flush", *READINGS, "flush", "close", "open unknown",
+                              "flush"],
+    "an authority behind a second power-up": ["open unknown", f"hear {RESTRICTION}", *ENTRIES, *READINGS, "open not-moved", "confirm identity",
+                                              f"hear {AUTHORITY}"],
+}
+# Behind what stands on a ring.
+ON_A_RING = ["open not-moved", f"hear {RESTRICTION}", "enter-identity B", "clock 7", "flush", "close", "open moved", "confirm identity", "flush"]
+LONGER = ["open not-moved", "clock 7", "enter-running-number 5", "flush", f"hear {AUTHORITY}", "flush", "clock 9", "flush", "close", "open unknown", "flush"]
+STORIES = ("an area ahead that is acknowledged", "an announced group in time", "several announced 1", "values ahead", "two restrictions 255 in a message",
+           "end timer", "position over several power-ups")
+
+# The first of the numbers of etcs_unit.h for an action with a value, and the number of one without.
+CHOICES, CONFIRMATIONS, REASONS = 1, 2, 10
+ALONE = {6: 7, 7: 8, 8: 9, 9: 10, 11: 15}
+
+
+def line_of(said):
+    """A command of rows as a line of refused.c."""
+    word, *values = said.split()
+    if word in ("open", "power-up"):
+        return f"open {COLD[values[0]]}"
+    if word == "hear":
+        return f"telegram {values[0]}"
+    if word == "move":
+        return f"odometer {values[0]} {values[1] if len(values) > 1 else 0}"
+    if word == "enter-identity":
+        return f"identity {said.partition(' ')[2].encode().hex()}"
+    if word == "enter-running-number":
+        return f"number {values[0]}"
+    if word == "enter-train-data":
+        return "train " + " ".join(values)
+    return f"action {action(word, *values)}" if word not in ("clock", "flush", "close") else said
+
+
+def action(word, value=None):
+    if word == "choose-level":
+        return CHOICES + int(value)
+    if word == "confirm":
+        return CONFIRMATIONS + CONFIRMED[value]
+    return REASONS + ACKNOWLEDGED[value] if word == "acknowledge" else ALONE[ACTIONS[word]]
+
+
+def lines_of(life):
+    """The lines of a life. A flush comes of itself before a ninth pending input, before another power-up, and at the end."""
+    lines, pending, is_open = [], 0, False
+    for said in [*life, "close"]:
+        line = line_of(said)
+        opens = line.startswith("open")
+        if pending and line != "flush" and (opens or line == "close" or pending == PENDING):
+            lines.append("flush")
+            pending = 0
+        if opens and is_open:
+            lines.append("close")
+        if line != "close" or is_open:
+            lines.append(line)
+        is_open = line != "close"
+        pending = 0 if opens or line in ("flush", "close") else pending + 1
+    return lines
+
+
+def story(name):
+    """What happens in a row of the kernel's."""
+    text = (TOP / "tests/rows/test_kernel.row").read_text()
+    lines = text.partition(f"\nrow {name}\n")[2].partition("\nrow ")[0].splitlines()
+    said = [re.split("->|#", line)[0].strip() for line in lines]
+    return [line for line in said if line and not line.startswith(("place", "kept"))]
+
+
+def formatted(made):
+    made.say("format 4")
+
+
+def lives():
+    """Each life with its name and what prepares its image."""
+    for name, life in NEW.items():
+        yield name, formatted, life
+    for name, _, prepare in RINGS:
+        yield name, prepare, ON_A_RING
+        yield f"{name}, longer", prepare, LONGER
+    for name in STORIES:
+        yield f"the kernel, {name}", formatted, story(name)
+
+
+def image(prepare):
+    made = Made()
+    prepare(made)
+    return b"".join(made.session.disk.settled().held)
+
+
+def main(program):
+    failures, power_ups, inputs = Failures(), 0, 0
+    with tempfile.TemporaryDirectory() as folder:
+        at = Path(folder) / "image"
+        for name, prepare, life in lives():
+            at.write_bytes(image(prepare))
+            text = "".join(line + "\n" for line in lines_of(life))
+            ran = subprocess.run([program, at], input=text, capture_output=True, text=True, timeout=120)
+            found = re.search(r"^refused: (\d+) power-ups, (\d+) inputs$", ran.stdout, re.M)
+            failures.unless(ran.returncode == 0 and not ran.stderr and found, f"{name}: status {ran.returncode} {ran.stdout[:800]} {ran.stderr[:400]}")
+            if found:
+                power_ups, inputs = power_ups + int(found[1]), inputs + int(found[2])
+    return failures.end(f"memory refused to the unit: {power_ups} power-ups and {inputs} inputs in {failures.tried} lives")
+
+
+if __name__ == "__main__":
+    sys.exit(main(sys.argv[1]))

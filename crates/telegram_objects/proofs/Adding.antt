@@ -1,5 +1,5 @@
--- Whatever a layout shows, as fields and as bits: the fields are those before and more, each as W says, and the bits are
--- those before and the bits of these fields, where the layout has no run of bits.
+-- Whatever a layout shows, as fields and as bits: the fields are those before and more, each as W says, and the bits
+-- are those before and the bits of these fields, where the layout has no run of bits.
 use Rattle.std.proofs.Common.{◌≡◌, ℕ, zero, suc, nat_eq, Bool, true, false, List, [], ◌∷◌, ◌++◌, Option, Some, None, length, drop, refl, sym, ap, ◌∙◌, append_assoc}
 use Rattle.std.specs.Prelude.{if◌then◌else◌}
 use Rattle.std.specs.List.{AllByRecursion as Each}

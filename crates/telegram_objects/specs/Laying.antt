@@ -1,5 +1,5 @@
--- How the bits of a packet lie in the value that tells it: field after field, each in the bits of its variable, and then
--- the body (SUBSET-026, 7.4.2; this project's profile).
+-- How the bits of a packet lie in the value that tells it: field after field, each in the bits of its variable, and
+-- then the body (SUBSET-026, 7.4.2; this project's profile).
 use Rattle.std.specs.Prelude.{◌≡◌, ◌≢◌, ◌⊎◌, ◌+◌, ◌<◌, ℕ, List, [], ◌∷◌, ◌++◌, Bool, length, codes}
 use Rattle.std.specs.List.{AllByRecursion}
 use Rattle.bits.specs.Names.{name_text}
@@ -23,8 +23,8 @@ abbrev pub BeginWithOther : List FieldValue → Type 0
 BeginWithOther [] = ⊥
 BeginWithOther (f ∷ fields) = name_text f.name ≢ codes "L_PACKET"
 
--- The value tells a packet that is spelled by these bits: NID_PACKET, Q_DIR and L_PACKET, and then other fields or the body
--- of a packet that is skipped.
+-- The value tells a packet that is spelled by these bits: NID_PACKET, Q_DIR and L_PACKET, and then other fields or the
+-- body of a packet that is skipped.
 pub record Lays (d : Data) (bits : List Bool) : Type 0 where
   pub first : FieldValue
   pub second : FieldValue

@@ -1,6 +1,6 @@
-//! The bits of a telegram that an object tells: each number in the bits of its variable, one after another, L_PACKET as the
-//! length of its packet, and behind the packets the end mark. Nothing is tested here: whether an object tells a telegram is
-//! seen once its bits are read again.
+//! The bits of a telegram that an object tells: each number in the bits of its variable, one after another, L_PACKET
+//! as the length of its packet, and behind the packets the end mark. Nothing is tested here: whether an object tells a
+//! telegram is seen once its bits are read again.
 ghost use Rattle.std.specs.Prelude.{◌≡◌, ◌↔◌, ◌⊎◌, ◌+◌, ◌<◌, ◌≤◌, ℕ, List, [], ◌∷◌, ◌++◌, Bool, true, false, length, map, replicate, codes, IsTrue, IsSomeAnd};
 ghost use Rattle.bits.specs.Bits.{bits_of, number_bits};
 ghost use Rattle.bits.specs.Names.{name_text};

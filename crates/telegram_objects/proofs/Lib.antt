@@ -1,0 +1,7 @@
+pub mod Adding
+pub mod Chains
+pub mod Jsons
+pub mod Laid
+pub mod Plains
+pub mod Puts
+pub mod Shapes

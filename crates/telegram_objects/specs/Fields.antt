@@ -1,6 +1,7 @@
 -- The fields of a header and of a packet as a list: each with the name of its variable (SUBSET-026, 7.5.1), the number
 -- of its bits, and the number that they spell.
-use Rattle.std.specs.Prelude.{ℕ, ◌==◌, List, [], ◌∷◌, ◌++◌, if◌then◌else◌}
+use Rattle.std.specs.Prelude.{ℕ, ◌+◌, ◌==◌, Bool, List, [], ◌∷◌, ◌++◌, if◌then◌else◌}
+use Rattle.bits.specs.Bits.{number_bits}
 use Rattle.bits.specs.Writing.{Shown, named, raw, taken}
 use Rattle.bits.specs.declared.name.VariableName.TheVariants as names
 use Rattle.packets.specs.Packets.{length_of, number_of, packet_taken}
@@ -21,3 +22,13 @@ header_fields h = taken with_field header h []
 -- the fields of a packet, NID_PACKET first
 abbrev pub packet_fields : Packet → List FieldValue
 packet_fields p = packet_taken with_field (length_of p) p (with_field [] (named names.NidPacket 8 (number_of p)))
+
+-- the bits of fields, one after another
+abbrev pub fields_bits : List FieldValue → List Bool
+fields_bits [] = []
+fields_bits (f ∷ fields) = number_bits f.width f.number ++ fields_bits fields
+
+-- how many these are
+abbrev pub fields_size : List FieldValue → ℕ
+fields_size [] = 0
+fields_size (f ∷ fields) = f.width + fields_size fields

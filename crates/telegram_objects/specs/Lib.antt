@@ -1,2 +1,4 @@
 pub mod Fields
+pub mod Laying
 pub mod Telling
+pub mod Widths

@@ -1,19 +1,45 @@
 -- Which JSON value tells a telegram: its header by the names of the variables, and its packets as lists of pairs of a
 -- name and a number (SUBSET-026, 7.5.1 and 8.4.2; the object: this project's profile).
-use Rattle.std.specs.Prelude.{◌≡◌, ◌⊎◌, ℕ, ◌-◌, ◌*◌, List, [], ◌∷◌, ◌++◌, Bool, false, length, map, take, drop, replicate, codes, Some, Ok}
+use Rattle.std.specs.Prelude.{◌≡◌, ◌⊎◌, ℕ, ◌+◌, ◌-◌, ◌*◌, ◌/◌, List, [], ◌∷◌, ◌++◌, Bool, false, length, map, take, drop, replicate, codes, None, Some, Ok, is_some, option_map}
+use Rattle.std.specs.Int.{from_bool}
 use Rattle.std.specs.List.{AllByRecursion}
 use Rattle.bits.specs.Bits.{bits_of}
 use Rattle.bits.specs.Names.{name_text}
 use Rattle.hex.specs.Hex.{decode_of}
+use Rattle.packets.specs.Packets.{number_of}
 use Rattle.packets.specs.declared.packet.Packet.{Packet}
 use Rattle.packets.specs.declared.packet.Packet.TheVariants as packets
 use Rattle.serde_json.specs.Data.{unsigned, Data, number, string, array, item, no_items}
-use Rattle.serde_json.specs.Find.{get}
+use Rattle.serde_json.specs.Events.{members_len}
+use Rattle.serde_json.specs.Find.{get, as_object}
 use Rattle.serde_json.specs.View.{items_of}
+use Rattle.telegram.specs.Sequences.{length_of_all}
+use Rattle.telegram.specs.Telegrams.{Carries, header_bits}
 use Rattle.telegram.specs.declared.header.Header.{Header}
 use Rattle.telegram.specs.declared.message.Telegram.{Telegram}
 use Rattle.telegram_objects.specs.Fields.{header_fields, packet_fields}
 use Rattle.telegram_objects.specs.declared.fields.FieldValue.{FieldValue}
+
+-- ---- members of objects
+
+-- The value is an object of so many members.
+abbrev pub HasCount : Data → ℕ → Type 0
+HasCount d n = option_map members_len (as_object d) ≡ Some n
+
+-- how many of the keys the value has
+abbrev pub count_of : List (List ℕ) → Data → ℕ
+count_of [] d = 0
+count_of (key ∷ keys) d = from_bool (is_some (get key d)) + count_of keys d
+
+-- The value is an object with no other members than these: it has as many members as it has of these.
+abbrev pub HasOnly : List (List ℕ) → Data → Type 0
+HasOnly keys d = HasCount d (count_of keys d)
+
+-- What stands at the key, if anything does, is this number.
+abbrev pub AgreesAt : List ℕ → Data → ℕ → Type 0
+AgreesAt key d n = (get key d ≡ None) ⊎ (get key d ≡ Some (number (unsigned n)))
+
+-- ---- a packet
 
 -- the pair of a variable's name and its number
 abbrev pub pair_of : FieldValue → Data
@@ -31,12 +57,13 @@ without_length fields = take 2 fields ++ drop 3 fields
 abbrev pub TellsFields : Data → List FieldValue → Type 0
 TellsFields d fields = (get (codes "fields") d ≡ Some (pairs_of fields)) ⊎ (get (codes "fields") d ≡ Some (pairs_of (without_length fields)))
 
--- The bits of a body that is skipped are told in hexadecimal digits, padded with zero bits to whole bytes.
+-- The bits of a body that is skipped are told in hexadecimal digits, padded with zero bits to the next whole byte.
 pub record TellsBits (d : Data) (bits : List Bool) : Type 0 where
   pub digits : List ℕ
   pub bytes : List ℕ
   pub told : get (codes "body") d ≡ Some (string digits)
   pub decoded : decode_of digits ≡ Ok bytes
+  pub fewest : length bytes ≡ (length bits + 7) / 8
   pub padded : bits_of bytes ≡ bits ++ replicate (8 * length bytes - length bits) false
   pub count : get (codes "skipped_bits") d ≡ Some (number (unsigned (length bits)))
 
@@ -45,8 +72,12 @@ abbrev pub TellsBody : Data → Packet → Type 0
 TellsBody d (packets.Other p) = TellsBits d p.body
 TellsBody d _ = Unit {0}
 
-abbrev pub TellsPacket : Data → Packet → Type 0
-TellsPacket d p = TellsFields d (packet_fields p) × TellsBody d p
+-- The value tells the packet. Its number may be told besides.
+pub record TellsPacket (d : Data) (p : Packet) : Type 0 where
+  pub only : HasOnly (codes "packet" ∷ codes "fields" ∷ codes "skipped_bits" ∷ codes "body" ∷ []) d
+  pub its_number : AgreesAt (codes "packet") d (number_of p)
+  pub fields : TellsFields d (packet_fields p)
+  pub body : TellsBody d p
 
 -- one value a packet, in order
 abbrev pub TellPackets : List Data → List Packet → Type 0
@@ -55,18 +86,27 @@ TellPackets [] (p ∷ ps) = ⊥
 TellPackets (d ∷ ds) [] = ⊥
 TellPackets (d ∷ ds) (p ∷ ps) = TellsPacket d p × TellPackets ds ps
 
+-- ---- a telegram
+
 -- each field has its number under its name
 abbrev pub HasMembers : Data → List FieldValue → Type 0
 HasMembers d fields = AllByRecursion (λ f. get (name_text f.name) d ≡ Some (number (unsigned f.number))) fields
 
+-- The value has the fields of the header as members, and no other.
 abbrev pub TellsHeader : Data → Header → Type 0
-TellsHeader d h = HasMembers d (header_fields h)
+TellsHeader d h = HasCount d (length (header_fields h)) × HasMembers d (header_fields h)
 
--- The value tells the telegram.
+-- The value tells the telegram. The number of its bits, up to and with the end mark, may be told besides.
 pub record TellsTelegram (d : Data) (t : Telegram) : Type 0 where
   pub head : Data
   pub items : List Data
+  pub only : HasOnly (codes "header" ∷ codes "packets" ∷ codes "bits" ∷ []) d
   pub has_header : get (codes "header") d ≡ Some head
   pub has_packets : get (codes "packets") d ≡ Some (array (items_of items))
+  pub bits : AgreesAt (codes "bits") d (header_bits + 8 + length_of_all t.packets.items)
   pub header : TellsHeader head t.header
   pub packets : TellPackets items t.packets.items
+
+-- The value tells a telegram, and there are bytes that carry this telegram.
+abbrev pub IsTold : Data → Type 0
+IsTold d = (t : Telegram) × (bytes : List ℕ) × Carries bytes t × TellsTelegram d t

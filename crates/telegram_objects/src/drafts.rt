@@ -9,8 +9,8 @@ use packet_coding::read_packet;
 use packets::{Packet, TELEGRAM_BYTES};
 use vars::{PacketLength, PacketNumber, ValidityDirection, Variable};
 
-// The bits of a telegram.
-const MOST_BITS: u64 = 832;
+/// The bits of a telegram at most.
+pub(crate) const MOST_BITS: u64 = 832;
 
 // The bits of NID_PACKET, Q_DIR and L_PACKET.
 const HEAD_BITS: u64 = 23;
@@ -27,8 +27,8 @@ pub(crate) fn put(
     writer.put(width, number)
 }
 
-/// Writes the fields of a packet, with so much as L_PACKET.
-pub(crate) fn put_fields(
+// Writes the fields of a packet, with so much as L_PACKET.
+fn put_fields(
     writer: &mut BitWriter<TELEGRAM_BYTES>,
     fields: &[FieldValue],
     length: u64,

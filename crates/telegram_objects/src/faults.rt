@@ -3,7 +3,6 @@
 use arrayvec::ArrayVec;
 use std::fmt;
 use std::fmt::{Formatter, Write};
-use telegram::TelegramFault;
 
 /// A place in an object.
 #[derive(Clone, Copy)]
@@ -139,8 +138,6 @@ pub enum Reason {
     TooMany,
     /// One of these numbers has to stand there.
     WantsNumber(Ranges),
-    /// What is told is refused as a telegram.
-    Refused(TelegramFault),
     /// The telegram has more than 832 bits.
     TooLong,
     /// Memory was refused.
@@ -157,7 +154,6 @@ impl fmt::Display for Reason {
             Reason::WantsVariable(name) => write!(f, "{name} wanted"),
             Reason::TooMany => write!(f, "no variable is wanted here"),
             Reason::WantsNumber(ranges) => write!(f, "{ranges}"),
-            Reason::Refused(fault) => write!(f, "refused {fault}"),
             Reason::TooLong => write!(f, "more than 832 bits"),
             Reason::NoMemory => write!(f, "memory is refused"),
         }

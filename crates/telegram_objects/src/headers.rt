@@ -1,8 +1,9 @@
-//! The header of an object.
+//! The faults of a header: each number is tried where another one isn't read.
 
 use crate::drafts::put;
 use crate::faults::{ObjectFault, Place, Ranges, Reason};
 use crate::fields::{FieldValue, fields_of_header};
+use crate::values::has_count;
 use arrayvec::ArrayVec;
 use bits::{BitWriter, Full};
 use packets::TELEGRAM_BYTES;
@@ -10,11 +11,8 @@ use serde_json::Value;
 use telegram::{Header, decode};
 use vars::{PositionInGroup, Variable};
 
-/// Writes fields.
-pub(crate) fn put_all(
-    writer: &mut BitWriter<TELEGRAM_BYTES>,
-    fields: &[FieldValue],
-) -> Result<(), Full> {
+// Writes fields.
+fn put_all(writer: &mut BitWriter<TELEGRAM_BYTES>, fields: &[FieldValue]) -> Result<(), Full> {
     for field in fields {
         put(writer, field.width, field.number)?;
     }
@@ -64,8 +62,8 @@ fn number_at(object: &Value, name: &'static str) -> Result<u64, ObjectFault> {
     }
 }
 
-/// The fields of the header that an object tells.
-pub(crate) fn header_in(object: &Value) -> Result<ArrayVec<FieldValue, 832>, ObjectFault> {
+/// Tests the header that an object tells.
+pub(crate) fn test_header(object: &Value) -> Result<(), ObjectFault> {
     let template = Header {
         last_position: PositionInGroup::of_number(7).unwrap(),
         ..Header::default()
@@ -84,9 +82,9 @@ pub(crate) fn header_in(object: &Value) -> Result<ArrayVec<FieldValue, 832>, Obj
         }
         fields = taken;
     }
-    if object.as_object().map(|members| members.len()) != Some(fields.len()) {
+    if !has_count(object, fields.len()) {
         let wanted = Reason::Wants("no other member");
         return Err(ObjectFault::new(Place::Header, wanted));
     }
-    Ok(fields)
+    Ok(())
 }

@@ -2,18 +2,23 @@
 //! 7.5.1, in the order of their layouts.
 #![tactic(auto)]
 
+mod bodies;
 mod drafts;
 mod faults;
 mod fields;
 mod headers;
 mod matching;
 mod packets_told;
+mod putting;
+mod refusing;
 mod schema;
 mod spelling;
 mod text;
 mod values;
+mod widths;
 
+pub use bodies::TelegramBytes;
 pub use faults::{ObjectFault, Place, Ranges, Reason};
 pub use schema::SCHEMA;
-pub use spelling::{TelegramBytes, bytes_of, bytes_of_text};
+pub use spelling::{bytes_of, bytes_of_text};
 pub use text::write_answer;

@@ -1,24 +1,28 @@
 //! Whether a JSON value tells a telegram.
-ghost use Rattle.std.specs.Prelude.{◌≡◌, ◌-◌, ◌*◌, ◌++◌, false, length, map, replicate};
-ghost use Rattle.bits.specs.Bits.{bits_of};
+ghost use Rattle.std.specs.Prelude.{◌≡◌, ◌↔◌, ◌+◌, ◌-◌, ◌*◌, ◌/◌, ◌≤◌, List, Bool, ◌++◌, false, length, map, replicate, IsTrue, IfSome, IsSomeAnd};
 ghost use Rattle.std.specs.Bool.{OnTrue};
+ghost use Rattle.bits.specs.Bits.{bits_of, number_bits};
+ghost use Rattle.packets.specs.Packets.{length_of};
 ghost use Rattle.serde_json.specs.Data.{array};
 ghost use Rattle.serde_json.specs.View.{view, items_of};
+ghost use Rattle.telegram.specs.Sequences.{length_of_all};
 ghost use Rattle.telegram.specs.Telegrams.{Carries};
 ghost use Rattle.telegram.specs.declared.message.Telegram.{Telegram};
 ghost use Rattle.telegram_objects.specs.Telling.{pair_of, pairs_of, without_length, TellsFields, TellsBits, TellsBody, TellsPacket, TellPackets, HasMembers, TellsHeader, TellsTelegram};
 
+use crate::bodies::body_at;
 use crate::fields::{FieldValue, fields_of_header, fields_of_packet};
-use crate::values::{has_number_at, is_number, is_text, items_of, list_at, text_at};
+use crate::values::{
+    agrees_at, has_count, has_number_at, has_only, is_number, is_text, items_of, list_at,
+};
 use bits::{BitWriter, Run};
 use packets::{Packet, TELEGRAM_BYTES};
 use serde_json::Value;
-use std::alloc::Global;
 use telegram::{Header, Telegram};
 
 // Whether values are the name and the number of a field.
 fn are_pair(parts: &[Value], field: &FieldValue) -> bool
-    ensures { OnTrue result (array (items_of (map view parts.now)) ≡ pair_of field.now) }
+    ensures { IsTrue result ↔ (array (items_of (map view parts.now)) ≡ pair_of field.now) }
 {
     match parts {
         [name, number] => is_text(name, field.name.text()) && is_number(number, field.number),
@@ -27,7 +31,7 @@ fn are_pair(parts: &[Value], field: &FieldValue) -> bool
 }
 
 fn is_pair(value: &Value, field: &FieldValue) -> bool
-    ensures { OnTrue result (view value.now ≡ pair_of field.now) }
+    ensures { IsTrue result ↔ (view value.now ≡ pair_of field.now) }
 {
     match items_of(value) {
         Some(parts) => are_pair(parts, field),
@@ -37,7 +41,7 @@ fn is_pair(value: &Value, field: &FieldValue) -> bool
 
 // Whether values are the pairs of fields.
 fn are_pairs(items: &[Value], fields: &[FieldValue]) -> bool
-    ensures { OnTrue result (map view items.now ≡ map pair_of fields.now) }
+    ensures { IsTrue result ↔ (map view items.now ≡ map pair_of fields.now) }
 {
     match (items.split_first(), fields.split_first()) {
         (None, None) => true,
@@ -50,16 +54,16 @@ fn are_pairs(items: &[Value], fields: &[FieldValue]) -> bool
 
 // Whether values are the pairs of fields but for the third, which is L_PACKET.
 fn are_others(items: &[Value], fields: &[FieldValue]) -> bool
-    ensures { OnTrue result (map view items.now ≡ map pair_of (without_length fields.now)) }
+    ensures { IsTrue result ↔ (map view items.now ≡ map pair_of (without_length fields.now)) }
 {
-    if items.len() < 2 || fields.len() < 3 {
-        return false;
+    if fields.len() < 3 {
+        return are_pairs(items, fields);
     }
-    are_pairs(&items[..2], &fields[..2]) && are_pairs(&items[2..], &fields[3..])
+    items.len() >= 2 && are_pairs(&items[..2], &fields[..2]) && are_pairs(&items[2..], &fields[3..])
 }
 
 fn tells_fields(value: &Value, fields: &[FieldValue]) -> bool
-    ensures { OnTrue result (TellsFields (view value.now) fields.now) }
+    ensures { IsTrue result ↔ TellsFields (view value.now) fields.now }
 {
     match list_at(value, "fields") {
         Some(items) => are_pairs(items, fields) || are_others(items, fields),
@@ -67,9 +71,41 @@ fn tells_fields(value: &Value, fields: &[FieldValue]) -> bool
     }
 }
 
-// Whether bytes are the bits of a run, padded with zero bits.
+fn is_byte(x: u8, y: u8) -> bool
+    ensures { IsTrue result ↔ (number_bits 8 x ≡ number_bits 8 y) }
+{
+    x == y
+}
+
+// The bytes behind a first byte, where it is this one.
+fn behind_byte(x: u8, ys: &[u8]) -> Option<&[u8]>
+    ensures found { IfSome result (λ rest. bits_of ys.now ≡ number_bits 8 x ++ bits_of rest.now) }
+    ensures each { (bits : List Bool) → bits_of ys.now ≡ number_bits 8 x ++ bits → IsSomeAnd result (λ rest. bits_of rest.now ≡ bits) }
+{
+    match ys.split_first() {
+        Some((y, rest)) => { if is_byte(x, *y) { Some(rest) } else { None } }
+        None => None,
+    }
+}
+
+// Whether bytes have the same bits.
+fn are_bytes(xs: &[u8], ys: &[u8]) -> bool
+    ensures { IsTrue result ↔ (bits_of xs.now ≡ bits_of ys.now) }
+{
+    match xs.split_first() {
+        Some((x, xs)) => match behind_byte(*x, ys) {
+            Some(ys) => are_bytes(xs, ys),
+            None => false,
+        },
+        None => ys.len() == 0,
+    }
+}
+
+// Whether bytes are the bits of a run, padded with zero bits to the next whole byte.
 fn hold_bits(bytes: &[u8], run: &Run<'_>) -> bool
-    ensures { OnTrue result (bits_of bytes.now ≡ run.now ++ replicate (8 * length bytes.now - length run.now) false) }
+    ensures told { OnTrue result ((length bytes.now ≡ (length run.now + 7) / 8) × (bits_of bytes.now ≡ run.now ++ replicate (8 * length bytes.now - length run.now) false)) }
+    ensures each { length run.now ≤ 832 → length bytes.now ≡ (length run.now + 7) / 8
+        → bits_of bytes.now ≡ run.now ++ replicate (8 * length bytes.now - length run.now) false → IsTrue result }
 {
     if u64::from(run.len()) > 8 * TELEGRAM_BYTES as u64 {
         return false;
@@ -78,50 +114,51 @@ fn hold_bits(bytes: &[u8], run: &Run<'_>) -> bool
     writer.write_run(run);
     let mut held = [0u8; TELEGRAM_BYTES];
     let count = writer.copy_to(&mut held);
-    bytes == &held[..count]
+    are_bytes(bytes, &held[..count])
 }
 
-fn tells_bits(alloc: Global, value: &Value, run: &Run<'_>) -> bool
-    ensures { OnTrue result (TellsBits (view value.now) run.now) }
+fn tells_bits(value: &Value, run: &Run<'_>) -> bool
+    ensures told { OnTrue result (TellsBits (view value.now) run.now) }
+    ensures each { length run.now ≤ 832 → TellsBits (view value.now) run.now → IsTrue result }
 {
-    let Some(digits) = text_at(value, "body") else {
-        return false;
-    };
-    match hex::decode(alloc, digits) {
-        Ok(bytes) => {
+    match body_at(value) {
+        Some(bytes) => {
             hold_bits(bytes.as_slice(), run)
                 && has_number_at(value, "skipped_bits", u64::from(run.len()))
         }
-        Err(_) => false,
+        None => false,
     }
 }
 
-fn tells_body(alloc: Global, value: &Value, packet: &Packet<'_>) -> bool
-    ensures { OnTrue result (TellsBody (view value.now) packet.now) }
+fn tells_body(value: &Value, packet: &Packet<'_>) -> bool
+    ensures told { OnTrue result (TellsBody (view value.now) packet.now) }
+    ensures each { length_of packet.now ≤ 832 → TellsBody (view value.now) packet.now → IsTrue result }
 {
     match packet {
-        Packet::Other(other) => tells_bits(alloc, value, &other.body),
+        Packet::Other(other) => tells_bits(value, &other.body),
         _ => true,
     }
 }
 
-fn tells_packet(alloc: Global, value: &Value, packet: &Packet<'_>) -> bool
-    ensures { OnTrue result (TellsPacket (view value.now) packet.now) }
+fn tells_packet(value: &Value, packet: &Packet<'_>) -> bool
+    ensures told { OnTrue result (TellsPacket (view value.now) packet.now) }
+    ensures each { length_of packet.now ≤ 832 → TellsPacket (view value.now) packet.now → IsTrue result }
 {
-    if packet.length() > 832 {
-        return false;
-    }
-    let list = fields_of_packet(packet);
-    tells_fields(value, list.fields.as_slice()) && tells_body(alloc, value, packet)
+    packet.length() <= 832
+        && has_only(value, &["packet", "fields", "skipped_bits", "body"])
+        && agrees_at(value, "packet", u64::from(packet.number().get()))
+        && tells_fields(value, fields_of_packet(packet).fields.as_slice())
+        && tells_body(value, packet)
 }
 
-fn tell_packets(alloc: Global, values: &[Value], packets: &[Packet<'_>]) -> bool
-    ensures { OnTrue result (TellPackets (map view values.now) packets.now) }
+fn tell_packets(values: &[Value], packets: &[Packet<'_>]) -> bool
+    ensures told { OnTrue result (TellPackets (map view values.now) packets.now) }
+    ensures each { length_of_all packets.now ≤ 832 → TellPackets (map view values.now) packets.now → IsTrue result }
 {
     match (values.split_first(), packets.split_first()) {
         (None, None) => true,
         (Some((value, values)), Some((packet, packets))) => {
-            tells_packet(alloc, value, packet) && tell_packets(alloc, values, packets)
+            tells_packet(value, packet) && tell_packets(values, packets)
         }
         _ => false,
     }
@@ -129,7 +166,7 @@ fn tell_packets(alloc: Global, values: &[Value], packets: &[Packet<'_>]) -> bool
 
 // Whether each field has its number under its name.
 fn has_members(value: &Value, fields: &[FieldValue]) -> bool
-    ensures { OnTrue result (HasMembers (view value.now) fields.now) }
+    ensures { IsTrue result ↔ HasMembers (view value.now) fields.now }
 {
     match fields.split_first() {
         None => true,
@@ -140,14 +177,16 @@ fn has_members(value: &Value, fields: &[FieldValue]) -> bool
 }
 
 fn tells_header(value: &Value, header: &Header) -> bool
-    ensures { OnTrue result (TellsHeader (view value.now) header.now) }
+    ensures { IsTrue result ↔ TellsHeader (view value.now) header.now }
 {
-    has_members(value, fields_of_header(header).fields.as_slice())
+    let list = fields_of_header(header);
+    has_count(value, list.fields.len()) && has_members(value, list.fields.as_slice())
 }
 
-/// Whether a value tells a telegram. False also where memory is refused.
-pub(crate) fn tells(alloc: Global, value: &Value, telegram: &Telegram<'_>) -> bool
-    ensures { OnTrue result (TellsTelegram (view value.now) telegram.now) }
+/// Whether a value tells a telegram.
+pub(crate) fn tells(value: &Value, telegram: &Telegram<'_>) -> bool
+    ensures told { OnTrue result (TellsTelegram (view value.now) telegram.now) }
+    ensures each { length_of_all telegram.now.packets.items ≤ 832 → TellsTelegram (view value.now) telegram.now → IsTrue result }
 {
     let Some(head) = value.get("header") else {
         return false;
@@ -155,5 +194,8 @@ pub(crate) fn tells(alloc: Global, value: &Value, telegram: &Telegram<'_>) -> bo
     let Some(items) = list_at(value, "packets") else {
         return false;
     };
-    tells_header(head, &telegram.header) && tell_packets(alloc, items, telegram.packets.as_slice())
+    has_only(value, &["header", "packets", "bits"])
+        && agrees_at(value, "bits", telegram.bits())
+        && tells_header(head, &telegram.header)
+        && tell_packets(items, telegram.packets.as_slice())
 }

@@ -1,26 +1,12 @@
-//! A packet of an object.
+//! The faults of a packet of an object, found pair by pair.
 
-use crate::drafts::{Draft, Next, put, put_fields};
+use crate::bodies::body_at;
+use crate::drafts::{Draft, MOST_BITS, Next};
 use crate::faults::{ObjectFault, Place, Ranges, Reason};
 use crate::fields::FieldValue;
-use crate::values::{has_only, is_or_is_not_there, list_at, text_at};
-use bits::{BitWriter, Full, VariableName};
-use hex::FromHexError;
-use packets::TELEGRAM_BYTES;
+use crate::values::{agrees_at, has_only, list_at, pair_in};
+use bits::VariableName;
 use serde_json::Value;
-use std::alloc::Global;
-
-// A name and a number.
-fn pair_in(value: &Value) -> Option<(&str, u64)> {
-    let parts = value.as_array()?;
-    match parts.as_slice() {
-        [name, number] => match (name.as_str(), number.as_u64()) {
-            (Some(name), Some(number)) => Some((name, number)),
-            _ => None,
-        },
-        _ => None,
-    }
-}
 
 fn is_length(field: &FieldValue) -> bool {
     matches!(field.name, VariableName::LPacket)
@@ -107,7 +93,7 @@ fn end_fields(told: &mut Told<'_>, count: usize) -> Result<bool, ObjectFault> {
 // The number of the bits of a body.
 fn body_bits(told: &Told<'_>) -> Result<u64, ObjectFault> {
     match told.value.get("skipped_bits").and_then(Value::as_u64) {
-        Some(bits) if bits <= 832 => Ok(bits),
+        Some(bits) if bits <= MOST_BITS => Ok(bits),
         _ => Err(ObjectFault::new(
             Place::Member(told.packet, "skipped_bits"),
             Reason::Wants("the number of the bits of the body"),
@@ -122,28 +108,16 @@ fn are_padded(bytes: &[u8], bits: u64) -> bool {
     bytes.len() as u64 == bits.div_ceil(8) && last % (1 << padding) == 0
 }
 
-// The bytes of a body, padded to whole ones.
-fn body_bytes(alloc: Global, told: &Told<'_>, bits: u64) -> Result<Vec<u8>, ObjectFault> {
-    let wants = "hexadecimal digits of the skipped bits, padded with zero bits to whole bytes,";
-    let fault = ObjectFault::new(Place::Member(told.packet, "body"), Reason::Wants(wants));
-    let Some(digits) = text_at(told.value, "body") else {
-        return Err(fault);
-    };
-    match hex::decode(alloc, digits) {
-        Ok(bytes) if are_padded(bytes.as_slice(), bits) => Ok(bytes),
-        Err(FromHexError::OutOfMemory) => Err(ObjectFault::new(Place::Whole, Reason::NoMemory)),
-        _ => Err(fault),
+// The digits of the body are those of so many bits.
+fn check_body(told: &Told<'_>, bits: u64) -> Result<(), ObjectFault> {
+    match body_at(told.value) {
+        Some(bytes) if are_padded(bytes.as_slice(), bits) => Ok(()),
+        _ => {
+            let wants =
+                "hexadecimal digits of the skipped bits, padded with zero bits to whole bytes,";
+            Err(ObjectFault::new(Place::Member(told.packet, "body"), Reason::Wants(wants)))
+        }
     }
-}
-
-fn put_body(writer: &mut BitWriter<TELEGRAM_BYTES>, bytes: &[u8], bits: u64) -> Result<(), Full> {
-    let mut left = bits;
-    for byte in bytes {
-        let count = left.min(8) as u32;
-        put(writer, count, u64::from(*byte) >> (8 - count))?;
-        left = left.saturating_sub(8);
-    }
-    Ok(())
 }
 
 // L_PACKET, where it is told, is the length.
@@ -160,7 +134,7 @@ fn check_length(told: &Told<'_>, length: u64) -> Result<(), ObjectFault> {
 // The number of the packet, where it is told, is NID_PACKET.
 fn check_number(told: &Told<'_>) -> Result<(), ObjectFault> {
     match told.draft.fields().first() {
-        Some(first) if !is_or_is_not_there(told.value, "packet", first.number) => {
+        Some(first) if !agrees_at(told.value, "packet", first.number) => {
             Err(ObjectFault::new(
                 Place::Member(told.packet, "packet"),
                 Reason::WantsNumber(Ranges::of(first.number)),
@@ -174,36 +148,26 @@ fn too_long(told: &Told<'_>) -> ObjectFault {
     ObjectFault::new(Place::Packet(told.packet), Reason::TooLong)
 }
 
-fn put_told(
-    alloc: Global,
-    told: &Told<'_>,
-    has_body: bool,
-    writer: &mut BitWriter<TELEGRAM_BYTES>,
-) -> Result<(), ObjectFault> {
+// The end of a packet that begins behind so many bits.
+fn end_of(told: &Told<'_>, has_body: bool, start: u64) -> Result<u64, ObjectFault> {
     let bits = if has_body { body_bits(told)? } else { 0 };
-    let length = told.draft.length().saturating_add(bits);
-    check_length(told, length)?;
-    let put = put_fields(writer, told.draft.fields(), length);
-    if put.is_err() {
+    check_length(told, told.draft.length().saturating_add(bits))?;
+    let fields_end = start.saturating_add(told.draft.length());
+    if fields_end > MOST_BITS {
         return Err(too_long(told));
     }
-    if !has_body {
-        return Ok(());
+    if has_body {
+        check_body(told, bits)?;
     }
-    let bytes = body_bytes(alloc, told, bits)?;
-    match put_body(writer, bytes.as_slice(), bits) {
-        Ok(()) => Ok(()),
-        Err(_) => Err(too_long(told)),
+    let end = fields_end.saturating_add(bits);
+    if end > MOST_BITS {
+        return Err(too_long(told));
     }
+    Ok(end)
 }
 
-/// Writes the packet that an object tells.
-pub(crate) fn put_packet(
-    alloc: Global,
-    packet: usize,
-    value: &Value,
-    writer: &mut BitWriter<TELEGRAM_BYTES>,
-) -> Result<(), ObjectFault> {
+/// Tests the packet that an object tells behind so many bits of its telegram, and answers where it ends.
+pub(crate) fn end_of_packet(packet: usize, value: &Value, start: u64) -> Result<u64, ObjectFault> {
     if !has_only(value, &["packet", "fields", "skipped_bits", "body"]) {
         let wanted = Reason::Wants(
             "an object of fields, and perhaps packet, skipped_bits and body",
@@ -227,5 +191,5 @@ pub(crate) fn put_packet(
     }
     let has_body = end_fields(&mut told, items.len())?;
     check_number(&told)?;
-    put_told(alloc, &told, has_body, writer)
+    end_of(&told, has_body, start)
 }

@@ -1,0 +1,98 @@
+-- Lists of values and pairs.
+use Rattle.std.proofs.Common.{◌≡◌, ℕ, ◌<◌, Bool, true, false, List, [], ◌∷◌, Option, Some, length, map, refl, sym, ap, subst, ◌∙◌}
+use Rattle.std.specs.Prelude.{◌&&◌, nat_eq, nat_lt, bytes_eq, if◌then◌else◌, IsTrue, option_map}
+use Rattle.std.proofs.lemmas.Bool.{and_parts, ltb-true, eqb-true, eq-eqb}
+use Rattle.bits.specs.Names.{name_text}
+use Rattle.bits.specs.declared.name.VariableName.{VariableName}
+use Rattle.serde_json.specs.Data.{Data, array}
+use Rattle.serde_json.specs.Events.{members_len}
+use Rattle.serde_json.specs.Find.{as_array, as_object}
+use Rattle.serde_json.specs.View.{view, items_of, items_view, members_view}
+use Rattle.serde_json.proofs.Views.{Entry, members_len-members_view}
+use Rattle.serde_json.specs.declared.value.Value.{Value}
+use Rattle.telegram_objects.specs.Telling.{pair_of, HasCount}
+use Rattle.telegram_objects.specs.Widths.{widths, width_in, HasWidth}
+use Rattle.telegram_objects.specs.declared.fields.FieldValue.{FieldValue}
+
+pub items_same : (ds es : List Data) → items_of ds ≡ items_of es → ds ≡ es
+items_same [] [] e = refl
+items_same [] (y ∷ es) e = absurd cc
+items_same (x ∷ ds) [] e = absurd cc
+items_same (x ∷ ds) (y ∷ es) e =
+    let others : items_of ds ≡ items_of es = cc in
+    let first : x ≡ y = cc in
+    let more : ds ≡ es = items_same ds es others in
+    cc
+
+pub arrays_same : (ds es : List Data) → array (items_of ds) ≡ array (items_of es) → ds ≡ es
+arrays_same ds es e =
+    let same : items_of ds ≡ items_of es = cc in
+    items_same ds es same
+
+pub some_arrays_same : (ds es : List Data) → Some (array (items_of ds)) ≡ Some (array (items_of es)) → ds ≡ es
+some_arrays_same ds es e =
+    let same : items_of ds ≡ items_of es = cc in
+    items_same ds es same
+
+pub two_items : (values : List Value) (a b : Data) → array (items_of (map view values)) ≡ array (items_of (a ∷ b ∷ [])) → length values ≡ 2
+two_items [] a b e = absurd (let h = arrays_same [] (a ∷ b ∷ []) e in cc)
+two_items (x ∷ []) a b e = absurd (let h = arrays_same (view x ∷ []) (a ∷ b ∷ []) e in cc)
+two_items (x ∷ y ∷ []) a b e = refl
+two_items (x ∷ y ∷ z ∷ values) a b e = absurd (let h = arrays_same (view x ∷ view y ∷ view z ∷ map view values) (a ∷ b ∷ []) e in cc)
+
+-- the first pair and the others
+pub record NextPair (x : Data) (xs : List Data) (fields : List FieldValue) : Type 0 where
+  pub first : FieldValue
+  pub others : List FieldValue
+  pub fields_are : fields ≡ first ∷ others
+  pub first_is : x ≡ pair_of first
+  pub others_are : xs ≡ map pair_of others
+
+pub next_pair : (x : Data) (xs : List Data) (fields : List FieldValue) → x ∷ xs ≡ map pair_of fields → NextPair x xs fields
+next_pair x xs [] e = absurd cc
+next_pair x xs (f ∷ fields) e = record { first = f; others = fields; fields_are = refl; first_is = cc; others_are = cc }
+
+pub no_pair : (fields : List FieldValue) → [] ≡ map pair_of fields → fields ≡ []
+no_pair [] e = refl
+no_pair (f ∷ fields) e = absurd cc
+
+-- ---- widths
+
+all_small : List (VariableName × ℕ) → Bool
+all_small [] = true
+all_small (row ∷ rows) = nat_lt row.1 64 && all_small rows
+
+small_at : (b : Bool) (n w : ℕ) (others : Option ℕ) → n < 64 → (others ≡ Some w → w < 64) → (if b then Some n else others) ≡ Some w → w < 64
+small_at true n w others small more e =
+    let same : n ≡ w = cc in
+    subst (λ (k : ℕ). k < 64) same small
+small_at false n w others small more e = more e
+
+small_in : (rows : List (VariableName × ℕ)) (text : List ℕ) (w : ℕ) → all_small rows ≡ true → width_in rows text ≡ Some w → w < 64
+unfolding all_small
+small_in [] text w all e = absurd cc
+small_in (row ∷ rows) text w all e =
+    let parts = and_parts (nat_lt row.1 64) (all_small rows) all in
+    small_at (bytes_eq text (name_text row.0)) row.1 w (width_in rows text) (ltb-true row.1 64 parts.0) (small_in rows text w parts.1) e
+
+pub width_small : (name : VariableName) (w : ℕ) → HasWidth name w → w < 64
+unfolding all_small
+width_small name w h = small_in widths (name_text name) w refl h
+
+-- ---- lists and objects of values
+
+pub list_told : (d : Data) (vs ws : List Value) (ds : List Data) → Some (items_view vs) ≡ as_array d → ws ≡ vs → d ≡ array (items_of ds) → map view ws ≡ ds
+list_told d vs ws ds e w told =
+    let both : Some (items_of (map view vs)) ≡ Some (items_of ds) = e ∙ ap as_array told in
+    let same : items_of (map view vs) ≡ items_of ds = cc in
+    ap (map view) w ∙ items_same (map view vs) ds same
+
+some_number : (a b : ℕ) → Some a ≡ Some b → a ≡ b
+some_number a b e = cc
+
+pub counted : (d : Data) (es : List Entry) (n count : ℕ) → Some (members_view es) ≡ as_object d → n ≡ length es → (IsTrue (nat_eq n count) → HasCount d count) × (HasCount d count → IsTrue (nat_eq n count))
+counted d es n count e long =
+    let total : option_map members_len (as_object d) ≡ Some (length es) = ap (option_map members_len) (sym e) ∙ ap Some (members_len-members_view es) in (
+      λ h. total ∙ ap Some (sym long ∙ eqb-true n count h),
+      λ h. eq-eqb n count (long ∙ some_number (length es) count (sym total ∙ h)),
+    )

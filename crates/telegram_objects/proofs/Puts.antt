@@ -1,0 +1,123 @@
+-- What is put of a telegram, part after part, spells it.
+use Rattle.std.proofs.Common.{◌≡◌, ℕ, ◌/◌, ◌%◌, ◌^◌, ◌<◌, ◌≤◌, Bool, false, List, [], ◌∷◌, ◌++◌, length, take, replicate, refl, sym, ap, ◌∙◌, arith, length-append}
+use Rattle.std.proofs.lemmas.List.{take_at}
+use Rattle.std.proofs.lemmas.Nat.{div-add-mod'}
+use Rattle.bits.specs.Bits.{bits_of, number_bits}
+use Rattle.bits.specs.Layout.{Spells}
+use Rattle.bits.specs.Names.{name_text}
+use Rattle.bits.proofs.Bytes.{length-bits_of}
+use Rattle.bits.proofs.Numbers.{number_bits-low}
+use Rattle.packets.specs.declared.packet.Packet.{Packet}
+use Rattle.serde_json.specs.Data.{unsigned, Data, number}
+use Rattle.serde_json.specs.Find.{get}
+use Rattle.std.specs.Prelude.{Some}
+use Rattle.telegram.specs.Sequences.{length_of_all}
+use Rattle.telegram.specs.Telegrams.{header, Carries, SpellsPackets, SpellsTelegram}
+use Rattle.telegram.specs.declared.header.Header.{Header}
+use Rattle.telegram.specs.declared.message.Telegram.{Telegram}
+use Rattle.telegram.proofs.Lengths.{found-header, next_is_packet, end_mark, length-telegram}
+use Rattle.telegram_objects.specs.Fields.{fields_bits, fields_size, header_fields}
+use Rattle.telegram_objects.specs.Laying.{Lays, SameVariables}
+use Rattle.telegram_objects.specs.Telling.{TellPackets, HasMembers}
+use Rattle.telegram_objects.specs.declared.fields.FieldValue.{FieldValue}
+use Rattle.telegram_objects.proofs.Adding.{Plain, adds}
+use Rattle.telegram_objects.proofs.Laid.{laid}
+
+pub low_bits : (n v : ℕ) → number_bits n (v % 2 ^ n) ≡ number_bits n v
+low_bits n v = sym (number_bits-low n n (v / 2 ^ n) (v % 2 ^ n) (omega arith)) ∙ ap (number_bits n) (div-add-mod' v (2 ^ n))
+
+-- ---- packets
+
+pub record NextPacket (d : Data) (ds : List Data) (bits : List Bool) : Type 0 where
+  pub front : List Bool
+  pub rest : List Bool
+  pub parts : bits ≡ front ++ rest
+  pub lays : Lays d front
+  pub others : List Packet
+  pub spelled : SpellsPackets others rest
+  pub told : TellPackets ds others
+
+pub next_told : (d : Data) (ds : List Data) (ps : List Packet) (bits : List Bool) → SpellsPackets ps bits → TellPackets (d ∷ ds) ps → NextPacket d ds bits
+next_told d ds [] bits s t = absurd t
+next_told d ds (p ∷ ps) bits s t = record {
+  front = s.0;
+  rest = s.1;
+  parts = s.2;
+  lays = laid d p s.0 (next_is_packet p s.0 s.3) t.0;
+  others = ps;
+  spelled = s.4;
+  told = t.1;
+}
+
+pub last_told : (ps : List Packet) (bits : List Bool) → SpellsPackets ps bits → TellPackets [] ps → bits ≡ number_bits 8 255
+last_told [] bits s t = end_mark bits s
+last_told (p ∷ ps) bits s t = absurd t
+
+-- ---- the header
+
+pub record NextMember (d : Data) (f : FieldValue) (fs told : List FieldValue) : Type 0 where
+  pub first : FieldValue
+  pub others : List FieldValue
+  pub told_are : told ≡ first ∷ others
+  pub width_is : f.width ≡ first.width
+  pub small : first.width < 64
+  pub stands : get (name_text f.name) d ≡ Some (number (unsigned first.number))
+  pub same : SameVariables fs others
+  pub members : HasMembers d others
+
+pub next_member : (d : Data) (f : FieldValue) (fs told : List FieldValue) → SameVariables (f ∷ fs) told → HasMembers d told → NextMember d f fs told
+next_member d f fs [] s h = absurd s
+next_member d f fs (g ∷ gs) s h = record {
+  first = g;
+  others = gs;
+  told_are = refl;
+  width_is = s.1;
+  small = s.2;
+  stands = rw s.0 h.0;
+  same = s.3;
+  members = h.1;
+}
+
+pub no_member : (told : List FieldValue) → SameVariables [] told → told ≡ []
+no_member [] s = refl
+no_member (g ∷ gs) s = absurd s
+
+pub headers_same : (g h : Header) → SameVariables (header_fields g) (header_fields h)
+unfolding header
+headers_same g h = (
+  refl,
+  refl,
+  omega arith,
+  (refl, refl, omega arith, (refl, refl, omega arith, (refl, refl, omega arith, (refl, refl, omega arith, (refl, refl, omega arith, (refl, refl, omega arith, (refl, refl, omega arith, (refl, refl, omega arith, (refl, refl, omega arith, tt))))))))),
+)
+
+pub header_size : (h : Header) → fields_size (header_fields h) ≡ 50
+unfolding header
+header_size h = refl
+
+plain_header : Plain (λ _ _. Unit {0}) header
+unfolding header
+plain_header = (tt, λ _. (tt, λ _. (tt, λ _. (tt, λ _. (tt, λ _. (tt, λ _. (tt, λ _. (tt, λ _. (tt, λ _. (tt, λ _. (tt, λ _. tt)))))))))))
+
+pub header_spelled : (h : Header) (bits : List Bool) → Spells header h bits → bits ≡ fields_bits (header_fields h)
+header_spelled h bits s =
+    let a = adds (λ _ _. Unit {0}) header plain_header h in
+    found-header.is h [] bits s ∙ a.bits [] ∙ ap fields_bits (sym (a.fields []))
+
+-- ---- a body
+
+pub front_of : (body : List Bool) (n k : ℕ) (bits : List Bool) → bits ≡ body ++ replicate n false → k ≡ length body → take k bits ≡ body
+front_of body n k bits e long = ap (take k) e ∙ take_at body (replicate n false) k (sym long)
+
+-- ---- bytes
+
+pub carries : (t : Telegram) (bits : List Bool) (bytes : List ℕ) (n : ℕ) → SpellsTelegram t bits → length bytes ≤ 104 → bits_of bytes ≡ bits ++ replicate n false → Carries bytes t
+carries t bits bytes n s small parts = record { small = small; front = bits; rest = replicate n false; parts = parts; spelled = s }
+
+pub carried_short : (t : Telegram) (bytes : List ℕ) (c : Carries bytes t) → length c.front ≤ 832
+carried_short t bytes c =
+    let small = c.small in
+    omega (arith, ap length c.parts, length-append c.front c.rest, length-bits_of bytes)
+
+pub packets_short : (t : Telegram) (bytes : List ℕ) → Carries bytes t → length_of_all t.packets.items ≤ 832
+packets_short t bytes c = omega (arith, carried_short t bytes c, length-telegram t c.front c.spelled)

@@ -4,8 +4,10 @@
  *
  * Link with libetcs_unit.a or libetcs_unit.so, which `tools/library PREFIX` builds and installs with this header.
  *
- * The image comes in as bytes: a file that was read or mapped, or a copy of the unit's medium. Nothing is held, taken or
- * closed, so there is no handle; any thread may call, and many at once on the same bytes. The bytes are never written to.
+ * The image comes in as bytes: a file that was read or mapped, or a copy of the unit's medium. Nothing is held or closed,
+ * so there is no handle; any thread may call, and many at once on the same bytes. The bytes are never written to. No call
+ * takes memory but etcs_image_replay and etcs_image_why, which run a life through the kernel again: they take what a unit
+ * takes for its track (docs/PERFORMANCE.md has the bound), and give it back before they answer.
  *
  *     etcs_journal journal;
  *     etcs_record record;
@@ -60,6 +62,97 @@ enum etcs_kind { ETCS_POWER_UP = 1, ETCS_TELEGRAM = 2, ETCS_ODOMETER = 3, ETCS_C
 
 /* Whether a datum may be relied on (SUBSET-026, 4.10). */
 enum etcs_datum { ETCS_DATUM_UNKNOWN = 0, ETCS_DATUM_VALID = 1, ETCS_DATUM_INVALID = 2 };
+
+/* What a life came to that was run through the kernel again. */
+enum etcs_verdict {
+    ETCS_VERDICT_AGREES = 1,         /* each record and each head is what this kernel answers and keeps */
+    ETCS_VERDICT_RECORD_DIFFERS = 2, /* a record differs: what is behind it wasn't compared */
+    ETCS_VERDICT_HEAD_DIFFERS = 3,   /* the head of a block differs, likewise */
+    ETCS_VERDICT_BEFORE_OLDEST = 4,  /* not run: its power-up, or the head before that, is in no slot any more */
+    ETCS_VERDICT_BEHIND_GAP = 5,     /* not run: the block before can't be read, or its events aren't those before these */
+    ETCS_VERDICT_BEGINS_EARLIER = 6  /* not run: it begins in a block before the one that the journal was at */
+};
+
+/* What of a record differs first, in the order in which it is compared. */
+enum etcs_record_field {
+    ETCS_RECORD_EVENT = 1,       /* the number of the event */
+    ETCS_RECORD_WORD = 2,        /* the word of a power-up, in a format that doesn't tell it */
+    ETCS_RECORD_MOMENT = 3,
+    ETCS_RECORD_MODE = 4,
+    ETCS_RECORD_LEVEL = 5,
+    ETCS_RECORD_BRAKE = 6,
+    ETCS_RECORD_INDICATIONS = 7,
+    ETCS_RECORD_PLACE = 8,       /* place and limit, which one of the two tells and the other doesn't */
+    ETCS_RECORD_FRONT = 9,
+    ETCS_RECORD_UNCERTAINTY = 10,
+    ETCS_RECORD_LIMIT = 11
+};
+
+/* What of a head differs first, in the order in which it is compared. */
+enum etcs_kept_field {
+    ETCS_KEPT_EVENTS = 1, /* how many events, and how many lives, there were: etcs_image_block tells what the head has */
+    ETCS_KEPT_LIVES = 2,
+    ETCS_KEPT_TRIP = 3,
+    ETCS_KEPT_IDENTITY = 4,
+    ETCS_KEPT_RUNNING_NUMBER = 5,
+    ETCS_KEPT_TRAIN = 6,
+    ETCS_KEPT_LEVEL = 7,
+    ETCS_KEPT_POSITION = 8,
+    ETCS_KEPT_NATIONAL = 9,
+    ETCS_KEPT_COUNTRIES = 10
+};
+
+/* Why a brake is commanded: the rows of the brake table, by their places in etcs_why (docs/BRAKES.md). The first six
+ * command the emergency brake. */
+enum etcs_brake_cause {
+    ETCS_CAUSE_NOT_REVALIDATED = 0,
+    ETCS_CAUSE_IN_TRIP = 1,
+    ETCS_CAUSE_IN_SYSTEM_FAILURE = 2,
+    ETCS_CAUSE_OWES_TRIP = 3,
+    ETCS_CAUSE_FAR_TOO_FAST = 4,
+    ETCS_CAUSE_ROLLED_TOO_FAR = 5,
+    ETCS_CAUSE_ASKED_FOR_SERVICE = 6,
+    ETCS_CAUSE_TOO_FAST = 7,
+    ETCS_CAUSE_MUST_STAND = 8,
+    ETCS_CAUSE_OWES_TOO_LONG = 9
+};
+
+/* How many they are. */
+#define ETCS_BRAKE_CAUSES 10
+
+/* Why Trip was entered (docs/BRAKES.md). */
+enum etcs_trip_cause {
+    ETCS_TRIP_UNKNOWN = 0, /* no trip is owed, or it was entered in a life before */
+    ETCS_TRIP_END_PASSED = 1,
+    ETCS_TRIP_LINKING = 2,
+    ETCS_TRIP_STOP = 3,
+    ETCS_TRIP_STAFF_DISTANCE = 4,
+    ETCS_TRIP_LEVEL = 5
+};
+
+/* What decides a limit (docs/BRAKES.md). */
+enum etcs_limit_cause {
+    ETCS_LIMIT_NO_SPEED = 1,
+    ETCS_LIMIT_NO_TRAIN_DATA = 2,
+    ETCS_LIMIT_NATIONAL_STAFF_RESPONSIBLE = 3,
+    ETCS_LIMIT_NATIONAL_OVERRIDE = 4,
+    ETCS_LIMIT_NATIONAL_SHUNTING = 5,
+    ETCS_LIMIT_NATIONAL_UNFITTED = 6,
+    ETCS_LIMIT_TRAIN_MAXIMUM = 7,
+    ETCS_LIMIT_MAIN_SPEED = 8,
+    ETCS_LIMIT_END_SPEED = 9,
+    ETCS_LIMIT_STATIC_SPEED = 10,
+    ETCS_LIMIT_RESTRICTION = 11,
+    ETCS_LIMIT_MODE_AREA = 12,
+    ETCS_LIMIT_STATIC_SPEED_AHEAD = 13,
+    ETCS_LIMIT_UNKNOWN_SPEED_AHEAD = 14,
+    ETCS_LIMIT_RESTRICTION_AHEAD = 15,
+    ETCS_LIMIT_MODE_AREA_AHEAD = 16,
+    ETCS_LIMIT_END_OF_AUTHORITY = 17,
+    ETCS_LIMIT_SUPERVISED_LOCATION = 18,
+    ETCS_LIMIT_RELEASE_SPEED = 19,
+    ETCS_LIMIT_NATIONAL_RELEASE_SPEED = 20
+};
 
 /* What an image has at first sight. */
 typedef struct {
@@ -154,6 +247,43 @@ typedef struct {
     uint64_t index;
 } etcs_journal;
 
+/* What a life came to that was run again. What isn't told is zero. */
+typedef struct {
+    uint64_t first_event; /* the number of its first event that is there */
+    uint64_t last_event;
+    uint64_t block;       /* of what differs first */
+    uint64_t event;       /* of a record that differs */
+    uint32_t life;        /* how many power-ups there were up to and with its last block */
+    uint32_t verdict;     /* enum etcs_verdict */
+    uint32_t field;       /* of a record enum etcs_record_field, of a head enum etcs_kept_field */
+    uint32_t reserved;
+    etcs_record journal;  /* the record that differs, as the journal tells it */
+    etcs_record kernel;   /* .. and as this kernel answers it */
+    etcs_kept journal_kept; /* what the head that differs tells */
+    etcs_kept kernel_kept;  /* .. and what this kernel keeps */
+} etcs_replay;
+
+/* Why an event was answered so, as this kernel answers it. */
+typedef struct {
+    uint64_t event;
+    uint64_t since[ETCS_BRAKE_CAUSES]; /* of each cause that holds the first event of the run behind each of which it has held */
+    uint64_t trip_event;               /* by which event Trip was entered, where trip_cause isn't 0 */
+    uint64_t backward_cm;              /* how far the train has rolled backward since it stood */
+    uint64_t allowed_backward_cm;      /* D_NVROLL */
+    int64_t limit_cause_cm;            /* the place of what decides the limit, or 0 */
+    uint64_t restriction;              /* NID_TSR of a restriction that decides it, or 0 */
+    uint32_t limit_m_per_h;
+    uint32_t speed_m_per_h;            /* of the last reading */
+    uint32_t limit_cause_m_per_h;      /* of what lies ahead the speed that it asks for there, else the limit */
+    uint8_t holds[ETCS_BRAKE_CAUSES];  /* 1 of each enum etcs_brake_cause that holds, else 0 */
+    uint8_t brake;                     /* enum etcs_brake */
+    uint8_t trip_cause;                /* enum etcs_trip_cause */
+    uint8_t limit_cause;               /* enum etcs_limit_cause */
+    uint8_t has_place;                 /* 1 where limit_cause_cm is one */
+    uint8_t has_restriction;           /* 1 where restriction is one */
+    uint8_t reserved[5];
+} etcs_why;
+
 ETCS_UNIT_ASSERT(sizeof(etcs_image) == 32 && offsetof(etcs_image, newest) == 24);
 ETCS_UNIT_ASSERT(sizeof(etcs_slot) == 32 && offsetof(etcs_slot, state) == 16 && offsetof(etcs_slot, fault_record) == 28);
 ETCS_UNIT_ASSERT(sizeof(etcs_national) == 112 && offsetof(etcs_national, count) == 44 && offsetof(etcs_national, countries) == 48);
@@ -163,6 +293,10 @@ ETCS_UNIT_ASSERT(sizeof(etcs_block) == 208 && offsetof(etcs_block, lives) == 24 
 ETCS_UNIT_ASSERT(sizeof(etcs_record) == 160 && offsetof(etcs_record, limit_m_per_h) == 40 && offsetof(etcs_record, format) == 48
                  && offsetof(etcs_record, payload_len) == 55 && offsetof(etcs_record, payload) == 56);
 ETCS_UNIT_ASSERT(sizeof(etcs_journal) == 24 && offsetof(etcs_journal, index) == 16);
+ETCS_UNIT_ASSERT(sizeof(etcs_replay) == 720 && offsetof(etcs_replay, life) == 32 && offsetof(etcs_replay, journal) == 48
+                 && offsetof(etcs_replay, kernel) == 208 && offsetof(etcs_replay, journal_kept) == 368 && offsetof(etcs_replay, kernel_kept) == 544);
+ETCS_UNIT_ASSERT(sizeof(etcs_why) == 160 && offsetof(etcs_why, trip_event) == 88 && offsetof(etcs_why, limit_m_per_h) == 128
+                 && offsetof(etcs_why, holds) == 140 && offsetof(etcs_why, brake) == 150 && offsetof(etcs_why, reserved) == 155);
 
 /* ---- the library's own names; the calls below test pointers first, hand over the header's interface, and then call these */
 
@@ -172,6 +306,8 @@ uint32_t etcs_image_block_(const uint8_t *image, size_t size, uint32_t abi, uint
 uint32_t etcs_image_record_(const uint8_t *image, size_t size, uint32_t abi, uint64_t number, uint32_t index, etcs_record *record);
 uint32_t etcs_journal_open_(const uint8_t *image, size_t size, uint32_t abi, etcs_journal *journal);
 uint32_t etcs_journal_next_(const uint8_t *image, size_t size, etcs_journal *journal, etcs_record *record);
+uint32_t etcs_image_replay_(const uint8_t *image, size_t size, uint32_t abi, etcs_journal *journal, etcs_replay *replay);
+uint32_t etcs_image_why_(const uint8_t *image, size_t size, uint32_t abi, uint64_t number, uint64_t event, etcs_why *why);
 
 /* ---- the calls */
 
@@ -211,6 +347,26 @@ static inline uint32_t etcs_journal_open(const uint8_t *image, size_t size, etcs
  * call goes on there. */
 static inline uint32_t etcs_journal_next(const uint8_t *image, size_t size, etcs_journal *journal, etcs_record *record) {
     return image && journal && record ? etcs_journal_next_(image, size, journal, record) : (uint32_t)ETCS_UNIT_NULL_POINTER;
+}
+
+/* Runs the life through the kernel again that begins with the block at which the journal is, whatever its index, and
+ * tells what it came to; then the journal is behind the last block of this life. So from etcs_journal_open on it tells
+ * one life after the other, the oldest first, until END. A life ends before a power-up, before a block that can't be
+ * read, and before one whose events don't follow; what is behind such a gap is told as a life of its own, which is
+ * BEHIND_GAP. AGREES says that the journal is consistent with this kernel, and not that it is authentic
+ * (crates/replaying/README.md). It takes memory. Answers OK, END, NOT_OPEN, OTHER_ABI, OUT_OF_RANGE, IMAGE_NOT_FORMATTED,
+ * IMAGE_DAMAGED where the block can't be read: then the journal is behind that block; or NO_MEMORY, where the journal
+ * stays. */
+static inline uint32_t etcs_image_replay(const uint8_t *image, size_t size, etcs_journal *journal, etcs_replay *replay) {
+    return image && journal && replay ? etcs_image_replay_(image, size, ETCS_UNIT_ABI, journal, replay) : (uint32_t)ETCS_UNIT_NULL_POINTER;
+}
+
+/* Why the event of this number in the block of this number was answered so: its life is run through the kernel again, from
+ * its power-up up to the event. etcs_journal_next tells both numbers of each record. It takes memory. Answers OK,
+ * OTHER_ABI, IMAGE_NOT_FORMATTED, NO_SUCH_BLOCK, NO_SUCH_RECORD where the block has no such event, NOT_REPLAYED where what
+ * was kept before the life isn't known (etcs_image_replay tells why), or NO_MEMORY. */
+static inline uint32_t etcs_image_why(const uint8_t *image, size_t size, uint64_t number, uint64_t event, etcs_why *why) {
+    return image && why ? etcs_image_why_(image, size, ETCS_UNIT_ABI, number, event, why) : (uint32_t)ETCS_UNIT_NULL_POINTER;
 }
 
 #ifdef __cplusplus

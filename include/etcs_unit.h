@@ -98,7 +98,7 @@ enum etcs_unit_status {
     /* taking an input: nothing changed */
     ETCS_UNIT_PENDING_FULL = 10, /* eight events are pending: prepare and release first */
     ETCS_UNIT_CLOCK_BACK = 11,   /* the moment lies before the last one of this life */
-    ETCS_UNIT_NO_MEMORY = 12,    /* memory was refused for the event */
+    ETCS_UNIT_NO_MEMORY = 12,    /* memory was refused for the event, or for a life that is run again (etcs_image.h) */
     ETCS_UNIT_INPUT_FAILED = 13, /* the medium failed before: close, and open again */
 
     /* preparing and releasing: nothing is released */
@@ -113,6 +113,7 @@ enum etcs_unit_status {
     ETCS_UNIT_NO_SUCH_BLOCK = 36,       /* no slot holds the block of this number */
     ETCS_UNIT_NO_SUCH_RECORD = 37,      /* the block has fewer records */
     ETCS_UNIT_END = 38,                 /* the journal ends */
+    ETCS_UNIT_NOT_REPLAYED = 39,        /* the life of the event can't be run again */
 
     /* formatting */
     ETCS_UNIT_BAD_SLOTS = 41, /* the number of slots isn't 2 to 1,048,576 */
@@ -289,6 +290,7 @@ static inline const char *etcs_status_text(uint32_t status) {
     case ETCS_UNIT_NO_SUCH_BLOCK: return "NO_SUCH_BLOCK";
     case ETCS_UNIT_NO_SUCH_RECORD: return "NO_SUCH_RECORD";
     case ETCS_UNIT_END: return "END";
+    case ETCS_UNIT_NOT_REPLAYED: return "NOT_REPLAYED";
     case ETCS_UNIT_BAD_SLOTS: return "BAD_SLOTS";
     case ETCS_UNIT_WRONG_COUNT: return "WRONG_COUNT";
     case ETCS_UNIT_NO_SUCH_REQUEST: return "NO_SUCH_REQUEST";

@@ -4,14 +4,15 @@
 # beside `etcs run`, memory that is refused, and the commands of docs/EMBEDDING.md. It needs gcc, g++, valgrind, rustc and Debian's Python; clang
 # is tried where it is there.
 #
-#     tests/unit.sh [PREFIX [LIVES]]    builds and installs the library first, or takes the one below PREFIX; 400 lives; $ETCS names another
-#                                       program than the gate's
+#     tests/unit.sh [PREFIX [LIVES]]    builds and installs the library first, or takes the one below PREFIX; 400 lives; $ETCS and $ETCS_LAB name
+#                                       other programs than the gate's
 export PYTHONDONTWRITEBYTECODE=1
 top=$(cd "$(dirname "$0")/.." && pwd) || exit 1
 python=/usr/bin/python3 # Debian's packages belong to this one
 made=$(mktemp -d) || exit 1
 trap 'rm -rf "$made"' EXIT
 export ETCS=${ETCS:-$top/crates/etcs/out/etcs}
+lab=${ETCS_LAB:-$top/crates/etcs_lab/out/etcs_lab}
 status=0
 
 fails() { echo "$*"; status=1; }
@@ -22,7 +23,9 @@ counted() {
     [ "$2" -ge "$3" ] || fails "$1: there are $3 to be tried"
 }
 
-[ -x "$ETCS" ] || { echo "there is no program $ETCS: rt ci makes it"; exit 1; }
+for program in "$ETCS" "$lab"; do
+    [ -x "$program" ] || { echo "there is no program $program: rt ci makes it"; exit 1; }
+done
 if [ $# -gt 0 ]; then
     prefix=$(cd "$1" && pwd) || exit 1
 else
@@ -65,7 +68,7 @@ nm -D --defined-only "$shared" | sed 's/.* //' | LC_ALL=C sort >"$made/shown"
 nm --defined-only --extern-only "$archive" | sed -n 's/^[0-9a-f]* . //p' | LC_ALL=C sort >"$made/in_archive"
 diff "$made/names" "$made/shown" || fails "the shared library shows other names than the headers declare"
 diff "$made/names" "$made/in_archive" || fails "the static library shows other names than the headers declare"
-counted "names of the library" "$(wc -l <"$made/shown")" 26
+counted "names of the library" "$(wc -l <"$made/shown")" 28
 needed=$(objdump -p "$shared" | sed -n 's/^ *NEEDED *//p' | tr '\n' ' ')
 soname=$(objdump -p "$shared" | sed -n 's/^ *SONAME *//p')
 [ "$needed" = "libc.so.6 " ] || fails "the shared library needs $needed"
@@ -82,14 +85,14 @@ build() {
 
 built=0
 link=("$archive")
-for name in layout misuse files two life reading listing; do
+for name in layout misuse files two life reading listing again; do
     for compiler in "${compilers[@]}"; do build "$name.$compiler" "$top/tests/unit/$name.c" "$compiler" -x c -std=c99 -O2; done
     build "$name.cpp" "$top/tests/unit/$name.c" g++ -x c++ -std=c++17 -O2 -Wno-missing-field-initializers
 done
-for name in misuse files two life reading listing; do
+for name in misuse files two life reading listing again; do
     build "$name.checked" "$top/tests/unit/$name.c" gcc -x c -std=c99 -O1 "${sanitizers[@]}"
 done
-for name in brake flash; do
+for name in brake flash why; do
     for compiler in "${compilers[@]}"; do build "$name.$compiler" "$top/examples/embedding/$name.c" "$compiler" -x c -std=c99 -O2; done
     build "$name.checked" "$top/examples/embedding/$name.c" gcc -x c -std=c99 -O1 "${sanitizers[@]}"
 done
@@ -101,7 +104,7 @@ link=(-L "$prefix/lib" -letcs_unit)
 for name in misuse two reading; do build "$name.shared" "$top/tests/unit/$name.c" gcc -x c -std=c99 -O2; done
 rustc --edition 2021 -D warnings -O -L "$prefix/lib" -l static=etcs_unit "$top/examples/embedding/rust/brake.rs" -o "$made/brake.rs" &&
     built=$((built + 1)) || fails "examples/embedding/rust doesn't compile"
-counted "programs built" $built 29
+counted "programs built" $built 34
 
 # ---- what they answer
 
@@ -121,13 +124,14 @@ for program in "$made"/files.*; do
 done
 for program in "$made"/flash.*; do runs_well "$program"; done
 mv "$made/said" "$made/flash"
-for program in misuse.gcc two.gcc reading.gcc "files.gcc $made/room" "brake.gcc $made/image.valgrind" flash.gcc; do
+for program in misuse.gcc two.gcc reading.gcc "files.gcc $made/room" "brake.gcc $made/image.valgrind" flash.gcc "why.gcc $made/image.valgrind" \
+    "again.gcc $made/image.valgrind why 7"; do
     rm -rf "$made/room"
     mkdir "$made/room"
     # shellcheck disable=SC2086
     runs_well valgrind -q --error-exitcode=9 --leak-check=full --errors-for-leak-kinds=all --show-leak-kinds=all $(echo "$made/$program")
 done
-counted "runs of them, 6 of them under valgrind" $runs 23
+counted "runs of them, 8 of them under valgrind" $runs 25
 
 # ---- the examples: the same train in each language, over the same file
 
@@ -148,6 +152,11 @@ counted "trains that brake" $trains 5
 
 "$python" "$top/tests/unit/images.py" "$made/listing.gcc" "$made/listing.checked" "$made"/image.* || status=1
 
+# ---- lives that are run again: beside the plain programs and etcs_lab; and memory that is refused
+
+gcc -std=gnu11 -O2 -fPIC -shared "$top/tests/hostile/refuse.c" -o "$made/refuse.so" || fails "tests/hostile/refuse.c doesn't compile"
+"$python" "$top/tests/unit/again.py" "$lab" "$made/refuse.so" "$made"/again.gcc "$made"/again.checked "$made"/again.cpp || status=1
+
 # ---- lives beside the program
 
 "$python" "$top/tests/unit/lives.py" "$made/life.gcc" "${2:-400}" || status=1
@@ -161,8 +170,8 @@ for program in "$made"/refused.*; do "$python" "$top/tests/unit/refused_lives.py
 
 # ---- the package in Python, and the page
 
-(cd "$top/python" && "$python" -m unittest -q tests.test_unit) >"$made/said" 2>&1 && grep -q '^Ran 12 tests' "$made/said" && ! grep -q skipped "$made/said" ||
-    { cat "$made/said"; fails "python/tests/test_unit.py: failures, or other than 12 tests"; }
+(cd "$top/python" && "$python" -m unittest -q tests.test_unit) >"$made/said" 2>&1 && grep -q '^Ran 15 tests' "$made/said" && ! grep -q skipped "$made/said" ||
+    { cat "$made/said"; fails "python/tests/test_unit.py: failures, or other than 15 tests"; }
 ETCS_UNIT_ARCHIVE=$archive ETCS_C_ARCHIVE=$archive "$python" "$top/tests/unit/page.py" || status=1
 echo "the unit: $([ $status -eq 0 ] && echo "no failures" || echo "failures, see above")"
 exit $status

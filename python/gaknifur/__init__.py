@@ -1,6 +1,7 @@
 """Tables, a database and reports of the journals that the program `etcs_lab` reads.
 
-Every record comes from `etcs_lab`; nothing here reads the bytes of an image. `journal` is the call for a notebook:
+Every record of the tables comes from `etcs_lab`; `replay` and `why` come from the library of `gaknifur.unit`. Nothing here
+reads the bytes of an image. `journal` is the call for a notebook:
 
     import gaknifur
     events = gaknifur.journal("image")
@@ -11,8 +12,9 @@ from pathlib import Path
 import pandas as pd
 
 from . import causes, reading, tables
+from .lives import replay, why
 
-__all__ = ["brake_causes", "journal"]
+__all__ = ["brake_causes", "journal", "replay", "why"]
 
 
 def journal(path: str | Path, other_blocks: bool = False) -> pd.DataFrame:

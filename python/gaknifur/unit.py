@@ -9,7 +9,8 @@
 file: its journal lies on a `Medium`, here a file (`FileMedium`) or sectors in memory (`MemoryMedium`), or a class of
 the user's own.
 
-`journal(path)` iterates over the records that a file holds, and `records`, `facts` and `slots` read bytes.
+`journal(path)` iterates over the records that a file holds, and `records`, `facts` and `slots` read bytes. The module
+`lives` runs the lives of a journal again.
 
 Any exception of a unit means the emergency brake: `Refused` has the number and the name of what a call answered, a medium raises
 what it raises. Outputs come from `Unit.flush` alone, and only when all of it is on the medium.
@@ -54,6 +55,7 @@ class Status(enum.IntEnum):
     NO_SUCH_BLOCK = 36
     NO_SUCH_RECORD = 37
     END = 38
+    NOT_REPLAYED = 39
     BAD_SLOTS = 41
     WRONG_COUNT = 248
     NO_SUCH_REQUEST = 249
@@ -410,6 +412,22 @@ class _Journal(ctypes.Structure):
     _fields_ = [(name, ctypes.c_uint64) for name in ("block", "last", "index")]
 
 
+class _Replay(ctypes.Structure):
+    _fields_ = [*((name, ctypes.c_uint64) for name in ("first_event", "last_event", "block", "event")),
+                *((name, ctypes.c_uint32) for name in ("life", "verdict", "field", "reserved")),
+                ("journal", _Record), ("kernel", _Record), ("journal_kept", _Kept), ("kernel_kept", _Kept)]
+
+
+class _Why(ctypes.Structure):
+    _fields_ = [("event", ctypes.c_uint64), ("since", ctypes.c_uint64 * 10),
+                *((name, ctypes.c_uint64) for name in ("trip_event", "backward_cm", "allowed_backward_cm")),
+                ("limit_cause_cm", ctypes.c_int64), ("restriction", ctypes.c_uint64),
+                *((name, ctypes.c_uint32) for name in ("limit_m_per_h", "speed_m_per_h", "limit_cause_m_per_h")),
+                ("holds", ctypes.c_uint8 * 10),
+                *((name, ctypes.c_uint8) for name in ("brake", "trip_cause", "limit_cause", "has_place", "has_restriction")),
+                ("reserved", ctypes.c_uint8 * 5)]
+
+
 _HANDLE = ctypes.POINTER(_Handle)
 _SIZE = ctypes.c_size_t
 _U32 = ctypes.c_uint32
@@ -438,6 +456,8 @@ _CALLS: dict[str, tuple[object, ...]] = {
     "etcs_image_record_": (ctypes.c_char_p, _SIZE, _U32, ctypes.c_uint64, _U32, ctypes.POINTER(_Record)),
     "etcs_journal_open_": (ctypes.c_char_p, _SIZE, _U32, ctypes.POINTER(_Journal)),
     "etcs_journal_next_": (ctypes.c_char_p, _SIZE, ctypes.POINTER(_Journal), ctypes.POINTER(_Record)),
+    "etcs_image_replay_": (ctypes.c_char_p, _SIZE, _U32, ctypes.POINTER(_Journal), ctypes.POINTER(_Replay)),
+    "etcs_image_why_": (ctypes.c_char_p, _SIZE, _U32, ctypes.c_uint64, ctypes.c_uint64, ctypes.POINTER(_Why)),
     "etcs_decode": (ctypes.c_char_p, _SIZE),
     "etcs_packet_count": (ctypes.c_char_p, _SIZE),
 }

@@ -3,12 +3,16 @@
 """
 import enum
 import os
+import struct
 import re
 import tempfile
 import unittest
 from pathlib import Path
 
+import gaknifur
+from gaknifur import lives
 from gaknifur import unit as units
+from gaknifur.lives import BrakeCause, Datum, KeptField, LimitCause, RecordField, TripCause, Verdict
 from gaknifur.unit import (Action, Brake, Cold, FileMedium, Indication, Kind, Level, MemoryMedium, Mode, Output, Record, Refused,
                            SlotState, Status, TrainData, Unit)
 
@@ -40,6 +44,14 @@ class Names(unittest.TestCase):
             self.assertEqual({key: int(member) for key, member in one.__members__.items()}, told, name)
         self.assertEqual({key: int(member) for key, member in Indication.__members__.items()},
                          of_header("etcs_indication", "ETCS_SHOWS_"))
+
+    def test_enums_of_lives(self) -> None:
+        wanted: dict[type[enum.IntEnum], tuple[str, str]] = {
+            Verdict: ("etcs_verdict", "ETCS_VERDICT_"), RecordField: ("etcs_record_field", "ETCS_RECORD_"),
+            KeptField: ("etcs_kept_field", "ETCS_KEPT_"), BrakeCause: ("etcs_brake_cause", "ETCS_CAUSE_"),
+            TripCause: ("etcs_trip_cause", "ETCS_TRIP_"), LimitCause: ("etcs_limit_cause", "ETCS_LIMIT_"), Datum: ("etcs_datum", "ETCS_DATUM_")}
+        for one, (name, prefix) in wanted.items():
+            self.assertEqual({key: int(member) for key, member in one.__members__.items()}, of_header(name, prefix), name)
 
     def test_numbers(self) -> None:
         self.assertRegex(HEADER.read_text(), rf"#define ETCS_VERSION_BYTES {units.VERSION_BYTES}\n")
@@ -197,6 +209,58 @@ class Calls(unittest.TestCase):
             list(units.records(b""))
         with self.refused(Status.IMAGE_DAMAGED):
             list(units.records(image[:-512]))
+
+    def lived(self) -> bytearray:
+        """A life of two blocks of events: 0, and 1 to 3."""
+        medium = MemoryMedium.formatted(4)
+        with Unit(medium, Cold.MOVED) as unit:
+            unit.identity("IC 704")
+            unit.odometer(-30, 300)
+            unit.clock(5)
+            unit.flush()
+        return medium.data
+
+    def test_a_replay(self) -> None:
+        image = self.lived()
+        self.assertEqual(list(lives.lives(bytes(image))), [lives.Life(1, 0, 3, Verdict.AGREES, None)])
+        with tempfile.TemporaryDirectory() as folder:
+            path = Path(folder) / "image"
+            path.write_bytes(image)
+            self.assertEqual(gaknifur.replay(path), list(lives.lives(bytes(image))))
+            self.assertEqual(gaknifur.why(path, 2), lives.why_in(bytes(image), 2))
+        # The moment of event 1, in the first record of block 2; and then a letter of the identity in the head before it.
+        head, first = 512 + 2 * 3_072 + 512, 512 + 2 * 3_072 + 1_024
+        image[first + 16:first + 24] = struct.pack(">Q", 7)
+        life, = lives.lives(bytes(image))
+        assert life.difference is not None and isinstance(life.difference.journal, Record) and isinstance(life.difference.kernel, Record)
+        self.assertEqual((life.verdict, life.last_event), (Verdict.RECORD_DIFFERS, 3))
+        self.assertEqual((life.difference.block, life.difference.event, life.difference.field), (2, 1, RecordField.MOMENT))
+        self.assertEqual((life.difference.journal.moment_ms, life.difference.kernel.moment_ms), (7, 0))
+        image = self.lived()
+        image[head:head + 200] = image[head:head + 200].replace(b"IC 704", b"IC 705")
+        life, = lives.lives(bytes(image))
+        assert life.difference is not None and isinstance(life.difference.journal, lives.Kept) and isinstance(life.difference.kernel, lives.Kept)
+        self.assertEqual((life.verdict, life.difference.event, life.difference.field), (Verdict.HEAD_DIFFERS, None, KeptField.IDENTITY))
+        self.assertEqual((life.difference.journal.identity, life.difference.kernel.identity), (b"IC 705", b"IC 704"))
+        self.assertEqual(life.difference.kernel.national[8:], (20_000, 60_000, None))
+        with self.refused(Status.IMAGE_NOT_FORMATTED):
+            list(lives.lives(b""))
+
+    def test_why(self) -> None:
+        image = bytes(self.lived())
+        told = lives.why_in(image, 2)
+        self.assertEqual(told, lives.Why(2, Brake.EMERGENCY, 0, 300, 30, 200, {BrakeCause.NOT_REVALIDATED: 0, BrakeCause.MUST_STAND: 2},
+                                         TripCause.UNKNOWN, None, LimitCause.NO_SPEED, 0, None, None))
+        self.assertEqual(lives.why_at(image, 2, 2), told)
+        self.assertEqual(lives.why_in(image, 0).causes, {BrakeCause.NOT_REVALIDATED: 0})
+        for event, status in ((4, Status.NO_SUCH_RECORD), (-1, Status.NO_SUCH_RECORD)):
+            with self.refused(status):
+                lives.why_in(image, event)
+        for block, event, status in ((2, 0, Status.NO_SUCH_RECORD), (3, 4, Status.NO_SUCH_BLOCK), (-1, 0, Status.OUT_OF_RANGE)):
+            with self.refused(status):
+                lives.why_at(image, block, event)
+        with self.refused(Status.NOT_REPLAYED):
+            lives.why_at(image[:512 + 3_072] + bytes(3_072) + image[512 + 6_144:], 2, 2)
 
     def test_the_version(self) -> None:
         changes = HEADER.parents[1] / "CHANGELOG.md"

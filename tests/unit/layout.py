@@ -15,9 +15,9 @@ from gaknifur import unit  # noqa: E402
 STRUCTS = {"etcs_unit": unit._Handle, "etcs_unit_output": unit._Output, "etcs_unit_request_told": unit._Request,
            "etcs_train_data": unit._TrainData, "etcs_unit_state_told": unit._State, "etcs_image": unit._Image, "etcs_slot": unit._Slot,
            "etcs_national": unit._National, "etcs_kept": unit._Kept, "etcs_block": unit._Block, "etcs_record": unit._Record,
-           "etcs_journal": unit._Journal}
+           "etcs_journal": unit._Journal, "etcs_replay": unit._Replay, "etcs_why": unit._Why}
 SHORT = {"length_cm": "length", "maximum_m_per_h": "maximum", "deceleration_cm_per_s2": "deceleration", "reaction_ms": "reaction"}
-LEAST = 102
+LEAST = 133
 
 
 def place_of(name):

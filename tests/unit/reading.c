@@ -10,6 +10,8 @@ static etcs_slot slot;
 static etcs_block block;
 static etcs_record record;
 static etcs_journal journal;
+static etcs_replay replay;
+static etcs_why why;
 
 /* An image is copied into room of just its size, so that a read behind it is seen. */
 static uint8_t *copy_of(const medium *on) {
@@ -24,15 +26,18 @@ static void touch(void) {
     memset(&block, 0xAA, sizeof block);
     memset(&record, 0xAA, sizeof record);
     memset(&journal, 0xAA, sizeof journal);
+    memset(&replay, 0xAA, sizeof replay);
+    memset(&why, 0xAA, sizeof why);
 }
 
 /* That a call that was refused wrote nothing. */
 static void untouched(const char *what) {
-    uint8_t other[sizeof(etcs_block)];
+    uint8_t other[sizeof(etcs_replay)];
     memset(other, 0xAA, sizeof other);
     is(what, (uint64_t)memcmp(&facts, other, sizeof facts) | (uint64_t)memcmp(&slot, other, sizeof slot)
        | (uint64_t)memcmp(&block, other, sizeof block) | (uint64_t)memcmp(&record, other, sizeof record)
-       | (uint64_t)memcmp(&journal, other, sizeof journal), 0);
+       | (uint64_t)memcmp(&journal, other, sizeof journal) | (uint64_t)memcmp(&replay, other, sizeof replay)
+       | (uint64_t)memcmp(&why, other, sizeof why), 0);
 }
 
 static void null_pointers(const medium *on) {
@@ -51,6 +56,11 @@ static void null_pointers(const medium *on) {
     is("next, no image", etcs_journal_next(NULL, on->len, &journal, &record), wanted);
     is("next, no journal", etcs_journal_next(image, on->len, NULL, &record), wanted);
     is("next, nowhere to tell", etcs_journal_next(image, on->len, &journal, NULL), wanted);
+    is("replay, no image", etcs_image_replay(NULL, on->len, &journal, &replay), wanted);
+    is("replay, no journal", etcs_image_replay(image, on->len, NULL, &replay), wanted);
+    is("replay, nowhere to tell", etcs_image_replay(image, on->len, &journal, NULL), wanted);
+    is("why, no image", etcs_image_why(NULL, on->len, 1, 0, &why), wanted);
+    is("why, nowhere to tell", etcs_image_why(image, on->len, 1, 0, NULL), wanted);
 }
 
 /* Each call on bytes that are no journal. */
@@ -61,11 +71,16 @@ static void refused(const uint8_t *image, size_t size, uint32_t wanted) {
     is("block", etcs_image_block(image, size, 1, &block), wanted);
     is("record", etcs_image_record(image, size, 1, 0, &record), wanted);
     is("journal", etcs_journal_open(image, size, &journal), wanted);
+    is("why", etcs_image_why(image, size, 1, 0, &why), wanted);
     untouched("a refusal writes nothing");
     journal.block = journal.last = 1;
     journal.index = 0;
     is("next", etcs_journal_next(image, size, &journal, &record), wanted);
     is("next stays", journal.block, 1);
+    is("replay", etcs_image_replay(image, size, &journal, &replay), wanted);
+    is("replay stays", journal.block, 1);
+    memset(&journal, 0xAA, sizeof journal);
+    untouched("nor do these");
 }
 
 static void other_abi(const medium *on) {
@@ -76,6 +91,8 @@ static void other_abi(const medium *on) {
         is("block, another header", etcs_image_block_(on->bytes, on->len, abi, 1, &block), ETCS_UNIT_OTHER_ABI);
         is("record, another header", etcs_image_record_(on->bytes, on->len, abi, 1, 0, &record), ETCS_UNIT_OTHER_ABI);
         is("journal, another header", etcs_journal_open_(on->bytes, on->len, abi, &journal), ETCS_UNIT_OTHER_ABI);
+        is("why, another header", etcs_image_why_(on->bytes, on->len, abi, 1, 0, &why), ETCS_UNIT_OTHER_ABI);
+        is("replay, another header", etcs_image_replay_(on->bytes, on->len, abi, &journal, &replay), ETCS_UNIT_OTHER_ABI);
         untouched("another header writes nothing");
     }
 }
@@ -97,6 +114,12 @@ static void limits(const medium *on) {
     is("a record of block 0", etcs_image_record(image, on->len, 0, 0, &record), ETCS_UNIT_NO_SUCH_BLOCK);
     is("record 1 of 1", etcs_image_record(image, on->len, 1, 1, &record), ETCS_UNIT_NO_SUCH_RECORD);
     is("the greatest record", etcs_image_record(image, on->len, 1, UINT32_MAX, &record), ETCS_UNIT_NO_SUCH_RECORD);
+    is("why, block 0", etcs_image_why(image, on->len, 0, 0, &why), ETCS_UNIT_NO_SUCH_BLOCK);
+    is("why, block 3", etcs_image_why(image, on->len, 3, 6, &why), ETCS_UNIT_NO_SUCH_BLOCK);
+    is("why, the greatest block", etcs_image_why(image, on->len, UINT64_MAX, 0, &why), ETCS_UNIT_NO_SUCH_BLOCK);
+    is("why, an event before block 2", etcs_image_why(image, on->len, 2, 0, &why), ETCS_UNIT_NO_SUCH_RECORD);
+    is("why, an event behind block 2", etcs_image_why(image, on->len, 2, 6, &why), ETCS_UNIT_NO_SUCH_RECORD);
+    is("why, the greatest event", etcs_image_why(image, on->len, 2, UINT64_MAX, &why), ETCS_UNIT_NO_SUCH_RECORD);
     is("a sector too few", etcs_journal_open(image, on->len - 512, &journal), ETCS_UNIT_IMAGE_DAMAGED);
     untouched("a refusal writes nothing");
     is("slot 3 is cut off", etcs_image_slot(image, on->len - 512, 2, 3, &slot), ETCS_UNIT_NO_SUCH_SLOT);
@@ -123,6 +146,11 @@ static void cursors(const medium *on) {
         journal = odd[i];
         is("an odd journal", etcs_journal_next(on->bytes, on->len, &journal, &record), wanted[i]);
         is("it stays", (uint64_t)memcmp(&journal, &odd[i], sizeof journal), 0);
+        /* (a replay begins at a block, whatever the index is) */
+        if (wanted[i] != ETCS_UNIT_NO_SUCH_RECORD) {
+            is("an odd journal, replayed", etcs_image_replay(on->bytes, on->len, &journal, &replay), wanted[i]);
+            is("it stays", (uint64_t)memcmp(&journal, &odd[i], sizeof journal), 0);
+        }
         memset(&journal, 0xAA, sizeof journal);
         untouched("and nothing is told");
     }
@@ -238,6 +266,88 @@ static void heads(const medium *on) {
     is("override time", block.kept.national.override_time_ms, 60000);
     is("staff responsible distance", block.kept.national.staff_responsible_distance_cm, ETCS_ENDLESS);
     is("for no country", block.kept.national.count, 0);
+    free(image);
+}
+
+/* The life of `lived`, run again: in event 5 the train moves backward in Stand By, and the driver never revalidated. */
+static void again(const medium *on) {
+    uint8_t *image = copy_of(on);
+    is("journal", etcs_journal_open(image, on->len, &journal), ETCS_UNIT_OK);
+    is("a life", etcs_image_replay(image, on->len, &journal, &replay), ETCS_UNIT_OK);
+    is("from event 0", replay.first_event, 0);
+    is("to event 5", replay.last_event, 5);
+    is("the first", replay.life, 1);
+    is("agrees", replay.verdict, ETCS_VERDICT_AGREES);
+    is("no field differs", replay.field | replay.reserved | replay.block | replay.event, 0);
+    is("behind block 2", journal.block, 3);
+    is("at its first record", journal.index, 0);
+    is("no life more", etcs_image_replay(image, on->len, &journal, &replay), ETCS_UNIT_END);
+    journal.block = 2;
+    is("from block 2 on", etcs_image_replay(image, on->len, &journal, &replay), ETCS_UNIT_OK);
+    is("it begins earlier", replay.verdict, ETCS_VERDICT_BEGINS_EARLIER);
+    is("to its end", journal.block, 3);
+    journal.block = 1;
+    journal.index = 7;
+    is("whatever the index", etcs_image_replay(image, on->len, &journal, &replay), ETCS_UNIT_OK);
+    is("it agrees", replay.verdict, ETCS_VERDICT_AGREES);
+    journal.block = 1;
+    journal.last = 1;
+    is("up to block 1", etcs_image_replay(image, on->len, &journal, &replay), ETCS_UNIT_OK);
+    is("it ends there", replay.last_event, 0);
+    is("why", etcs_image_why(image, on->len, 2, 5, &why), ETCS_UNIT_OK);
+    is("its event", why.event, 5);
+    is("the emergency brake", why.brake, ETCS_BRAKE_EMERGENCY);
+    is("its limit", why.limit_m_per_h, 0);
+    is("its speed", why.speed_m_per_h, 300);
+    is("backward", why.backward_cm, 30);
+    is("allowed", why.allowed_backward_cm, 200);
+    for (unsigned i = 0; i < ETCS_BRAKE_CAUSES; i++) {
+        is("a cause", why.holds[i], i == ETCS_CAUSE_NOT_REVALIDATED || i == ETCS_CAUSE_MUST_STAND);
+        is("since when", why.since[i], i == ETCS_CAUSE_MUST_STAND ? 5 : 0);
+    }
+    is("no trip", why.trip_cause | why.trip_event, 0);
+    is("no train may run", why.limit_cause, ETCS_LIMIT_NO_SPEED);
+    is("at 0 m/h", why.limit_cause_m_per_h, 0);
+    is("at no place", why.has_place | (uint64_t)why.limit_cause_cm | why.has_restriction | why.restriction, 0);
+    is("event 0", etcs_image_why(image, on->len, 1, 0, &why), ETCS_UNIT_OK);
+    is("not revalidated", why.holds[ETCS_CAUSE_NOT_REVALIDATED], 1);
+    is("standing", why.holds[ETCS_CAUSE_MUST_STAND], 0);
+    /* the mode of the first record of block 2: Full Supervision */
+    image[512 + 2 * SLOT + 1024 + 1] = 0;
+    is("journal", etcs_journal_open(image, on->len, &journal), ETCS_UNIT_OK);
+    is("a life", etcs_image_replay(image, on->len, &journal, &replay), ETCS_UNIT_OK);
+    is("a record differs", replay.verdict, ETCS_VERDICT_RECORD_DIFFERS);
+    is("in its mode", replay.field, ETCS_RECORD_MODE);
+    is("of block 2", replay.block, 2);
+    is("of event 1", replay.event, 1);
+    is("it tells", replay.journal.mode, ETCS_FULL_SUPERVISION);
+    is("the kernel answers", replay.kernel.mode, ETCS_STAND_BY);
+    is("to the last event", replay.last_event, 5);
+    image[512 + 2 * SLOT + 1024 + 1] = ETCS_STAND_BY;
+    /* the length of the train in the head of block 2 */
+    image[512 + 2 * SLOT + 512 + 60 + 3] ^= 1;
+    is("journal", etcs_journal_open(image, on->len, &journal), ETCS_UNIT_OK);
+    is("a life", etcs_image_replay(image, on->len, &journal, &replay), ETCS_UNIT_OK);
+    is("a head differs", replay.verdict, ETCS_VERDICT_HEAD_DIFFERS);
+    is("in the train data", replay.field, ETCS_KEPT_TRAIN);
+    is("of block 2", replay.block, 2);
+    is("it tells", replay.journal_kept.train.length_cm, 20001);
+    is("the kernel keeps", replay.kernel_kept.train.length_cm, 20000);
+    /* block 1 can't be read: what is behind isn't run */
+    image[512 + SLOT + 1024 + 1] = 5;
+    is("journal", etcs_journal_open(image, on->len, &journal), ETCS_UNIT_OK);
+    is("a block that can't be read", etcs_image_replay(image, on->len, &journal, &replay), ETCS_UNIT_IMAGE_DAMAGED);
+    is("behind it", journal.block, 2);
+    is("a life", etcs_image_replay(image, on->len, &journal, &replay), ETCS_UNIT_OK);
+    is("behind a gap", replay.verdict, ETCS_VERDICT_BEHIND_GAP);
+    is("from event 1", replay.first_event, 1);
+    is("why", etcs_image_why(image, on->len, 2, 5, &why), ETCS_UNIT_NOT_REPLAYED);
+    /* block 1 was overwritten */
+    memset(image + 512 + SLOT, 0, SLOT);
+    is("journal", etcs_journal_open(image, on->len, &journal), ETCS_UNIT_OK);
+    is("a life", etcs_image_replay(image, on->len, &journal, &replay), ETCS_UNIT_OK);
+    is("before the oldest block", replay.verdict, ETCS_VERDICT_BEFORE_OLDEST);
+    is("why", etcs_image_why(image, on->len, 2, 5, &why), ETCS_UNIT_NOT_REPLAYED);
     free(image);
 }
 
@@ -359,8 +469,9 @@ int main(void) {
     cursors(&on);
     records(&on);
     heads(&on);
+    again(&on);
     positions();
     states(&on);
     free(on.bytes);
-    return told("reading", 330);
+    return told("reading", 466);
 }

@@ -3,6 +3,8 @@ use image_calls::{
     EtcsBlock, EtcsImage, EtcsJournal, EtcsRecord, EtcsSlot, block_call, facts_call, journal_call,
     next_call, record_call, slot_call,
 };
+use image_lives::{EtcsReplay, EtcsWhy, replay_call, why_call};
+use std::alloc::Global;
 
 /// What an image has at first sight.
 #[unsafe(no_mangle)]
@@ -59,4 +61,29 @@ pub extern "C" fn etcs_journal_next_(
     record: &mut EtcsRecord,
 ) -> u32 {
     next_call(image, journal, record)
+}
+
+/// Runs the life that a journal is at through the kernel again, and goes on behind it.
+#[unsafe(no_mangle)]
+pub extern "C" fn etcs_image_replay_(
+    alloc: Global,
+    image: &[u8],
+    abi: u32,
+    journal: &mut EtcsJournal,
+    replay: &mut EtcsReplay,
+) -> u32 {
+    replay_call(alloc, image, abi, journal, replay)
+}
+
+/// Why an event of the block of this number was answered so.
+#[unsafe(no_mangle)]
+pub extern "C" fn etcs_image_why_(
+    alloc: Global,
+    image: &[u8],
+    abi: u32,
+    number: u64,
+    event: u64,
+    why: &mut EtcsWhy,
+) -> u32 {
+    why_call(alloc, image, abi, number, event, why)
 }

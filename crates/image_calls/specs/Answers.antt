@@ -5,12 +5,14 @@ use Rattle.image_calls.specs.declared.answer.Answer.TheVariants as an_answer
 
 abbrev pub answer_number : Answer → ℕ
 answer_number an_answer.Done = 0
+answer_number an_answer.NoMemory = 12
 answer_number an_answer.NotFormatted = 31
 answer_number an_answer.Damaged = 32
 answer_number an_answer.NoSuchSlot = 35
 answer_number an_answer.NoSuchBlock = 36
 answer_number an_answer.NoSuchRecord = 37
 answer_number an_answer.AtEnd = 38
+answer_number an_answer.NotReplayed = 39
 answer_number an_answer.NotOpen = 250
 answer_number an_answer.OtherAbi = 254
 answer_number an_answer.OutOfRange = 255

@@ -7,6 +7,8 @@ ghost use Rattle.image_calls.specs.Answers.{answer_number};
 pub enum Answer {
     /// It is done.
     Done = 0,
+    /// Memory was refused.
+    NoMemory = 12,
     /// The first sector isn't that of a journal, or there is none.
     NotFormatted = 31,
     /// The size isn't that of the slots, or a block of the journal can't be read.
@@ -19,6 +21,8 @@ pub enum Answer {
     NoSuchRecord = 37,
     /// The journal ends.
     AtEnd = 38,
+    /// The life of the event can't be run again.
+    NotReplayed = 39,
     /// The journal wasn't opened.
     NotOpen = 250,
     /// The header is of another interface than the library.

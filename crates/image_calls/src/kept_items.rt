@@ -157,7 +157,7 @@ fn number_told(number: Option<RunningNumber>) -> u32
 }
 
 /// As C sees it.
-pub(crate) fn kept_told(kept: &Kept) -> EtcsKept
+pub fn kept_told(kept: &Kept) -> EtcsKept
     ensures { TellsKept kept.now result }
 {
     let group = group_told(kept.position);

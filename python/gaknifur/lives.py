@@ -1,0 +1,249 @@
+"""The lives of a journal, run through the kernel again by the library of `gaknifur.unit`.
+
+    for life in gaknifur.replay("image"):
+        print(life.first_event, life.last_event, life.verdict.name)
+    print(gaknifur.why("image", 8).causes)
+
+`replay(path)` tells of each life whether the journal agrees with the kernel, and else the first difference;
+`why(path, event)` tells which causes of a brake hold behind an event and since when, why the train was tripped, and what
+decides the limit. `lives`, `why_at` and `why_in` read bytes. Each life is run from its power-up on, so `why` takes as long as the
+life is up to the event.
+"""
+import ctypes
+import enum
+from collections.abc import Iterator
+from dataclasses import dataclass
+from pathlib import Path
+
+from . import unit
+from .unit import Brake, Level, Record, Refused, Status, TrainData
+
+CAUSES = 10
+
+
+class Verdict(enum.IntEnum):
+    """What a life came to that was run again."""
+
+    AGREES = 1
+    RECORD_DIFFERS = 2
+    HEAD_DIFFERS = 3
+    BEFORE_OLDEST = 4
+    BEHIND_GAP = 5
+    BEGINS_EARLIER = 6
+
+
+class RecordField(enum.IntEnum):
+    """What of a record differs first."""
+
+    EVENT = 1
+    WORD = 2
+    MOMENT = 3
+    MODE = 4
+    LEVEL = 5
+    BRAKE = 6
+    INDICATIONS = 7
+    PLACE = 8
+    FRONT = 9
+    UNCERTAINTY = 10
+    LIMIT = 11
+
+
+class KeptField(enum.IntEnum):
+    """What of the head of a block differs first."""
+
+    EVENTS = 1
+    LIVES = 2
+    TRIP = 3
+    IDENTITY = 4
+    RUNNING_NUMBER = 5
+    TRAIN = 6
+    LEVEL = 7
+    POSITION = 8
+    NATIONAL = 9
+    COUNTRIES = 10
+
+
+class BrakeCause(enum.IntEnum):
+    """Why a brake is commanded (docs/BRAKES.md); the first six command the emergency brake."""
+
+    NOT_REVALIDATED = 0
+    IN_TRIP = 1
+    IN_SYSTEM_FAILURE = 2
+    OWES_TRIP = 3
+    FAR_TOO_FAST = 4
+    ROLLED_TOO_FAR = 5
+    ASKED_FOR_SERVICE = 6
+    TOO_FAST = 7
+    MUST_STAND = 8
+    OWES_TOO_LONG = 9
+
+
+class TripCause(enum.IntEnum):
+    """Why Trip was entered (docs/BRAKES.md); UNKNOWN where none is owed, or it was entered in a life before."""
+
+    UNKNOWN = 0
+    END_PASSED = 1
+    LINKING = 2
+    STOP = 3
+    STAFF_DISTANCE = 4
+    LEVEL = 5
+
+
+class LimitCause(enum.IntEnum):
+    """What decides a limit (docs/BRAKES.md)."""
+
+    NO_SPEED = 1
+    NO_TRAIN_DATA = 2
+    NATIONAL_STAFF_RESPONSIBLE = 3
+    NATIONAL_OVERRIDE = 4
+    NATIONAL_SHUNTING = 5
+    NATIONAL_UNFITTED = 6
+    TRAIN_MAXIMUM = 7
+    MAIN_SPEED = 8
+    END_SPEED = 9
+    STATIC_SPEED = 10
+    RESTRICTION = 11
+    MODE_AREA = 12
+    STATIC_SPEED_AHEAD = 13
+    UNKNOWN_SPEED_AHEAD = 14
+    RESTRICTION_AHEAD = 15
+    MODE_AREA_AHEAD = 16
+    END_OF_AUTHORITY = 17
+    SUPERVISED_LOCATION = 18
+    RELEASE_SPEED = 19
+    NATIONAL_RELEASE_SPEED = 20
+
+
+class Datum(enum.IntEnum):
+    """Whether a datum may be relied on (SUBSET-026, 4.10)."""
+
+    UNKNOWN = 0
+    VALID = 1
+    INVALID = 2
+
+
+@dataclass(frozen=True, slots=True)
+class Kept:
+    """What a head tells of what is kept, or what the kernel keeps. The position is a country, a group, and how far behind
+    it the front lies, in cm; the national values stand in the order of etcs_national, None without an end."""
+
+    trip_outstanding: bool
+    identity: bytes | None
+    running_number: int | None
+    train: TrainData | None
+    level: tuple[Datum, Level | None]
+    position: tuple[Datum, tuple[int, int, int] | None]
+    national: tuple[int | None, ...]
+    countries: tuple[int, ...]
+
+
+@dataclass(frozen=True, slots=True)
+class Difference:
+    """The first difference of a life: in the head of a block, or in the record of an event. Behind it nothing was compared."""
+
+    block: int
+    event: int | None
+    field: RecordField | KeptField
+    journal: Record | Kept
+    kernel: Record | Kept
+
+
+@dataclass(frozen=True, slots=True)
+class Life:
+    """A life that was run again: which it is, its first and last event in the journal, and what it came to."""
+
+    life: int
+    first_event: int
+    last_event: int
+    verdict: Verdict
+    difference: Difference | None
+
+
+@dataclass(frozen=True, slots=True)
+class Why:
+    """Why an event was answered so, as this kernel answers it. Of each cause of the brake that holds the first event of the
+    run behind each of which it has held; of what decides the limit its speed, its place and a restriction's number."""
+
+    event: int
+    brake: Brake
+    limit_m_per_h: int
+    speed_m_per_h: int
+    backward_cm: int
+    allowed_backward_cm: int
+    causes: dict[BrakeCause, int]
+    trip_cause: TripCause
+    trip_event: int | None
+    limit_cause: LimitCause
+    limit_cause_m_per_h: int
+    limit_cause_cm: int | None
+    restriction: int | None
+
+
+def _level(status: int, level: int) -> tuple[Datum, Level | None]:
+    return Datum(status), Level(level) if status else None
+
+
+def _kept(told: unit._Kept) -> Kept:
+    train, values = told.train, told.national
+    names = [name for name, *_ in values._fields_][:11]
+    numbers = [int(getattr(values, name)) for name in names]
+    position = (told.country, told.group, told.distance_cm) if told.position_status else None
+    return Kept(
+        told.trip_outstanding != 0, bytes(told.identity[:told.identity_len]) or None,
+        told.running_number if told.has_running_number else None,
+        TrainData(train.length, train.maximum, train.deceleration, train.reaction, train.category) if told.has_train else None,
+        _level(told.level_status, told.level), (Datum(told.position_status), position),
+        tuple(None if at > 8 and number == 0xFFFFFFFF else number for at, number in enumerate(numbers)),
+        tuple(values.countries[:values.count]))
+
+
+def _life(told: unit._Replay) -> Life:
+    verdict, difference = Verdict(told.verdict), None
+    if verdict == Verdict.RECORD_DIFFERS:
+        difference = Difference(told.block, told.event, RecordField(told.field), unit._record(told.journal), unit._record(told.kernel))
+    if verdict == Verdict.HEAD_DIFFERS:
+        difference = Difference(told.block, None, KeptField(told.field), _kept(told.journal_kept), _kept(told.kernel_kept))
+    return Life(told.life, told.first_event, told.last_event, verdict, difference)
+
+
+def lives(image: bytes) -> Iterator[Life]:
+    """Each life of the journal that an image holds, the oldest first. A block that can't be read is passed over: what is
+    behind it comes as a life of its own, with the verdict BEHIND_GAP, up to the next power-up."""
+    cursor, told = unit._Journal(), unit._Replay()
+    unit._told(unit._called("etcs_journal_open_", image, len(image), unit.ABI, ctypes.byref(cursor)))
+    while (status := unit._called("etcs_image_replay_", image, len(image), unit.ABI, ctypes.byref(cursor), ctypes.byref(told))) != Status.END:
+        if status == Status.OK:
+            yield _life(told)
+        elif status != Status.IMAGE_DAMAGED:
+            raise Refused(status)
+
+
+def replay(path: str | Path) -> list[Life]:
+    """Each life of a file's journal, the oldest first; the file is read as a whole, and no lock is taken."""
+    return list(lives(Path(path).read_bytes()))
+
+
+def why_at(image: bytes, block: int, event: int) -> Why:
+    """Why an event of a block was answered so, as its `Record` tells both numbers. NOT_REPLAYED where its life can't be run
+    again, NO_SUCH_BLOCK and NO_SUCH_RECORD where the image hasn't it."""
+    told = unit._Why()
+    unit._told(unit._called("etcs_image_why_", image, len(image), unit.ABI, unit._number(block, 64), unit._number(event, 64),
+                            ctypes.byref(told)))
+    return Why(
+        told.event, Brake(told.brake), told.limit_m_per_h, told.speed_m_per_h, told.backward_cm, told.allowed_backward_cm,
+        {cause: told.since[cause] for cause in BrakeCause if told.holds[cause]}, TripCause(told.trip_cause),
+        told.trip_event if told.trip_cause else None, LimitCause(told.limit_cause), told.limit_cause_m_per_h,
+        told.limit_cause_cm if told.has_place else None, told.restriction if told.has_restriction else None)
+
+
+def why_in(image: bytes, event: int) -> Why:
+    """Why an event of the journal was answered so. NO_SUCH_RECORD where the journal hasn't it."""
+    for record in unit.records(image):
+        if record.event == event:
+            return why_at(image, record.block, event)
+    raise Refused(Status.NO_SUCH_RECORD)
+
+
+def why(path: str | Path, event: int) -> Why:
+    """Why an event of a file's journal was answered so; the file is read as a whole, and no lock is taken."""
+    return why_in(Path(path).read_bytes(), event)

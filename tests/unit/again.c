@@ -1,0 +1,224 @@
+/* Prints what the calls of include/etcs_image.h tell of the lives of an image that are run again, as JSON objects on lines, with the words of
+ * `etcs_lab replay` and `etcs_lab why`.
+ *
+ *     again IMAGE replay       a line of each life of the journal, and of each block that can't be read
+ *     again IMAGE why [STEP]   a line of each STEPth record of the journal, of each without a number
+ */
+#include <stdio.h>
+#include <stdlib.h>
+#include <string.h>
+
+#include "etcs_image.h"
+
+static const char *const verdicts[] = {"", "agrees", "record_differs", "head_differs", "before_oldest_block", "gap", "begins_earlier"};
+static const char *const record_fields[] = {"", "event", "word", "time_ms", "mode", "level", "brake", "indications", "place", "place_cm", "uncertainty_cm", "limit_m_per_h"};
+static const char *const kept_fields[] = {"", "events", "lives", "trip_outstanding", "identity", "running_number", "train", "level", "position", "national_values", "countries"};
+static const char *const modes[] = {"FS", "OS", "SR", "SH", "UN", "", "SB", "TR", "PT", "SF"};
+static const char *const brakes[] = {"none", "service", "emergency"};
+static const char *const signs[] = {"on_sight", "shunting", "level_0", "trip", "overridden", "not_revalidated", "overspeed"};
+static const char *const statuses[] = {"unknown", "valid", "invalid"};
+static const char *const causes[] = {"not_revalidated", "in_trip", "in_system_failure", "owes_trip", "far_too_fast", "rolled_too_far", "asked_for_service", "too_fast", "must_stand", "owes_too_long"};
+static const char *const trips[] = {"", "end_passed", "linking", "stop", "staff_distance", "level"};
+static const char *const limits[] = {"", "no_speed", "no_train_data", "national_staff_responsible", "national_override", "national_shunting", "national_unfitted",
+                                     "train_maximum", "main_speed", "end_speed", "static_speed", "restriction", "mode_area", "static_speed_ahead", "unknown_speed_ahead",
+                                     "restriction_ahead", "mode_area_ahead", "end_of_authority", "supervised_location", "release_speed", "national_release_speed"};
+
+static unsigned long long wide(uint64_t number) { return (unsigned long long)number; }
+
+static void tell_record(const etcs_record *record) {
+    const char *between = "";
+    printf("{\"event\":%llu,\"time_ms\":%llu,\"mode\":\"%s\",\"level\":", wide(record->event), wide(record->moment_ms), modes[record->mode]);
+    if (record->level == ETCS_LEVEL_INVALID)
+        printf("null");
+    else
+        printf("%u", (unsigned)record->level);
+    printf(",\"brake\":\"%s\",\"indications\":[", brakes[record->brake]);
+    for (unsigned i = 0; i < 7; i++)
+        if (record->indications >> i & 1) {
+            printf("%s\"%s\"", between, signs[i]);
+            between = ",";
+        }
+    printf("]");
+    if (record->has_place)
+        printf(",\"place_cm\":%lld,\"uncertainty_cm\":%llu,\"limit_m_per_h\":%u", (long long)record->front_cm, wide(record->uncertainty_cm), (unsigned)record->limit_m_per_h);
+    printf("}");
+}
+
+static void endless(uint32_t value) {
+    if (value == ETCS_ENDLESS)
+        printf("null");
+    else
+        printf("%u", (unsigned)value);
+}
+
+/* (identities here have printable letters alone) */
+static void text(const uint8_t *bytes, unsigned len) {
+    printf("\"");
+    for (unsigned i = 0; i < len; i++)
+        printf("%s%c", bytes[i] == '"' || bytes[i] == '\\' ? "\\" : "", (char)bytes[i]);
+    printf("\"");
+}
+
+static void tell_kept(const etcs_kept *kept) {
+    const etcs_national *const values = &kept->national;
+    printf("{\"trip_outstanding\":%s,\"identity\":", kept->trip_outstanding ? "true" : "false");
+    if (kept->identity_len > 0)
+        text(kept->identity, kept->identity_len);
+    else
+        printf("null");
+    printf(",\"running_number\":");
+    if (kept->has_running_number)
+        printf("%u", (unsigned)kept->running_number);
+    else
+        printf("null");
+    printf(",\"train\":");
+    if (kept->has_train)
+        printf("{\"length_cm\":%u,\"maximum_m_per_h\":%u,\"category\":%u,\"deceleration_cm_per_s2\":%u,\"reaction_ms\":%u}", (unsigned)kept->train.length_cm,
+               (unsigned)kept->train.maximum_m_per_h, (unsigned)kept->train.category, (unsigned)kept->train.deceleration_cm_per_s2, (unsigned)kept->train.reaction_ms);
+    else
+        printf("null");
+    printf(",\"level\":");
+    if (kept->level_status)
+        printf("{\"value\":%u,\"status\":\"%s\"}", (unsigned)kept->level, statuses[kept->level_status]);
+    else
+        printf("null");
+    printf(",\"position\":");
+    if (kept->position_status)
+        printf("{\"country\":%u,\"group\":%u,\"distance_cm\":%lld,\"status\":\"%s\"}", (unsigned)kept->country, (unsigned)kept->group, (long long)kept->distance_cm,
+               statuses[kept->position_status]);
+    else
+        printf("null");
+    printf(",\"national_values\":{\"shunting_m_per_h\":%u,\"staff_responsible_m_per_h\":%u,\"on_sight_m_per_h\":%u,\"unfitted_m_per_h\":%u,\"release_m_per_h\":%u,"
+           "\"roll_cm\":%u,\"override_allowed_m_per_h\":%u,\"override_speed_m_per_h\":%u,\"override_distance_cm\":%u,\"override_time_ms\":",
+           (unsigned)values->shunting_m_per_h, (unsigned)values->staff_responsible_m_per_h, (unsigned)values->on_sight_m_per_h, (unsigned)values->unfitted_m_per_h,
+           (unsigned)values->release_m_per_h, (unsigned)values->roll_cm, (unsigned)values->override_allowed_m_per_h, (unsigned)values->override_m_per_h,
+           (unsigned)values->override_distance_cm);
+    endless(values->override_time_ms);
+    printf(",\"staff_responsible_distance_cm\":");
+    endless(values->staff_responsible_distance_cm);
+    printf("},\"countries\":[");
+    for (unsigned i = 0; i < values->count; i++)
+        printf("%s%u", i ? "," : "", (unsigned)values->countries[i]);
+    printf("]}");
+}
+
+/* That what isn't told is zero. */
+static int is_zero(const void *bytes, size_t size) {
+    for (size_t i = 0; i < size; i++)
+        if (((const uint8_t *)bytes)[i] != 0)
+            return 0;
+    return 1;
+}
+
+static void tell_life(const etcs_replay *replay) {
+    const int record = replay->verdict == ETCS_VERDICT_RECORD_DIFFERS, head = replay->verdict == ETCS_VERDICT_HEAD_DIFFERS;
+    printf("{\"life\":%u,\"first_event\":%llu,\"last_event\":%llu,\"verdict\":\"%s\"", (unsigned)replay->life, wide(replay->first_event), wide(replay->last_event),
+           verdicts[replay->verdict]);
+    if (record) {
+        printf(",\"block\":%llu,\"event\":%llu,\"field\":\"%s\",\"journal\":", wide(replay->block), wide(replay->event), record_fields[replay->field]);
+        tell_record(&replay->journal);
+        printf(",\"kernel\":");
+        tell_record(&replay->kernel);
+    }
+    if (head) {
+        printf(",\"block\":%llu,\"field\":\"%s\",\"journal\":", wide(replay->block), kept_fields[replay->field]);
+        tell_kept(&replay->journal_kept);
+        printf(",\"kernel\":");
+        tell_kept(&replay->kernel_kept);
+    }
+    if (replay->reserved != 0 || (!record && (replay->event != 0 || !is_zero(&replay->journal, sizeof replay->journal) || !is_zero(&replay->kernel, sizeof replay->kernel)))
+        || (!head && (!is_zero(&replay->journal_kept, sizeof replay->journal_kept) || !is_zero(&replay->kernel_kept, sizeof replay->kernel_kept)))
+        || (!record && !head && (replay->block != 0 || replay->field != 0)))
+        printf(",\"not_zero\":true");
+    printf("}\n");
+}
+
+static uint32_t replayed(const uint8_t *image, size_t size) {
+    etcs_journal journal;
+    etcs_replay replay;
+    uint64_t block;
+    uint32_t answer = etcs_journal_open(image, size, &journal);
+    if (answer != ETCS_UNIT_OK)
+        return answer;
+    while (block = journal.block, (answer = etcs_image_replay(image, size, &journal, &replay)) != ETCS_UNIT_END) {
+        if (answer == ETCS_UNIT_OK)
+            tell_life(&replay);
+        else if (answer == ETCS_UNIT_IMAGE_DAMAGED)
+            printf("{\"block\":%llu,\"verdict\":\"unreadable\"}\n", wide(block));
+        else
+            return answer;
+    }
+    return ETCS_UNIT_OK;
+}
+
+static void tell_why(const etcs_why *why) {
+    printf("{\"event\":%llu,\"brake\":\"%s\",\"limit_m_per_h\":%u,\"speed_m_per_h\":%u,\"backward_cm\":%llu,\"allowed_backward_cm\":%llu", wide(why->event), brakes[why->brake],
+           (unsigned)why->limit_m_per_h, (unsigned)why->speed_m_per_h, wide(why->backward_cm), wide(why->allowed_backward_cm));
+    for (unsigned i = 0; i < ETCS_BRAKE_CAUSES; i++) {
+        if (why->holds[i])
+            printf(",\"%s\":%llu", causes[i], wide(why->since[i]));
+        else
+            printf(",\"%s\":%s", causes[i], why->since[i] == 0 ? "null" : "\"not zero\"");
+    }
+    if (why->trip_cause)
+        printf(",\"trip_cause\":\"%s\",\"trip_cause_event\":%llu", trips[why->trip_cause], wide(why->trip_event));
+    else
+        printf(",\"trip_cause\":null,\"trip_cause_event\":%s", why->trip_event == 0 ? "null" : "\"not zero\"");
+    printf(",\"limit_cause\":\"%s\",\"limit_cause_speed_m_per_h\":%u,\"limit_cause_place_cm\":", limits[why->limit_cause], (unsigned)why->limit_cause_m_per_h);
+    if (why->has_place)
+        printf("%lld", (long long)why->limit_cause_cm);
+    else
+        printf("%s", why->limit_cause_cm == 0 ? "null" : "\"not zero\"");
+    printf(",\"limit_cause_number\":");
+    if (why->has_restriction)
+        printf("%llu", wide(why->restriction));
+    else
+        printf("%s", why->restriction == 0 ? "null" : "\"not zero\"");
+    printf("%s}\n", is_zero(why->reserved, sizeof why->reserved) ? "" : ",\"not_zero\":true");
+}
+
+static uint32_t whys(const uint8_t *image, size_t size, unsigned step) {
+    etcs_journal journal;
+    etcs_record record;
+    etcs_why why;
+    unsigned count = 0;
+    uint32_t answer = etcs_journal_open(image, size, &journal);
+    if (answer != ETCS_UNIT_OK)
+        return answer;
+    while ((answer = etcs_journal_next(image, size, &journal, &record)) != ETCS_UNIT_END) {
+        if (answer == ETCS_UNIT_IMAGE_DAMAGED)
+            continue;
+        if (answer != ETCS_UNIT_OK)
+            return answer;
+        if (count++ % step != 0)
+            continue;
+        answer = etcs_image_why(image, size, record.block, record.event, &why);
+        if (answer == ETCS_UNIT_OK)
+            tell_why(&why);
+        else
+            printf("{\"event\":%llu,\"refused\":\"%s\"}\n", wide(record.event), etcs_status_text(answer));
+    }
+    return ETCS_UNIT_OK;
+}
+
+int main(int count, char **words) {
+    uint8_t *image;
+    long size;
+    uint32_t answer;
+    FILE *file = count > 2 ? fopen(words[1], "rb") : NULL;
+    if (file == NULL || fseek(file, 0, SEEK_END) != 0 || (size = ftell(file)) < 0 || fseek(file, 0, SEEK_SET) != 0)
+        return 3;
+    /* (just its bytes, so that a read behind them is seen) */
+    image = (uint8_t *)malloc(size > 0 ? (size_t)size : 1);
+    if (image == NULL || fread(image, 1, (size_t)size, file) != (size_t)size)
+        return 3;
+    if (strcmp(words[2], "replay") == 0)
+        answer = replayed(image, (size_t)size);
+    else
+        answer = whys(image, (size_t)size, count > 3 ? (unsigned)atoi(words[3]) : 1);
+    if (answer != ETCS_UNIT_OK)
+        printf("{\"refused\":\"%s\"}\n", etcs_status_text(answer));
+    fclose(file);
+    free(image);
+    return 0;
+}

@@ -1,0 +1,227 @@
+#!/usr/bin/env python3
+"""Lives of images that C programs run again by the calls of etcs_image.h, beside what the plain programs say of the same images, and beside what
+`etcs_lab replay --json` and `etcs_lab why --json` print: of the examples, of random lives, of all formats, of damaged journals, and of ones with
+an altered byte.
+
+    tests/unit/again.py LAB REFUSE PROGRAM..     the program etcs_lab, tests/hostile/refuse.c as a library, and again.c built in several ways
+
+Of three examples each request for memory is refused in turn.
+"""
+import json
+import os
+import re
+import subprocess
+import sys
+import tempfile
+from collections import Counter
+from pathlib import Path
+
+HERE = Path(__file__).resolve().parent
+sys.path[:0] = [str(HERE.parents[1] / "tests" / part) for part in ("plain", "hostile", "lab")]
+from replay import replayed  # noqa: E402
+from replay_rows import altered, damaged, examples, formats, random_lives  # noqa: E402
+from why import walked  # noqa: E402
+from why_rows import more_lives  # noqa: E402
+
+EVERY = 19  # so many altered bytes are passed over
+OF_LAB = 7  # etcs_lab is asked of so many images one
+LEAST, LEAST_WHYS, LEAST_REFUSED = 650, 11_000, 400  # so many images, and events whose causes are compared
+VERDICTS = ("agrees", "record_differs", "head_differs", "before_oldest_block", "gap", "unreadable")
+LEFT_OUT = ("trip_cause_section", "limit_cause_section")
+
+
+def images():
+    for made in (examples, formats, damaged, random_lives, more_lives):
+        yield from made()
+    for number, (part, _, name, data) in enumerate(altered()):
+        if number % EVERY == 0 or part == "head" and number % 3 == 0:
+            yield name, data
+
+
+def printed(*words, **changes):
+    done = subprocess.run(list(map(str, words)), stdin=subprocess.DEVNULL, capture_output=True, timeout=120, env=os.environ | changes)
+    return done.returncode, [json.loads(line) for line in done.stdout.decode().splitlines()]
+
+
+# The enums of the header whose names are words of `reasons`: prefix, first number, file and variants.
+MIRRORS = (("etcs_brake_cause", "ETCS_CAUSE_", 0, "words", "BrakeCause"), ("etcs_trip_cause", "ETCS_TRIP_", 1, "trips", "TripCause"),
+           ("etcs_limit_cause", "ETCS_LIMIT_", 1, "limit_words", "LimitKind"))
+
+
+def mirrors_differ():
+    """Enums of the header that haven't the words of the kernel's causes, in their order."""
+    header = (HERE.parents[1] / "include" / "etcs_image.h").read_text()
+    for name, prefix, first, file, variants in MIRRORS:
+        body = re.search(rf"enum {name} {{(.*?)}};", header, re.DOTALL)[1]
+        told = {int(number): word.lower() for word, number in re.findall(rf"{prefix}(\w+) = (\d+)", body)}
+        told.pop(first - 1, None)
+        source = (HERE.parents[1] / "crates" / "reasons" / "src" / f"{file}.rt").read_text()
+        word_of = re.search(r"fn \w*word\(.*?\n}\n", source, re.DOTALL)[0]
+        wanted = dict(enumerate(re.findall(rf'{variants}::\w+ => "(\w+)"', word_of), first))
+        if told != wanted or not wanted:
+            yield f"enum {name}: {told}, wanted {wanted}"
+
+
+def is_of_events(line):
+    return line["replay"] in ("agrees", "not_replayed", "record_differs")
+
+
+def lines_of(life, lines, at):
+    """Where the lines end that tell of the events of a life, and of heads in it; None where they don't tell just these events."""
+    event = life["first_event"]
+    while event <= life["last_event"]:
+        if at >= len(lines):
+            return None
+        line = lines[at]
+        if is_of_events(line):
+            if line.get("first_event", line.get("event")) != event:
+                return None
+            event = line.get("last_event", line.get("event")) + 1
+        elif line["replay"] != "head_differs":
+            return None
+        at += 1
+    while at < len(lines) and lines[at]["replay"] == "head_differs":
+        at += 1
+    return at if event == life["last_event"] + 1 else None
+
+
+def verdict_of(lines):
+    """What lines of a life come to: what differs first, else why it wasn't run, else that it agrees."""
+    told = {"life": [line for line in lines if is_of_events(line)][-1]["life"]}
+    for line in lines:
+        if line["replay"] in ("record_differs", "head_differs"):
+            of_head = {key: {name: value for name, value in line[key].items() if name not in ("events", "lives")} for key in ("journal", "kernel")}
+            told |= {"verdict": line["replay"], "block": line["block"], "field": line["field"]}
+            return told | (of_head if line["replay"] == "head_differs" else {key: line[key] for key in ("event", "journal", "kernel")})
+    reasons = [line["reason"] for line in lines if line["replay"] == "not_replayed"]
+    return told | {"verdict": reasons[0] if reasons else "agrees"}
+
+
+def lives_differ(told, lines):
+    """Why lives that C tells aren't those of the lines of a replay, or None."""
+    at = 0
+    for life in told:
+        if life["verdict"] == "unreadable":
+            if at >= len(lines) or lines[at] != {"block": life["block"], "replay": "unreadable"}:
+                return f"{life}: no such line"
+            at += 1
+            continue
+        end = lines_of(life, lines, at)
+        if end is None:
+            return f"{life}: other events than {lines[at:at + 2]}"
+        wanted = verdict_of(lines[at:end]) | {key: life[key] for key in ("first_event", "last_event")}
+        if life != wanted:
+            return f"{life}\n--- wanted\n{wanted}"
+        at = end
+    return None if at == len(lines) else f"no life has {lines[at]}"
+
+
+def without_sections(members):
+    return {key: value for key, value in members.items() if key not in LEFT_OUT}
+
+
+class Tried:
+    def __init__(self, lab, refuse, programs, folder):
+        self.lab, self.refuse, self.programs, self.image = lab, refuse, programs, Path(folder) / "image"
+        self.images = self.whys = self.differ = self.of_lab = self.refused = 0
+        self.met = Counter()
+
+    def tell(self, text):
+        self.differ += 1
+        if self.differ <= 10:
+            print(text)
+
+    def lives(self, name, data):
+        status, text = replayed(data, True)
+        wanted = [json.loads(line) for line in text.splitlines()][:-1]
+        for program in self.asked():
+            _, told = printed(program, self.image, "replay")
+            if status == 1:
+                if [line.get("refused") for line in told] not in (["IMAGE_NOT_FORMATTED"], ["IMAGE_DAMAGED"]):
+                    self.tell(f"{name}: {told}, wanted a refusal")
+                continue
+            self.met.update(line["verdict"] for line in told if "verdict" in line)
+            found = lives_differ(told, wanted)
+            if found:
+                self.tell(f"{name}: {found}")
+        if status != 1 and self.images % OF_LAB == 0:
+            self.of_lab += 1
+            _, lines = printed(self.lab, "replay", "--json", self.image)
+            found = lives_differ(told, lines[:-1])
+            if found:
+                self.tell(f"{name}, beside etcs_lab: {found}")
+
+    def asked(self):
+        """The programs: all of them of each hundredth image."""
+        return self.programs if self.images % 100 == 0 else self.programs[:1]
+
+    def reasons(self, name, data):
+        events = walked(data)
+        if events is None:
+            return
+        step = 1 if self.images % OF_LAB == 0 or len(events) < 60 else 5
+        wanted = [without_sections(json.loads(members)) for *_, members in events]
+        for program in self.asked():
+            _, told = printed(program, self.image, "why", step)
+            known = [line for line in told if "refused" not in line]
+            self.met.update(f"refused {line['refused']}" for line in told if "refused" in line)
+            self.whys += len(known)
+            for line in known:
+                if line not in wanted:
+                    self.tell(f"{name}: {line}\n--- none of\n{[one for one in wanted if one['event'] == line['event']]}")
+            if step == 1 and known != wanted:
+                self.tell(f"{name}: {len(known)} events, wanted {len(wanted)}")
+        if step == 1 and wanted:
+            event = wanted[self.images % len(wanted)]["event"]
+            _, lines = printed(self.lab, "why", "--json", self.image, event)
+            if [without_sections(line) for line in lines] != [line for line in known if line["event"] == event]:
+                self.tell(f"{name}, event {event}, beside etcs_lab: {lines}")
+            self.of_lab += 1
+
+    def memory(self, name, data, words):
+        """Each request for memory is refused in turn: then one event, or the rest, is told as refused, and all else as ever."""
+        self.image.write_bytes(data)
+        counts = self.image.with_name("counts")
+        _, whole = printed(self.programs[0], self.image, *words, LD_PRELOAD=self.refuse, REFUSE_COUNTS=str(counts))
+        for at in range(1, int(counts.read_text()) + 1):
+            status, told = printed(self.programs[0], self.image, *words, LD_PRELOAD=self.refuse, REFUSE_AT=str(at))
+            refused = [place for place, line in enumerate(told) if line.get("refused") == "NO_MEMORY"]
+            self.refused += len(refused)
+            if status == 0 and refused and words[0] == "why":
+                place, = refused
+                told[place] = whole[place] if told[place]["event"] == whole[place]["event"] else None
+            if status == 0 and refused and words[0] == "replay":
+                told[refused[0]:] = whole[refused[0]:]
+            if status not in (0, 3) or status == 0 and told != whole:
+                self.tell(f"{name}, request {at} refused: {told}")
+
+    def judged(self):
+        for name, data in images():
+            self.image.write_bytes(data)
+            self.lives(name, data)
+            self.reasons(name, data)
+            self.images += 1
+        for name, data in list(examples())[:3]:
+            for words in (("replay",), ("why", "3")):
+                self.memory(name, data, words)
+        if self.refused < LEAST_REFUSED:
+            self.tell(f"too few: {LEAST_REFUSED} answers for want of memory are wanted")
+        print(f"lives run again from C: {self.images} images, {self.whys} events with their causes, {self.of_lab} comparisons with etcs_lab, "
+              f"{self.refused} answers for want of memory; {self.differ} differ; {dict(self.met)}")
+        for text in mirrors_differ():
+            self.tell(text)
+        for verdict in (*VERDICTS, "refused NOT_REPLAYED"):
+            if not self.met[verdict]:
+                self.tell(f"no image has the verdict {verdict}")
+        if self.images < LEAST or self.whys < LEAST_WHYS:
+            self.tell(f"too few: {LEAST} images and {LEAST_WHYS} events are wanted")
+        return 1 if self.differ else 0
+
+
+def main(words):
+    with tempfile.TemporaryDirectory() as folder:
+        return Tried(*words[:2], words[2:], folder).judged()
+
+
+if __name__ == "__main__":
+    sys.exit(main(sys.argv[1:]))

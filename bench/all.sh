@@ -2,13 +2,13 @@
 # Runs the scripts of bench/, one after another, and prints each row that they print with the numbers that bench/figures.txt keeps of an earlier
 # run behind it. What the builds have to say goes to bench/out/said.
 #
-#     bench/all.sh [--keep] [PART..]    the parts: measure kernel blocks journal onboard program worst mixed; with --keep the new rows are kept
+#     bench/all.sh [--keep] [PART..]    the parts: measure kernel blocks journal onboard run program worst mixed; with --keep the new rows are kept
 top=$(cd "$(dirname "$0")/.." && pwd) || exit 1
 out=$top/bench/out
 mkdir -p "$out/printed"
 keep=
 [ "${1:-}" != --keep ] || { keep=--keep; shift; }
-[ $# -gt 0 ] || set -- measure kernel blocks journal onboard program worst mixed
+[ $# -gt 0 ] || set -- measure kernel blocks journal onboard run program worst mixed
 : >"$out/said"
 status=0
 for part in "$@"; do

@@ -6,6 +6,7 @@
 //!                                          enter-train-data LENGTH MAXIMUM DECELERATION REACTION CATEGORY; choose-level N; confirm WHAT; start;
 //!                                          choose-shunting; leave-shunting; override; acknowledge WHAT; close-desk
 //!     plain_kernel sum                     the same, and prints the sum of the limits behind the line `count`
+//!     plain_kernel run SCENARIO IMAGE      a whole run, as `etcs run` (bench/plain_life.rs)
 //!     plain_kernel permitted GRADIENT RUNS the permitted speed before a stop, as bench/kernel.c asks for it, and the sum
 use std::env;
 use std::hint::black_box;
@@ -15,6 +16,8 @@ use std::io::{self, BufRead};
 #[path = "plain_telegram.rs"]
 mod telegram;
 use telegram::{Head, Packet, Telegram};
+#[path = "plain_life.rs"]
+mod life;
 
 const FARTHEST: i64 = 1 << 40;
 const NEAR: i64 = 1_300;
@@ -658,6 +661,7 @@ struct State {
     speed: u32,
     sums: Sums,
     fix: Fix,
+    fixed_by: Option<GroupId>,
     mark: i64,
     group: Option<Group>,
     last_group: Option<(GroupId, i64)>,
@@ -697,6 +701,7 @@ impl State {
             speed: 0,
             sums: Sums::default(),
             fix: Fix::default(),
+            fixed_by: None,
             mark: -500 - REMEMBERED,
             group: None,
             last_group: None,
@@ -901,7 +906,7 @@ impl State {
         let Judged::Accepted(link) = self.links.judge(&closed, &message, max_front, &mut now.asked) else {
             return;
         };
-        let place = self.fixed(&message, link.as_ref());
+        let place = self.fixed(closed.id, &message, link.as_ref());
         if !self.countries.is_empty() && !self.countries.contains(&closed.id.0) {
             self.values = DEFAULTS;
             self.countries.clear();
@@ -926,7 +931,7 @@ impl State {
         }
     }
 
-    fn fixed(&mut self, message: &Message, link: Option<&Link>) -> i64 {
+    fn fixed(&mut self, id: GroupId, message: &Message, link: Option<&Link>) -> i64 {
         let own = self.fix.estimate(message.sums);
         let fix = match link {
             Some(link) => Fix { at: link.place, accuracy: link.accuracy, sums: message.sums, missed: message.missed },
@@ -937,6 +942,7 @@ impl State {
             return own;
         }
         self.fix = fix;
+        self.fixed_by = Some(id);
         fix.at
     }
 
@@ -1635,6 +1641,7 @@ fn main() {
                 println!("{sum}");
             }
         }
+        ["run", scenario, image] => life::run(scenario, image).expect("a run"),
         ["permitted", gradient, runs] => {
             let steps = (0..32).map(|i| Step { from: 62_500 * i, value: Some(number(gradient) + i % 2) }).collect();
             let gradients = Profile { steps };

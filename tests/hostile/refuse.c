@@ -1,8 +1,10 @@
 // Refuses one request for memory of the program that it is loaded before: the one whose number stands in REFUSE_AT, counted from 1
-// over malloc, calloc, realloc and aligned_alloc. Where it refuses one it makes the file that REFUSE_SAYS names.
+// over malloc, calloc, realloc and aligned_alloc. Where it refuses one it makes the file that REFUSE_SAYS names. As the program ends it
+// writes into the file that REFUSE_COUNTS names how many requests there were.
 #include <errno.h>
 #include <fcntl.h>
 #include <stddef.h>
+#include <stdio.h>
 #include <stdlib.h>
 #include <unistd.h>
 
@@ -44,4 +46,17 @@ int posix_memalign(void **out, size_t to, size_t size) {
         return ENOMEM;
     *out = __libc_memalign(to, size);
     return *out ? 0 : ENOMEM;
+}
+
+__attribute__((destructor)) static void tell(void) {
+    char text[24];
+    long requests = count;
+    const char *counts = getenv("REFUSE_COUNTS");
+    int file = counts ? open(counts, O_CREAT | O_WRONLY | O_TRUNC, 0644) : -1;
+    if (file < 0)
+        return;
+    int length = snprintf(text, sizeof text, "%ld", requests);
+    if (write(file, text, (size_t)length) != length)
+        _exit(99);
+    close(file);
 }

@@ -1,15 +1,15 @@
 //! The line of an output.
 ghost use Rattle.std.specs.Prelude.{OnOk};
 ghost use Rattle.std.specs.Io.KnownBytes.{Appends};
-ghost use Rattle.output_lines.specs.Line.{front_of, back_of, line_of};
+ghost use Rattle.command_line.specs.OutputLine.{front_of, back_of, line_of};
 
-use crate::words::{brake_word, level_word, mode_word};
+use crate::output_words::{brake_word, level_word, mode_word};
 use events::Output;
 use std::io;
 use std::io::Write;
 
 // The number, the mode and the level.
-#[tactic(auto, unfolding(crate::specs::Line::front_of))]
+#[tactic(auto, unfolding(crate::specs::OutputLine::front_of))]
 fn write_front<W: Write>(number: u64, output: &Output, out: &mut W) -> io::Result<()>
     ensures { OnOk result (Appends (W.contents out.old) (W.contents out.new) (front_of number output.now)) }
 {
@@ -19,7 +19,7 @@ fn write_front<W: Write>(number: u64, output: &Output, out: &mut W) -> io::Resul
 }
 
 // The brake, the limit and the indications.
-#[tactic(auto, unfolding(crate::specs::Line::back_of))]
+#[tactic(auto, unfolding(crate::specs::OutputLine::back_of))]
 fn write_back<W: Write>(output: &Output, out: &mut W) -> io::Result<()>
     ensures { OnOk result (Appends (W.contents out.old) (W.contents out.new) (back_of output.now)) }
 {

@@ -1,6 +1,6 @@
 use Rattle.std.proofs.KnownBytes.{Appends-trans}
-use Rattle.output_lines.specs.Line.{line_of}
-use Rattle.output_lines.proofs.line.write_line.Goals as goal
+use Rattle.command_line.specs.OutputLine.{line_of}
+use Rattle.command_line.proofs.output_line.write_line.Goals as goal
 
 pub returns : goal.returns
 unfolding line_of

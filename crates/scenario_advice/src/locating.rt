@@ -7,9 +7,8 @@ use crate::places::Place;
 use crate::positions::{Position, position_of};
 use events::Step;
 use mode_table::Cold;
-use scenario_values::life_of;
 use serde_json::{Value, json};
-use simulator::{Scenario, ScenarioFault, events_of};
+use simulator::{Scenario, ScenarioFault, events_of, life_of};
 use std::alloc::{AllocError, Global};
 
 /// A fault and its place.

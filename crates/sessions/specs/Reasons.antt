@@ -18,9 +18,9 @@ use Rattle.onboard.specs.declared.errors.FlushError.TheVariants as a_flush
 use Rattle.reader.specs.Numbers.{listing_number}
 use Rattle.reader.specs.declared.errors.ListingError.{ListingError}
 use Rattle.reader.specs.declared.errors.ListingError.TheVariants as a_listing
-use Rattle.scenario_values.specs.Numbers.{fault_number}
-use Rattle.scenario_values.specs.declared.fault.ScenarioFault.{ScenarioFault}
-use Rattle.scenario_values.specs.declared.fault.ScenarioFault.TheVariants as a_fault
+use Rattle.simulator.specs.FaultNumbers.{fault_number}
+use Rattle.simulator.specs.declared.fault.ScenarioFault.{ScenarioFault}
+use Rattle.simulator.specs.declared.fault.ScenarioFault.TheVariants as a_fault
 
 -- ---- why a life stopped: a number and a name
 

@@ -23,8 +23,8 @@ use Rattle.onboard.specs.Stops.{LifeEnds, OnlyOpens, IsDone, IsUnflushed}
 use Rattle.onboard.specs.Written.{LeavesLast}
 use Rattle.reader.specs.Listings.{AddsListing, IsListingRefusal}
 use Rattle.reader.specs.declared.errors.ListingError.{ListingError}
-use Rattle.scenario_values.specs.declared.fault.ScenarioFault.{ScenarioFault}
-use Rattle.scenario_values.specs.declared.fault.ScenarioFault.TheVariants.{NoMemory}
+use Rattle.simulator.specs.declared.fault.ScenarioFault.{ScenarioFault}
+use Rattle.simulator.specs.declared.fault.ScenarioFault.TheVariants.{NoMemory}
 use Rattle.simulator.specs.Scenarios.{Tells, FaultOf}
 use Rattle.sessions.specs.declared.images.Image.{Image}
 use Rattle.sessions.specs.declared.images.Image.TheVariants.{Unopened, Missing, Opened}

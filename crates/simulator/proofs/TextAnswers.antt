@@ -8,9 +8,9 @@ use Rattle.serde_json.specs.Data.{Data}
 use Rattle.serde_json.specs.Read.{read}
 use Rattle.mode_table.specs.declared.statuses.Cold.{Cold}
 use Rattle.events.specs.declared.step.Step.{Step}
-use Rattle.scenario_values.specs.Lives.{life_in}
-use Rattle.scenario_values.specs.declared.fault.ScenarioFault.{ScenarioFault}
-use Rattle.scenario_values.specs.declared.fault.ScenarioFault.TheVariants.{NotJson}
+use Rattle.simulator.specs.Lives.{life_in}
+use Rattle.simulator.specs.declared.fault.ScenarioFault.{ScenarioFault}
+use Rattle.simulator.specs.declared.fault.ScenarioFault.TheVariants.{NotJson}
 use Rattle.simulator.proofs.ValueFaults.{Fits, of_life}
 use Rattle.simulator.specs.Scenarios.{IsReading, Tells, FaultOf}
 use Rattle.simulator.specs.Laws.{TellsALife, HasAFault}

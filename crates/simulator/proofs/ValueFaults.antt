@@ -4,7 +4,7 @@ use Rattle.serde_json.specs.Data.{Data}
 use Rattle.serde_json.specs.Find.{get, as_str, as_bool}
 use Rattle.hex.specs.Hex.{decode_of}
 use Rattle.hex.specs.declared.error.FromHexError.{FromHexError}
-use Rattle.simulator.specs.Course.{Run, start, taken, ended}
+use Rattle.simulator.specs.Course.{Run, start, taken}
 use Rattle.simulator.specs.Limits.{farthest_back, farthest}
 use Rattle.simulator.specs.Passing.{passed}
 use Rattle.simulator.specs.declared.asked.Asked.{Asked}

@@ -6,6 +6,7 @@ pub mod Laws
 pub mod Limits
 pub mod Lives
 pub mod Numbers
+pub mod Parts
 pub mod Passing
 pub mod Scenarios
 pub mod Steps

@@ -1,6 +1,6 @@
 -- The life that the JSON value of a scenario asks for, or its first fault (this project's profile). Distances are
 -- centimetres, speeds metres per hour, moments milliseconds.
-use Rattle.std.specs.Prelude.{ℕ, ◌&&◌, ℤ, pos, List, [], ◌∷◌, ◌++◌, length, codes, is_some, Bool, if◌then◌else◌, Option, Some, None, Result, Ok, Err}
+use Rattle.std.specs.Prelude.{ℕ, ◌&&◌, ℤ, List, [], ◌∷◌, ◌++◌, length, codes, is_some, Bool, if◌then◌else◌, Option, Some, None, Result, Ok}
 use Rattle.serde_json.specs.Data.{Data}
 use Rattle.serde_json.specs.Find.{get}
 use Rattle.mode_table.specs.declared.statuses.Cold.{Cold}

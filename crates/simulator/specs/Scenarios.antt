@@ -1,6 +1,6 @@
 -- What a scenario asks for, read off the bytes of its file (this project's profile). Distances are centimetres, speeds
 -- metres per hour, moments milliseconds.
-use Rattle.std.specs.Prelude.{◌≡◌, ◌⊎◌, IsUtf8, ℕ, List, Option, Some, Ok, Err}
+use Rattle.std.specs.Prelude.{◌≡◌, ◌⊎◌, IsUtf8, ℕ, List, Some, Ok, Err}
 use Rattle.serde_json.specs.Data.{Data}
 use Rattle.serde_json.specs.Read.{read}
 use Rattle.mode_table.specs.declared.statuses.Cold.{Cold}

@@ -36,8 +36,8 @@ fn are_texts(items: &[Value]) -> bool
     true
 }
 
-// Lays a balise at a place.
-fn lay_one(
+/// Lays a balise at a place.
+pub(crate) fn lay_one(
     alloc: Global,
     at: u64,
     item: &Value,
@@ -76,8 +76,12 @@ fn lay(
     Ok(())
 }
 
-// Lays the balises of a group.
-fn lay_group(alloc: Global, value: &Value, balises: &mut Vec<Balise>) -> Result<(), ScenarioFault>
+/// Lays the balises of a group.
+pub(crate) fn lay_group(
+    alloc: Global,
+    value: &Value,
+    balises: &mut Vec<Balise>,
+) -> Result<(), ScenarioFault>
     ensures ok { OnOk result (group (view value.now) balises.old.items ≡ Ok balises.new.items) }
     ensures err { IfErr result (λ fault. (fault ≡ ScenarioFault.NoMemory)
         ⊎ (group (view value.now) balises.old.items ≡ Err fault)) }

@@ -14,6 +14,7 @@ mod fault;
 mod groups;
 mod laws;
 mod lives;
+mod parts;
 mod reading;
 mod telegrams;
 mod track;
@@ -26,5 +27,8 @@ pub use driving::Course;
 pub use fault::ScenarioFault;
 pub use laws::{not_json_alone, one_answer, tells_or_fails};
 pub use lives::life_of;
+pub use parts::{
+    fault_of_at, fault_of_balise, fault_of_cold, fault_of_group, fault_of_spacing, fault_of_step,
+};
 pub use reading::{Scenario, ends_of, events_of};
 pub use track::Track;

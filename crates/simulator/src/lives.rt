@@ -1,5 +1,5 @@
 //! From the value of a scenario to the steps of a life.
-ghost use Rattle.std.specs.Prelude.{◌≡◌, ◌⊎◌, [], codes, map, pos, IfOk, IfErr, OnOk, Ok, Err};
+ghost use Rattle.std.specs.Prelude.{◌≡◌, ◌⊎◌, [], codes, map, pos, Some, IfOk, IfErr, OnOk, Ok, Err};
 ghost use Rattle.serde_json.specs.View.{view};
 ghost use Rattle.serde_json.specs.Find.{get};
 ghost use Rattle.simulator.specs.Course.{run_of};
@@ -31,11 +31,18 @@ fn cold_word(number: i64) -> Result<Cold, ScenarioFault>
     Cold::of_number(byte_of(number)?).ok_or(ScenarioFault::OutOfRange)
 }
 
+/// What the value of `cold` says.
+pub(crate) fn cold_in(value: &Value) -> Result<Cold, ScenarioFault>
+    ensures { result ≡ cold_of (Some (view value.now)) }
+{
+    cold_word(value.as_i64().ok_or(ScenarioFault::Shape)?)
+}
+
 fn cold_of(value: &Value) -> Result<Cold, ScenarioFault>
     ensures { result ≡ cold_of (get (codes "cold") (view value.now)) }
 {
     match value.get("cold") {
-        Some(cold) => cold_word(cold.as_i64().ok_or(ScenarioFault::Shape)?),
+        Some(cold) => cold_in(cold),
         None => Ok(Cold::Unknown),
     }
 }

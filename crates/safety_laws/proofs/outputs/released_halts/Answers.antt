@@ -2,9 +2,9 @@ use Rattle.std.proofs.Common.{◌∷◌, sym, subst}
 use Rattle.kernel.specs.Lives.{life_of}
 use Rattle.onboard.specs.declared.released.Released.{Released}
 use Rattle.onboard.specs.Events.{pair_of}
-use Rattle.unit_laws.specs.Outputs.{Halts}
-use Rattle.unit_laws.proofs.Finding.{found_in}
-use Rattle.unit_laws.proofs.outputs.released_halts.Goals as goal
+use Rattle.safety_laws.specs.Outputs.{Halts}
+use Rattle.safety_laws.proofs.Finding.{found_in}
+use Rattle.safety_laws.proofs.outputs.released_halts.Goals as goal
 
 pub returns : goal.returns
 returns c events pair there =

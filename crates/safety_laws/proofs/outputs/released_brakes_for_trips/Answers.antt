@@ -1,8 +1,8 @@
 use Rattle.std.proofs.Common.{◌≡◌, ◌∷◌, sym, subst}
 use Rattle.events.specs.declared.output.Brake.TheVariants as brake
 use Rattle.onboard.specs.declared.released.Released.{Released}
-use Rattle.unit_laws.proofs.Finding.{found_in}
-use Rattle.unit_laws.proofs.outputs.released_brakes_for_trips.Goals as goal
+use Rattle.safety_laws.proofs.Finding.{found_in}
+use Rattle.safety_laws.proofs.outputs.released_brakes_for_trips.Goals as goal
 
 pub returns : goal.returns
 returns c events pair there =

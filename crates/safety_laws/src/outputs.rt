@@ -1,7 +1,8 @@
 //! Laws: what is released of any life.
-ghost use Rattle.unit_laws.specs.Outputs.{ReleasedHalts, ReleasedBrakesForTrips};
+ghost use Rattle.safety_laws.specs.Outputs.{ReleasedHalts, ReleasedBrakesForTrips};
 
-use safety_laws::{halts_at_location, outstanding_trip_brakes};
+use crate::running::outstanding_trip_brakes;
+use crate::stopping::halts_at_location;
 
 /// A law: a train that brakes from a speed up to a released limit stands at the supervised location at the latest, in
 /// Full Supervision and On Sight, while no speed is allowed at the end of authority.

@@ -6,7 +6,7 @@ use Rattle.onboard.specs.declared.released.Released.{Released}
 use Rattle.onboard.specs.Events.{pair_of, pairs_of}
 use Rattle.speed_profile.proofs.Members.{in_right, in_either}
 use Rattle.units.proofs.Gathering.{IsIn}
-use Rattle.unit_laws.specs.Outputs.{IsOf}
+use Rattle.safety_laws.specs.Outputs.{IsOf}
 
 pub record IsFound (pair : Released) (events : List Event) : Type 0 where
   pub it : IsOf pair events

@@ -1,2 +1,4 @@
 pub mod Begun
+pub mod OutputLine
+pub mod OutputWords
 pub mod Words

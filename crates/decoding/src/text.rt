@@ -1,13 +1,13 @@
 //! From hexadecimal digits to the lines of a telegram, or to why they carry none.
 ghost use Rattle.std.specs.Prelude.{◌≡◌, ◌⊎◌, IfOk};
-ghost use Rattle.exit_status.specs.declared.status.Status.TheVariants as a_status;
+ghost use Rattle.command_line.specs.declared.status.Status.TheVariants as a_status;
 ghost use Rattle.telegram.specs.Telegrams.{Carries, RefusesBytes};
 ghost use Rattle.telegram.specs.declared.fault.TelegramFault.{TelegramFault};
 ghost use Rattle.telegram.specs.declared.message.Telegram.{Telegram};
 ghost use Rattle.decoding.specs.Showing.{IsShown};
 
 use crate::report::print_telegram;
-use exit_status::{Status, tell};
+use command_line::{Status, tell};
 use hex::FromHexError;
 use std::alloc::Global;
 use std::io;

@@ -1,8 +1,7 @@
 //! The commands `decode`, `format`, `run` and `journal`.
 
-use command_line::told_apart;
+use command_line::{Status, tell, told_apart};
 use decoding::decode_text;
-use exit_status::{Status, tell};
 use sessions::{format_image, list_image, run_scenario};
 use std::fs::File;
 use std::io;

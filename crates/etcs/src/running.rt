@@ -1,7 +1,6 @@
 //! The run of a process: its words, its standard output, and its exit status.
 use crate::program::{etcs_main, status_of};
-use command_line::{take_standard_streams, words_of};
-use exit_status::{Status, tell};
+use command_line::{Status, take_standard_streams, tell, words_of};
 use std::fs::File;
 use std::io;
 use std::io::{BufWriter, Write};

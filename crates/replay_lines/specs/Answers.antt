@@ -6,7 +6,7 @@ use Rattle.blocks.specs.declared.records.BlockRecord.{BlockRecord}
 use Rattle.blocks.specs.declared.records.Situation.{Situation}
 use Rattle.mode_table.specs.declared.level.TrainLevel.{TrainLevel}
 use Rattle.mode_table.specs.declared.level.TrainLevel.TheVariants.{Level0, Level1}
-use Rattle.output_lines.specs.Words.{mode_text, brake_text}
+use Rattle.command_line.specs.OutputWords.{mode_text, brake_text}
 use Rattle.pieces.specs.Pieces.{joined}
 use Rattle.record_objects.specs.Signs.{signs_of}
 

@@ -1,6 +1,6 @@
 //! What a format tells of a record, and of what is kept.
 ghost use Rattle.std.specs.Prelude.{◌≡◌};
-ghost use Rattle.block_fields.specs.Items.{invalid};
+ghost use Rattle.blocks.specs.Items.{invalid};
 ghost use Rattle.blocks.specs.Blocks.{event_told, situation_told, record_told, kept_told};
 
 use blocks::{BlockRecord, Format, Record, Situation};

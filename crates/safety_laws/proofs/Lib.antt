@@ -9,3 +9,4 @@ mod Lessening
 mod Passing
 mod LowerStarts
 mod Releasing
+pub mod Finding

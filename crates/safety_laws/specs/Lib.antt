@@ -7,3 +7,4 @@ pub mod Limits
 pub mod Keeping
 pub mod Starts
 pub mod Release
+pub mod Outputs

@@ -1,5 +1,5 @@
-//! What a safety assessor asks for, proved of the definitions of the kernel: laws of every list of events and of every
-//! life (SUBSET-026; where it leaves a choice, this project's profile). Distances are centimetres, speeds metres per
+//! What a safety assessor asks for, proved of the definitions of the kernel: laws of every list of events, of every life,
+//! and of the outputs that a unit releases (SUBSET-026; where it leaves a choice, this project's profile). Distances are centimetres, speeds metres per
 //! hour, moments milliseconds.
 #![tactic(auto)]
 
@@ -7,6 +7,7 @@ mod approaching;
 mod ends;
 mod keeping;
 mod modes;
+mod outputs;
 mod restricting;
 mod running;
 mod stopping;
@@ -16,6 +17,7 @@ pub use approaching::{release_rule, starts_decide};
 pub use ends::end_never_moves_forward;
 pub use keeping::level_and_position_over_all;
 pub use modes::{failure_stays, stand_by_is_left, trip_is_left};
+pub use outputs::{released_brakes_for_trips, released_halts};
 pub use restricting::{nearer_fits_no_more, restrictions_never_raise};
 pub use running::{outstanding_trip_brakes, runs_by_authority, runs_by_valid_data};
 pub use stopping::{

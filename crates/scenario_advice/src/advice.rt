@@ -1,9 +1,9 @@
 //! What is probably not meant in a scenario that is accepted.
 
 use crate::places::Place;
+use command_line::mode_word;
 use hex::FromHexError;
 use mode_table::Mode;
-use output_lines::mode_word;
 use packets::Packet;
 use serde_json::Value;
 use std::alloc::Global;

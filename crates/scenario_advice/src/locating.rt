@@ -1,5 +1,4 @@
-//! The faults of a scenario, each at its place. What is a fault is asked of the reader of scenarios: it reads each part
-//! in a scenario that has nothing else.
+//! The faults of a scenario, each at its place. What is a fault is asked of the reader of scenarios, part by part.
 ghost use Rattle.std.specs.Prelude.{◌≡◌, ◌⊎◌, IfOk, IfErr};
 ghost use Rattle.simulator.specs.Scenarios.{Tells, FaultOf};
 
@@ -7,9 +6,11 @@ use crate::places::Place;
 use crate::positions::{Position, position_of};
 use events::Step;
 use mode_table::Cold;
-use scenario_values::life_of;
-use serde_json::{Value, json};
-use simulator::{Scenario, ScenarioFault, events_of};
+use serde_json::Value;
+use simulator::{
+    Scenario, ScenarioFault, events_of, fault_of_at, fault_of_balise, fault_of_cold,
+    fault_of_group, fault_of_spacing, fault_of_step,
+};
 use std::alloc::{AllocError, Global};
 
 /// A fault and its place.
@@ -43,54 +44,10 @@ fn at(fault: ScenarioFault, place: Place) -> LocatedFault
     }
 }
 
-// The fault of a part that was laid into a scenario of its own.
-fn fault_in(alloc: Global, part: Result<Value, AllocError>) -> Option<ScenarioFault> {
-    match part {
-        Ok(value) => life_of(alloc, &value).err(),
-        Err(_) => Some(ScenarioFault::NoMemory),
-    }
-}
-
-fn of_cold(alloc: Global, cold: &Value) -> Option<ScenarioFault> {
-    fault_in(
-        alloc,
-        json!(in alloc; {"cold": cold, "groups": [], "steps": []}),
-    )
-}
-
-fn of_group(alloc: Global, group: &Value) -> Option<ScenarioFault> {
-    fault_in(alloc, json!(in alloc; {"groups": [group], "steps": []}))
-}
-
-fn of_balise(alloc: Global, balise: &Value) -> Option<ScenarioFault> {
-    fault_in(
-        alloc,
-        json!(in alloc; {"groups": [{"at": 1, "spacing": 1, "balises": [balise]}], "steps": []}),
-    )
-}
-
-fn of_at(alloc: Global, at: &Value) -> Option<ScenarioFault> {
-    fault_in(
-        alloc,
-        json!(in alloc; {"groups": [{"at": at, "spacing": 1, "balises": ["00"]}], "steps": []}),
-    )
-}
-
-fn of_spacing(alloc: Global, spacing: &Value) -> Option<ScenarioFault> {
-    fault_in(
-        alloc,
-        json!(in alloc; {"groups": [{"at": 1, "spacing": spacing, "balises": ["00"]}], "steps": []}),
-    )
-}
-
-fn of_step(alloc: Global, step: &Value) -> Option<ScenarioFault> {
-    fault_in(alloc, json!(in alloc; {"groups": [], "steps": [step]}))
-}
-
 // The first balise of a group that has a fault.
 fn in_balises(alloc: Global, group: usize, balises: &[Value]) -> Option<LocatedFault> {
     for (i, balise) in balises.iter().enumerate() {
-        if let Some(fault) = of_balise(alloc, balise) {
+        if let Some(fault) = fault_of_balise(alloc, balise) {
             return Some(at(fault, Place::Balise(group, i)));
         }
     }
@@ -100,12 +57,12 @@ fn in_balises(alloc: Global, group: usize, balises: &[Value]) -> Option<LocatedF
 // Where the fault of a group is.
 fn in_group(alloc: Global, place: usize, group: &Value, fault: ScenarioFault) -> LocatedFault {
     if let Some(value) = group.get("at") {
-        if let Some(fault) = of_at(alloc, value) {
+        if let Some(fault) = fault_of_at(value) {
             return at(fault, Place::InGroup(place, "at"));
         }
     }
     if let Some(value) = group.get("spacing") {
-        if let Some(fault) = of_spacing(alloc, value) {
+        if let Some(fault) = fault_of_spacing(value) {
             return at(fault, Place::InGroup(place, "spacing"));
         }
     }
@@ -133,7 +90,7 @@ fn in_groups(
     found: &mut Vec<LocatedFault>,
 ) -> Result<(), AllocError> {
     for (i, group) in groups.iter().enumerate() {
-        if let Some(fault) = of_group(alloc, group) {
+        if let Some(fault) = fault_of_group(alloc, group) {
             found.push(in_group(alloc, i, group, fault))?;
         }
     }
@@ -146,7 +103,7 @@ fn in_steps(
     found: &mut Vec<LocatedFault>,
 ) -> Result<(), AllocError> {
     for (i, step) in steps.iter().enumerate() {
-        if let Some(fault) = of_step(alloc, step) {
+        if let Some(fault) = fault_of_step(alloc, step) {
             found.push(at(fault, in_step(i, step)))?;
         }
     }
@@ -174,7 +131,7 @@ fn in_parts(alloc: Global, value: &Value) -> Result<Vec<LocatedFault>, AllocErro
         found.push(at(ScenarioFault::Shape, Place::Whole))?;
     }
     if let Some(cold) = value.get("cold") {
-        if let Some(fault) = of_cold(alloc, cold) {
+        if let Some(fault) = fault_of_cold(cold) {
             found.push(at(fault, Place::Member("cold")))?;
         }
     }

@@ -4,7 +4,7 @@ use Rattle.std.specs.Prelude.{if◌then◌else◌}
 use Rattle.std.specs.Io.KnownBytes.{Appends}
 use Rattle.std.proofs.KnownBytes.{Appends-trans}
 use Rattle.events.specs.Limits.{most_pending}
-use Rattle.exit_status.specs.declared.status.Status.{Status}
+use Rattle.command_line.specs.declared.status.Status.{Status}
 use Rattle.onboard.specs.Answers.{is_full}
 use Rattle.onboard.specs.declared.errors.LiveError.{LiveError}
 use Rattle.onboard.specs.declared.released.Released.{Released}

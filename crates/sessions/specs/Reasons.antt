@@ -1,8 +1,8 @@
 -- The numbers and names of refusals and of the ends of lives, and the statuses that go with them (this project's
 -- profile).
 use Rattle.std.specs.Prelude.{ℕ, List, [], ◌++◌, Result, Ok, Err, codes, decimal}
-use Rattle.exit_status.specs.declared.status.Status.{Status}
-use Rattle.exit_status.specs.declared.status.Status.TheVariants.{Done, Refused, Device}
+use Rattle.command_line.specs.declared.status.Status.{Status}
+use Rattle.command_line.specs.declared.status.Status.TheVariants.{Done, Refused, Device}
 use Rattle.journal.specs.Numbers.{format_number}
 use Rattle.journal.specs.declared.errors.FormatError.{FormatError}
 use Rattle.journal.specs.declared.errors.FormatError.TheVariants as a_format
@@ -18,9 +18,9 @@ use Rattle.onboard.specs.declared.errors.FlushError.TheVariants as a_flush
 use Rattle.reader.specs.Numbers.{listing_number}
 use Rattle.reader.specs.declared.errors.ListingError.{ListingError}
 use Rattle.reader.specs.declared.errors.ListingError.TheVariants as a_listing
-use Rattle.scenario_values.specs.Numbers.{fault_number}
-use Rattle.scenario_values.specs.declared.fault.ScenarioFault.{ScenarioFault}
-use Rattle.scenario_values.specs.declared.fault.ScenarioFault.TheVariants as a_fault
+use Rattle.simulator.specs.FaultNumbers.{fault_number}
+use Rattle.simulator.specs.declared.fault.ScenarioFault.{ScenarioFault}
+use Rattle.simulator.specs.declared.fault.ScenarioFault.TheVariants as a_fault
 
 -- ---- why a life stopped: a number and a name
 

@@ -9,8 +9,8 @@ use Rattle.blocks.specs.FirstSector.{sectors_of}
 use Rattle.disk.specs.State.{State, Counted}
 use Rattle.events.specs.declared.input.Event.{Event}
 use Rattle.events.specs.declared.input.Event.TheVariants.{PowerUp}
-use Rattle.exit_status.specs.declared.status.Status.{Status}
-use Rattle.exit_status.specs.declared.status.Status.TheVariants.{Done, Refused, Usage, Device}
+use Rattle.command_line.specs.declared.status.Status.{Status}
+use Rattle.command_line.specs.declared.status.Status.TheVariants.{Done, Refused, Usage, Device}
 use Rattle.journal.specs.declared.errors.FormatError.TheVariants.{DeviceFault}
 use Rattle.events.specs.declared.step.Step.{Step}
 use Rattle.mode_table.specs.declared.statuses.Cold.{Cold}
@@ -23,8 +23,8 @@ use Rattle.onboard.specs.Stops.{LifeEnds, OnlyOpens, IsDone, IsUnflushed}
 use Rattle.onboard.specs.Written.{LeavesLast}
 use Rattle.reader.specs.Listings.{AddsListing, IsListingRefusal}
 use Rattle.reader.specs.declared.errors.ListingError.{ListingError}
-use Rattle.scenario_values.specs.declared.fault.ScenarioFault.{ScenarioFault}
-use Rattle.scenario_values.specs.declared.fault.ScenarioFault.TheVariants.{NoMemory}
+use Rattle.simulator.specs.declared.fault.ScenarioFault.{ScenarioFault}
+use Rattle.simulator.specs.declared.fault.ScenarioFault.TheVariants.{NoMemory}
 use Rattle.simulator.specs.Scenarios.{Tells, FaultOf}
 use Rattle.sessions.specs.declared.images.Image.{Image}
 use Rattle.sessions.specs.declared.images.Image.TheVariants.{Unopened, Missing, Opened}

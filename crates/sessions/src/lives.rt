@@ -7,8 +7,8 @@ ghost use Rattle.sessions.specs.Sessions.{is_device, Session};
 
 use crate::printer::Printer;
 use crate::stops::tell_end;
+use command_line::Status;
 use disk::Disk;
-use exit_status::Status;
 use mode_table::Cold;
 use onboard::{Step, live_into};
 use std::alloc::Global;

@@ -3,8 +3,8 @@ ghost use Rattle.std.specs.Prelude.{OnOk};
 ghost use Rattle.std.specs.Io.KnownBytes.{Appends};
 ghost use Rattle.sessions.specs.Lines.{lines_of};
 
+use command_line::write_line;
 use onboard::{ReleaseSink, Released};
-use output_lines::write_line;
 use std::io;
 use std::io::Write;
 use units::NoMemory;

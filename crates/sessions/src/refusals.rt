@@ -4,7 +4,7 @@ ghost use Rattle.std.specs.Io.KnownBytes.{Appends};
 ghost use Rattle.sessions.specs.Reasons.{format_reason, format_status, listing_reason, listing_status, fault_reason, refusal_of};
 
 use crate::reasons::{of_fault, of_format, of_listing, write_reason};
-use exit_status::Status;
+use command_line::Status;
 use journal::FormatError;
 use reader::ListingError;
 use simulator::ScenarioFault;

@@ -4,7 +4,7 @@ ghost use Rattle.std.specs.Io.KnownBytes.{Appends};
 ghost use Rattle.sessions.specs.Reasons.{stop_status, status_of, ending_of};
 
 use crate::reasons::{of_stop, write_reason};
-use exit_status::Status;
+use command_line::Status;
 use onboard::{FlushError, LiveError, OpenError};
 use std::io;
 use std::io::Write;

@@ -1,2 +1,7 @@
+pub mod Identity
+pub mod Lists
+pub mod Passing
+pub mod Readings
+pub mod Sifting
 pub mod TextAnswers
 pub mod ValueFaults

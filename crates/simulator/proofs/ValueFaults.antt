@@ -4,24 +4,24 @@ use Rattle.serde_json.specs.Data.{Data}
 use Rattle.serde_json.specs.Find.{get, as_str, as_bool}
 use Rattle.hex.specs.Hex.{decode_of}
 use Rattle.hex.specs.declared.error.FromHexError.{FromHexError}
-use Rattle.course.specs.Course.{Run, start, taken, ended}
-use Rattle.course.specs.Limits.{farthest_back, farthest}
-use Rattle.course.specs.Passing.{passed}
-use Rattle.course.specs.declared.asked.Asked.{Asked}
-use Rattle.course.specs.declared.balise.Balise.{Balise}
+use Rattle.simulator.specs.Course.{Run, start, taken}
+use Rattle.simulator.specs.Limits.{farthest_back, farthest}
+use Rattle.simulator.specs.Passing.{passed}
+use Rattle.simulator.specs.declared.asked.Asked.{Asked}
+use Rattle.simulator.specs.declared.balise.Balise.{Balise}
 use Rattle.driver.specs.declared.action.Action.{Action}
 use Rattle.driver.specs.declared.action.Action.TheVariants.{Start, ChooseShunting, LeaveShunting, Override, CloseDesk}
 use Rattle.mode_table.specs.Numbers.{level_by, word_by}
 use Rattle.driver.specs.declared.action_kind.ActionKind.{ActionKind}
 use Rattle.driver.specs.declared.action_kind.ActionKind.TheVariants as a_kind
 use Rattle.driver.specs.Numbers.{action_by, item_by, reason_by}
-use Rattle.scenario_values.specs.Values.{◌>>=◌, shaped, given, has_members, list_in, whole, within, known, numbered, hex_bytes, bytes_in, whole_item, text_item}
-use Rattle.scenario_values.specs.Groups.{whole_at, list_at, are_texts, laid_one, laid, group, groups}
-use Rattle.scenario_values.specs.Actions.{is_identity, level, confirmed, acknowledged, identity, entered_identity, lone_value, entered_number, brakes, train, entered_train, chosen_level, confirmed_item, acknowledged_kind, bare, or_shape, by_kind, action}
-use Rattle.scenario_values.specs.Steps.{drive, telegram, clock, driver, flush, or_else, by_key, asked}
-use Rattle.scenario_values.specs.Lives.{lived, steps_in, has_keys, cold_word, cold_of, items_at, life_in}
-use Rattle.scenario_values.specs.declared.fault.ScenarioFault.{ScenarioFault}
-use Rattle.scenario_values.specs.declared.fault.ScenarioFault.TheVariants.{NotJson, Shape, OutOfRange, BadHex, NoMemory}
+use Rattle.simulator.specs.Values.{◌>>=◌, shaped, given, has_members, list_in, whole, within, known, numbered, hex_bytes, bytes_in, whole_item, text_item}
+use Rattle.simulator.specs.Groups.{whole_at, list_at, are_texts, laid_one, laid, group, groups}
+use Rattle.simulator.specs.Actions.{is_identity, level, confirmed, acknowledged, identity, entered_identity, lone_value, entered_number, brakes, train, entered_train, chosen_level, confirmed_item, acknowledged_kind, bare, or_shape, by_kind, action}
+use Rattle.simulator.specs.Steps.{drive, telegram, clock, driver, flush, or_else, by_key, asked}
+use Rattle.simulator.specs.Lives.{lived, steps_in, has_keys, cold_word, cold_of, items_at, life_in}
+use Rattle.simulator.specs.declared.fault.ScenarioFault.{ScenarioFault}
+use Rattle.simulator.specs.declared.fault.ScenarioFault.TheVariants.{NotJson, Shape, OutOfRange, BadHex, NoMemory}
 
 abbrev pub IsOfValue : ScenarioFault → Type 0
 IsOfValue NotJson = ⊥

@@ -1,2 +1,13 @@
-pub mod Scenarios
+pub mod Actions
+pub mod Course
+pub mod FaultNumbers
+pub mod Groups
 pub mod Laws
+pub mod Limits
+pub mod Lives
+pub mod Numbers
+pub mod Parts
+pub mod Passing
+pub mod Scenarios
+pub mod Steps
+pub mod Values

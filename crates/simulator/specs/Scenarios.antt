@@ -1,13 +1,13 @@
 -- What a scenario asks for, read off the bytes of its file (this project's profile). Distances are centimetres, speeds
 -- metres per hour, moments milliseconds.
-use Rattle.std.specs.Prelude.{◌≡◌, ◌⊎◌, IsUtf8, ℕ, List, Option, Some, Ok, Err}
+use Rattle.std.specs.Prelude.{◌≡◌, ◌⊎◌, IsUtf8, ℕ, List, Some, Ok, Err}
 use Rattle.serde_json.specs.Data.{Data}
 use Rattle.serde_json.specs.Read.{read}
 use Rattle.mode_table.specs.declared.statuses.Cold.{Cold}
 use Rattle.events.specs.declared.step.Step.{Step}
-use Rattle.scenario_values.specs.Lives.{life_in, ends_in}
-use Rattle.scenario_values.specs.declared.fault.ScenarioFault.{ScenarioFault}
-use Rattle.scenario_values.specs.declared.fault.ScenarioFault.TheVariants.{NotJson}
+use Rattle.simulator.specs.Lives.{life_in, ends_in}
+use Rattle.simulator.specs.declared.fault.ScenarioFault.{ScenarioFault}
+use Rattle.simulator.specs.declared.fault.ScenarioFault.TheVariants.{NotJson}
 
 -- the value that a text is
 abbrev pub IsReading : List ℕ → Data → Type 0

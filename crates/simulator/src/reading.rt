@@ -2,9 +2,10 @@
 ghost use Rattle.std.specs.Prelude.{◌≡◌, ◌⊎◌, IfOk, IfErr};
 ghost use Rattle.simulator.specs.Scenarios.{Tells, FaultOf, TellsEnds};
 
+use crate::fault::ScenarioFault;
+use crate::lives::life_of;
 use events::Step;
 use mode_table::Cold;
-use scenario_values::{ScenarioFault, life_of};
 use serde_json::Value;
 use std::alloc::Global;
 
@@ -41,5 +42,5 @@ pub fn ends_of(alloc: Global, scenario: &Scenario) -> Result<Vec<usize>, Scenari
         Err(error) if error.is_memory() => return Err(ScenarioFault::NoMemory),
         Err(_) => return Err(ScenarioFault::NotJson),
     };
-    scenario_values::ends_of(alloc, &value)
+    crate::ends::ends_of(alloc, &value)
 }

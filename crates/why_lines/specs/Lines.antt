@@ -4,7 +4,7 @@ use Rattle.std.specs.Prelude.{ℕ, ℤ, Option, Some, None, List, [], ◌∷◌,
 use Rattle.std.specs.Fmt.{signed_decimal}
 use Rattle.kernel.specs.declared.causes.BrakeCause.{BrakeCause}
 use Rattle.kernel.specs.declared.causes.BrakeCause.TheVariants as a_cause
-use Rattle.output_lines.specs.Words.{brake_text}
+use Rattle.command_line.specs.OutputWords.{brake_text}
 use Rattle.pieces.specs.Pieces.{text_in, joined}
 use Rattle.pieces.specs.declared.piece.Form.{Form}
 use Rattle.reasons.specs.declared.runs.Runs.{Runs}

@@ -9,7 +9,7 @@ use Rattle.kernel.specs.Lives.{life_of}
 use Rattle.mode_control.specs.History.{tracks}
 use Rattle.mode_control.specs.Sentences.{values_of}
 use Rattle.onboard.specs.Releases.{Release}
-use Rattle.output_lines.specs.Words.{mode_text}
+use Rattle.command_line.specs.OutputWords.{mode_text}
 use Rattle.pieces.specs.Pieces.{joined}
 use Rattle.pieces.specs.declared.piece.Form.TheVariants.{Json}
 use Rattle.reasons.specs.declared.limit_words.LimitTold.{LimitTold}

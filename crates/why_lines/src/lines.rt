@@ -5,9 +5,9 @@ ghost use Rattle.pieces.specs.Pieces.{texts};
 ghost use Rattle.pieces.specs.declared.piece.Form.{Form as a_form};
 ghost use Rattle.why_lines.specs.Lines.{front_text, held_text, free_text, cause_text, told_of, trip_known_text, trip_unknown_text, trip_text, decides_text, place_text, number_text, section_text, end_text, last_text, line_of};
 
+use command_line::brake_word;
 use events::Brake;
 use kernel::{BrakeCause, TripCause};
-use output_lines::brake_word;
 use pieces::{Form, Piece, both, write_parts, write_pieces};
 use reasons::{
     LimitKind, LimitTold, Runs, TripTold, ending, limit_section, limit_sentence, limit_word,

@@ -1,0 +1,41 @@
+//! The line of an output.
+ghost use Rattle.std.specs.Prelude.{OnOk};
+ghost use Rattle.std.specs.Io.KnownBytes.{Appends};
+ghost use Rattle.command_line.specs.OutputLine.{front_of, back_of, line_of};
+
+use crate::output_words::{brake_word, level_word, mode_word};
+use events::Output;
+use std::io;
+use std::io::Write;
+
+// The number, the mode and the level.
+#[tactic(auto, unfolding(crate::specs::OutputLine::front_of))]
+fn write_front<W: Write>(number: u64, output: &Output, out: &mut W) -> io::Result<()>
+    ensures { OnOk result (Appends (W.contents out.old) (W.contents out.new) (front_of number output.now)) }
+{
+    let mode = mode_word(output.mode);
+    let level = level_word(output.level);
+    write!(out, "event {number} mode {mode} level {level}")
+}
+
+// The brake, the limit and the indications.
+#[tactic(auto, unfolding(crate::specs::OutputLine::back_of))]
+fn write_back<W: Write>(output: &Output, out: &mut W) -> io::Result<()>
+    ensures { OnOk result (Appends (W.contents out.old) (W.contents out.new) (back_of output.now)) }
+{
+    let brake = brake_word(output.brake);
+    let limit = output.limit.get();
+    let shown = output.indications.number();
+    writeln!(out, " brake {brake} limit {limit} ind {shown}")
+}
+
+/// Writes the line of an event's output (this project's profile): `event N mode M level L brake B limit V ind I`. N
+/// counts from 0, V is in metres per hour, I is the sum of the indications' bits (`docs/GLOSSARY.md`). The error is
+/// that of a write.
+pub fn write_line<W: Write>(number: u64, output: &Output, out: &mut W) -> io::Result<()>
+    ensures { OnOk result (Appends (W.contents out.old) (W.contents out.new) (line_of number output.now)) }
+{
+    write_front(number, output, out)?;
+    write_back(output, out)?;
+    Ok(())
+}

@@ -1,3 +1,0 @@
-pub mod Passing
-pub mod Readings
-pub mod Sifting

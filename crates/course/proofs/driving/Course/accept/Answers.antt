@@ -1,5 +1,0 @@
-use Rattle.std.proofs.Common.{rules}
-use Rattle.course.proofs.driving.Course.accept.Goals as goal
-
-pub returns : goal.returns
-returns c = search rules

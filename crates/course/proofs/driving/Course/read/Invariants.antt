@@ -1,6 +1,0 @@
-use Rattle.std.proofs.Common.{◌≡◌}
-use Rattle.course.specs.Course.{run_of, full_readings}
-use Rattle.course.proofs.driving.Course.read.Given as goal
-
-abbrev pub invariant-loop-count : goal.invariant-loop-count
-invariant-loop-count l = run_of l.self ≡ full_readings l.count l.speed (run_of l.fn.self)

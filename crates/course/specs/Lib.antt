@@ -1,4 +1,0 @@
-pub mod Course
-pub mod Limits
-pub mod Numbers
-pub mod Passing

@@ -1,2 +1,0 @@
-pub mod Identity
-pub mod Lists

@@ -1,0 +1,11 @@
+-- The numbers by which refusals are told (this project's profile).
+use Rattle.std.specs.Prelude.{ℕ}
+use Rattle.simulator.specs.declared.fault.ScenarioFault.{ScenarioFault}
+use Rattle.simulator.specs.declared.fault.ScenarioFault.TheVariants as a_fault
+
+abbrev pub fault_number : ScenarioFault → ℕ
+fault_number a_fault.NotJson = 1
+fault_number a_fault.Shape = 2
+fault_number a_fault.OutOfRange = 3
+fault_number a_fault.BadHex = 4
+fault_number a_fault.NoMemory = 5

@@ -1,0 +1,66 @@
+-- What a step of a scenario asks for (this project's profile). Distances are centimetres, speeds metres per hour,
+-- moments milliseconds.
+use Rattle.std.specs.Prelude.{◌==◌, ◌-◌, ◌&&◌, pos, int_le, length, codes, if◌then◌else◌, Option, Some, None, Result, Ok, Err}
+use Rattle.serde_json.specs.Data.{Data}
+use Rattle.serde_json.specs.Find.{get, as_str, as_bool}
+use Rattle.units.specs.Limits.{longest_life}
+use Rattle.events.specs.declared.input.Input.TheVariants.{Telegram, Clock, Driver}
+use Rattle.simulator.specs.Values.{◌>>=◌, shaped, given, has_members, list_in, whole, whole_item, within, bytes_in}
+use Rattle.simulator.specs.Limits.{farthest_back, farthest}
+use Rattle.simulator.specs.Actions as actions
+use Rattle.simulator.specs.declared.asked.Asked.{Asked}
+use Rattle.simulator.specs.declared.asked.Asked.TheVariants.{Drive, Happens, Flush}
+use Rattle.simulator.specs.declared.fault.ScenarioFault.{ScenarioFault}
+use Rattle.simulator.specs.declared.fault.ScenarioFault.TheVariants.{Shape, OutOfRange}
+
+-- so many centimetres at a speed
+abbrev pub drive : Data → Result Asked ScenarioFault
+drive v = do
+  items ← shaped (list_in v)
+  _ ← given (length items == 2) Shape
+  cm ← whole_item items 0
+  mph ← whole_item items 1
+  _ ← given (int_le farthest_back cm && int_le cm (pos farthest)) OutOfRange
+  speed ← within 0 600_000 mph
+  Ok (Drive cm speed)
+
+abbrev pub telegram : Data → Result Asked ScenarioFault
+telegram v = do
+  text ← shaped (as_str v)
+  bytes ← bytes_in text
+  Ok (Happens (Telegram bytes))
+
+abbrev pub clock : Data → Result Asked ScenarioFault
+clock v = do
+  z ← shaped (whole v)
+  ms ← within 0 (longest_life - 1) z
+  Ok (Happens (Clock ms))
+
+abbrev pub driver : Data → Result Asked ScenarioFault
+driver v = do
+  items ← shaped (list_in v)
+  action ← actions.action items
+  Ok (Happens (Driver action))
+
+abbrev pub flush : Data → Result Asked ScenarioFault
+flush v = do
+  wanted ← shaped (as_bool v)
+  _ ← given wanted Shape
+  Ok Flush
+
+-- by the member that is there, or in another way
+abbrev pub or_else : Option Data → (Data → Result Asked ScenarioFault) → Result Asked ScenarioFault → Result Asked ScenarioFault
+or_else (Some v) this other = this v
+or_else None this other = other
+
+abbrev pub by_key : Data → Result Asked ScenarioFault
+by_key d =
+    or_else (get (codes "drive") d) drive
+    (or_else (get (codes "telegram") d) telegram
+    (or_else (get (codes "clock") d) clock
+    (or_else (get (codes "driver") d) driver
+    (or_else (get (codes "flush") d) flush (Err Shape)))))
+
+-- an object of one member, whose key says what is asked
+abbrev pub asked : Data → Result Asked ScenarioFault
+asked d = if has_members 1 d then by_key d else Err Shape

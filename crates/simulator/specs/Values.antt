@@ -1,0 +1,83 @@
+-- Looking into a JSON value, and the first fault in order (this project's profile).
+use Rattle.std.specs.Prelude.{ℕ, ◌==◌, ◌&&◌, nat_le, ℤ, pos, int_le, List, [], ◌∷◌, length, slice_get, Bool, true, false, if◌then◌else◌, Option, Some, None, option_map, option_and_then, Result, Ok, Err}
+use Rattle.serde_json.specs.Data.{Data, Items, no_items, item, Members}
+use Rattle.serde_json.specs.Events.{members_len}
+use Rattle.serde_json.specs.Find.{as_number, as_i64, as_str, as_array, as_object}
+use Rattle.simulator.specs.Numbers.{natural}
+use Rattle.hex.specs.Hex.{decode_of}
+use Rattle.hex.specs.declared.error.FromHexError.{FromHexError}
+use Rattle.packets.specs.Limits.{telegram_bytes}
+use Rattle.simulator.specs.declared.fault.ScenarioFault.{ScenarioFault}
+use Rattle.simulator.specs.declared.fault.ScenarioFault.TheVariants.{Shape, OutOfRange, BadHex}
+
+-- one after another, up to the first fault
+infixl 10 ◌>>=◌
+abbrev pub ◌>>=◌ : {A B : Type 0} → Result A ScenarioFault → (A → Result B ScenarioFault) → Result B ScenarioFault
+Ok x >>= f = f x
+Err e >>= f = Err e
+
+-- what has the right shape, or Shape
+abbrev pub shaped : {A : Type 0} → Option A → Result A ScenarioFault
+shaped (Some x) = Ok x
+shaped None = Err Shape
+
+-- what has to hold, or the fault
+abbrev pub given : Bool → ScenarioFault → Result (Unit {0}) ScenarioFault
+given true fault = Ok tt
+given false fault = Err fault
+
+-- ---- shapes
+
+-- an object of so many members
+abbrev pub has_count : ℕ → Option Members → Bool
+has_count n None = false
+has_count n (Some members) = members_len members == n
+
+abbrev pub has_members : ℕ → Data → Bool
+has_members n d = has_count n (as_object d)
+
+-- the items of a list
+abbrev pub list_of : Items → List Data
+list_of no_items = []
+list_of (item d ds) = d ∷ list_of ds
+
+abbrev pub list_in : Data → Option (List Data)
+list_in d = option_map list_of (as_array d)
+
+-- a whole number
+abbrev pub whole : Data → Option ℤ
+whole d = option_and_then as_i64 (as_number d)
+
+-- a whole number, and a text, that stand at a place in a list
+abbrev pub whole_item : List Data → ℕ → Result ℤ ScenarioFault
+whole_item ds n = shaped (option_and_then whole (slice_get ds n))
+
+abbrev pub text_item : List Data → ℕ → Result (List ℕ) ScenarioFault
+text_item ds n = shaped (option_and_then as_str (slice_get ds n))
+
+-- ---- values
+
+-- a number from low to high
+abbrev pub within : ℕ → ℕ → ℤ → Result ℕ ScenarioFault
+within low high z = if int_le (pos low) z && int_le z (pos high) then Ok (natural z) else Err OutOfRange
+
+-- what there is, or OutOfRange
+abbrev pub known : {A : Type 0} → Option A → Result A ScenarioFault
+known (Some x) = Ok x
+known None = Err OutOfRange
+
+-- the value that a number of one byte tells
+abbrev pub numbered : {A : Type 0} → (ℕ → Option A) → ℤ → Result A ScenarioFault
+numbered value z = within 0 255 z >>= λ n. known (value n)
+
+-- the bytes of a hex text
+abbrev pub hex_bytes : Result (List ℕ) FromHexError → Result (List ℕ) ScenarioFault
+hex_bytes (Ok bytes) = Ok bytes
+hex_bytes (Err fault) = Err BadHex
+
+-- the 1 to 104 bytes of a telegram, in hex
+abbrev pub bytes_in : List ℕ → Result (List ℕ) ScenarioFault
+bytes_in text = do
+  bytes ← hex_bytes (decode_of text)
+  _ ← given (nat_le 1 (length bytes) && nat_le (length bytes) telegram_bytes) OutOfRange
+  Ok bytes

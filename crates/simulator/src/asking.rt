@@ -1,0 +1,98 @@
+//! What a step of a scenario asks for.
+ghost use Rattle.std.specs.Prelude.{◌≡◌, ◌⊎◌, IfOk, IfErr};
+ghost use Rattle.serde_json.specs.View.{view};
+ghost use Rattle.simulator.specs.Steps.{drive, telegram, clock, driver, flush, by_key, asked};
+
+use crate::ScenarioFault;
+use crate::actions::action_of;
+use crate::asked::Asked;
+use crate::distance::Distance;
+use crate::telegrams::bytes_of;
+use crate::values::{has_members, list_of, whole_item, within};
+use events::Input;
+use serde_json::Value;
+use std::alloc::Global;
+use units::{LONGEST_LIFE, Mph, Ms};
+
+fn drive_of(value: &Value) -> Result<Asked, ScenarioFault>
+    ensures { result ≡ drive (view value.now) }
+{
+    let items = list_of(value).ok_or(ScenarioFault::Shape)?;
+    if items.len() != 2 {
+        return Err(ScenarioFault::Shape);
+    }
+    let cm = whole_item(items, 0)?;
+    let mph = whole_item(items, 1)?;
+    let distance = Distance::new(cm).ok_or(ScenarioFault::OutOfRange)?;
+    let speed = Mph::new(within(0, 600_000, mph)? as u32).ok_or(ScenarioFault::OutOfRange)?;
+    Ok(Asked::Drive(distance, speed))
+}
+
+fn telegram_of(alloc: Global, value: &Value) -> Result<Asked, ScenarioFault>
+    ensures ok { IfOk result (λ step. telegram (view value.now) ≡ Ok step) }
+    ensures err { IfErr result (λ fault. (fault ≡ ScenarioFault.NoMemory) ⊎ (telegram (view value.now) ≡ Err fault)) }
+{
+    let text = value.as_str().ok_or(ScenarioFault::Shape)?;
+    let bytes = bytes_of(alloc, text)?;
+    Ok(Asked::Happens(Input::Telegram(bytes)))
+}
+
+fn clock_of(value: &Value) -> Result<Asked, ScenarioFault>
+    ensures { result ≡ clock (view value.now) }
+{
+    let number = value.as_i64().ok_or(ScenarioFault::Shape)?;
+    let ms = within(0, LONGEST_LIFE - 1, number)?;
+    let moment = Ms::new(ms).ok_or(ScenarioFault::OutOfRange)?;
+    Ok(Asked::Happens(Input::Clock(moment)))
+}
+
+fn driver_of(value: &Value) -> Result<Asked, ScenarioFault>
+    ensures { result ≡ driver (view value.now) }
+{
+    let items = list_of(value).ok_or(ScenarioFault::Shape)?;
+    let action = action_of(items)?;
+    Ok(Asked::Happens(Input::Driver(action)))
+}
+
+fn flush_of(value: &Value) -> Result<Asked, ScenarioFault>
+    ensures { result ≡ flush (view value.now) }
+{
+    match value.as_bool() {
+        Some(true) => Ok(Asked::Flush),
+        _ => Err(ScenarioFault::Shape),
+    }
+}
+
+fn by_key(alloc: Global, value: &Value) -> Result<Asked, ScenarioFault>
+    ensures ok { IfOk result (λ step. by_key (view value.now) ≡ Ok step) }
+    ensures err { IfErr result (λ fault. (fault ≡ ScenarioFault.NoMemory) ⊎ (by_key (view value.now) ≡ Err fault)) }
+{
+    if let Some(drive) = value.get("drive") {
+        return drive_of(drive);
+    }
+    if let Some(telegram) = value.get("telegram") {
+        return telegram_of(alloc, telegram);
+    }
+    if let Some(clock) = value.get("clock") {
+        return clock_of(clock);
+    }
+    if let Some(driver) = value.get("driver") {
+        return driver_of(driver);
+    }
+    if let Some(flush) = value.get("flush") {
+        return flush_of(flush);
+    }
+    Err(ScenarioFault::Shape)
+}
+
+/// What an item of the steps asks for.
+pub(crate) fn asked_of(alloc: Global, value: &Value) -> Result<Asked, ScenarioFault>
+    ensures ok { IfOk result (λ step. asked (view value.now) ≡ Ok step) }
+    ensures err { IfErr result (λ fault. (fault ≡ ScenarioFault.NoMemory) ⊎ (asked (view value.now) ≡ Err fault)) }
+{
+    if has_members(value, 1) {
+        by_key(alloc, value)
+    } else {
+        Err(ScenarioFault::Shape)
+    }
+}

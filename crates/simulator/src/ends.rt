@@ -1,0 +1,70 @@
+//! Which steps of a life come from which step of a scenario.
+ghost use Rattle.std.specs.Prelude.{◌≡◌, ◌⊎◌, [], ◌∷◌, ◌++◌, length, codes, map, pos, IfOk, IfErr, OnOk, Ok, Err};
+ghost use Rattle.serde_json.specs.View.{view};
+ghost use Rattle.simulator.specs.Course.{run_of, start};
+ghost use Rattle.simulator.specs.Passing.{passed};
+ghost use Rattle.simulator.specs.Lives.{ends_by, ends_in};
+
+use crate::ScenarioFault;
+use crate::asking::asked_of;
+use crate::driving::Course;
+use crate::lives::{items_at, track_of};
+use crate::track::Track;
+use serde_json::Value;
+use std::alloc::Global;
+
+// How many steps the life has so far.
+fn note(course: &Course, ends: &mut Vec<usize>) -> Result<(), ScenarioFault>
+    ensures ok { OnOk result (ends.new.items ≡ ends.old.items ++ length course.now.steps.items ∷ []) }
+    ensures err { IfErr result (λ fault. fault ≡ ScenarioFault.NoMemory) }
+{
+    ends.push(course.steps.len())?;
+    Ok(())
+}
+
+// Takes all steps, and counts behind each those that the life has so far.
+fn count(
+    alloc: Global,
+    track: &Track,
+    items: &[Value],
+    course: &mut Course,
+    ends: &mut Vec<usize>,
+) -> Result<(), ScenarioFault>
+    requires here { course.old.front ≡ pos 0 }
+    ensures ok { OnOk result (ends_by (passed track.now.balises.items) (map view items.now) (run_of course.old) ends.old.items
+        ≡ Ok ends.new.items) }
+    ensures err { IfErr result (λ fault. (fault ≡ ScenarioFault.NoMemory)
+        ⊎ (ends_by (passed track.now.balises.items) (map view items.now) (run_of course.old) ends.old.items ≡ Err fault)) }
+{
+    for item in items {
+        let asked = asked_of(alloc, item)?;
+        course.take(track, asked)?;
+        note(course, ends)?;
+    }
+    Ok(())
+}
+
+fn ends_by(alloc: Global, track: &Track, items: &[Value]) -> Result<Vec<usize>, ScenarioFault>
+    ensures ok { IfOk result (λ ends. ends_by (passed track.now.balises.items) (map view items.now) start []
+        ≡ Ok ends.items) }
+    ensures err { IfErr result (λ fault. (fault ≡ ScenarioFault.NoMemory)
+        ⊎ (ends_by (passed track.now.balises.items) (map view items.now) start [] ≡ Err fault)) }
+{
+    let mut course = Course::new(alloc);
+    let mut ends = Vec::new(alloc);
+    count(alloc, track, items, &mut course, &mut ends)?;
+    Ok(ends)
+}
+
+/// Of each step of a scenario, how many steps of the life that `life_of` answers there are up to its end: so the step at
+/// a place of that life comes from the first step of the scenario whose end is behind the place; a last flush comes from
+/// none. An error is the first fault of the groups and the steps; NoMemory may come in the place of any.
+pub(crate) fn ends_of(alloc: Global, value: &Value) -> Result<Vec<usize>, ScenarioFault>
+    ensures ok { IfOk result (λ ends. ends_in (view value.now) ≡ Ok ends.items) }
+    ensures err { IfErr result (λ fault. (fault ≡ ScenarioFault.NoMemory) ⊎ (ends_in (view value.now) ≡ Err fault)) }
+{
+    let groups = items_at(value, "groups")?;
+    let track = track_of(alloc, groups)?;
+    let items = items_at(value, "steps")?;
+    ends_by(alloc, &track, items)
+}

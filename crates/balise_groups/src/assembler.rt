@@ -110,22 +110,37 @@ impl Assembler {
         ensures few { packets_of_taken result ≤ packets_in self.old.readings + packets_at reading }
         ensures stands { (entries : List GroupEntry) → self.old ≡ known entries → self.new ≡ known (Read reading ∷ entries) }
     {
+        let mut ended = None;
+        let mut whole = None;
+        self.take_into(reading, &mut ended, &mut whole);
+        Taken { ended, whole }
+    }
+
+    /// What `take` does, with its answer in places that the caller has, whatever they held: the group that the reading
+    /// ended, and its own where that is whole now.
+    pub fn take_into(
+        &mut self,
+        reading: Reading,
+        ended: &mut Option<Closed>,
+        whole: &mut Option<Closed>,
+    )
+        ensures ended { ended.new ≡ (taken_by reading self.old).ended }
+        ensures whole { whole.new ≡ (taken_by reading self.old).whole }
+        ensures few { packets_of_closed ended.new + packets_of_closed whole.new ≤ packets_in self.old.readings + packets_at reading }
+        ensures stands { (entries : List GroupEntry) → self.old ≡ known entries → self.new ≡ known (Read reading ∷ entries) }
+    {
         if goes_on(&reading, &self.last) {
             self.last = Some(seen_at(&reading));
-            return Taken {
-                ended: None,
-                whole: None,
-            };
+            *ended = None;
+            *whole = None;
+            return;
         }
-        let ended = if goes_on(&reading, &self.current) {
+        *ended = if goes_on(&reading, &self.current) {
             None
         } else {
             self.end()
         };
-        Taken {
-            ended,
-            whole: self.join(reading),
-        }
+        *whole = self.join(reading);
     }
 
     /// Whether the group being read is left at a path of the life, in centimetres: beyond 1,300 cm behind its last
@@ -186,7 +201,7 @@ impl Assembler {
         ensures stands { (groups : Groups) → self.old ≡ known_of groups → self.new ≡ known_of (ended groups) }
     {
         let ended = self.readings.close();
-        self.readings = Readings::new();
+        self.readings.clear();
         if self.current.is_some() {
             self.last = self.current;
             self.current = None;

@@ -40,6 +40,13 @@ impl Readings {
         }
     }
 
+    /// Takes all of them out.
+    pub fn clear(&mut self)
+        ensures { self.new ≡ [] }
+    {
+        self.items.clear();
+    }
+
     /// Adds a reading of the group; one of a place that is there already isn't added.
     pub fn add(&mut self, reading: Reading)
         ensures { self.new ≡ with_reading self.old reading }

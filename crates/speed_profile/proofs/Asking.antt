@@ -1,7 +1,7 @@
 -- What targets ask of a train, and fewer ones that ask the same.
 use Rattle.std.proofs.Common.{◌≡◌, ℕ, zero, suc, ◌≤◌, ℤ, List, [], ◌∷◌, ◌++◌, ◌⊎◌, inl, inr, Bool, true, false, cond, refl, ap, sym, ◌∙◌, arith}
 use Rattle.std.specs.Prelude.{Option, None, Some, is_some, ◌&&◌}
-use Rattle.std.specs.Iterator.{Yields, Drains}
+use Rattle.std.specs.Iterator.{Drains}
 use Rattle.units.proofs.Gathering.{IsIn}
 use Rattle.track_store.specs.Profiles.{listed}
 use Rattle.brakes.specs.declared.brakes.Brakes.{Brakes}

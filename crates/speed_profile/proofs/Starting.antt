@@ -1,8 +1,8 @@
 -- The static speeds, by the centimetres where their pieces begin.
-use Rattle.std.proofs.Common.{◌≡◌, ℕ, ℤ, pos, ◌+ℤ◌, ◌-ℤ◌, ◌≤ℤ◌, ◌<ℤ◌, ◌<◌, List, [], ◌∷◌, ◌++◌, inl, inr, Bool, true, false, cond, refl, ap, sym, ◌∙◌, subst, arith}
-use Rattle.std.specs.Prelude.{Option, None, Some, int_lt, MatchOption, ◌^◌}
+use Rattle.std.proofs.Common.{◌≡◌, ℕ, ℤ, pos, ◌+ℤ◌, ◌-ℤ◌, ◌≤ℤ◌, ◌<ℤ◌, ◌<◌, List, [], ◌++◌, inl, inr, Bool, true, false, cond, refl, ap, sym, subst, arith}
+use Rattle.std.specs.Prelude.{Option, None, Some, int_lt, MatchOption}
 use Rattle.std.proofs.lemmas.Int.{ints, by_lt_z}
-use Rattle.units.specs.Stretches.{over, natural, count_between}
+use Rattle.units.specs.Stretches.{over, natural}
 use Rattle.units.proofs.Gathering.{IsIn, over_at, in_over}
 use Rattle.track_store.specs.Profiles.{Lasts, listed}
 use Rattle.track_store.proofs.Jumps.{none_over, fewer_left}

@@ -1,5 +1,5 @@
 -- A target at the first centimetre that something covers, in the words of the definitions.
-use Rattle.std.proofs.Common.{◌≡◌, ℕ, ℤ, pos, ◌+ℤ◌, ◌≤ℤ◌, ◌<ℤ◌, Bool, true, false, cond, refl, ap, ◌∙◌, arith}
+use Rattle.std.proofs.Common.{◌≡◌, ℕ, ℤ, pos, ◌≤ℤ◌, ◌<ℤ◌, Bool, true, false, cond, refl, ap, arith}
 use Rattle.std.specs.Prelude.{Option, None, Some, int_lt, not, ◌&&◌, IsSome, ◌↔◌, ◌^◌, neg_ℤ}
 use Rattle.units.specs.Limits.{IsCm}
 use Rattle.std.proofs.lemmas.Int.{ints}

@@ -1,5 +1,5 @@
 -- What lies ahead, kind by kind, asks what each centimetre does.
-use Rattle.std.proofs.Common.{◌≡◌, ℤ, pos, ◌+ℤ◌, List, [], ◌++◌, inl, inr, Bool, true, false, refl, ap, sym, ◌∙◌}
+use Rattle.std.proofs.Common.{◌≡◌, ℤ, pos, ◌+ℤ◌, List, ◌++◌, inl, inr, Bool, true, false, refl, ap, sym, ◌∙◌}
 use Rattle.std.specs.Prelude.{Option, ◌&&◌}
 use Rattle.units.specs.Stretches.{over}
 use Rattle.units.proofs.Gathering.{over_at, in_over}
@@ -10,7 +10,7 @@ use Rattle.speed_profile.specs.declared.limit.Bounds.{Bounds}
 use Rattle.speed_profile.specs.Ahead.{greatest_place, over_ahead, static_targets, restriction_targets, area_targets, targets_ahead}
 use Rattle.speed_profile.specs.Targets.{AskTheSame}
 use Rattle.speed_profile.specs.Track.{TrackSpeeds}
-use Rattle.speed_profile.proofs.Asking.{AreCovered, covered_ask, back, through, joined, same, fit_both}
+use Rattle.speed_profile.proofs.Asking.{covered_ask, back, through, joined, same, fit_both}
 use Rattle.speed_profile.proofs.Members.{in_left, in_right, in_either}
 use Rattle.speed_profile.proofs.Starting.{itself}
 

@@ -4,7 +4,7 @@ use Rattle.units.specs.Stretches.{Span, over, least}
 use Rattle.vars.specs.declared.restriction.TrainLengthDelay.{TrainLengthDelay}
 use Rattle.vars.specs.declared.restriction.TrainLengthDelay.TheVariants.{Applied, NotApplied}
 use Rattle.track_store.specs.Profiles.{listed, lesser}
-use Rattle.track_store.specs.Restrictions.{InForce, least_speed}
+use Rattle.track_store.specs.Restrictions.{least_speed}
 use Rattle.authority.specs.declared.answers.End.{End}
 use Rattle.areas.specs.Areas.{least_speed as least_in_areas}
 use Rattle.speed_profile.specs.declared.told.CategorySpeeds.{CategorySpeeds}

@@ -5,6 +5,7 @@
 mod ahead;
 mod limit;
 mod limiting;
+mod short_speed;
 mod starts;
 mod targets;
 mod told;
@@ -12,6 +13,7 @@ mod track;
 
 pub use ahead::Ahead;
 pub use limit::{Bounds, limit_on};
+pub use short_speed::ShortSpeed;
 pub use starts::{first_in_area, first_target, next_after, static_target};
 pub use targets::Targets;
 pub use told::{CategorySpeeds, ProfileTold, gradients, static_speeds};

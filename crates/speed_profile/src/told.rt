@@ -2,6 +2,7 @@
 ghost use Rattle.std.specs.Prelude.{◌≡◌, min, length, take, drop};
 ghost use Rattle.speed_profile.specs.Told.{speed_of, speed_for, speeds_for, first_place, gradient_value, gradient_fact, speed_value, speed_fact};
 
+use crate::ShortSpeed;
 use arrayvec::ArrayVec;
 use packets::{Difference, Gradient, Gradients, StaticSpeeds, StaticStep};
 use track_store::{Same, Step};
@@ -12,7 +13,7 @@ use vars::{StaticSpeed, TrainCategory, TrainLengthDelay, Variable};
 #[derive(Clone, Copy, PartialEq, Eq)]
 pub struct CategorySpeeds {
     /// The speed for each category (NC_DIFF) from 0 to 15, in metres per hour.
-    pub speeds: [Mph; 16],
+    pub speeds: [ShortSpeed; 16],
     /// Q_FRONT.
     pub delay: TrainLengthDelay,
 }
@@ -22,7 +23,7 @@ impl CategorySpeeds {
     pub fn for_category(&self, category: TrainCategory) -> Mph
         ensures { result ≡ speed_of self.now category }
     {
-        self.speeds[category.number() as usize]
+        self.speeds[category.number() as usize].get()
     }
 }
 
@@ -107,14 +108,14 @@ fn speed_value(element: &StaticStep, differences: &[Difference]) -> Option<Categ
     match element.speed {
         StaticSpeed::End => None,
         StaticSpeed::Speed(step) => Some(CategorySpeeds {
-            speeds: speeds_for(step.speed(), differences),
+            speeds: speeds_for(ShortSpeed::of_step(step), differences),
             delay: element.delay,
         }),
     }
 }
 
 // The speeds for the categories from 0 to 15.
-fn speeds_for(basic: Mph, differences: &[Difference]) -> [Mph; 16]
+fn speeds_for(basic: ShortSpeed, differences: &[Difference]) -> [ShortSpeed; 16]
     ensures { result ≡ speeds_for basic differences.now }
 {
     let mut speeds = [basic; 16];
@@ -125,12 +126,12 @@ fn speeds_for(basic: Mph, differences: &[Difference]) -> [Mph; 16]
 }
 
 // The speed for a category: that of its first difference, else the basic one.
-fn speed_for(basic: Mph, differences: &[Difference], category: u64) -> Mph
+fn speed_for(basic: ShortSpeed, differences: &[Difference], category: u64) -> ShortSpeed
     ensures { result ≡ speed_for basic differences.now category }
 {
     for difference in differences {
         if category != NO_CATEGORY && difference.category.number() == category {
-            return difference.speed.speed();
+            return ShortSpeed::of_step(difference.speed);
         }
     }
     basic

@@ -1,5 +1,5 @@
 -- Kind by kind, what counts behind a happening follows the kind's line of the table.
-use Rattle.std.proofs.Common.{List, ◌∷◌, refl, ap}
+use Rattle.std.proofs.Common.{List, refl, ap}
 use Rattle.std.specs.Prelude.{Some, reverse}
 use Rattle.mode_table.specs.declared.mode.Mode.{Mode}
 use Rattle.mode_table.specs.declared.statuses.Item.TheVariants as item
@@ -7,7 +7,7 @@ use Rattle.restriction.specs.declared.restriction.Restriction.{Restriction}
 use Rattle.track_picture.specs.Live.{Happening}
 use Rattle.track_picture.specs.Parts.{areas_or_none, mark_in, newest}
 use Rattle.track_picture.specs.Ending.{NoneAtPowerUp, EachByItsLine, LeavesNone, LeavesAll, ModesDeleteByTheTable}
-use Rattle.track_picture.proofs.OneKind.{value, step, stays, deleted}
+use Rattle.track_picture.proofs.OneKind.{step, stays, deleted}
 use Rattle.track_picture.proofs.EachKind.{values, link, miss, grant, look, gradients, speeds, level, restricted, zones}
 use Rattle.track_picture.proofs.Limits as limits
 use Rattle.track_picture.proofs.Limits.{held}

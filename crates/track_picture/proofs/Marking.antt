@@ -1,5 +1,6 @@
 -- The mark of the restrictions is that of the entries: no packet changes it.
-use Rattle.std.proofs.Common.{◌≡◌, ℤ, List, [], ◌∷◌, Option, Some, None, refl, ap, ◌∙◌}
+use Rattle.std.proofs.Common.{◌≡◌, ◌≤ℤ◌, ℤ, List, [], ◌∷◌, Option, Some, None, refl, ap, ◌∙◌, arith}
+use Rattle.std.proofs.lemmas.Int.{ints}
 use Rattle.std.specs.Int.{int_max}
 use Rattle.std.specs.Option.{option_map_or}
 use Rattle.packets.specs.Packets.{as_speed_restriction, as_revocation}
@@ -47,3 +48,7 @@ one_mark [] = refl
 one_mark (entry ∷ entries) =
     marked entry.mark (after_messages entry.used.groups (restrictions entries)) (mark_of entries)
     (messages_unmarked entry.used.groups (restrictions entries) ∙ one_mark entries)
+
+-- a mark that isn't ahead changes nothing
+pub kept_mark : (mark before : ℤ) → mark ≤ℤ before → int_max mark before ≡ before
+kept_mark mark before behind = grind (arith, ints)

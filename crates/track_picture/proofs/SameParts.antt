@@ -1,16 +1,15 @@
 -- What is known of a life by the facts that count is what the lists of its parts give: so what stands for the one stands
 -- for the other.
-use Rattle.std.proofs.Common.{◌≡◌, ℕ, ℤ, Bool, true, false, List, [], ◌∷◌, Option, Some, None, refl, ap, sym, ◌∙◌}
+use Rattle.std.proofs.Common.{◌≡◌, ℤ, Bool, true, false, List, [], ◌∷◌, Option, Some, None, refl, ap, sym, ◌∙◌}
 use Rattle.std.specs.Prelude.{◌||◌, ◌==◌}
 use Rattle.std.specs.List.{list_any}
 use Rattle.std.specs.Option.{option_map, option_map_or}
 use Rattle.authority.specs.Authority.{end_of, end_now}
 use Rattle.authority.specs.Entries as authority
 use Rattle.authority.specs.Entries.{AuthorityEntry, Sight, accepted, sights, now_of}
-use Rattle.authority.specs.Known.{KnownAuthority, stored_of}
-use Rattle.authority.specs.declared.answers.End.{End}
+use Rattle.authority.specs.Known.{stored_of}
 use Rattle.events.specs.declared.input.Reading.{Reading}
-use Rattle.linking.specs.Linking.{KnownLinks, is_passed_by, misses}
+use Rattle.linking.specs.Linking.{is_passed_by, misses}
 use Rattle.national.specs.InForce as national
 use Rattle.odometry.specs.Place as odometry
 use Rattle.packets.specs.Packets.{as_movement_authority}
@@ -19,17 +18,14 @@ use Rattle.speed_profile.specs.declared.told.CategorySpeeds.{CategorySpeeds}
 use Rattle.std.specs.Prelude.{not, filter}
 use Rattle.track_store.specs.Facts as profiles
 use Rattle.track_store.specs.Profiles.{Profile}
-use Rattle.track_store.specs.Restrictions.{in_force}
-use Rattle.track_picture.specs.declared.happened.Happened.{Happened}
-use Rattle.track_picture.specs.Entry.{TrackEntry, Begun, Used, Fact, Outcome, nothing, facts_in}
-use Rattle.track_picture.specs.Live.{Happening}
+use Rattle.track_picture.specs.Entry.{TrackEntry, Begun, Fact, Outcome, nothing, facts_in}
 use Rattle.track_picture.specs.Happenings.{happenings}
 use Rattle.track_picture.specs.Parts.{newest, granted_in, looks_in, looked, acceptance, authorities_in}
 use Rattle.track_picture.specs.History.{place_of, group_of_fix, speed_of, groups_of, moment_of, happened_of, is_stop}
 use Rattle.track_picture.specs.History as picture
 use Rattle.track_picture.specs.Sentences.{alone, with_path, with_groups, received}
 use Rattle.track_picture.specs.Sentences as sentences
-use Rattle.track_picture.specs.StandsFor.{Life, KnownTrack, Knowledge, StandsForLife, parts_of, national_of}
+use Rattle.track_picture.specs.StandsFor.{Life, Knowledge, StandsForLife, parts_of, national_of}
 use Rattle.track_picture.specs.Columns as columns
 use Rattle.track_picture.specs.Columns.{StandsForColumns, columns_of, after_facts, after_told, after_stop}
 use Rattle.track_picture.proofs.Profile.{gradients_are_live, speeds_are_live}

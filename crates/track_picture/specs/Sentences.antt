@@ -39,7 +39,7 @@ use Rattle.events.specs.declared.input.Reading.{Reading}
 use Rattle.track_picture.specs.Bytes.{telegram_in}
 use Rattle.track_store.specs.Profiles.{is_known}
 use Rattle.authority.specs.Entries.{accepted as granted}
-use Rattle.track_picture.specs.Entry.{TrackEntry, Begun, Used, Outcome, Fact, nothing, blank, nothing_happened, no_groups, asking_for, added}
+use Rattle.track_picture.specs.Entry.{TrackEntry, Begun, Used, Outcome, Fact, nothing, blank, nothing_happened, asking_for, added}
 use Rattle.track_picture.specs.Entry.Outcome.{Broken, Ignored, Rejected, Accepted}
 use Rattle.track_picture.specs.History.{place_of, groups_of, links_of, moment_of, authorities, gradients_of, speeds_of}
 

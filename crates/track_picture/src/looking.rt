@@ -58,15 +58,18 @@ impl<G: ProfileStore<Permille> + Drop, S: ProfileStore<CategorySpeeds> + Drop> T
         self.parts.look(&stretch)
     }
 
-    // The track before a place is forgotten.
+    // The track before a place is forgotten. Where the forgetting mark stays, both profiles have nothing before it.
     fn forget_before(&mut self, mark: Cm)
         ensures stands { (life : Life) (event : TrackEntry) → StandsForColumns G.profile S.profile self.old (grown life (record event { mark = None }))
             → StandsForColumns G.profile S.profile self.new (grown life (record event { mark = Some mark })) }
         ensures size { size_in G.size S.size self.new ≤ size_in G.size S.size self.old }
     {
+        let moves = self.restrictions.mark() < mark;
         self.restrictions.drop_behind(mark);
-        self.gradients.drop_behind(mark);
-        self.speeds.drop_behind(mark);
+        if moves {
+            self.gradients.drop_behind(mark);
+            self.speeds.drop_behind(mark);
+        }
     }
 
     /// The end of an event, for a train of some length (0 where it isn't known): the track is forgotten that lies more

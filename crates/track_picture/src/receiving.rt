@@ -14,7 +14,7 @@ ghost use Rattle.track_picture.specs.Steps.{packets_by, HasRoomFor};
 use crate::happened::Happened;
 use crate::parts::Parts;
 use crate::state::TracksideOver;
-use balise_groups::{Closed, Reading as GroupReading, Taken};
+use balise_groups::{Closed, Reading as GroupReading};
 use events::{Input, Reading};
 use mode_table::Mode;
 use speed_profile::CategorySpeeds;
@@ -66,20 +66,23 @@ impl Parts {
         self.groups.moved(self.place.sums().path())
     }
 
-    // A telegram: the groups that it closes.
-    fn hear(&mut self, telegram: Received) -> Taken
-        ensures answer { (life : Life) (bytes : List ℕ) → self.old ≡ columns_of life → telegram_in bytes ≡ Some telegram
-            → result ≡ closed_by (groups_of life.entries) (heard life.entries bytes).heard }
+    // A telegram: the groups that it closes, in places that the caller has.
+    fn hear(&mut self, telegram: Received, ended: &mut Option<Closed>, whole: &mut Option<Closed>)
+        ensures ended { (life : Life) (bytes : List ℕ) → self.old ≡ columns_of life → telegram_in bytes ≡ Some telegram
+            → ended.new ≡ (closed_by (groups_of life.entries) (heard life.entries bytes).heard).ended }
+        ensures whole { (life : Life) (bytes : List ℕ) → self.old ≡ columns_of life → telegram_in bytes ≡ Some telegram
+            → whole.new ≡ (closed_by (groups_of life.entries) (heard life.entries bytes).heard).whole }
         ensures stands { (life : Life) (bytes : List ℕ) → self.old ≡ columns_of life → telegram_in bytes ≡ Some telegram
             → self.new ≡ columns_of (grown_so_far life (heard life.entries bytes) no_groups) }
-        ensures packets { packets_of_closed result.ended + packets_of_closed result.whole
+        ensures packets { packets_of_closed ended.new + packets_of_closed whole.new
             ≤ packets_in self.old.groups.readings + length telegram.packets.items }
     {
         self.begin();
-        self.groups.take(GroupReading {
+        let reading = GroupReading {
             telegram,
             sums: self.place.sums(),
-        })
+        };
+        self.groups.take_into(reading, ended, whole);
     }
 
     // The clock gives a moment.
@@ -136,9 +139,11 @@ impl<G: ProfileStore<Permille> + Drop, S: ProfileStore<CategorySpeeds> + Drop> T
             → StandsForColumns G.profile S.profile self.new (grown_so_far life (heard life.entries bytes)
             (with_groups mode life.entries (heard life.entries bytes) nothing_happened)) }
     {
-        let taken = self.parts.hear(telegram);
-        self.close(mode, &taken.ended);
-        self.close(mode, &taken.whole);
+        let mut ended = None;
+        let mut whole = None;
+        self.parts.hear(telegram, &mut ended, &mut whole);
+        self.close(mode, &ended);
+        self.close(mode, &whole);
     }
 
     // A telegram, once there is room for what it may close. It stands out of line, so that other inputs clear no room

@@ -1,8 +1,7 @@
 use Rattle.std.proofs.Common.{◌≡◌, true, ◌∷◌, ◌++◌, refl, ap, sym, ◌∙◌}
 use Rattle.track_store.specs.Profiles.{listed}
 use Rattle.braking.specs.declared.target.Target.{Target}
-use Rattle.braking.specs.Braking.{fits, fits_all}
-use Rattle.braking.specs.Approaches.{Course, lowered_by}
+use Rattle.braking.specs.Braking.{fits}
 use Rattle.braking.proofs.Approaching.{lowered_by_more, lowered_from}
 use Rattle.speed_profile.specs.Ahead.{targets_ahead, setting_out}
 use Rattle.speed_profile.specs.Track.{speeds_along}

@@ -2,7 +2,7 @@ use Rattle.std.proofs.Common.{◌++◌}
 use Rattle.track_store.specs.Profiles.{listed}
 use Rattle.speed_profile.specs.Ahead.{targets_ahead}
 use Rattle.speed_profile.specs.Track.{speeds_along}
-use Rattle.speed_profile.proofs.Asking.{equal, through, told_in_all}
+use Rattle.speed_profile.proofs.Asking.{through, told_in_all}
 use Rattle.speed_profile.proofs.Together.{told_ask}
 use Rattle.speed_profile.proofs.ahead.Ahead.targets.Goals as goal
 

@@ -4,7 +4,7 @@ use Rattle.std.specs.Bool.{Decides}
 use Rattle.std.specs.Cmp.Lexicographic.{pointwise}
 use Rattle.std.proofs.lemmas.Bool.Decides.{Decides-eqb}
 use Rattle.std.proofs.lemmas.Slice.Eq.{slice_eq-Decides}
-use Rattle.units.specs.contracts.mph.MphPartialEq.TheImpl.{eq-value}
+use Rattle.speed_profile.specs.contracts.short_speed.ShortSpeedPartialEq.TheImpl.{eq-value}
 use Rattle.vars.specs.contracts.restriction.TrainLengthDelay.{the_type}
 use Rattle.vars.specs.declared.restriction.TrainLengthDelay.{TrainLengthDelay}
 use Rattle.vars.specs.declared.restriction.TrainLengthDelay.TheVariants.{Applied, NotApplied}

@@ -1,13 +1,18 @@
-use Rattle.std.proofs.Common.{◌∷◌, None, sym, ◌∙◌}
+use Rattle.std.proofs.Common.{◌≡◌, ◌≤ℤ◌, ℤ, ◌∷◌, None, ap, sym, subst, ◌∙◌, arith}
+use Rattle.std.proofs.lemmas.Int.{ints}
+use Rattle.std.specs.Int.{int_max}
+use Rattle.track_store.specs.Facts.{profile_of}
 use Rattle.track_store.specs.Profiles.{profile_with}
+use Rattle.track_store.specs.Restrictions.{InForce}
 use Rattle.track_store.proofs.Telling.{marked_at}
 use Rattle.track_picture.specs.Entry.{TrackEntry}
 use Rattle.track_picture.specs.Columns.{mark_of, restrictions, gradients, speeds}
+use Rattle.track_picture.proofs.Marking.{one_mark, kept_mark}
 use Rattle.track_picture.proofs.Standing.{seen_columns as seen}
 use Rattle.track_picture.proofs.state.TracksideOver.forget_before.Goals as goal
 
-pub returns-clause-stands : goal.returns-clause-stands
-returns-clause-stands g c life event s =
+pub returns-then-moves-clause-stands : goal.returns-then-moves-clause-stands
+returns-then-moves-clause-stands g c life event s =
     let entry : TrackEntry = record event { mark = None } in
     let all = entry ∷ life.entries in
     let before = seen c.self.view_is s in
@@ -17,9 +22,25 @@ returns-clause-stands g c life event s =
       parts_are = before.parts_are;
       restrictions_are = c.drop_behind.ensures.track (restrictions all) before.restrictions_are;
       gradients_are = g.met.G.ProfileStore.profile_is _
-          ∙ marked_at (profile_with g.G.Profile.value c.self.inside.gradients) (profile_with g.G.Profile.value c.drop_behind-2.new.self)
-          (record { mark = mark_of all; facts = gradients all }) gradients_before c.args.mark c.drop_behind-2.ensures.value;
+          ∙ marked_at (profile_with g.G.Profile.value c.self.inside.gradients) (profile_with g.G.Profile.value c.drop_behind-then-moves.new.self)
+          (record { mark = mark_of all; facts = gradients all }) gradients_before c.args.mark c.drop_behind-then-moves.ensures.value;
       speeds_are = g.met.S.ProfileStore.profile_is _
-          ∙ marked_at (profile_with g.S.Profile.value c.self.inside.speeds) (profile_with g.S.Profile.value c.drop_behind-3.new.self)
-          (record { mark = mark_of all; facts = speeds all }) speeds_before c.args.mark c.drop_behind-3.ensures.value;
+          ∙ marked_at (profile_with g.S.Profile.value c.self.inside.speeds) (profile_with g.S.Profile.value c.drop_behind-then-moves-2.new.self)
+          (record { mark = mark_of all; facts = speeds all }) speeds_before c.args.mark c.drop_behind-then-moves-2.ensures.value;
+    }
+
+-- the mark stays
+pub returns-else-moves-clause-stands : goal.returns-else-moves-clause-stands
+returns-else-moves-clause-stands g c life event s =
+    let entry : TrackEntry = record event { mark = None } in
+    let all = entry ∷ life.entries in
+    let before = seen c.self.view_is s in
+    let behind : c.args.mark ≤ℤ c.self.inside.restrictions.track.mark = grind (arith, ints) in
+    let own = ap (λ (t : InForce). t.mark) before.restrictions_are ∙ one_mark all in
+    let stays : int_max c.args.mark (mark_of all) ≡ mark_of all = kept_mark c.args.mark _ (subst (λ (z : ℤ). c.args.mark ≤ℤ z) own behind) in
+    record {
+      parts_are = before.parts_are;
+      restrictions_are = c.drop_behind.ensures.track (restrictions all) before.restrictions_are;
+      gradients_are = before.gradients_are ∙ ap (λ (mark : ℤ). profile_of (record { mark = mark; facts = gradients all })) (sym stays);
+      speeds_are = before.speeds_are ∙ ap (λ (mark : ℤ). profile_of (record { mark = mark; facts = speeds all })) (sym stays);
     }

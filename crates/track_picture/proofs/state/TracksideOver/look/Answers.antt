@@ -1,4 +1,4 @@
-use Rattle.std.proofs.Common.{◌∷◌, None, Some, ap, subst, ◌∙◌}
+use Rattle.std.proofs.Common.{None, Some, ap, subst, ◌∙◌}
 use Rattle.areas.specs.Levels.{coming}
 use Rattle.odometry.specs.Place.{stretch}
 use Rattle.units.specs.Stretches.{Span}

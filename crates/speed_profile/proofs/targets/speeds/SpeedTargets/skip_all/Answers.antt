@@ -1,4 +1,4 @@
-use Rattle.std.proofs.Common.{List, [], ap, subst}
+use Rattle.std.proofs.Common.{[], subst}
 use Rattle.speed_profile.specs.Targets.{Left, AskTheSameBeyond}
 use Rattle.speed_profile.proofs.Starting.{rest_asks}
 use Rattle.speed_profile.proofs.targets.speeds.SpeedTargets.skip_all.Goals as goal

@@ -3,8 +3,8 @@ use Rattle.balise_groups.specs.Groups.{KnownGroups, groups_of, newest, goes_on, 
 use Rattle.balise_groups.specs.Rooms.{packets_in, packets_of_closed}
 use Rattle.balise_groups.proofs.Rooms.{closing_room, joined_room}
 use Rattle.balise_groups.proofs.Standing.{not_ignored}
-use Rattle.balise_groups.proofs.assembler.Assembler.take.Goals as goal
-use Rattle.balise_groups.proofs.assembler.Assembler.take.Goals.{then-goes_on-2, else-goes_on-2}
+use Rattle.balise_groups.proofs.assembler.Assembler.take_into.Goals as goal
+use Rattle.balise_groups.proofs.assembler.Assembler.take_into.Goals.{then-goes_on-2, else-goes_on-2}
 
 pub returns-clause-stands : goal.returns-clause-stands
 returns-clause-stands c entries is =
@@ -20,7 +20,7 @@ returns-clause-stands c entries is =
       | else-goes_on-2 w ↦
           let current : goes_on c.args.reading (newest groups.current) ≡ false =
           ap (λ (k : KnownGroups). goes_on c.args.reading k.current) (sym inside) ∙ sym c.goes_on-2.ensures ∙ w.if-goes_on-2.false in
-          not_ignored c.args.reading groups _ false other current (c.join.ensures.stands (ended groups) (w.self-is ∙ w.end-ended.ensures.stands groups is))
+          not_ignored c.args.reading groups _ false other current (c.join.ensures.stands (ended groups) (w.self-is ∙ w.end.ensures.stands groups is))
     ]
 
 pub returns-clause-few : goal.returns-clause-few
@@ -29,6 +29,6 @@ returns-clause-few c =
     elim c.if-goes_on-2.branch [
       | then-goes_on-2 w ↦ omega (arith, whole, ap packets_of_closed w.ended-is, ap (λ (k : KnownGroups). packets_in k.readings) w.self-is)
       | else-goes_on-2 w ↦
-          let ended = closing_room _ _ w.end-ended.ensures.answer in
-          omega (arith, whole, ended, ap packets_of_closed w.ended-is, ap (λ (k : KnownGroups). packets_in k.readings) w.self-is, ap packets_in w.end-ended.ensures.none)
+          let ended = closing_room _ _ w.end.ensures.answer in
+          omega (arith, whole, ended, ap packets_of_closed w.ended-is, ap (λ (k : KnownGroups). packets_in k.readings) w.self-is, ap packets_in w.end.ensures.none)
     ]

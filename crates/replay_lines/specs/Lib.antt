@@ -1,5 +1,9 @@
 pub mod Answers
+pub mod BlockLines
+pub mod Courses
+pub mod Judgements
 pub mod KeptObject
 pub mod Lines
 pub mod Replays
+pub mod Told
 pub mod Words

@@ -1,4 +1,7 @@
 //! Errors.
+ghost use Rattle.std.specs.Prelude.{◌≡◌, false};
+ghost use Rattle.replay_lines.specs.Replays.{is_device, IsLate};
+
 use std::io;
 use std::io::ErrorKind;
 
@@ -26,10 +29,22 @@ pub(crate) enum LateError {
     NoMemory,
 }
 
-/// An error of the writer.
-pub(crate) fn writing_error(error: &io::Error) -> LateError {
-    match error.kind() {
-        ErrorKind::OutOfMemory => LateError::NoMemory,
-        _ => LateError::Write,
+impl From<io::Error> for LateError {
+    fn from(error: io::Error) -> LateError {
+        match error.kind() {
+            ErrorKind::OutOfMemory => LateError::NoMemory,
+            _ => LateError::Write,
+        }
+    }
+}
+
+/// What comes behind the first sector, for the caller of a replay.
+pub(crate) fn late(error: LateError) -> ReplayError
+    ensures device { is_device result ≡ false }
+    ensures late { IsLate result }
+{
+    match error {
+        LateError::Write => ReplayError::Write,
+        LateError::NoMemory => ReplayError::NoMemory,
     }
 }

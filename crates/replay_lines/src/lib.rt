@@ -6,10 +6,12 @@
 mod answers;
 mod course;
 mod errors;
+mod heads;
 mod kept;
 mod lines;
 mod reports;
 mod steps;
+mod telling;
 mod walk;
 mod words;
 

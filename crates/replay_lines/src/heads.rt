@@ -1,0 +1,67 @@
+//! The step of a replay over the head of a block.
+ghost use Rattle.std.specs.Prelude.{◌≡◌, OnOk};
+ghost use Rattle.std.specs.Io.KnownBytes.{Appends};
+ghost use Rattle.replay_lines.specs.Judgements.{IsHeadFound};
+ghost use Rattle.replay_lines.specs.BlockLines.{behind_found, head_found_text, AddsHead};
+
+use crate::course::{Course, Judged};
+use crate::errors::LateError;
+use crate::lines::write_head;
+use crate::reports::HeadReport;
+use crate::telling::finish;
+use blocks::Block;
+use pieces::Form;
+use replaying::{HeadFound, compare_head};
+use std::io::Write;
+
+// What differs in the head of a block, of a life that is replayed up to it.
+fn head_found(judged: &Judged, block: &Block) -> Option<HeadFound>
+    ensures { IsHeadFound judged.now block.now result }
+{
+    match judged {
+        Judged::Agrees(replay) => compare_head(replay, block),
+        Judged::Not(_) => None,
+    }
+}
+
+// Tells what is left, and a head that differs, if it does.
+fn tell_head<W: Write>(
+    course: &mut Course,
+    block: &Block,
+    found: &Option<HeadFound>,
+    form: Form,
+    out: &mut W,
+) -> Result<(), LateError>
+    ensures goes_on { OnOk result (course.new ≡ behind_found course.old found.now) }
+    ensures text { OnOk result (Appends (W.contents out.old) (W.contents out.new) (head_found_text form block.now course.old found.now)) }
+{
+    let Some(found) = found else {
+        return Ok(());
+    };
+    finish(course, form, out)?;
+    let report = HeadReport {
+        life: block.kept.lives,
+        block: block.number,
+        field: found.field,
+        told: &block.kept,
+        kept: &found.kept,
+    };
+    write_head(form, &report, out)?;
+    course.is_whole = false;
+    Ok(())
+}
+
+/// Compares what the head of a block tells with what the kernel keeps; the next block follows it.
+pub(crate) fn replay_head<W: Write>(
+    course: &mut Course,
+    block: &Block,
+    form: Form,
+    out: &mut W,
+) -> Result<(), LateError>
+    ensures { OnOk result (AddsHead form block.now course.old course.new (W.contents out.old) (W.contents out.new)) }
+{
+    let found = head_found(&course.judged, block);
+    tell_head(course, block, &found, form, out)?;
+    course.before = Some(block.kept.copy());
+    Ok(())
+}

@@ -2,11 +2,14 @@
 -- project's profile). Rows 3, 4 and 5 lead to Trip from Full Supervision, On Sight and Staff Responsible, where the train
 -- is to be tripped; row 6 from Staff Responsible, behind row 5; row 9 from Unfitted; no other row does. A reader may take
 -- for granted that Trip is entered where this is asked.
-use Rattle.std.specs.Prelude.{if◌then◌else◌, Option, Some, None, [], ◌∷◌}
+use Rattle.std.specs.Prelude.{Bool, ◌&&◌, if◌then◌else◌, Option, Some, None, [], ◌∷◌}
+use Rattle.std.specs.List.{list_any}
 use Rattle.units.specs.Stretches.{Span}
 use Rattle.events.specs.declared.input.Input as inputs
 use Rattle.mode_table.specs.declared.mode.Mode.{Mode}
 use Rattle.mode_table.specs.declared.mode.Mode.TheVariants.{StaffResponsible, Unfitted, Trip}
+use Rattle.mode_table.specs.Modes.{is_mode, is_one_of}
+use Rattle.mode_table.specs.Rows.{rows}
 use Rattle.track_picture.specs.History.{happened_of}
 use Rattle.mode_control.specs.Conditions.{is_beyond_end, trips}
 use Rattle.mode_control.specs.Entry.{SupervisionEntry, begun}
@@ -15,6 +18,10 @@ use Rattle.mode_control.specs.Life.{Life, grown}
 use Rattle.mode_control.specs.Sentences.{told, deed_of, entered_in, train_in, the_train_is_seen, written}
 use Rattle.mode_control.specs.declared.tripping.TripCause.{TripCause}
 use Rattle.mode_control.specs.declared.tripping.TripCause.TheVariants.{EndPassed, Linking, Stop, StaffDistance, Level}
+
+-- a row of the mode table leads from a mode to Trip
+abbrev pub leads_to_trip : Mode → Bool
+leads_to_trip mode = list_any (λ row. is_one_of row.sources mode && is_mode Trip row.target) rows
 
 -- rows 3 to 5: the first of the conditions of a trip that holds (`trips`, in Conditions)
 abbrev pub why_trips : Life → Span → TripCause

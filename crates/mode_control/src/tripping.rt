@@ -1,9 +1,11 @@
 //! Why Trip is entered.
-ghost use Rattle.std.specs.Prelude.{◌≡◌, IfOk};
+ghost use Rattle.std.specs.Prelude.{◌≡◌, false, IsOk, IfOk};
 ghost use Rattle.mode_control.specs.History.{mode_of};
 ghost use Rattle.mode_control.specs.Life.{Life};
 ghost use Rattle.mode_control.specs.StandsFor.{StandsForLife};
-ghost use Rattle.mode_control.specs.Tripping.{why_trips, row_from, trip_in, trip_by};
+ghost use Rattle.mode_control.specs.Tripping.{leads_to_trip, why_trips, row_from, trip_in, trip_by};
+ghost use Rattle.track_picture.specs.StandsFor.{size_in};
+ghost use Rattle.track_picture.specs.Steps.{HasRoomFor};
 
 use crate::state::SupervisionOver;
 use events::Input;
@@ -27,6 +29,16 @@ pub enum TripCause {
     StaffDistance,
     /// Row 9: the level is 1 in Unfitted, and the authority or the track ahead isn't known (5.10).
     Level,
+}
+
+// Whether a row of the mode table leads from a mode to Trip.
+fn leads_to_trip(mode: Mode) -> bool
+    ensures { result ≡ leads_to_trip mode }
+{
+    matches!(
+        mode,
+        Mode::FullSupervision | Mode::OnSight | Mode::StaffResponsible | Mode::Unfitted
+    )
 }
 
 impl<G: ProfileStore<Permille> + Drop, S: ProfileStore<CategorySpeeds> + Drop> SupervisionOver<
@@ -74,11 +86,18 @@ impl<G: ProfileStore<Permille> + Drop, S: ProfileStore<CategorySpeeds> + Drop> S
     }
 
     /// Why an input would enter Trip, as the next event; None where it wouldn't. It works on a copy: NoMemory where
-    /// memory is refused for that, or for what the input adds.
+    /// memory is refused for that, or for what the input adds. None is taken in a mode from which no row leads to Trip;
+    /// nor where no restriction and no profile is kept, nor room for one, of an input that uses no packet.
     pub fn trip_by(&self, alloc: Global, input: &Input) -> Result<Option<TripCause>, NoMemory>
-        ensures { IfOk result (λ cause. (life : Life) → StandsForLife G.profile S.profile self.now life
+        ensures cause { IfOk result (λ cause. (life : Life) → StandsForLife G.profile S.profile self.now life
             → cause ≡ trip_by life input.now) }
+        ensures rowless { leads_to_trip self.now.parts.mode ≡ false → IsOk result }
+        ensures quiet { size_in G.size S.size self.now.track ≡ 0 → HasRoomFor G.room S.room self.now.track input.now
+            → IsOk result }
     {
+        if !leads_to_trip(self.mode()) {
+            return Ok(None);
+        }
         let mut next = self.copy(alloc)?;
         next.begin(input)?;
         let seen = next.see();

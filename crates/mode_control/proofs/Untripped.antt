@@ -1,0 +1,63 @@
+-- From a mode from which no row of the mode table leads to Trip, no input enters Trip.
+use Rattle.std.proofs.Common.{◌≡◌, Bool, true, false, ◌&&◌, ◌||◌, cond, refl, Option, Some, None, List, [], ◌∷◌}
+use Rattle.std.specs.List.{list_any}
+use Rattle.events.specs.declared.input.Input.{Input}
+use Rattle.mode_table.specs.declared.conditions.Conditions.{Conditions}
+use Rattle.mode_table.specs.declared.mode.Mode.{Mode}
+use Rattle.mode_table.specs.declared.mode.Mode.TheVariants.{FullSupervision, OnSight, StaffResponsible, Shunting, Unfitted, StandBy, Trip, PostTrip, SystemFailure}
+use Rattle.mode_table.specs.Modes.{is_mode, is_one_of}
+use Rattle.mode_table.specs.Rows.{Row, rows, led_by}
+use Rattle.units.specs.Stretches.{Span}
+use Rattle.mode_control.specs.Conditions.{conditions}
+use Rattle.mode_control.specs.History.{mode_of}
+use Rattle.mode_control.specs.Life.{Life, grown}
+use Rattle.mode_control.specs.Sentences.{changed, train_in}
+use Rattle.mode_control.specs.Tripping.{leads_to_trip, row_where, seen_by, trip_by}
+
+module _ (life : Life) (train : Span) where
+  abbrev IsUntold : Mode → Mode → Type 0
+  IsUntold old new = row_where (changed old new) life train ≡ None
+
+  unchanged : (mode : Mode) → IsUntold mode mode
+  unchanged FullSupervision = refl
+  unchanged OnSight = refl
+  unchanged StaffResponsible = refl
+  unchanged Shunting = refl
+  unchanged Unfitted = refl
+  unchanged StandBy = refl
+  unchanged Trip = refl
+  unchanged PostTrip = refl
+  unchanged SystemFailure = refl
+
+  to_another : (new : Mode) (same : Bool) → is_mode Trip new ≡ false → row_where (cond same None (Some new)) life train ≡ None
+  to_another new true other = refl
+  to_another FullSupervision false other = refl
+  to_another OnSight false other = refl
+  to_another StaffResponsible false other = refl
+  to_another Shunting false other = refl
+  to_another Unfitted false other = refl
+  to_another StandBy false other = refl
+  to_another Trip false other = cc
+  to_another PostTrip false other = refl
+  to_another SystemFailure false other = refl
+
+  by_row : (old target later : Mode) (starts holds leads rest : Bool) → is_mode Trip target ≡ leads → ((starts && leads) || rest) ≡ false
+      → (rest ≡ false → IsUntold old later) → IsUntold old (cond (starts && holds) target later)
+  by_row old target later true true true rest is none later_is = cc
+  by_row old target later true true false rest is none later_is = to_another target (is_mode old target) is
+  by_row old target later true false true rest is none later_is = cc
+  by_row old target later true false false rest is none later_is = later_is none
+  by_row old target later false holds leads rest is none later_is = later_is none
+
+  untold_by : (rows : List Row) (old : Mode) (c : Conditions) → list_any (λ row. is_one_of row.sources old && is_mode Trip row.target) rows ≡ false
+      → IsUntold old (led_by rows old c)
+  untold_by [] old c none = unchanged old
+  untold_by (row ∷ rows) old c none =
+      by_row old row.target (led_by rows old c) (is_one_of row.sources old) (row.holds c) (is_mode Trip row.target)
+      (list_any (λ (r : Row). is_one_of r.sources old && is_mode Trip r.target) rows) refl none (untold_by rows old c)
+
+pub untripped : (life : Life) (input : Input) → leads_to_trip (mode_of life.entries) ≡ false → trip_by life input ≡ None
+untripped life input none =
+    let now = grown life (seen_by life input) in
+    let train = train_in now (seen_by life input) in
+    untold_by now train rows (mode_of life.entries) (conditions now train) none

@@ -1,5 +1,5 @@
 -- Records, cut before each power-up.
-use Rattle.std.proofs.Common.{◌≡◌, ℕ, zero, suc, ◌+◌, ◌-◌, ◌<◌, ◌≤◌, Bool, true, false, if◌then◌else◌, List, [], ◌∷◌, ◌++◌, length, take, drop, refl, sym, ap, ◌∙◌, subst, arith}
+use Rattle.std.proofs.Common.{◌≡◌, ℕ, zero, suc, ◌+◌, ◌-◌, ◌<◌, ◌≤◌, true, false, if◌then◌else◌, List, [], ◌∷◌, ◌++◌, length, take, drop, refl, sym, ap, ◌∙◌, arith}
 use Rattle.blocks.specs.declared.records.BlockRecord.{BlockRecord}
 use Rattle.replay_lines.specs.Courses.{powers_up, starts_life, with_record, lives_of, last_of}
 

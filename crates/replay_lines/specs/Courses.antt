@@ -1,10 +1,9 @@
 -- The course of a replay: how the life is judged that it is in, which of its events no line tells yet, and what the head
 -- of the last block tells (this project's profile). Events are numbered from 0; records of a block are the oldest first.
-use Rattle.std.specs.Prelude.{ℕ, ◌-◌, ◌==◌, Bool, true, false, if◌then◌else◌, List, [], ◌∷◌, Option, Some, None}
+use Rattle.std.specs.Prelude.{ℕ, Bool, true, false, if◌then◌else◌, List, [], ◌∷◌, Option, Some, None}
 use Rattle.blocks.specs.declared.records.BlockRecord.{BlockRecord}
 use Rattle.events.specs.declared.input.Event.{Event}
 use Rattle.events.specs.declared.input.Event.TheVariants.{PowerUp, Input}
-use Rattle.events.specs.declared.kept.Kept.{Kept}
 use Rattle.pieces.specs.declared.piece.Form.{Form}
 use Rattle.replay_lines.specs.Lines.{agrees_text, unjudged_text}
 use Rattle.replay_lines.specs.declared.course.Course.{Course}

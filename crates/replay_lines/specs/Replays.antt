@@ -1,5 +1,5 @@
 -- Why a replay did not come to its end (this project's profile).
-use Rattle.std.specs.Prelude.{◌≡◌, ◌≢◌, ◌⊎◌, ℕ, ◌+◌, ◌*◌, List, Bool, true, false, Result, Ok, Err, Option, Some, None}
+use Rattle.std.specs.Prelude.{◌≡◌, ◌≢◌, ◌⊎◌, ℕ, ◌+◌, ◌*◌, List, Bool, true, false, Result, Ok, Err, Some, None}
 use Rattle.blocks.specs.FirstSector.{slots_told}
 use Rattle.ring.specs.Slots.{IsFormatted}
 use Rattle.replay_lines.specs.declared.errors.ReplayError.{ReplayError}

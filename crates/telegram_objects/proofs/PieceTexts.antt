@@ -1,5 +1,5 @@
 -- The pieces of an object are its text, one after another.
-use Rattle.std.proofs.Common.{◌≡◌, ℕ, List, [], ◌∷◌, ◌++◌, Bool, true, false, Option, codes, decimal, length, map, ◌+◌, refl, sym, ap, subst, ◌∙◌, append_assoc, append-nil}
+use Rattle.std.proofs.Common.{◌≡◌, ℕ, List, [], ◌∷◌, ◌++◌, Bool, true, false, Option, arith, codes, decimal, length, map, ◌+◌, refl, sym, ap, subst, ◌∙◌, append_assoc, append-nil}
 use Rattle.std.specs.Io.KnownBytes.{Appends}
 use Rattle.std.proofs.KnownBytes.{Appends-trans}
 use Rattle.bits.specs.Names.{name_text}
@@ -23,6 +23,10 @@ same_text x y a b one e = subst (λ (t : List ℕ). Appends x y t) e one
 pub appended : (x y z : Option (List ℕ)) (a b c : List ℕ) → Appends x y a → Appends y z b → a ++ b ≡ c → Appends x z c
 appended x y z a b c one two e = same_text x z (a ++ b) c (Appends-trans x y z a b one two) e
 
+pub none_left : (xs : List ℕ) → length xs ≡ 0 → xs ≡ []
+none_left [] e = refl
+none_left (x ∷ xs) e = absurd (omega arith)
+
 quoted_name : (name : VariableName) → quoted (name_text name) ≡ 34 ∷ (name_text name ++ 34 ∷ [])
 quoted_name name = ap (λ (s : List ℕ). 34 ∷ (s ++ 34 ∷ [])) (plain_name name).0
 
@@ -31,7 +35,7 @@ member_parts a t d rest = simp (append_assoc, append-nil)
 
 pub member_in_pieces : (a b t : List ℕ) (name : VariableName) (d rest : List ℕ) → a ≡ b → t ≡ name_text name
     → (a ++ (34 ∷ (t ++ (34 ∷ 58 ∷ (d ++ []))))) ++ rest ≡ b ++ (quoted (name_text name) ++ 58 ∷ (d ++ rest))
-member_in_pieces a b t name d rest first named = 
+member_in_pieces a b t name d rest first named =
     rw (first, named) (member_parts b (name_text name) d rest ∙ ap (λ (q : List ℕ). b ++ (q ++ 58 ∷ (d ++ rest))) (sym (quoted_name name)))
 
 pair_parts : (a t d rest : List ℕ) → (a ++ (91 ∷ 34 ∷ (t ++ (34 ∷ 44 ∷ (d ++ (93 ∷ [])))))) ++ rest ≡ a ++ ((91 ∷ ((34 ∷ (t ++ 34 ∷ [])) ++ (44 ∷ (d ++ 93 ∷ [])))) ++ rest)
@@ -39,7 +43,7 @@ pair_parts a t d rest = simp append_assoc
 
 pub pair_in_pieces : (a b t : List ℕ) (name : VariableName) (d rest : List ℕ) → a ≡ b → t ≡ name_text name
     → (a ++ (91 ∷ 34 ∷ (t ++ (34 ∷ 44 ∷ (d ++ (93 ∷ [])))))) ++ rest ≡ b ++ ((91 ∷ (quoted (name_text name) ++ (44 ∷ (d ++ 93 ∷ [])))) ++ rest)
-pair_in_pieces a b t name d rest first named = 
+pair_in_pieces a b t name d rest first named =
     rw (first, named) (pair_parts b (name_text name) d rest ∙ ap (λ (q : List ℕ). b ++ ((91 ∷ (q ++ (44 ∷ (d ++ 93 ∷ [])))) ++ rest)) (sym (quoted_name name)))
 
 -- ---- a body, a packet and a telegram

@@ -60,7 +60,6 @@ abbrev mutual
   MembersAreWritable no_members = Unit {0}
   MembersAreWritable (member k d ms) = IsUtf8 k × IsWritable d × MembersAreWritable ms
 
-
 number_stored : (n : Num) → FitsNumber n → of_json (outline (number n)) ≡ Some (number n)
 number_stored (unsigned n) h = ap (option_map number) (number_of-decimal n h)
 number_stored (negative z) h = absurd h

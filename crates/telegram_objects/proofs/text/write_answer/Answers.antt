@@ -7,6 +7,6 @@ write_object-requires g c = packets_short _ _ c.in-Ok.ensures.ok
 
 pub returns-in_ok-write_object-in-Ok-clause-told : goal.returns-in_ok-write_object-in-Ok-clause-told
 returns-in_ok-write_object-in-Ok-clause-told g c = λ h.
-    let written = c.in_ok-write_object.ensures in
+    let written = c.in_ok-write_object-in-Ok.ensures in
     let carried = c.in-Ok.ensures.ok in
     (c.decode_into.new.telegram, carried, line_tells _ _ carried written.1 written.2, written.0)

@@ -15,10 +15,10 @@ returns g c =
     let p = c.args.packet.now in
     let fields = packet_fields p in
     let rest = items_text false (items_of (map pair_of fields)) ++ members_text true (members_behind p) in
-    let front = rw (c.from-number.ensures, c.get.ensures.value, c.number.ensures) at c.front_pieces.ensures rest in
+    let front = rw (c.from-number.ensures, c.get.ensures, c.number.ensures) at c.front_pieces.ensures rest in
     let pairs = rw (c.as_slice.ensures.value, c.fields_of_packet-list.ensures) at c.in_ok-write_pairs.ensures in
     on_ok_weaker c.write_behind.result (λ behind. (
       appended _ _ _ _ rest _ c.in_ok-write_pieces.ensures (Appends-trans _ _ _ _ _ pairs.0 behind)
-      (front ∙ ap (λ (t : List ℕ). comma_if c.args.later ++ t) (packet_text (number_of p) fields (members_behind p))),
+          (front ∙ ap (λ (t : List ℕ). comma_if c.args.later ++ t) (packet_text (number_of p) fields (members_behind p))),
       pairs.1,
     )) c.write_behind.ensures

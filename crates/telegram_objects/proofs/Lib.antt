@@ -5,3 +5,10 @@ pub mod Laid
 pub mod Plains
 pub mod Puts
 pub mod Shapes
+mod BodyBytes
+mod HexDigits
+mod LineEnds
+mod LinesTell
+mod PieceTexts
+mod PlainNames
+mod ReadAgain

@@ -1,4 +1,5 @@
 pub mod Fields
 pub mod Laying
+pub mod Lines
 pub mod Telling
 pub mod Widths

@@ -1,6 +1,6 @@
 -- Which JSON value tells a telegram: its header by the names of the variables, and its packets as lists of pairs of a
 -- name and a number (SUBSET-026, 7.5.1 and 8.4.2; the object: this project's profile).
-use Rattle.std.specs.Prelude.{◌≡◌, ◌⊎◌, ℕ, ◌+◌, ◌-◌, ◌*◌, ◌/◌, List, [], ◌∷◌, ◌++◌, Bool, false, length, map, take, drop, replicate, codes, None, Some, Ok, is_some, option_map}
+use Rattle.std.specs.Prelude.{◌≡◌, ◌⊎◌, ℕ, ◌+◌, ◌-◌, ◌*◌, ◌/◌, List, [], ◌∷◌, ◌++◌, Bool, false, length, map, take, drop, replicate, codes, None, Some, Ok, is_some, option_map, IsUtf8}
 use Rattle.std.specs.Int.{from_bool}
 use Rattle.std.specs.List.{AllByRecursion}
 use Rattle.bits.specs.Bits.{bits_of}
@@ -12,6 +12,7 @@ use Rattle.packets.specs.declared.packet.Packet.TheVariants as packets
 use Rattle.serde_json.specs.Data.{unsigned, Data, number, string, array, item, no_items}
 use Rattle.serde_json.specs.Events.{members_len}
 use Rattle.serde_json.specs.Find.{get, as_object}
+use Rattle.serde_json.specs.Read.{read}
 use Rattle.serde_json.specs.View.{items_of}
 use Rattle.telegram.specs.Sequences.{length_of_all}
 use Rattle.telegram.specs.Telegrams.{Carries, header_bits}
@@ -106,6 +107,14 @@ pub record TellsTelegram (d : Data) (t : Telegram) : Type 0 where
   pub bits : AgreesAt (codes "bits") d (header_bits + 8 + length_of_all t.packets.items)
   pub header : TellsHeader head t.header
   pub packets : TellPackets items t.packets.items
+
+-- The text tells the telegram: it is in UTF-8, and the value that it is tells it.
+abbrev pub TellsText : List ℕ → Telegram → Type 0
+TellsText text t = IsUtf8 text × ((d : Data) × (read text ≡ Some d) × TellsTelegram d t)
+
+-- The bytes are these bits, with zero bits behind them up to the next whole byte.
+abbrev pub ArePadded : List Bool → List ℕ → Type 0
+ArePadded bits bytes = (length bytes ≡ (length bits + 7) / 8) × (bits_of bytes ≡ bits ++ replicate (8 * length bytes - length bits) false)
 
 -- The value tells a telegram, and there are bytes that carry this telegram.
 abbrev pub IsTold : Data → Type 0

@@ -1,12 +1,10 @@
 //! From an object to the bytes of the telegram that it tells.
 ghost use Rattle.std.specs.Prelude.{◌≡◌, ◌≢◌, ◌↔◌, ◌≤◌, ◌-◌, ◌*◌, ◌++◌, ℕ, List, Some, false, length, replicate, IsTrue, IsOk, IfOk, IfErr, IfSome, IsSomeAnd, IsUtf8};
 ghost use Rattle.bits.specs.Bits.{bits_of};
-ghost use Rattle.serde_json.specs.Data.{Data};
-ghost use Rattle.serde_json.specs.Read.{read as read_text};
 ghost use Rattle.serde_json.specs.View.{view};
 ghost use Rattle.telegram.specs.Telegrams.{Carries};
 ghost use Rattle.telegram.specs.declared.message.Telegram.{Telegram};
-ghost use Rattle.telegram_objects.specs.Telling.{IsTold, TellsTelegram};
+ghost use Rattle.telegram_objects.specs.Telling.{ArePadded, IsTold, TellsTelegram, TellsText};
 
 use crate::bodies::TelegramBytes;
 use crate::faults::{ObjectFault, Place, Reason};
@@ -22,7 +20,7 @@ use telegram::decode;
 
 // The bytes of what was written, padded with zero bits.
 fn bytes_in(writer: &BitWriter<TELEGRAM_BYTES>) -> TelegramBytes
-    ensures { length writer.now ≤ 832 → (length result.items ≤ 104) × (bits_of result.items ≡ writer.now ++ replicate (8 * length result.items - length writer.now) false) }
+    ensures { length writer.now ≤ 832 → (length result.items ≤ 104) × ArePadded writer.now result.items }
 {
     let mut all = [0u8; TELEGRAM_BYTES];
     let count = writer.copy_to(&mut all);
@@ -46,7 +44,7 @@ fn carry_told(bytes: &[u8], object: &Value) -> bool
 
 fn bytes_told(object: &Value) -> Option<TelegramBytes>
     ensures found { IfSome result (λ bytes. (t : Telegram) × Carries bytes.items t × TellsTelegram (view object.now) t) }
-    ensures each { (t : Telegram) (bytes : List ℕ) → Carries bytes t → TellsTelegram (view object.now) t → IsSomeAnd result (λ bytes. Carries bytes.items t) }
+    ensures each { (t : Telegram) (bytes : List ℕ) (it : Carries bytes t) → TellsTelegram (view object.now) t → IsSomeAnd result (λ told. Carries told.items t × ArePadded it.front told.items) }
 {
     let mut writer: BitWriter<TELEGRAM_BYTES> = BitWriter::new();
     if put_telegram(object, &mut writer) {
@@ -66,7 +64,7 @@ fn bytes_told(object: &Value) -> Option<TelegramBytes>
 pub fn bytes_of(object: &Value) -> Result<TelegramBytes, ObjectFault>
     ensures found { IsOk result ↔ IsTold (view object.now) }
     ensures told { IfOk result (λ bytes. (t : Telegram) × Carries bytes.items t × TellsTelegram (view object.now) t) }
-    ensures each { (t : Telegram) (bytes : List ℕ) → Carries bytes t → TellsTelegram (view object.now) t → IfOk result (λ bytes. Carries bytes.items t) }
+    ensures each { (t : Telegram) (bytes : List ℕ) (it : Carries bytes t) → TellsTelegram (view object.now) t → IfOk result (λ told. Carries told.items t × ArePadded it.front told.items) }
 {
     match bytes_told(object) {
         Some(bytes) => Ok(bytes),
@@ -74,10 +72,12 @@ pub fn bytes_of(object: &Value) -> Result<TelegramBytes, ObjectFault>
     }
 }
 
-/// The bytes of the telegram that the text of an object tells.
+/// The bytes of the telegram that the text of an object tells. They are its bits, up to and with the end mark, whatever
+/// stood behind the end mark in the bytes that it was written of.
 pub fn bytes_of_text(alloc: Global, text: &[u8]) -> Result<TelegramBytes, ObjectFault>
-    ensures told { IfOk result (λ bytes. IsUtf8 text.now × ((d : Data) × (t : Telegram) × (read_text text.now ≡ Some d) × Carries bytes.items t × TellsTelegram d t)) }
-    ensures refused { IfErr result (λ fault. fault.reason ≢ Reason.NoMemory → IsUtf8 text.now → (d : Data) → read_text text.now ≡ Some d → IsTold d → ⊥) }
+    ensures told { IfOk result (λ bytes. (t : Telegram) × Carries bytes.items t × TellsText text.now t) }
+    ensures each { (t : Telegram) (bytes : List ℕ) (it : Carries bytes t) → TellsText text.now t → IfOk result (λ told. Carries told.items t × ArePadded it.front told.items) }
+    ensures refused { IfErr result (λ fault. fault.reason ≢ Reason.NoMemory → (t : Telegram) (bytes : List ℕ) → Carries bytes t → TellsText text.now t → ⊥) }
 {
     match Value::from_slice(alloc, text) {
         Ok(object) => bytes_of(&object),

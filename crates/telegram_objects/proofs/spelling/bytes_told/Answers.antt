@@ -1,23 +1,26 @@
-use Rattle.std.proofs.Common.{◌-◌, ◌*◌, ◌≤◌, ◌++◌, ℕ, List, Bool, false, true≢false, length, replicate, subst, sym, ap, ◌∙◌}
+use Rattle.std.proofs.Common.{◌-◌, ◌*◌, ◌≤◌, ℕ, List, Bool, true≢false, length, subst, sym, ◌∙◌}
 use Rattle.telegram.specs.Telegrams.{Carries}
+use Rattle.telegram_objects.specs.Telling.{ArePadded}
 use Rattle.telegram_objects.proofs.Puts.{carries, carried_short}
 use Rattle.telegram_objects.proofs.spelling.bytes_told.Goals as goal
 
 pub returns-then-carry_told-clause-each : goal.returns-then-carry_told-clause-each
 returns-then-carry_told-clause-each c = λ t bytes b told.
+    let items = c.bytes_in-bytes.result.items in
     let put = c.put_telegram.ensures t b.front b.spelled told c.new-writer.ensures (carried_short t bytes b) in
     let short = subst (λ (l : List Bool). length l ≤ 832) (sym put.1) (carried_short t bytes b) in
     let held = c.bytes_in-bytes.ensures short in
-    carries t b.front c.bytes_in-bytes.result.items (8 * length c.bytes_in-bytes.result.items - length b.front) b.spelled held.0
-    (held.1 ∙ ap (λ (l : List Bool). l ++ replicate (8 * length c.bytes_in-bytes.result.items - length l) false) put.1)
+    let padded = subst (λ (l : List Bool). ArePadded l items) put.1 held.1 in
+    (carries t b.front items (8 * length items - length b.front) b.spelled held.0 padded.1, padded)
 
 pub returns-else-carry_told-clause-each : goal.returns-else-carry_told-clause-each
 returns-else-carry_told-clause-each c = λ t bytes b told.
+    let items = c.bytes_in-bytes.result.items in
     let put = c.put_telegram.ensures t b.front b.spelled told c.new-writer.ensures (carried_short t bytes b) in
     let short = subst (λ (l : List Bool). length l ≤ 832) (sym put.1) (carried_short t bytes b) in
     let held = c.bytes_in-bytes.ensures short in
-    let all = carries t b.front c.bytes_in-bytes.result.items (8 * length c.bytes_in-bytes.result.items - length b.front) b.spelled held.0
-    (held.1 ∙ ap (λ (l : List Bool). l ++ replicate (8 * length c.bytes_in-bytes.result.items - length l) false) put.1) in
+    let padded = subst (λ (l : List Bool). ArePadded l items) put.1 held.1 in
+    let all = carries t b.front items (8 * length items - length b.front) b.spelled held.0 padded.1 in
     true≢false (sym (c.carry_told.ensures.1 (t, subst (λ (l : List ℕ). Carries l t) (sym c.as_slice.ensures.value) all, told)) ∙ c.if-carry_told.false)
 
 pub returns-else-put_telegram-clause-each : goal.returns-else-put_telegram-clause-each

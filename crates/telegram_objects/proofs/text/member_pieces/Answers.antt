@@ -1,0 +1,10 @@
+use Rattle.std.proofs.Common.{true, decimal}
+use Rattle.pieces.specs.Pieces.{text_of}
+use Rattle.pieces.specs.declared.piece.Form.TheVariants.{Json}
+use Rattle.serde_json.specs.Written.{comma_if, members_text}
+use Rattle.telegram_objects.proofs.PieceTexts.{member_in_pieces}
+use Rattle.telegram_objects.proofs.text.member_pieces.Goals as goal
+
+pub returns-clause-text : goal.returns-clause-text
+returns-clause-text c = λ ms.
+    member_in_pieces (text_of Json c.comma.result) (comma_if c.args.later) c.text.result.now c.args.field.name (decimal c.args.field.number) (members_text true ms) c.comma.ensures c.text.ensures

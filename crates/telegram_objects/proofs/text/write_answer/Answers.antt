@@ -1,0 +1,12 @@
+use Rattle.telegram_objects.proofs.LinesTell.{line_tells}
+use Rattle.telegram_objects.proofs.Puts.{packets_short}
+use Rattle.telegram_objects.proofs.text.write_answer.Goals as goal
+
+pub write_object-requires : goal.write_object-requires
+write_object-requires g c = packets_short _ _ c.in-Ok.ensures.ok
+
+pub returns-in_ok-write_object-in-Ok-clause-told : goal.returns-in_ok-write_object-in-Ok-clause-told
+returns-in_ok-write_object-in-Ok-clause-told g c = λ h.
+    let written = c.in_ok-write_object-in-Ok.ensures in
+    let carried = c.in-Ok.ensures.ok in
+    (c.decode_into.new.telegram, carried, line_tells _ _ carried written.1 written.2, written.0)

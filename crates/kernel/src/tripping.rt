@@ -1,9 +1,12 @@
 //! Why Trip is entered.
-ghost use Rattle.std.specs.Prelude.{◌≡◌, List, ◌∷◌, IfOk};
+ghost use Rattle.std.specs.Prelude.{◌≡◌, false, List, ◌∷◌, IsOk, IfOk};
 ghost use Rattle.events.specs.declared.input.Event.{Event};
 ghost use Rattle.events.specs.declared.input.Event.TheVariants as event;
+ghost use Rattle.kernel.specs.Output.{output_after};
+ghost use Rattle.kernel.specs.Quiet.{HasRoomFor, HasNoTrack};
 ghost use Rattle.kernel.specs.StandsFor.{StandsFor};
 ghost use Rattle.kernel.specs.Trips.{trip_at};
+ghost use Rattle.mode_control.specs.Tripping.{leads_to_trip};
 
 use crate::state::StateOver;
 use events::Input;
@@ -16,10 +19,15 @@ use units::{NoMemory, Permille};
 impl<G: ProfileStore<Permille> + Drop, S: ProfileStore<CategorySpeeds> + Drop> StateOver<G, S> {
     /// Why an input would enter Trip as the next event: the row of the mode table that leads there (SUBSET-026, 4.6; the
     /// rows: this project's profile); None where it wouldn't. It works on a copy, and is worked out where it is asked
-    /// alone: NoMemory where memory is refused for that.
+    /// alone: NoMemory where memory is refused for that. None is taken in a mode from which no row leads to Trip; nor
+    /// where no restriction and no profile is kept, nor room for one, of an input that uses no packet.
     pub fn trip_by(&self, alloc: Global, input: &Input) -> Result<Option<TripCause>, NoMemory>
-        ensures { IfOk result (λ cause. (events : List Event) → StandsFor G.profile S.profile self.now events
+        ensures cause { IfOk result (λ cause. (events : List Event) → StandsFor G.profile S.profile self.now events
             → cause ≡ trip_at (event.Input input.now ∷ events)) }
+        ensures rowless { (events : List Event) → StandsFor G.profile S.profile self.now events
+            → leads_to_trip (output_after events).mode ≡ false → IsOk result }
+        ensures quiet { HasNoTrack G.size S.size self.now → HasRoomFor G.room S.room self.now (event.Input input.now)
+            → IsOk result }
     {
         Ok(self.supervision.trip_by(alloc, input)?)
     }

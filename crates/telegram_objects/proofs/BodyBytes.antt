@@ -1,5 +1,5 @@
 -- The bytes of a body.
-use Rattle.std.proofs.Common.{◌≡◌, ℕ, zero, suc, ◌+◌, ◌-◌, ◌*◌, ◌/◌, ◌<◌, ◌≤◌, ◌^◌, List, [], ◌∷◌, ◌++◌, Bool, false, length, take, drop, replicate, get_or, refl, sym, ap, ap₂, ◌∙◌, arith, length-append, subst}
+use Rattle.std.proofs.Common.{◌≡◌, ℕ, zero, suc, ◌+◌, ◌-◌, ◌*◌, ◌/◌, ◌<◌, ◌≤◌, ◌^◌, List, [], ◌∷◌, ◌++◌, Bool, false, length, take, drop, replicate, get_or, refl, sym, ap, ap₂, ◌∙◌, arith, length-append}
 use Rattle.std.proofs.lemmas.List.{drop_at, take_at, take-append-drop, length-take, length-drop, length-replicate}
 use Rattle.std.proofs.Math.Pow.{pow_mono}
 use Rattle.bits.specs.Bits.{bits_of, number, number_bits}

@@ -1,6 +1,5 @@
 -- The value that is read of the line of a telegram tells the telegram.
-use Rattle.std.proofs.Common.{◌≡◌, inl, inr, ℕ, zero, suc, max, ◌+◌, ◌/◌, ◌%◌, ◌<◌, ◌≤◌, ◌^◌, List, [], ◌∷◌, ◌++◌, Bool, true, false, Some, IsUtf8, codes, length, map, get_or, refl, sym, ap, ap₂, subst, ◌∙◌, arith}
-use Rattle.std.specs.List.{AllByRecursion}
+use Rattle.std.proofs.Common.{◌≡◌, inl, inr, ℕ, ◌<◌, ◌≤◌, ◌^◌, List, [], ◌∷◌, Bool, Some, IsUtf8, codes, length, map, refl, sym, ap, subst, arith}
 use Rattle.bits.specs.Names.{name_text}
 use Rattle.bits.specs.declared.name.VariableName.TheVariants as names
 use Rattle.hex.specs.Hex.{encode_upper}
@@ -9,7 +8,7 @@ use Rattle.json.proofs.Printed.Utf8.{IsUtf8-are_ascii}
 use Rattle.packets.specs.Packets.{length_of, number_of}
 use Rattle.packets.specs.declared.packet.Packet.{Packet}
 use Rattle.packets.specs.declared.packet.Packet.TheVariants as packets
-use Rattle.serde_json.specs.Data.{unsigned, Data, number, string, array, object, Items, no_items, item, Members, no_members, member, depth, items_depth, members_depth}
+use Rattle.serde_json.specs.Data.{unsigned, Data, number, array, object, Items, item, Members, no_members, member, depth, items_depth, members_depth}
 use Rattle.serde_json.specs.Read.{max_depth}
 use Rattle.serde_json.specs.View.{items_of}
 use Rattle.telegram.specs.Sequences.{length_of_all}

@@ -1,6 +1,5 @@
 //! From an object to the bytes of the telegram that it tells.
-ghost use Rattle.std.specs.Prelude.{◌≡◌, ◌≢◌, ◌↔◌, ◌≤◌, ◌-◌, ◌*◌, ◌++◌, ℕ, List, Some, false, length, replicate, IsTrue, IsOk, IfOk, IfErr, IfSome, IsSomeAnd, IsUtf8};
-ghost use Rattle.bits.specs.Bits.{bits_of};
+ghost use Rattle.std.specs.Prelude.{◌≢◌, ◌↔◌, ◌≤◌, ℕ, List, length, IsTrue, IsOk, IfOk, IfErr, IfSome, IsSomeAnd};
 ghost use Rattle.serde_json.specs.View.{view};
 ghost use Rattle.telegram.specs.Telegrams.{Carries};
 ghost use Rattle.telegram.specs.declared.message.Telegram.{Telegram};

@@ -1,9 +1,9 @@
 //! A telegram as an object on a line.
-ghost use Rattle.std.specs.Prelude.{◌≡◌, ◌+◌, ◌^◌, ◌<◌, ◌≤◌, ℕ, List, [], ◌∷◌, ◌++◌, Bool, true, false, length, map, codes, decimal, OnOk, IfOk, IsTrue};
+ghost use Rattle.std.specs.Prelude.{◌≡◌, ◌^◌, ◌<◌, ◌≤◌, ℕ, List, [], ◌∷◌, ◌++◌, true, false, length, map, codes, decimal, OnOk, IfOk, IsTrue};
 ghost use Rattle.std.specs.Io.KnownBytes.{Appends};
 ghost use Rattle.bits.specs.Names.{name_text};
 ghost use Rattle.hex.specs.Hex.{IsBytes, encode_upper};
-ghost use Rattle.packets.specs.Packets.{length_of, number_of};
+ghost use Rattle.packets.specs.Packets.{length_of};
 ghost use Rattle.pieces.specs.Pieces.{text_of, texts};
 ghost use Rattle.pieces.specs.declared.piece.Form.TheVariants.{Json};
 ghost use Rattle.serde_json.specs.Data.{unsigned, number as a_number, Items, Members, member, item};

@@ -1,4 +1,4 @@
-use Rattle.std.proofs.Common.{◌≡◌, ℕ, List, [], ◌++◌, codes, decimal, append_assoc, append-nil}
+use Rattle.std.proofs.Common.{decimal}
 use Rattle.telegram_objects.proofs.PieceTexts.{front_in_pieces}
 use Rattle.pieces.specs.Pieces.{text_of}
 use Rattle.pieces.specs.declared.piece.Form.TheVariants.{Json}

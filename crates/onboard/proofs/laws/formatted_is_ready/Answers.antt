@@ -1,5 +1,4 @@
 use Rattle.std.proofs.Common.{[], inl, refl}
-use Rattle.disk.specs.State.{State}
 use Rattle.onboard.specs.Events.{account_of}
 use Rattle.ring.proofs.Rest.{at_rest}
 use Rattle.onboard.proofs.laws.formatted_is_ready.Goals as goal

@@ -1,2 +1,3 @@
 pub mod Added
 pub mod Lives
+pub mod Wholeness

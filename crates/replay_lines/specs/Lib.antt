@@ -3,6 +3,7 @@ pub mod BlockLines
 pub mod Courses
 pub mod Judgements
 pub mod KeptObject
+pub mod Laws
 pub mod Lines
 pub mod Replays
 pub mod Told

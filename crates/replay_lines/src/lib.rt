@@ -8,6 +8,7 @@ mod course;
 mod errors;
 mod heads;
 mod kept;
+mod laws;
 mod lines;
 mod reports;
 mod steps;
@@ -16,5 +17,6 @@ mod walk;
 mod words;
 
 pub use errors::ReplayError;
+pub use laws::whole_is_read;
 pub use pieces::Form;
 pub use walk::{Outcome, replay};

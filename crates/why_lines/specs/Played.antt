@@ -6,6 +6,7 @@ use Rattle.std.specs.Fmt.{signed_decimal}
 use Rattle.events.specs.declared.input.Event.{Event}
 use Rattle.kernel.specs.Brake.{rolled_backward}
 use Rattle.kernel.specs.Lives.{life_of}
+use Rattle.kernel.specs.Output.{estimate_after, uncertainty_after}
 use Rattle.mode_control.specs.History.{tracks}
 use Rattle.mode_control.specs.Sentences.{values_of}
 use Rattle.onboard.specs.Releases.{Release}
@@ -54,4 +55,15 @@ answer_of events one = record {
   speed = speed_of (tracks (life_of events).entries);
   backward = min (rolled_backward (life_of events)) (2 ^ 64 - 1);
   allowed = (values_of (life_of events)).roll;
+}
+
+-- .. and what is told of it beside, where it comes from this step of the scenario
+abbrev pub played_of : List Event → Release → ℕ → Played
+played_of events one step = record {
+  step = step;
+  mode = one.output.mode;
+  level = one.output.level;
+  shown = one.output.indications;
+  place = estimate_after events;
+  uncertainty = uncertainty_after events;
 }

@@ -4,11 +4,13 @@
 #![tactic(auto)]
 
 mod course;
+mod ends;
 mod errors;
 mod lines;
 mod played;
 mod playing;
 mod steps;
+mod telling;
 mod walk;
 
 pub use errors::{PlayError, WhyError};

@@ -1,16 +1,23 @@
 //! A scenario's life is played on an image of its own, and each output that is released is told.
+ghost use Rattle.std.specs.Prelude.{◌≡◌, ◌∷◌, ◌++◌, [], List, ℕ, IfOk, OnOk};
+ghost use Rattle.std.specs.Io.KnownBytes.{Appends};
+ghost use Rattle.events.specs.declared.input.Event.TheVariants.{PowerUp};
+ghost use Rattle.onboard.specs.Events.{pairs_of};
+ghost use Rattle.why_lines.specs.Images.{IsEmpty};
+ghost use Rattle.why_lines.specs.Playing.{released_in, IsPlayed, PlayEnds};
 
-use crate::errors::{LateError, PlayError, writing_error};
-use crate::played::write_one;
+use crate::ends::{first_pieces, last_pieces};
+use crate::errors::{LateError, PlayError};
+use crate::played::write_text;
+use crate::telling::tell_released;
 use disk::Memory;
-use events::{Event, Input, Kept, Step};
+use events::Step;
 use journal::format;
 use mode_table::Cold;
-use onboard::{AcceptError, LiveError, Released, live};
-use reasons::Reasoning;
+use onboard::{LiveError, Released, live};
 use std::alloc::Global;
-use std::io;
 use std::io::Write;
+use units::NoMemory;
 
 /// How many blocks the image has, as few as an image may have.
 const BLOCKS: u32 = 2;
@@ -29,9 +36,11 @@ pub struct PlayedLife {
     pub ends: Vec<usize>,
 }
 
-// The step of the scenario that a step of the life comes from; as many as there are for a last flush.
-fn step_at(ends: &[usize], at: usize) -> u64 {
-    ends.partition_point(|end| *end <= at) as u64
+// What a life released, and why it stopped before its end, if it did.
+#[derive(Drop)]
+struct Lived {
+    released: Vec<Released>,
+    stopped: Option<LiveError>,
 }
 
 // How many flushes the steps have.
@@ -45,114 +54,46 @@ fn flushes_in(steps: &[Step]) -> u64 {
     count
 }
 
-// The line before the first output.
-fn write_begin<W: Write>(life: &PlayedLife, out: &mut W) -> io::Result<()> {
-    let cold = match life.cold {
-        Cold::Unknown => "unknown",
-        Cold::Moved => "moved",
-        Cold::NotMoved => "not_moved",
-    };
-    let steps = life.ends.len();
-    writeln!(
-        out,
-        "{{\"scenario\":{{\"cold\":\"{cold}\",\"steps\":{steps}}}}}"
-    )
-}
-
-fn write_accept<W: Write>(step: u64, error: AcceptError, out: &mut W) -> io::Result<()> {
-    let number = error.number();
-    writeln!(
-        out,
-        "{{\"end\":\"stopped\",\"step\":{step},\"number\":{number},\"name\":\"{error}\"}}"
-    )
-}
-
-// The last line: the life came to its end, or why it stopped, at which step of the scenario.
-fn write_end<W: Write>(
-    ended: &Result<(), LiveError>,
-    ends: &[usize],
-    out: &mut W,
-) -> io::Result<()> {
-    match ended {
-        Ok(()) => writeln!(out, "{{\"end\":\"done\"}}"),
-        Err(LiveError::Open(error)) => {
-            let number = error.number();
-            writeln!(
-                out,
-                "{{\"end\":\"stopped\",\"step\":null,\"number\":{number},\"name\":\"{error}\"}}"
-            )
-        }
-        Err(LiveError::Accept(at, error)) => write_accept(step_at(ends, *at), *error, out),
-        Err(LiveError::NoMemory(at)) => {
-            write_accept(step_at(ends, *at), AcceptError::NoMemory, out)
-        }
-        Err(LiveError::Flush(at, error)) => {
-            let step = step_at(ends, *at);
-            let number = error.number();
-            writeln!(
-                out,
-                "{{\"end\":\"stopped\",\"step\":{step},\"number\":{number},\"name\":\"{error}\"}}"
-            )
-        }
+// An empty image in memory, with room for the calls of a life of these steps.
+fn empty_image(alloc: Global, steps: &[Step]) -> Result<Memory, NoMemory>
+    ensures { IfOk result IsEmpty }
+{
+    let calls = flushes_in(steps).saturating_add(16).saturating_mul(8);
+    let mut disk = Memory::new(alloc, SECTORS, calls, calls)?;
+    match format(&mut disk, BLOCKS) {
+        Ok(()) => Ok(disk),
+        Err(_) => Err(NoMemory),
     }
 }
 
-// Tells the output that was released to one event more, which comes from this step of the scenario.
-fn tell_one<W: Write>(
-    alloc: Global,
-    reasoning: &mut Reasoning,
-    input: &Input,
-    step: u64,
-    one: &Released,
-    out: &mut W,
-) -> Result<(), LateError> {
-    let Ok(_) = reasoning.follow(alloc, &Event::Input(input.copy())) else {
-        return Err(LateError::NoMemory);
-    };
-    write_one(reasoning, step, one, out)
+// Runs a life on an empty image.
+fn run_life(alloc: Global, life: &PlayedLife) -> Result<Lived, NoMemory>
+    ensures released { IfOk result (λ it. pairs_of (released_in life.now it.stopped) ≡ pairs_of (PowerUp life.now.cold ∷ []) ++ it.released.items) }
+    ensures ends { IfOk result (λ it. PlayEnds life.now.steps.items it.stopped) }
+{
+    let steps = life.steps.as_slice();
+    let disk = empty_image(alloc, steps)?;
+    let mut released = Vec::new(alloc);
+    let (_disk, ended) = live(alloc, disk, life.cold, steps, &mut released);
+    let stopped = ended.err();
+    Ok(Lived { released, stopped })
 }
 
-// Tells what was released, in its order: each output is that of the next event that was accepted.
-fn tell_released<W: Write>(
-    alloc: Global,
-    cold: Cold,
-    steps: &[Step],
-    ends: &[usize],
-    released: &[Released],
-    out: &mut W,
-) -> Result<(), LateError> {
-    let (mut reasoning, _) = Reasoning::begin(alloc, &Kept::nothing(), cold);
-    let mut next = 0;
-    for at in 0..steps.len() {
-        if let Step::Accept(input) = &steps[at] {
-            let Some(one) = released.get(next) else {
-                return Ok(());
-            };
-            tell_one(alloc, &mut reasoning, input, step_at(ends, at), one, out)?;
-            next = next.saturating_add(1);
-        }
-    }
-    Ok(())
-}
-
-fn written(told: io::Result<()>) -> Result<(), LateError> {
-    match told {
-        Ok(()) => Ok(()),
-        Err(error) => Err(writing_error(&error)),
-    }
-}
-
+// Tells what a life released, and how it ended.
 fn tell<W: Write>(
     alloc: Global,
     life: &PlayedLife,
-    released: &[Released],
-    ended: &Result<(), LiveError>,
+    lived: &Lived,
     out: &mut W,
-) -> Result<(), LateError> {
-    written(write_begin(life, out))?;
+) -> Result<(), LateError>
+    ensures { pairs_of (released_in life.now lived.now.stopped) ≡ pairs_of (PowerUp life.now.cold ∷ []) ++ lived.now.released.items
+        → OnOk result ((text : List ℕ) × IsPlayed life.now lived.now.stopped text × Appends (W.contents out.old) (W.contents out.new) text) }
+{
     let ends = life.ends.as_slice();
-    tell_released(alloc, life.cold, life.steps.as_slice(), ends, released, out)?;
-    written(write_end(ended, ends, out))
+    write_text(&first_pieces(life.cold, ends.len()), out)?;
+    tell_released(alloc, life, lived.released.as_slice(), out)?;
+    write_text(&last_pieces(ends, &lived.stopped), out)?;
+    Ok(())
 }
 
 /// Plays a life on an empty image in memory, and writes a line before the first output, one of each output that is
@@ -163,19 +104,19 @@ pub fn play<W: Write>(
     alloc: Global,
     life: &PlayedLife,
     out: &mut W,
-) -> Result<Option<LiveError>, PlayError> {
-    let calls = flushes_in(life.steps.as_slice())
-        .saturating_add(16)
-        .saturating_mul(8);
-    let Ok(disk) = Memory::new(alloc, SECTORS, calls, calls) else {
+) -> Result<Option<LiveError>, PlayError>
+    // Where it could be written, exactly these lines were.
+    ensures lines { IfOk result (λ stopped. (text : List ℕ) × IsPlayed life.now stopped text
+        × Appends (W.contents out.old) (W.contents out.new) text) }
+
+    // It stopped at the first step that has a cause to be refused, and only for a cause.
+    ensures ends { IfOk result (λ stopped. PlayEnds life.now.steps.items stopped) }
+{
+    let Ok(lived) = run_life(alloc, life) else {
         return Err(PlayError::NoMemory);
     };
-    let mut disk = disk;
-    let _formatted = format(&mut disk, BLOCKS);
-    let mut released = Vec::new(alloc);
-    let (_disk, ended) = live(alloc, disk, life.cold, life.steps.as_slice(), &mut released);
-    match tell(alloc, life, released.as_slice(), &ended, out) {
-        Ok(()) => Ok(ended.err()),
+    match tell(alloc, life, &lived, out) {
+        Ok(()) => Ok(lived.stopped),
         Err(LateError::Write) => Err(PlayError::Write),
         Err(LateError::NoMemory) => Err(PlayError::NoMemory),
     }

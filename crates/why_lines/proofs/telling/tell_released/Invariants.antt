@@ -1,0 +1,22 @@
+use Rattle.std.proofs.Common.{◌≡◌, ℕ, suc, ◌≤◌, List, ◌++◌, length, take}
+use Rattle.std.specs.Io.KnownBytes.{Appends}
+use Rattle.events.specs.declared.input.Event.{Event}
+use Rattle.onboard.specs.Events.{pairs_of}
+use Rattle.onboard.specs.Runs.{accepted_by}
+use Rattle.reasons.specs.Told.{Reasons}
+use Rattle.why_lines.specs.Ends.{step_at}
+use Rattle.why_lines.specs.Playing.{input_steps, AreLines}
+use Rattle.why_lines.proofs.Releasing.{begun}
+use Rattle.why_lines.proofs.telling.tell_released.Given as goal
+
+abbrev pub invariant-loop-place : goal.invariant-loop-place
+invariant-loop-place g l = record {
+  reasons : Reasons (accepted_by (begun l.fn.life.cold) (take l.place l.fn.life.steps.items)) l.reasoning;
+  count : length (accepted_by (begun l.fn.life.cold) (take l.place l.fn.life.steps.items)) ≡ suc l.told;
+  within : l.told ≤ length l.released;
+  stepped : l.step ≤ step_at l.fn.life.ends.items l.place;
+  lines : (durable more : List Event) → accepted_by (begun l.fn.life.cold) l.fn.life.steps.items ≡ more ++ durable
+      → pairs_of durable ≡ pairs_of (begun l.fn.life.cold) ++ l.released
+      → (lines : List ℕ) × AreLines (input_steps l.fn.life) (accepted_by (begun l.fn.life.cold) (take l.place l.fn.life.steps.items)) lines
+      × Appends (g.W.Write.contents l.fn.out) (g.W.Write.contents l.out) lines;
+}

@@ -5,7 +5,7 @@ an altered byte.
 
     tests/unit/again.py LAB REFUSE PROGRAM..     the program etcs_lab, tests/hostile/refuse.c as a library, and again.c built in several ways
 
-Of five examples each request for memory is refused in turn.
+Of each example each request for memory is refused in turn.
 """
 import json
 import os
@@ -201,7 +201,7 @@ class Tried:
             self.lives(name, data)
             self.reasons(name, data)
             self.images += 1
-        for name, data in list(examples())[:5]:
+        for name, data in examples():
             for words in (("replay",), ("why", "3")):
                 self.memory(name, data, words)
         if self.refused < LEAST_REFUSED:

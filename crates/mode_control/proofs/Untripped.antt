@@ -1,5 +1,5 @@
 -- From a mode from which no row of the mode table leads to Trip, no input enters Trip.
-use Rattle.std.proofs.Common.{◌≡◌, Bool, true, false, ◌&&◌, ◌||◌, cond, refl, Option, Some, None, List, [], ◌∷◌}
+use Rattle.std.proofs.Common.{◌≡◌, Bool, true, false, ◌&&◌, ◌||◌, cond, refl, Some, None, List, [], ◌∷◌}
 use Rattle.std.specs.List.{list_any}
 use Rattle.events.specs.declared.input.Input.{Input}
 use Rattle.mode_table.specs.declared.conditions.Conditions.{Conditions}

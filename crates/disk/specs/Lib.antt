@@ -4,4 +4,5 @@ pub mod Liar
 pub mod Memory
 pub mod Plan
 pub mod Record
+pub mod Reserve
 pub mod State

@@ -1,6 +1,7 @@
 //! A device of sectors.
-ghost use Rattle.std.specs.Prelude.{◌≡◌, ◌↔◌, ℕ, length, IsTrue, OnOk, OnErr, is_err};
+ghost use Rattle.std.specs.Prelude.{◌≡◌, ◌↔◌, ◌/◌, ℕ, length, IsTrue, OnOk, OnErr, is_err};
 ghost use Rattle.disk.specs.State.{State, contents_of, AreSectors, Counted, Touches, Holds, AreOpen, OpenOrSame, SameOpenOutside, SameOpen, IsSynced};
+ghost use Rattle.disk.specs.Reserve.{Spends};
 
 use crate::{DiskFault, SECTOR_BYTES};
 
@@ -13,6 +14,9 @@ use crate::{DiskFault, SECTOR_BYTES};
 pub trait Disk {
     /// What contracts see of it.
     ghost state: { Self → State };
+
+    /// How many units of calls surely succeed yet; 0 of a disk of which none is promised.
+    ghost reserve: { Self → ℕ };
 
     /// The number of sectors, which no call changes.
     fn sectors(&self) -> u64
@@ -34,6 +38,7 @@ pub trait Disk {
     fn read(&mut self, first: u64, bytes: &mut [u8]) -> Result<(), DiskFault>
         requires { AreSectors first (length bytes.old) (state self.old).sectors }
         ensures counted { Counted (is_err result) (state self.old) (state self.new) }
+        ensures spent { Spends 0 (is_err result) (reserve self.old) (reserve self.new) }
         ensures moments { IsTrue (state self.old).honest → Touches 0 0 (state self.old) (state self.new) }
         ensures same_open { IsTrue (state self.old).honest → SameOpen (state self.old) (state self.new) }
         ensures bytes { IsTrue (state self.old).honest → OnOk result (Holds (contents_of (state self.old)) first bytes.new) };
@@ -44,6 +49,7 @@ pub trait Disk {
     fn write(&mut self, first: u64, bytes: &[u8]) -> Result<(), DiskFault>
         requires { AreSectors first (length bytes.now) (state self.old).sectors }
         ensures counted { Counted (is_err result) (state self.old) (state self.new) }
+        ensures spent { Spends (length bytes.now / 512) (is_err result) (reserve self.old) (reserve self.new) }
         ensures moments { IsTrue (state self.old).honest → Touches first (length bytes.now) (state self.old) (state self.new) }
         ensures opened { IsTrue (state self.old).honest → OnOk result (AreOpen (state self.new) first (length bytes.now)) }
         ensures failed { IsTrue (state self.old).honest → OnErr result (OpenOrSame first (length bytes.now) (state self.old) (state self.new)) }
@@ -53,6 +59,7 @@ pub trait Disk {
     /// Settles all that was written: at Ok no sector is open. At DiskFault nothing was settled.
     fn sync(&mut self) -> Result<(), DiskFault>
         ensures counted { Counted (is_err result) (state self.old) (state self.new) }
+        ensures spent { Spends 1 (is_err result) (reserve self.old) (reserve self.new) }
         ensures moments { IsTrue (state self.old).honest → Touches 0 0 (state self.old) (state self.new) }
         ensures synced { IsTrue (state self.old).honest → OnOk result (IsSynced (state self.new)) }
         ensures failed { IsTrue (state self.old).honest → OnErr result (SameOpen (state self.old) (state self.new)) };

@@ -1,6 +1,7 @@
 //! A write that is on the medium when it returns.
-ghost use Rattle.std.specs.Prelude.{◌≡◌, length, IsTrue, OnOk, is_err};
+ghost use Rattle.std.specs.Prelude.{◌≡◌, ◌+◌, ◌/◌, length, IsTrue, OnOk, is_err};
 ghost use Rattle.disk.specs.State.{contents_of, AreSectors, Counted, Touches, Holds, IsSynced, AtEachMoment, SameBut};
+ghost use Rattle.disk.specs.Reserve.{Spends};
 
 use crate::{Disk, DiskFault};
 
@@ -11,6 +12,7 @@ pub fn put<D: Disk>(disk: &mut D, first: u64, bytes: &[u8]) -> Result<(), DiskFa
     requires { AreSectors first (length bytes.now) (D.state disk.old).sectors }
 
     ensures counted { Counted (is_err result) (D.state disk.old) (D.state disk.new) }
+    ensures spent { Spends (length bytes.now / 512 + 1) (is_err result) (D.reserve disk.old) (D.reserve disk.new) }
 
     // At each moment the medium is as it was, but for these sectors.
     ensures moments { IsTrue (D.state disk.old).honest → Touches first (length bytes.now) (D.state disk.old) (D.state disk.new) }

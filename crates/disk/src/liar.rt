@@ -52,6 +52,8 @@ impl Disk for Liar {
 
     ghost state = { liar_state };
 
+    ghost reserve = { λ _. 0 };
+
     fn sectors(&self) -> u64 {
         self.sectors
     }

@@ -185,6 +185,8 @@ impl<F: RawFile> FileDisk<F> {
 impl<F: RawFile> Disk for FileDisk<F> {
     ghost state = { λ disk. disk_over disk.sectors disk.faults (F.state disk.file) };
 
+    ghost reserve = { λ _. 0 };
+
     fn sectors(&self) -> u64 {
         self.sectors
     }

@@ -58,6 +58,8 @@ impl<'a> Disk for ImageDisk<'a> {
 
     ghost state = { imaged_state };
 
+    ghost reserve = { λ _. 0 };
+
     fn sectors(&self) -> u64 {
         (self.bytes.len() / SECTOR_BYTES) as u64
     }

@@ -1,6 +1,6 @@
 -- What contracts see of a disk that hands out its calls (this project's profile). Sectors have 512 bytes and are
 -- numbered from 0; requests are in the order of the calls.
-use Rattle.std.specs.Prelude.{◌≡◌, ℕ, ◌+◌, ◌-◌, ◌*◌, ◌/◌, ◌≤◌, ◌&&◌, ◌++◌, ◌∷◌, [], nat_le, nat_lt, Bool, true, false, if◌then◌else◌, List, length, take, drop, fold, All, Option, Some, None, vec_len, vec_capacity}
+use Rattle.std.specs.Prelude.{◌≡◌, ℕ, ◌+◌, ◌-◌, ◌*◌, ◌/◌, ◌≤◌, min, ◌&&◌, ◌++◌, ◌∷◌, [], nat_le, nat_lt, Bool, true, false, if◌then◌else◌, List, length, take, drop, fold, All, Option, Some, None, vec_len, vec_capacity}
 use Rattle.disk.specs.State.{State, sector_of}
 use Rattle.disk.specs.Record.{state_of, IsWithin}
 use Rattle.disk.specs.declared.record.Call.{Call}
@@ -39,24 +39,30 @@ IsRequest Synced = Unit {0}
 IsRequest (Written span) = Unit {0}
 IsRequest (Torn span) = ⊥
 
--- What is so of every such disk: it began with whole sectors, and each request is of sectors that it has, with bytes
--- that are there.
+-- What is so of every such disk: it began with whole sectors, each request is of sectors that it has, with bytes that
+-- are there, and where there is no request there are no bytes.
 pub record IsMirroring (m : Mirroring) : Type 0 where
   pub whole : length m.start ≡ 512 * m.sectors
   pub within : All (IsWithin m.sectors (length m.written)) m.requests
   pub only : All IsRequest m.requests
+  pub none : length m.requests ≡ 0 → length m.written ≡ 0
 
 -- the same of its fields, with the room that was taken: 16 requests and 8,192 bytes
 pub record IsKept (m : Inside) : Type 0 where
   pub whole : vec_len m.start ≡ 512 * m.sectors
   pub within : All (IsWithin m.sectors (vec_len m.written)) m.requests.items
   pub only : All IsRequest m.requests.items
+  pub none : vec_len m.requests ≡ 0 → vec_len m.written ≡ 0
   pub requests_fit : (vec_len m.requests ≤ 16) × (16 ≤ vec_capacity m.requests)
   pub bytes_fit : (vec_len m.written ≤ 8192) × (8192 ≤ vec_capacity m.written)
 
 -- there is room for a request that writes so many bytes
 abbrev pub has_room_for : ℕ → Mirroring → Bool
 has_room_for bytes m = nat_lt (length m.requests) 16 && nat_le bytes (8192 - length m.written)
+
+-- how many units of calls there is room for: each takes a request, and each sector of a write its bytes
+abbrev pub mirror_reserve : Mirroring → ℕ
+mirror_reserve m = min (16 - length m.requests) ((8192 - length m.written) / 512)
 
 -- a request was added behind the others, with the bytes that it writes, and all else is as it was
 abbrev pub IsNoted : Call → List ℕ → Mirroring → Mirroring → Type 0

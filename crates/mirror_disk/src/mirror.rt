@@ -1,6 +1,7 @@
 //! The disk.
 ghost use Rattle.std.specs.Prelude.{◌≡◌, ℕ, ◌+◌, ◌*◌, ◌/◌, ◌%◌, ◌^◌, ◌<◌, ◌≤◌, length, take, drop, ◌∷◌, ◌++◌, [], true, false, IsTrue, IfOk, OnOk, OnErr, Option, Some, None, MatchOption, MatchResult, is_err, if◌then◌else◌};
 ghost use Rattle.disk.specs.State.{contents_of, sector_of, AreSectors, Counted, Touches, Holds, AreOpen, OpenOrSame, SameOpenOutside, SameOpen, IsSynced};
+ghost use Rattle.disk.specs.Reserve.{Spends};
 ghost use Rattle.disk.specs.Record.{IsWithin, trace_of};
 
 use crate::carrying::carry;
@@ -40,7 +41,7 @@ impl Model for MirrorDisk {
 }
 
 impl MirrorDisk {
-    ghost use Rattle.mirror_disk.specs.Mirror.{mirror_of, mirror_state, IsMirroring, IsRequest, IsNoted, has_room_for, ends_in_sync};
+    ghost use Rattle.mirror_disk.specs.Mirror.{mirror_of, mirror_state, mirror_reserve, IsMirroring, IsRequest, IsNoted, has_room_for, ends_in_sync};
 
     /// A copy of these sectors; bytes behind the last whole one are left out. NoMemory where there is none for it.
     pub fn of(alloc: Global, bytes: &[u8]) -> Result<MirrorDisk, NoMemory>
@@ -61,10 +62,13 @@ impl MirrorDisk {
         })
     }
 
-    /// How many requests there are since the list was last emptied.
+    /// How many requests there are since the list was last emptied. Where there is none, there is room for 16 units.
     pub fn count(&self) -> usize
-        ensures { result ≡ length self.now.requests }
+        ensures count { result ≡ length self.now.requests }
+        ensures room { result ≡ 0 → mirror_reserve self.now ≡ 16 }
     {
+        // That no request has no bytes.
+        let _written = &self.written;
         self.requests.len()
     }
 
@@ -187,10 +191,12 @@ impl MirrorDisk {
 }
 
 impl Disk for MirrorDisk {
-    ghost use Rattle.mirror_disk.specs.Mirror.{mirror_state, IsNoted, has_room_for, write_of};
+    ghost use Rattle.mirror_disk.specs.Mirror.{mirror_state, mirror_reserve, IsNoted, has_room_for, write_of};
     ghost use Rattle.disk.specs.declared.record.Call.TheVariants.{Synced};
 
     ghost state = { mirror_state };
+
+    ghost reserve = { mirror_reserve };
 
     fn sectors(&self) -> u64 {
         self.sectors
@@ -199,6 +205,7 @@ impl Disk for MirrorDisk {
     fn read(&mut self, first: u64, bytes: &mut [u8]) -> Result<(), DiskFault>
         requires { AreSectors first (length bytes.old) (mirror_state self.old).sectors }
         ensures counted { Counted (is_err result) (mirror_state self.old) (mirror_state self.new) }
+        ensures spent { Spends 0 (is_err result) (mirror_reserve self.old) (mirror_reserve self.new) }
         ensures moments { Touches 0 0 (mirror_state self.old) (mirror_state self.new) }
         ensures same_open { SameOpen (mirror_state self.old) (mirror_state self.new) }
         ensures bytes { OnOk result (Holds (contents_of (mirror_state self.old)) first bytes.new) }
@@ -214,6 +221,7 @@ impl Disk for MirrorDisk {
     fn write(&mut self, first: u64, bytes: &[u8]) -> Result<(), DiskFault>
         requires { AreSectors first (length bytes.now) (mirror_state self.old).sectors }
         ensures counted { Counted (is_err result) (mirror_state self.old) (mirror_state self.new) }
+        ensures spent { Spends (length bytes.now / 512) (is_err result) (mirror_reserve self.old) (mirror_reserve self.new) }
         ensures moments { Touches first (length bytes.now) (mirror_state self.old) (mirror_state self.new) }
         ensures opened { OnOk result (AreOpen (mirror_state self.new) first (length bytes.now)) }
         ensures failed { OnErr result (OpenOrSame first (length bytes.now) (mirror_state self.old) (mirror_state self.new)) }
@@ -239,6 +247,7 @@ impl Disk for MirrorDisk {
 
     fn sync(&mut self) -> Result<(), DiskFault>
         ensures counted { Counted (is_err result) (mirror_state self.old) (mirror_state self.new) }
+        ensures spent { Spends 1 (is_err result) (mirror_reserve self.old) (mirror_reserve self.new) }
         ensures moments { Touches 0 0 (mirror_state self.old) (mirror_state self.new) }
         ensures synced { OnOk result (IsSynced (mirror_state self.new)) }
         ensures failed { OnErr result (SameOpen (mirror_state self.old) (mirror_state self.new)) }

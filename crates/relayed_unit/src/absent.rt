@@ -33,6 +33,8 @@ impl Absent {
 impl Disk for Absent {
     ghost state = { absent_state };
 
+    ghost reserve = { λ _. 0 };
+
     fn sectors(&self) -> u64 {
         self.sectors
     }

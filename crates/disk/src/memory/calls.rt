@@ -12,6 +12,8 @@ impl Disk for Memory {
 
     ghost state = { memory_state };
 
+    ghost reserve = { λ _. 0 };
+
     fn sectors(&self) -> u64 {
         self.sectors
     }

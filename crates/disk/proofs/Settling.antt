@@ -1,7 +1,7 @@
 -- What a cut leaves.
-use Rattle.std.proofs.Common.{◌≡◌, ⊎_elim, ℕ, suc, zero, ◌+◌, ◌-◌, ◌*◌, ◌<◌, ◌≤◌, Bool, true, false, List, [], ◌∷◌, ◌++◌, length, take, drop, get_or, refl, sym, ◌∙◌, ap, arith, add-one, replicate, Option, Some, None}
+use Rattle.std.proofs.Common.{◌≡◌, ⊎_elim, ℕ, suc, zero, ◌+◌, ◌*◌, ◌<◌, ◌≤◌, Bool, true, false, List, [], ◌∷◌, ◌++◌, length, take, drop, get_or, refl, sym, ◌∙◌, ap, arith, add-one, Option, Some, None}
 use Rattle.std.specs.Prelude.{fold, All, if◌then◌else◌}
-use Rattle.std.proofs.lemmas.List.{take_all, take-append-le, drop_at, drop-take, drop-replicate, take-replicate}
+use Rattle.std.proofs.lemmas.List.{take_all, take-append-le, drop_at, drop-take}
 use Rattle.std.proofs.lemmas.Bool.{cases_lt, cases_Bool, cond-true, cond-false, false≢true}
 use Rattle.disk.specs.State.{State, Platter, now, contents_of, sector_of, settled_at, last_synced}
 use Rattle.disk.specs.Record.{bytes_at, place_in, trace_written, trace_torn, trace_next, trace_start, trace_of, platter_of, state_of, IsWithin}

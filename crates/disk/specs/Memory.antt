@@ -1,6 +1,6 @@
 -- What contracts see of a disk in memory (this project's profile). Sectors are numbered from 0; room is counted in
 -- calls and bytes.
-use Rattle.std.specs.Prelude.{◌≡◌, ℕ, ◌+◌, ◌-◌, ◌*◌, ◌%◌, ◌^◌, ◌<◌, ◌≤◌, ◌&&◌, ◌++◌, ◌∷◌, [], nat_le, nat_lt, Bool, true, false, if◌then◌else◌, List, length, replicate, All, Result, is_err}
+use Rattle.std.specs.Prelude.{◌≡◌, ℕ, ◌+◌, ◌-◌, ◌*◌, ◌%◌, ◌^◌, ◌≤◌, ◌&&◌, ◌++◌, ◌∷◌, [], nat_le, nat_lt, Bool, true, false, if◌then◌else◌, List, length, All, Result, is_err}
 use Rattle.disk.specs.State.{State, now, contents_of, IsImage, IsSynced}
 use Rattle.disk.specs.Record.{bytes_at, trace_of, state_of, IsWithin}
 use Rattle.disk.specs.Plan.{fate_of, fails, takes}

@@ -78,6 +78,7 @@ impl Authority {
 
     /// The end of authority now, with the speed there, the supervised location and the release speed; None where no
     /// authority is stored.
+    #[inline(always)]
     pub fn end(&self) -> Option<End>
         ensures { (entries : List AuthorityEntry) → self.now ≡ known entries → result ≡ end_of entries }
     {

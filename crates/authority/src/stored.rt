@@ -112,6 +112,7 @@ fn is_stopped(section: &TimedSection, start: Ms, now: Ms, min_front: Cm) -> bool
 /// What it answers.
 impl Stored {
     /// The end at a moment, in milliseconds.
+    #[inline(always)]
     pub fn end_now(&self, now: Ms) -> End
         ensures { result ≡ end_in now self.now }
     {

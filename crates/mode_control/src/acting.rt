@@ -86,7 +86,8 @@ impl<G: ProfileStore<Permille> + Drop, S: ProfileStore<CategorySpeeds> + Drop> S
         self.parts.driver.accepts(action, &self.situation())
     }
 
-    // What an action does, if it is accepted.
+    // What an action does, if it is accepted. It stands out of line, so that other inputs don't go about a deed.
+    #[inline(never)]
     fn deed_by(&self, action: &Action) -> Option<Deed>
         ensures { (life : Life) → StandsForLife G.profile S.profile self.now life → result ≡ deed_by life action.now }
     {

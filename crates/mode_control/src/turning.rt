@@ -89,6 +89,7 @@ fn turn_driver(driver: &mut Driver, entered: &Option<Mode>)
 
 impl Parts {
     // A mode is entered, if another one is, at this path of the life; what is called for then, and what is left.
+    #[inline(always)]
     fn turn(&mut self, entered: &Option<Mode>, path: Length, calls: &Calls, left: &Left)
         ensures { (life : Life) (told : TrackEntry) (deed : Option Deed) (level : Option Level)
             → self.old ≡ parts_of (grown life (record (begun (record told { entered = None }) deed) { level = level }))
@@ -192,6 +193,7 @@ impl<G: ProfileStore<Permille> + Drop, S: ProfileStore<CategorySpeeds> + Drop> S
     }
 
     /// One row of the mode table, then the acknowledgements, and what the mode deletes that is entered.
+    #[inline(always)]
     pub(crate) fn turn(&mut self, seen: &Seen)
         ensures stands { (life : Life) (told : TrackEntry) (deed : Option Deed)
             → (let event = record (begun (record told { train = Some seen.now.train; entered = None }) deed) { level = seen.now.level } in

@@ -29,6 +29,7 @@ fn mark_behind(train: &Stretch) -> Cm
 impl Parts {
     // The authority's timers see where the train is, and national values and the level come into force where the
     // maximum safe front has reached their places.
+    #[inline(always)]
     fn look(&mut self, train: &Stretch) -> Option<TrainLevel>
         ensures level { result ≡ coming train.now.max_front self.old.level }
         ensures stands { (life : Life) (event : TrackEntry) → self.old ≡ columns_of (grown life (record event { train = None; entered = None }))

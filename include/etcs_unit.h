@@ -89,7 +89,7 @@ enum etcs_unit_status {
     ETCS_UNIT_OK = 0,
 
     /* opening: no unit was opened, and the medium is to be left as it is */
-    ETCS_UNIT_OPEN_DEVICE_FAULT = 1,  /* the copy has no room for a request; never on a medium that etcs_unit_format_request made */
+    ETCS_UNIT_OPEN_DEVICE_FAULT = 1,  /* never answered: the copy has room for all requests */
     ETCS_UNIT_OPEN_NOT_FORMATTED = 2, /* the first sector isn't that of a journal, or there is none */
     ETCS_UNIT_OPEN_DAMAGED = 3,       /* the size isn't that of the slots, or the newest block isn't readable */
     ETCS_UNIT_OPEN_NO_MEMORY = 4,     /* there is no memory for the copy */

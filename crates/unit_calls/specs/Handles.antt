@@ -1,6 +1,6 @@
 -- What the calls do to what a handle holds (this project's profile): None where no unit is open. `told` is what the
 -- call of `RelayedUnit` answered, the status its number.
-use Rattle.std.specs.Prelude.{◌≡◌, ◌↔◌, ◌⊎◌, ℕ, ◌/◌, ◌<◌, ◌≤◌, ◌==◌, ◌∷◌, ◌||◌, Bool, true, false, if◌then◌else◌, List, [], length, Option, Some, None, IfSome, Result, Ok, Err, IfOk, IfErr, OnOk, OnErr, MatchOption, ⊤}
+use Rattle.std.specs.Prelude.{◌≡◌, ◌↔◌, ◌⊎◌, ℕ, ◌/◌, ◌<◌, ◌≤◌, ◌==◌, ◌∷◌, ◌||◌, Bool, true, false, if◌then◌else◌, List, [], length, Option, Some, None, IfSome, Result, Ok, Err, IsOk, IfOk, IfErr, OnOk, OnErr, MatchOption, ⊤}
 use Rattle.disk.specs.State.{contents_of, AtEachMoment}
 use Rattle.events.specs.Limits.{most_pending}
 use Rattle.events.specs.declared.input.Event.{Event}
@@ -10,7 +10,7 @@ use Rattle.image_calls.specs.Answers.{this_abi}
 use Rattle.journal.specs.Journals.{IsOpen}
 use Rattle.mirror_disk.specs.Mirror.{mirror_of, mirror_state}
 use Rattle.mode_table.specs.declared.statuses.Cold.{Cold}
-use Rattle.onboard.specs.Answers.{refusal_of}
+use Rattle.onboard.specs.Answers.{is_device, refusal_of}
 use Rattle.onboard.specs.Events.{account_of, IsAhead}
 use Rattle.onboard.specs.Lives.{IsReady, Opens, IsOpenRefusal, HasNoCause, TellsEither}
 use Rattle.onboard.specs.Releases.{nothing_released}
@@ -21,7 +21,6 @@ use Rattle.onboard.specs.declared.errors.OpenError.TheVariants as an_open
 use Rattle.relayed_unit.specs.LifeNow.{TellsLife}
 use Rattle.relayed_unit.specs.Relayed.{Relayed, Turns, requests_of, release_refusal, prepare_refusal, prepare_failed}
 use Rattle.relayed_unit.specs.declared.errors.PrepareError.{PrepareError}
-use Rattle.relayed_unit.specs.declared.errors.PrepareError.TheVariants as a_prepare
 use Rattle.relayed_unit.specs.declared.life_now.LifeNow.{LifeNow}
 use Rattle.unit_calls.specs.Outputs.{told_of, AreHanded}
 use Rattle.unit_calls.specs.Requests.{Where}
@@ -70,8 +69,7 @@ Takes (Some input) before after status = (told : Result ⊤ AcceptError) × (sta
 -- what `RelayedUnit::prepare` promises of an answer
 pub record IsPrepared (before after : Relayed) (told : Result ⊤ PrepareError) : Type 0 where
   -- each refusal comes exactly for its cause
-  pub exact : IfSome before.moored (λ it. MatchOption (prepare_refusal before.failed it)
-      (IfErr told (λ e. e ≡ a_prepare.Failed)) (λ e. told ≡ Err e))
+  pub exact : IfSome before.moored (λ it. MatchOption (prepare_refusal before.failed it) (IsOk told) (λ e. told ≡ Err e))
   -- whether the unit can't go on
   pub failed : after.failed ≡ (before.failed || prepare_failed told)
   -- what is held back is what was pending, all of it
@@ -148,6 +146,8 @@ pub record IsPoweredUp (image : List ℕ) (cold : Cold) (told : Result Relayed O
   -- each refusal but NoMemory has its cause
   pub refused : IfErr told (λ e. (e ≡ an_open.NoMemory)
       ⊎ IsOpenRefusal (length image / 512) (contents_of (mirror_state (mirror_of image))) e)
+  -- the copy's room is never wanting
+  pub room : IfErr told (λ e. is_device e ≡ false)
   -- where it is opened no refusal had one
   pub no_cause : OnOk told (HasNoCause (length image / 512) (contents_of (mirror_state (mirror_of image))))
   -- behind each number of requests each image is one that a power-up may leave of these bytes

@@ -10,7 +10,7 @@ use relayed_unit::{PrepareError, ReleaseError};
 pub enum Status {
     /// It is done.
     Done = 0,
-    /// No unit was opened: the copy's room was used up.
+    /// No unit was opened: the copy's room was used up. It never is.
     OpenDeviceFault = 1,
     /// No unit was opened: the first sector isn't that of a journal, or there is none.
     NotFormatted = 2,

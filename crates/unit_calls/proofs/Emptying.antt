@@ -1,12 +1,11 @@
 -- The requests of a format, one after the other.
-use Rattle.std.proofs.Common.{◌≡◌, ⊎_elim, ◌⊎◌, inl, inr, ℕ, zero, suc, ◌+◌, ◌-◌, ◌*◌, ◌<◌, ◌≤◌, ◌==◌, Bool, true, false, List, replicate, refl, sym, ◌∙◌, ap, arith}
-use Rattle.std.specs.Prelude.{◌||◌, nat_lt, if◌then◌else◌}
+use Rattle.std.proofs.Common.{◌≡◌, ⊎_elim, ℕ, zero, suc, ◌+◌, ◌-◌, ◌<◌, ◌≤◌, ◌==◌, Bool, true, false, List, replicate, ◌∙◌, ap, arith}
+use Rattle.std.specs.Prelude.{nat_lt, if◌then◌else◌}
 use Rattle.std.proofs.lemmas.Bool.{cases_lt}
 use Rattle.std.proofs.lemmas.Bool.Decides.{nat_tests}
 use Rattle.blocks.specs.FirstSector.{sectors_of, first_sector}
-use Rattle.journal.specs.Formats.{IsEmptied, AreZeros}
 use Rattle.layouts.specs.Layout.{written}
-use Rattle.unit_calls.specs.Formatting.{Asked, Writing, Syncing, Ended, asked_at, asked_last, carried, behind_first, FormatEmpties}
+use Rattle.unit_calls.specs.Formatting.{Asked, Writing, asked_at, asked_last, carried, behind_first, FormatEmpties}
 
 -- a request by its place
 gate_asked : (slots index : ℕ) → index < slots → asked_at slots index ≡ Writing (sectors_of index) (replicate 512 0)

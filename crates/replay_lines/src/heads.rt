@@ -10,7 +10,7 @@ use crate::lines::write_head;
 use crate::reports::HeadReport;
 use crate::telling::finish;
 use blocks::Block;
-use pieces::Form;
+use pieces::{Form, write_pieces};
 use replaying::{HeadFound, compare_head};
 use std::io::Write;
 
@@ -38,7 +38,8 @@ fn tell_head<W: Write>(
     let Some(found) = found else {
         return Ok(());
     };
-    finish(course, form, out)?;
+    let left = finish(course);
+    write_pieces(form, &left, out)?;
     let report = HeadReport {
         life: block.kept.lives,
         block: block.number,

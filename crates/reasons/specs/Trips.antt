@@ -10,15 +10,10 @@ use Rattle.mode_control.specs.declared.tripping.TripCause.{TripCause}
 use Rattle.reasons.specs.declared.trips.TripTold.{TripTold}
 use Rattle.reasons.specs.Runs.{number_behind}
 
--- a trip of an earlier event, where one is owed still
-abbrev pub still : Bool → Option TripTold → Option TripTold
-still owes None = None
-still owes (Some told) = if owes then Some told else None
-
 -- behind an event of this number that entered Trip for this cause, or didn't
 abbrev pub trip_held : Bool → Option TripCause → Option TripTold → ℕ → Option TripTold
 trip_held owes (Some cause) before number = Some (record { event = number; cause = cause })
-trip_held owes None before number = still owes before
+trip_held owes None before number = if owes then before else None
 
 -- no life knows of the trip of an earlier one
 abbrev pub trip_before : Event → Option TripTold → Option TripTold

@@ -1,6 +1,6 @@
 //! What decides a limit, as a kind with its words, a place, a speed and a number.
 ghost use Rattle.std.specs.Prelude.{◌≡◌};
-ghost use Rattle.reasons.specs.LimitWords.{plain, restriction_told, placed, national_kind, over_told, ahead_told, release_kind, speed_told, limit_told, limit_word_of, limit_sentence_of, limit_section_of};
+ghost use Rattle.reasons.specs.LimitWords.{plain, restriction_told, placed, over_told, ahead_told, limit_told, limit_word_of, limit_sentence_of, limit_section_of};
 
 use authority::Release;
 use limit_causes::{LimitCause, NationalValue, OverTrain, SpeedCause, TargetAhead, TargetKind};
@@ -100,17 +100,6 @@ fn placed(kind: LimitKind, speed: Mph, place: Cm) -> LimitTold
     }
 }
 
-fn national_kind(value: NationalValue) -> LimitKind
-    ensures { result ≡ national_kind value }
-{
-    match value {
-        NationalValue::StaffResponsible => LimitKind::StaffResponsible,
-        NationalValue::Override => LimitKind::Override,
-        NationalValue::Shunting => LimitKind::Shunting,
-        NationalValue::Unfitted => LimitKind::Unfitted,
-    }
-}
-
 fn over_told(limit: Mph, over: &OverTrain) -> LimitTold
     ensures { result ≡ over_told limit over.now }
 {
@@ -141,25 +130,6 @@ fn ahead_told(ahead: &TargetAhead) -> LimitTold
     }
 }
 
-fn release_kind(release: Release) -> LimitKind
-    ensures { result ≡ release_kind release }
-{
-    match release {
-        Release::Speed(_) => LimitKind::Release,
-        Release::National => LimitKind::NationalRelease,
-    }
-}
-
-fn speed_told(limit: Mph, cause: &SpeedCause) -> LimitTold
-    ensures { result ≡ speed_told limit cause.now }
-{
-    match cause {
-        SpeedCause::OverTrain(over) => over_told(limit, over),
-        SpeedCause::Ahead(ahead) => ahead_told(ahead),
-        SpeedCause::Release(release) => plain(release_kind(*release), limit),
-    }
-}
-
 /// What decides a limit, in metres per hour, as it is told.
 pub fn limit_told(limit: Mph, cause: &LimitCause) -> LimitTold
     ensures { result ≡ limit_told limit cause.now }
@@ -167,8 +137,20 @@ pub fn limit_told(limit: Mph, cause: &LimitCause) -> LimitTold
     match cause {
         LimitCause::NoSpeed => plain(LimitKind::NoSpeed, limit),
         LimitCause::NoTrainData => plain(LimitKind::NoTrainData, limit),
-        LimitCause::National(value) => plain(national_kind(*value), limit),
-        LimitCause::Speed(speed) => speed_told(limit, speed),
+        LimitCause::National(NationalValue::StaffResponsible) => {
+            plain(LimitKind::StaffResponsible, limit)
+        }
+        LimitCause::National(NationalValue::Override) => plain(LimitKind::Override, limit),
+        LimitCause::National(NationalValue::Shunting) => plain(LimitKind::Shunting, limit),
+        LimitCause::National(NationalValue::Unfitted) => plain(LimitKind::Unfitted, limit),
+        LimitCause::Speed(SpeedCause::OverTrain(over)) => over_told(limit, over),
+        LimitCause::Speed(SpeedCause::Ahead(ahead)) => ahead_told(ahead),
+        LimitCause::Speed(SpeedCause::Release(Release::Speed(_))) => {
+            plain(LimitKind::Release, limit)
+        }
+        LimitCause::Speed(SpeedCause::Release(Release::National)) => {
+            plain(LimitKind::NationalRelease, limit)
+        }
     }
 }
 

@@ -1,9 +1,7 @@
 //! From which event on each cause of a brake has held.
 ghost use Rattle.std.specs.Prelude.{◌≡◌, List, ◌∷◌};
 ghost use Rattle.events.specs.declared.input.Event.{Event};
-ghost use Rattle.events.specs.declared.input.Event.TheVariants as event;
 ghost use Rattle.events.specs.declared.input.Event.TheVariants.{PowerUp};
-ghost use Rattle.events.specs.declared.input.Input.{Input};
 ghost use Rattle.mode_table.specs.declared.statuses.Cold.{Cold};
 ghost use Rattle.kernel.specs.Causes.{marked, causes_after};
 ghost use Rattle.reasons.specs.Runs.{number_behind, gone_on, run_of, runs_of, runs_held};
@@ -89,15 +87,6 @@ impl Runs {
         Runs::NONE.held(causes, number)
     }
 
-    // Behind a further input.
-    fn went_on(&self, causes: &BrakeCauses, number: u64) -> Runs
-        ensures { (events : List Event) (input : Input) → self.now ≡ runs_of events
-            → marked causes.now ≡ causes_after (event.Input input ∷ events)
-            → number ≡ number_behind events → result ≡ runs_of (event.Input input ∷ events) }
-    {
-        self.held(causes, number)
-    }
-
     /// Behind a further event, of this number, behind which these causes hold. A power-up begins all anew.
     pub fn after(&self, event: &Event, causes: &BrakeCauses, number: u64) -> Runs
         ensures { (events : List Event) → self.now ≡ runs_of events → marked causes.now ≡ causes_after (event.now ∷ events)
@@ -105,7 +94,7 @@ impl Runs {
     {
         match event {
             Event::PowerUp(_) => Runs::begun(causes, number),
-            Event::Input(_) => self.went_on(causes, number),
+            Event::Input(_) => self.held(causes, number),
         }
     }
 

@@ -1,6 +1,6 @@
 //! The trip that is owed, and why it was entered.
 ghost use Rattle.std.specs.Prelude.{◌≡◌};
-ghost use Rattle.reasons.specs.Trips.{still, trip_held, trip_before};
+ghost use Rattle.reasons.specs.Trips.{trip_held, trip_before};
 ghost use Rattle.reasons.specs.TripWords.{trip_word_of, trip_sentence_of, trip_section_of};
 
 use events::Event;
@@ -13,16 +13,6 @@ pub struct TripTold {
     pub event: u64,
     /// Why.
     pub cause: TripCause,
-}
-
-// A trip of an earlier event, where one is owed still.
-fn still(owes: bool, before: Option<TripTold>) -> Option<TripTold>
-    ensures { result ≡ still owes before }
-{
-    match before {
-        None => None,
-        Some(told) => { if owes { Some(told) } else { None } }
-    }
 }
 
 /// What an event leaves of the trip before it: nothing where it begins a life.
@@ -49,7 +39,8 @@ pub(crate) fn trip_held(
             event: number,
             cause,
         }),
-        None => still(owes, before),
+        None if owes => before,
+        None => None,
     }
 }
 

@@ -1,9 +1,17 @@
-use Rattle.std.proofs.Common.{◌≡◌, ap, ◌∷◌, arith, refl}
+use Rattle.std.proofs.Common.{◌≡◌, ℕ, Bool, true, false, None, ap, ◌∷◌, arith, refl}
 use Rattle.events.specs.declared.input.Event.TheVariants.{PowerUp}
 use Rattle.events.specs.declared.kept.Kept.{Kept}
+use Rattle.kernel.specs.declared.causes.BrakeCause.TheVariants as cause
+use Rattle.kernel.specs.Causes.{is_among, causes_after}
 use Rattle.reasons.specs.Runs.{number_behind}
+use Rattle.reasons.specs.Trips.{trip_held}
 use Rattle.reasons.proofs.Numbers.{one_more_behind}
 use Rattle.reasons.proofs.reasoning.Reasoning.begin.Goals as goal
+
+-- where no trip was entered and none was known
+none_held : (owes : Bool) (number : ℕ) → None ≡ trip_held owes None None number
+none_held true number = refl
+none_held false number = refl
 
 pub returns-clause-stands : goal.returns-clause-stands
 returns-clause-stands c = λ events left.
@@ -13,7 +21,7 @@ returns-clause-stands c = λ events left.
       knows = knows;
       numbered = omega (arith, number, one_more_behind events (PowerUp c.args.word));
       runs_are = c.begun-runs.ensures events c.args.word (c.brake_causes-causes.ensures (PowerUp c.args.word ∷ events) knows) number;
-      trip_is = refl;
+      trip_is = none_held (is_among cause.OwesTrip (causes_after (PowerUp c.args.word ∷ events))) (number_behind events);
     }
 
 pub returns-clause-output : goal.returns-clause-output

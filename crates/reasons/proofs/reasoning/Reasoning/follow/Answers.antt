@@ -1,4 +1,4 @@
-use Rattle.std.proofs.Common.{Bool, ◌∷◌, sym, subst, ap, ◌∙◌, arith}
+use Rattle.std.proofs.Common.{◌∷◌, sym, subst, ap, ◌∙◌, arith}
 use Rattle.kernel.specs.declared.causes.BrakeCause.TheVariants as cause
 use Rattle.kernel.specs.Causes.{is_among}
 use Rattle.kernel.proofs.Marking.{mark_so}

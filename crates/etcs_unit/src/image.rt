@@ -1,9 +1,8 @@
 //! The calls of `include/etcs_image.h`.
 use image_calls::{
-    EtcsBlock, EtcsImage, EtcsJournal, EtcsRecord, EtcsSlot, block_call, facts_call, journal_call,
-    next_call, record_call, slot_call,
+    EtcsBlock, EtcsImage, EtcsJournal, EtcsRecord, EtcsReplay, EtcsSlot, EtcsWhy, block_call,
+    facts_call, journal_call, next_call, record_call, replay_call, slot_call, why_call,
 };
-use image_lives::{EtcsReplay, EtcsWhy, replay_call, why_call};
 use std::alloc::Global;
 
 /// What an image has at first sight.

@@ -1,5 +1,5 @@
-//! What C programs call: each function is the one of `unit_calls`, `image_calls` or `image_lives` of the same name with
-//! `_call`, which has the contract. `include/etcs_unit.h` and `etcs_image.h` declare them.
+//! What C programs call: each function is the one of `unit_calls` or `image_calls` of the same name with `_call`, which
+//! has the contract. `include/etcs_unit.h` and `etcs_image.h` declare them.
 #![tactic(auto)]
 
 mod image;

@@ -1,2 +1,4 @@
+pub mod Checked
 pub mod Reading
 pub mod Refusing
+pub mod Walked

@@ -37,19 +37,12 @@ fn tell(survey: Survey, out: &mut EtcsImage) -> Answer
     Answer::Done
 }
 
-// What an image has at first sight.
-fn facts(image: &[u8], abi: u32, out: &mut EtcsImage) -> Answer
-    ensures { ByAbi abi out.old out.new result (AsksFacts image.now out.old out.new result) }
-{
-    if abi != ABI {
-        return Answer::OtherAbi;
-    }
-    tell(survey_in(image), out)
-}
-
 /// What an image has at first sight.
 pub fn facts_call(image: &[u8], abi: u32, out: &mut EtcsImage) -> u32
     ensures { IsAnswered result (λ answer. ByAbi abi out.old out.new answer (AsksFacts image.now out.old out.new answer)) }
 {
-    facts(image, abi, out).number()
+    if abi != ABI {
+        return Answer::OtherAbi.number();
+    }
+    tell(survey_in(image), out).number()
 }

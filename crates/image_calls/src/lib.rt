@@ -1,28 +1,45 @@
 //! What a program asks an image that it has mapped (this project's profile; `docs/FORMAT.md`): its slots, its blocks and
-//! their records, and the journal from the oldest record to the newest. No call takes memory, keeps anything or writes
-//! to the image. Slots and events are numbered from 0, blocks from 1.
+//! their records, the journal from the oldest record to the newest, whether the journal agrees with the kernel, and why an
+//! event was answered so. A call that runs a life through the kernel again takes memory, and gives it back before it
+//! answers; no other does. Nothing is kept, and nothing is written to the image. Slots and events are numbered from 0,
+//! blocks from 1.
 #![tactic(auto)]
 
 mod answer;
+mod beginnings;
 mod block_heads;
+mod checking;
 mod facts;
 mod image_disk;
 mod images;
 mod journals;
 mod kept_items;
+mod links;
 mod national_items;
 mod numbers;
 mod records;
+mod replays;
+mod running;
 mod slots;
+mod telling;
+mod verdicts;
 mod version;
+mod why_numbers;
+mod whys;
 
 pub use answer::Answer;
+pub use beginnings::kept_before;
 pub use block_heads::{EtcsBlock, block_call};
 pub use facts::{EtcsImage, facts_call};
 pub use images::{Ring, held_in, ring_in, slot_in};
 pub use journals::{EtcsJournal, journal_call, next_call};
 pub use kept_items::{EtcsKept, EtcsTrain, kept_told};
+pub use links::{beginning_of, end_of, first_word, goes_on, read};
 pub use national_items::EtcsNational;
 pub use records::{EtcsRecord, record_call, record_told};
+pub use replays::replay_call;
 pub use slots::{EtcsSlot, slot_call};
+pub use telling::EtcsWhy;
+pub use verdicts::EtcsReplay;
 pub use version::{ABI, abi_call};
+pub use whys::why_call;

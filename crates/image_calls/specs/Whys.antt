@@ -1,0 +1,127 @@
+-- Why an event was answered so, as C is told it (this project's profile). Events are numbered from 0, blocks from 1;
+-- speeds are metres per hour, distances and places centimetres; lists of events have the newest first.
+use Rattle.std.specs.Prelude.{◌≡◌, ◌⊎◌, ℕ, ◌+◌, ◌-◌, ◌^◌, min, nat_lt, if◌then◌else◌, List, [], ◌∷◌, length, take, Option, Some, None, is_some}
+use Rattle.blocks.specs.Codes.{brake_number}
+use Rattle.blocks.specs.declared.block.Block.{Block}
+use Rattle.events.specs.declared.input.Event.{Event}
+use Rattle.events.specs.declared.kept.Kept.{Kept}
+use Rattle.events.specs.declared.output.Output.{Output}
+use Rattle.examination.specs.Lost.{first_event_of}
+use Rattle.kernel.specs.Brake.{rolled_backward}
+use Rattle.kernel.specs.Lives.{life_of}
+use Rattle.kernel.specs.Output.{output_after}
+use Rattle.limit_causes.specs.Causes.{IsLimitCause}
+use Rattle.limit_causes.specs.declared.cause.LimitCause.{LimitCause}
+use Rattle.mode_control.specs.History.{tracks}
+use Rattle.mode_control.specs.Sentences.{values_of}
+use Rattle.reasons.specs.LimitWords.{limit_told}
+use Rattle.reasons.specs.Runs.{runs_of}
+use Rattle.reasons.specs.Told.{Reasoned}
+use Rattle.reasons.specs.Trips.{trip_of}
+use Rattle.reasons.specs.declared.limit_words.LimitTold.{LimitTold}
+use Rattle.reasons.specs.declared.runs.Runs.{Runs}
+use Rattle.reasons.specs.declared.trips.TripTold.{TripTold}
+use Rattle.replaying.specs.Following.{behind}
+use Rattle.track_picture.specs.History.{speed_of}
+use Rattle.image_calls.specs.Answers.{Refuses}
+use Rattle.image_calls.specs.Images.{ring_in, Holds, OfRing, OfBlock}
+use Rattle.image_calls.specs.declared.answer.Answer.{Answer}
+use Rattle.image_calls.specs.declared.answer.Answer.TheVariants as an_answer
+use Rattle.image_calls.specs.declared.images.Ring.{Ring}
+use Rattle.image_calls.specs.Beginnings.{IsKeptBefore, IsUnknownBefore}
+use Rattle.image_calls.specs.Links.{first_word, Begins}
+use Rattle.image_calls.specs.KeptItems.{or_zero, flag_of}
+use Rattle.image_calls.specs.WhyNumbers.{place_or_zero, since_of, holds_of, trip_cause_told, trip_event_told, limit_number}
+use Rattle.image_calls.specs.Runs.{AreHeld, IsLeft, events_of, RanTo}
+use Rattle.image_calls.specs.declared.telling.EtcsWhy.{EtcsWhy}
+
+-- as C sees it
+abbrev pub why_with : ℕ → Output → Runs → Option TripTold → ℕ → ℕ → ℕ → LimitTold → EtcsWhy
+why_with event output runs trip backward allowed speed limit = record {
+  event = event;
+  since = since_of runs;
+  trip_event = trip_event_told trip;
+  backward = backward;
+  allowed = allowed;
+  place = place_or_zero limit.place;
+  restriction = or_zero limit.number;
+  limit = output.limit;
+  speed = speed;
+  limit_speed = limit.speed;
+  holds = holds_of runs;
+  brake = brake_number output.brake;
+  trip_cause = trip_cause_told trip;
+  limit_cause = limit_number limit.kind;
+  has_place = flag_of (is_some limit.place);
+  has_restriction = flag_of (is_some limit.number);
+  reserved = 0 ∷ 0 ∷ 0 ∷ 0 ∷ 0 ∷ [];
+}
+
+-- the answer to the last of these events, which has this number, where this is told of what decides the limit
+abbrev pub why_of : ℕ → List Event → LimitTold → EtcsWhy
+why_of event events limit = why_with event (output_after events) (runs_of events) (trip_of events)
+    (min (rolled_backward (life_of events)) (2 ^ 64 - 1)) (values_of (life_of events)).roll (speed_of (tracks (life_of events).entries)) limit
+
+-- all that is told is of these events
+abbrev pub TellsWhy : ℕ → List Event → EtcsWhy → Type 0
+TellsWhy event events told = (cause : LimitCause) × IsLimitCause (life_of events) (output_after events).limit cause
+    × (told ≡ why_of event events (limit_told (output_after events).limit cause))
+
+-- the place of the record of this event in a block, from 0 on
+abbrev pub place_in : Block → ℕ → Option ℕ
+place_in b event =
+    if nat_lt event (first_event_of b) then None
+    else if nat_lt (event - first_event_of b) (length b.records.items) then Some (event - first_event_of b) else None
+
+-- The life of the block of this number begins behind no power-up, or what was kept before it isn't known.
+pub record IsUnknown (bytes : List ℕ) (ring : Ring) (number : ℕ) : Type 0 where
+  pub first : ℕ
+  pub begins : Begins bytes ring first number
+  pub begin : Block
+  pub begun : Holds bytes ring first begin
+  pub why : (first_word begin.records.items ≡ None) ⊎ IsUnknownBefore bytes ring first (first_event_of begin)
+
+-- The life of the block of this number, run from its power-up on up to the record at this place, stands so.
+pub record IsKnown (bytes : List ℕ) (ring : Ring) (number index : ℕ) (life : Reasoned) (output : Output) : Type 0 where
+  pub first : ℕ
+  pub begins : Begins bytes ring first number
+  pub begin : Block
+  pub begun : Holds bytes ring first begin
+  pub kept : Kept
+  pub kept_is : IsKeptBefore bytes ring first (first_event_of begin) kept
+  pub ran : RanTo bytes ring first number index begin kept life output
+
+-- Why the record at this place of the block was answered so is told: said of any events behind which the same is kept as
+-- before the life's power-up, and then those of the life's blocks up to the record.
+pub record Explained (bytes : List ℕ) (ring : Ring) (number index event : ℕ) (told : EtcsWhy) : Type 0 where
+  pub first : ℕ
+  pub begins : Begins bytes ring first number
+  pub begin : Block
+  pub begun : Holds bytes ring first begin
+  pub kept : Kept
+  pub kept_is : IsKeptBefore bytes ring first (first_event_of begin) kept
+  pub its : Block
+  pub held : Holds bytes ring number its
+  pub before : List Block
+  pub are_held : AreHeld bytes ring (number - 1) before
+  pub counted : first + length before ≡ number
+  pub so : (p : List Event) → IsLeft (first_word begin.records.items) kept p
+      → TellsWhy event (behind (take (index + 1) its.records.items) (events_of before p)) told
+
+-- it is told, or the life can't be run again, or memory was refused
+abbrev pub Explains : List ℕ → Ring → ℕ → ℕ → ℕ → EtcsWhy → EtcsWhy → Answer → Type 0
+Explains bytes ring number index event old new answer =
+    ((answer ≡ an_answer.Done) × Explained bytes ring number index event new)
+    ⊎ ((IsUnknown bytes ring number × Refuses an_answer.NotReplayed old new answer)
+    ⊎ Refuses an_answer.NoMemory old new answer)
+
+-- of an event that the block has
+abbrev pub OfPlace : List ℕ → Ring → ℕ → Option ℕ → ℕ → EtcsWhy → EtcsWhy → Answer → Type 0
+OfPlace bytes ring number None event old new answer = Refuses an_answer.NoSuchRecord old new answer
+OfPlace bytes ring number (Some index) event old new answer = Explains bytes ring number index event old new answer
+
+-- of this event of the block of this number
+abbrev pub AsksWhy : List ℕ → ℕ → ℕ → EtcsWhy → EtcsWhy → Answer → Type 0
+AsksWhy bytes number event old new answer = OfRing (ring_in bytes) old new answer
+    (λ ring. OfBlock bytes ring number an_answer.NoSuchBlock old new answer
+    (λ block. OfPlace bytes ring number (place_in block event) event old new answer))

@@ -1,3 +1,4 @@
 pub mod Emptying
 pub mod Handling
+pub mod HeldValues
 pub mod Values

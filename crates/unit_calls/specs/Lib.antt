@@ -1,5 +1,6 @@
 pub mod Formatting
 pub mod Handles
+pub mod Held
 pub mod Inputs
 pub mod Outputs
 pub mod Owned

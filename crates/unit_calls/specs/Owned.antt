@@ -4,7 +4,7 @@ use base.Fml.{Fml}
 use denote.RawPtr.{Ptr}
 use Rattle.std.specs.contracts.alloc.Global as heap
 use Rattle.std.specs.contracts.impls.GlobalAllocator.TheImpl.{ghosts}
-use Rattle.held.specs.Owned.{held_owns}
+use Rattle.unit_calls.specs.Held.{held_owns}
 use Rattle.unit_calls.specs.declared.handle.Opened.{Opened}
 use Rattle.unit_calls.specs.contracts.handle.Opened.{the_row}
 

@@ -4,6 +4,7 @@
 mod events_in;
 mod formatting;
 mod handle;
+mod held;
 mod inputs;
 mod laws;
 mod opening;

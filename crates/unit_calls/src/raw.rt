@@ -3,7 +3,7 @@ ghost use Rattle.std.specs.Prelude.{◌≡◌, Option, None};
 ghost use Rattle.unit_calls.specs.declared.handle.Opened.{Opened as OpenedValue};
 
 use crate::handle::Opened;
-use held::Held;
+use crate::held::Held;
 use std::alloc::Global;
 use std::marker::Model;
 

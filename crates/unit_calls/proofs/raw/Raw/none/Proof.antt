@@ -18,7 +18,7 @@ use denote.RawPtr.{Ptr, ptr_val}
 use denote.Steps.{nothing}
 use denote.Triple.Walked.{Stays, stay_dropped, walk_of, Goes-dropped}
 use Rattle.std.proofs.raw_atomic.Walks.{proved_at, leaves}
-use Rattle.held.proofs.Values.{ptr_good}
+use Rattle.unit_calls.proofs.HeldValues.{ptr_good}
 use Rattle.unit_calls.specs.declared.handle.Opened.{Opened}
 use Rattle.unit_calls.proofs.Values.{one, raw_good, raw_in}
 use Rattle.unit_calls.specs.contracts.raw.Raw.none as f

@@ -1,6 +1,6 @@
 -- What an image has (this project's profile): the bytes of a disk, which may be cut off. Slots are numbered from 0,
 -- blocks from 1.
-use Rattle.std.specs.Prelude.{◌≡◌, ◌⊎◌, ℕ, List, Option, Some, None, option_map}
+use Rattle.std.specs.Prelude.{◌⊎◌, ℕ, List, Option, Some, None, option_map}
 use Rattle.blocks.specs.declared.block.Block.{Block}
 use Rattle.examination.specs.Lost.{whole_of, slots_in, IsLost}
 use Rattle.examination.specs.States.{whole_valid_at}

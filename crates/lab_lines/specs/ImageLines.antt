@@ -24,8 +24,5 @@ size_text form bytes it = sizes_text form bytes it.sectors (known_text form it.s
 abbrev pub digest_end : Form → List ℕ
 digest_end form = joined (text_in form (codes "\n") (codes "\"},\"slots\":[") ∷ [])
 
-abbrev pub digest_text : Form → FileFacts → List ℕ
-digest_text form file = file.digest ++ digest_end form
-
 abbrev pub image_text : Form → FileFacts → Survey → List ℕ
-image_text form file it = size_text form file.bytes it ++ digest_text form file
+image_text form file it = size_text form file.bytes it ++ file.digest ++ digest_end form

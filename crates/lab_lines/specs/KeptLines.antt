@@ -14,15 +14,12 @@ use Rattle.pieces.specs.Pieces.{text_in, joined, escaped}
 use Rattle.pieces.specs.declared.piece.Form.{Form}
 use Rattle.lab_lines.specs.NationalLines.{modes_text, speeds_text, ranges_text, countries_text}
 
--- characters, and the quotation mark behind them
-abbrev pub quoted_text : Form → List ℕ → List ℕ
-quoted_text form text = flat_map (escaped form) text ++ joined (text_in form (codes "\"\n") (codes "\"") ∷ [])
-
 -- an identity between what stands before and behind it
 abbrev pub identity_text : Form → Option (List ℕ) → List ℕ
 identity_text form None = joined (text_in form (codes "kept identity none\n") (codes "\"identity\":null") ∷ [])
 identity_text form (Some text) =
-    joined (text_in form (codes "kept identity \"") (codes "\"identity\":\"") ∷ []) ++ quoted_text form text
+    joined (text_in form (codes "kept identity \"") (codes "\"identity\":\"") ∷ []) ++ flat_map (escaped form) text
+    ++ joined (text_in form (codes "\"\n") (codes "\"") ∷ [])
 
 abbrev pub running_text : Form → Option ℕ → List ℕ
 running_text form None = joined (text_in form (codes "kept running number none\n") (codes ",\"running_number\":null") ∷ [])
@@ -78,19 +75,13 @@ values_text form k =
     running_text form k.running_number ++ train_text form k.train_data ++ level_text form k.level ++ position_text form k.position
     ++ modes_text form k.national.values ++ speeds_text form k.national.values ++ ranges_text form k.national.values
 
-abbrev pub entered_text : Form → Kept → List ℕ
-entered_text form k = identity_text form k.identity ++ values_text form k
-
 -- the items that are kept: for people a line each, as JSON members of an object
 unfoldable pub items_text : Form → Kept → List ℕ
-items_text form k = entered_text form k ++ countries_text form k.national.countries
-
-abbrev pub begun_text : Form → Kept → List ℕ
-begun_text form k = joined (text_in form (codes "") (codes ",\"kept\":{") ∷ []) ++ items_text form k
+items_text form k = identity_text form k.identity ++ values_text form k ++ countries_text form k.national.countries
 
 -- the items, and the outstanding trip, which ends the object
 abbrev pub kept_text : Form → Kept → List ℕ
-kept_text form k = begun_text form k ++ trip_text form k.trip_outstanding
+kept_text form k = joined (text_in form (codes "") (codes ",\"kept\":{") ∷ []) ++ items_text form k ++ trip_text form k.trip_outstanding
 
 abbrev pub found_text : Form → Option Found → List ℕ
 found_text form None = joined (text_in form (codes "") (codes ",\"kept\":null") ∷ [])

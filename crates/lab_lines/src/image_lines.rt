@@ -3,7 +3,7 @@ ghost use Rattle.std.specs.Prelude.{◌≡◌, ◌≤◌, OnOk};
 ghost use Rattle.std.specs.Io.KnownBytes.{Appends};
 ghost use Rattle.pieces.specs.Pieces.{texts};
 ghost use Rattle.pieces.specs.declared.piece.Form.{Form as a_form};
-ghost use Rattle.lab_lines.specs.ImageLines.{behind_of, size_text, digest_text, image_text};
+ghost use Rattle.lab_lines.specs.ImageLines.{behind_of, size_text, image_text};
 
 use crate::file_facts::FileFacts;
 use examination::Survey;
@@ -38,13 +38,6 @@ fn size_pieces(bytes: u64, survey: Survey) -> [Piece; 11]
     ]
 }
 
-fn write_digest<W: Write>(form: Form, file: &FileFacts, out: &mut W) -> io::Result<()>
-    ensures { OnOk result (Appends (W.contents out.old) (W.contents out.new) (digest_text form file.now)) }
-{
-    out.write_all(&file.digest)?;
-    write_pieces(form, &[Piece::Text("\n", "\"},\"slots\":[")], out)
-}
-
 /// Writes the size of an image, its slots and the digest of its file. The error is that of a write.
 pub(crate) fn write_image<W: Write>(
     form: Form,
@@ -56,5 +49,6 @@ pub(crate) fn write_image<W: Write>(
     ensures { OnOk result (Appends (W.contents out.old) (W.contents out.new) (image_text form file.now survey)) }
 {
     write_pieces(form, &size_pieces(file.bytes, survey), out)?;
-    write_digest(form, file, out)
+    out.write_all(&file.digest)?;
+    write_pieces(form, &[Piece::Text("\n", "\"},\"slots\":[")], out)
 }

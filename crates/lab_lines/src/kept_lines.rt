@@ -1,7 +1,7 @@
 //! The lines of what a power-up would keep.
-ghost use Rattle.std.specs.Prelude.{◌≡◌, Some, OnOk};
+ghost use Rattle.std.specs.Prelude.{Some, OnOk};
 ghost use Rattle.std.specs.Io.KnownBytes.{Appends};
-ghost use Rattle.lab_lines.specs.KeptLines.{quoted_text, identity_text, values_text, entered_text, items_text, begun_text, kept_text, found_text};
+ghost use Rattle.lab_lines.specs.KeptLines.{identity_text, values_text, items_text, kept_text, found_text};
 
 use crate::kept_values::{
     level_pieces, position_pieces, running_pieces, train_pieces, trip_pieces,
@@ -14,20 +14,13 @@ use pieces::{Form, Piece, write_characters, write_parts, write_pieces};
 use std::io;
 use std::io::Write;
 
-// Characters, and the quotation mark behind them.
-fn write_quoted<W: Write>(form: Form, bytes: &[u8], out: &mut W) -> io::Result<()>
-    ensures { OnOk result (Appends (W.contents out.old) (W.contents out.new) (quoted_text form bytes.now)) }
-{
-    write_characters(form, bytes, out)?;
-    write_pieces(form, &[Piece::Text("\"\n", "\"")], out)
-}
-
 fn write_known_identity<W: Write>(form: Form, bytes: &[u8], out: &mut W) -> io::Result<()>
     ensures { OnOk result (Appends (W.contents out.old) (W.contents out.new) (identity_text form (Some bytes.now))) }
 {
     let front = Piece::Text("kept identity \"", "\"identity\":\"");
     write_pieces(form, &[front], out)?;
-    write_quoted(form, bytes, out)
+    write_characters(form, bytes, out)?;
+    write_pieces(form, &[Piece::Text("\"\n", "\"")], out)
 }
 
 fn write_identity<W: Write>(
@@ -65,34 +58,21 @@ fn write_values<W: Write>(form: Form, kept: &Kept, out: &mut W) -> io::Result<()
     )
 }
 
-fn write_entered<W: Write>(form: Form, kept: &Kept, out: &mut W) -> io::Result<()>
-    ensures { OnOk result (Appends (W.contents out.old) (W.contents out.new) (entered_text form kept.now)) }
-{
-    write_identity(form, &kept.identity, out)?;
-    write_values(form, kept, out)
-}
-
 /// Writes the items that are kept: a line each for people, members of an object as JSON. The counts and the outstanding
 /// trip are not among them. The error is that of a write.
-#[tactic(auto, unfolding(crate::specs::KeptLines::items_text))]
 pub fn write_kept_items<W: Write>(form: Form, kept: &Kept, out: &mut W) -> io::Result<()>
     ensures { OnOk result (Appends (W.contents out.old) (W.contents out.new) (items_text form kept.now)) }
 {
-    write_entered(form, kept, out)?;
+    write_identity(form, &kept.identity, out)?;
+    write_values(form, kept, out)?;
     write_countries(form, kept.national.countries(), out)
-}
-
-fn write_begun<W: Write>(form: Form, kept: &Kept, out: &mut W) -> io::Result<()>
-    ensures { OnOk result (Appends (W.contents out.old) (W.contents out.new) (begun_text form kept.now)) }
-{
-    write_pieces(form, &[Piece::Text("", ",\"kept\":{")], out)?;
-    write_kept_items(form, kept, out)
 }
 
 fn write_kept<W: Write>(form: Form, kept: &Kept, out: &mut W) -> io::Result<()>
     ensures { OnOk result (Appends (W.contents out.old) (W.contents out.new) (kept_text form kept.now)) }
 {
-    write_begun(form, kept, out)?;
+    write_pieces(form, &[Piece::Text("", ",\"kept\":{")], out)?;
+    write_kept_items(form, kept, out)?;
     write_pieces(form, &trip_pieces(kept.trip_outstanding), out)
 }
 

@@ -1,10 +1,10 @@
 //! The journal, what a power-up would do, and the verdict, as lines.
-ghost use Rattle.std.specs.Prelude.{◌≡◌, OnOk, ◌++◌, []};
+ghost use Rattle.std.specs.Prelude.{◌≡◌, OnOk};
 ghost use Rattle.std.specs.Io.KnownBytes.{Appends};
 ghost use Rattle.pieces.specs.Pieces.{text_of};
 ghost use Rattle.pieces.specs.declared.piece.Form.{Form as a_form};
 ghost use Rattle.lab_lines.specs.EndLines.{verdict_text};
-ghost use Rattle.lab_lines.specs.JournalLines.{power_up_text};
+ghost use Rattle.lab_lines.specs.Examinations.{last_text};
 
 use crate::journal_lines::{journal_pieces, refusal_piece};
 use crate::kept_lines::write_found;
@@ -12,16 +12,6 @@ use crate::opening::Opened;
 use pieces::{Form, Piece, write_parts, write_pieces};
 use std::io;
 use std::io::Write;
-
-/// Writes the journal, and what a power-up would do. The error is that of a write.
-pub(crate) fn write_power_up<W: Write>(form: Form, opened: &Opened, out: &mut W) -> io::Result<()>
-    ensures { OnOk result (Appends (W.contents out.old) (W.contents out.new) (power_up_text form opened.now)) }
-{
-    let journal = journal_pieces(opened.journal);
-    let refusal = [refusal_piece(opened.refusal)];
-    write_parts(form, &[&journal, &refusal], out)?;
-    write_found(form, &opened.found, out)
-}
 
 fn verdict_piece(is_whole: bool) -> Piece
     ensures { (form : a_form) → text_of form result ≡ verdict_text form is_whole }
@@ -33,9 +23,18 @@ fn verdict_piece(is_whole: bool) -> Piece
     }
 }
 
-/// Writes the end: whether the image is whole. The error is that of a write.
-pub(crate) fn write_verdict<W: Write>(form: Form, is_whole: bool, out: &mut W) -> io::Result<()>
-    ensures { OnOk result (Appends (W.contents out.old) (W.contents out.new) (verdict_text form is_whole ++ [])) }
+/// Writes the journal, what a power-up would do, and the verdict. The error is that of a write.
+pub(crate) fn write_last<W: Write>(
+    form: Form,
+    opened: &Opened,
+    is_whole: bool,
+    out: &mut W,
+) -> io::Result<()>
+    ensures { OnOk result (Appends (W.contents out.old) (W.contents out.new) (last_text form opened.now is_whole)) }
 {
+    let journal = journal_pieces(opened.journal);
+    let refusal = [refusal_piece(opened.refusal)];
+    write_parts(form, &[&journal, &refusal], out)?;
+    write_found(form, &opened.found, out)?;
     write_pieces(form, &[verdict_piece(is_whole)], out)
 }

@@ -24,12 +24,6 @@ fn refusal_word(fault: TelegramFault) -> &'static str
     }
 }
 
-fn write_refusal<W: Write>(fault: TelegramFault, out: &mut W) -> io::Result<()>
-    ensures { OnOk result (Appends (W.contents out.old) (W.contents out.new) (refusal_of fault)) }
-{
-    out.write_all(refusal_word(fault).as_bytes())
-}
-
 /// Writes the telegram that the bytes carry, or why they carry none.
 pub(crate) fn write_answer<W: Write>(bytes: &[u8], out: &mut W) -> io::Result<()>
     ensures { OnOk result ((answer : Answer) × IsAnswer bytes.now answer × Appends (W.contents out.old) (W.contents out.new) (answer_of answer)) }
@@ -37,6 +31,6 @@ pub(crate) fn write_answer<W: Write>(bytes: &[u8], out: &mut W) -> io::Result<()
     let mut telegram = Telegram::new();
     match decode_into(bytes, &mut telegram) {
         Ok(()) => write_telegram(&telegram, out),
-        Err(fault) => write_refusal(fault, out),
+        Err(fault) => out.write_all(refusal_word(fault).as_bytes()),
     }
 }

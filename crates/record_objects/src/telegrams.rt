@@ -6,7 +6,7 @@ ghost use Rattle.pieces.specs.Pieces.{texts, joined as in_turn};
 ghost use Rattle.pieces.specs.declared.piece.Form.TheVariants.{Json};
 ghost use Rattle.record_objects.specs.Fields.{header_fields, packet_fields};
 ghost use Rattle.record_objects.specs.Joining.{joined, behind_comma};
-ghost use Rattle.record_objects.specs.Telegrams.{packet_front, packet_back, packet_begun, packet_of, header_of, packets_of, body_of, telegram_of};
+ghost use Rattle.record_objects.specs.Telegrams.{packet_front, packet_back, packet_of, telegram_of};
 
 use crate::fields::{FieldList, Shape, write_fields};
 use arrayvec::ArrayVec;
@@ -71,22 +71,14 @@ fn back_pieces(packet: &Packet<'_>) -> [Piece; 3]
     }
 }
 
-fn write_packet_fields<W: Write>(packet: &Packet<'_>, out: &mut W) -> io::Result<()>
-    requires { length_of packet.now ≤ 832 }
-    ensures { OnOk result (Appends (W.contents out.old) (W.contents out.new) (packet_begun packet.now)) }
-{
-    let list = fields_of_packet(packet);
-    let number = u64::from(packet.number().get());
-    write_pieces(Form::Json, &front_pieces(number), out)?;
-    write_fields(Shape::Pair, list.fields.as_slice(), out)
-}
-
-#[tactic(auto, unfolding(crate::specs::Telegrams::packet_of))]
 fn write_packet<W: Write>(packet: &Packet<'_>, out: &mut W) -> io::Result<()>
     requires { length_of packet.now ≤ 832 }
     ensures { OnOk result (Appends (W.contents out.old) (W.contents out.new) (packet_of packet.now)) }
 {
-    write_packet_fields(packet, out)?;
+    let list = fields_of_packet(packet);
+    let number = u64::from(packet.number().get());
+    write_pieces(Form::Json, &front_pieces(number), out)?;
+    write_fields(Shape::Pair, list.fields.as_slice(), out)?;
     write_pieces(Form::Json, &back_pieces(packet), out)
 }
 
@@ -129,37 +121,16 @@ fn end_pieces(bits: u64) -> [Piece; 3]
     ]
 }
 
-fn write_header<W: Write>(header: &Header, out: &mut W) -> io::Result<()>
-    ensures { OnOk result (Appends (W.contents out.old) (W.contents out.new) (header_of header.now)) }
-{
-    let list = fields_of_header(header);
-    out.write_all(b"{\"header\":{")?;
-    write_fields(Shape::Member, list.fields.as_slice(), out)
-}
-
-fn write_packet_list<W: Write>(packets: &[Packet<'_>], out: &mut W) -> io::Result<()>
-    requires { All (λ p. length_of p ≤ 832) packets.now }
-    ensures { OnOk result (Appends (W.contents out.old) (W.contents out.new) (packets_of packets.now)) }
-{
-    out.write_all(b"},\"packets\":[")?;
-    write_packets(packets, out)
-}
-
-// The packets, and how many bits the telegram has.
-fn write_body<W: Write>(telegram: &Telegram<'_>, out: &mut W) -> io::Result<()>
-    requires { All (λ p. length_of p ≤ 832) telegram.now.packets.items }
-    ensures { OnOk result (Appends (W.contents out.old) (W.contents out.new) (body_of telegram.now)) }
-{
-    write_packet_list(telegram.packets.as_slice(), out)?;
-    write_pieces(Form::Json, &end_pieces(telegram.bits()), out)
-}
-
-/// Writes a telegram. The caller owes that none of its packets has more than 832 bits.
-#[tactic(auto, unfolding(crate::specs::Telegrams::telegram_of))]
+/// Writes a telegram: its header, its packets, and how many bits it has. The caller owes that none of its packets has more
+/// than 832 bits.
 pub(crate) fn write_telegram<W: Write>(telegram: &Telegram<'_>, out: &mut W) -> io::Result<()>
     requires { All (λ p. length_of p ≤ 832) telegram.now.packets.items }
     ensures { OnOk result (Appends (W.contents out.old) (W.contents out.new) (telegram_of telegram.now)) }
 {
-    write_header(&telegram.header, out)?;
-    write_body(telegram, out)
+    let header = fields_of_header(&telegram.header);
+    out.write_all(b"{\"header\":{")?;
+    write_fields(Shape::Member, header.fields.as_slice(), out)?;
+    out.write_all(b"},\"packets\":[")?;
+    write_packets(telegram.packets.as_slice(), out)?;
+    write_pieces(Form::Json, &end_pieces(telegram.bits()), out)
 }

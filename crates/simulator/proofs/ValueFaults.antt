@@ -65,6 +65,7 @@ of_given true fault is = of_ok tt
 of_given false fault is = of_err fault is
 
 of_within : (low high : ℕ) (z : ℤ) → Fits (within low high z)
+unfolding within
 of_within low high z = either (int_le (pos low) z && int_le z (pos high)) _ _ (of_ok _) (of_err OutOfRange tt)
 
 of_known : {A : Type 0} (o : Option A) → Fits (known o)
@@ -79,10 +80,12 @@ of_hex (Ok bytes) = of_ok bytes
 of_hex (Err fault) = of_err BadHex tt
 
 of_bytes : (text : List ℕ) → Fits (bytes_in text)
+unfolding bytes_in
 of_bytes text = bind _ _ (of_hex (decode_of text)) (λ bytes. bind _ _ (of_given _ OutOfRange tt) (λ u. of_ok _))
 
 -- a whole number, and a text, at a place in a list
 of_whole : (ds : List Data) (n : ℕ) → Fits (whole_item ds n)
+unfolding whole_item
 of_whole ds n = of_shaped (option_and_then whole (slice_get ds n))
 
 of_text : (ds : List Data) (n : ℕ) → Fits (text_item ds n)
@@ -91,6 +94,7 @@ of_text ds n = of_shaped (option_and_then as_str (slice_get ds n))
 -- ---- groups
 
 of_laid_one : (at : ℕ) (d : Data) (bs : List Balise) → Fits (laid_one at d bs)
+unfolding laid_one
 of_laid_one at d bs = bind _ _ (of_shaped (as_str d)) (λ text. bind _ _ (of_bytes text) (λ bytes. of_ok _))
 
 of_laid : (at spacing : ℕ) (ds : List Data) (bs : List Balise) → Fits (laid at spacing ds bs)
@@ -98,6 +102,7 @@ of_laid at spacing [] bs = of_ok bs
 of_laid at spacing (d ∷ ds) bs = bind _ _ (of_laid_one at d bs) (of_laid (at + spacing) spacing ds)
 
 of_group : (d : Data) (bs : List Balise) → Fits (group d bs)
+unfolding group
 of_group d bs =
     bind _ _ (of_given (has_members 3 d) Shape tt) (λ u. bind _ _ (of_shaped (whole_at (codes "at") d)) (λ at. bind _ _ (of_shaped (whole_at (codes "spacing") d)) (λ spacing.
     bind _ _ (of_shaped (list_at (codes "balises") d)) (λ items.
@@ -123,36 +128,45 @@ of_identity : (text : List ℕ) → Fits (identity text)
 of_identity text = either (is_identity text) _ _ (of_ok _) (of_err OutOfRange tt)
 
 of_entered_identity : (ds : List Data) → Fits (entered_identity ds)
+unfolding entered_identity
 of_entered_identity ds = bind _ _ (of_given (length ds == 2) Shape tt) (λ u. bind _ _ (of_text ds 1) of_identity)
 
 of_lone_value : (ds : List Data) → Fits (lone_value ds)
+unfolding lone_value
 of_lone_value ds = bind _ _ (of_given (length ds == 2) Shape tt) (λ u. of_whole ds 1)
 
 of_entered_number : (ds : List Data) → Fits (entered_number ds)
+unfolding entered_number
 of_entered_number ds = bind _ _ (of_lone_value ds) (λ z. bind _ _ (of_within 0 99_999_999 z) (λ number. of_ok _))
 
 of_brakes : (rate time : ℤ) → Fits (brakes rate time)
 of_brakes rate time = bind _ _ (of_within 1 300 rate) (λ a. bind _ _ (of_within 0 10_000 time) (λ b. of_ok _))
 
 of_train : (cm mph rate time kind : ℤ) → Fits (train cm mph rate time kind)
+unfolding train
 of_train cm mph rate time kind =
     bind _ _ (of_within 1 409_500 cm) (λ a. bind _ _ (of_within 1 600_000 mph) (λ b. bind _ _ (of_brakes rate time) (λ c. bind _ _ (of_within 0 15 kind) (λ d. of_ok _))))
 
 of_entered_train : (ds : List Data) → Fits (entered_train ds)
+unfolding entered_train
 of_entered_train ds =
     bind _ _ (of_given (length ds == 6) Shape tt) (λ u. bind _ _ (of_whole ds 1) (λ cm. bind _ _ (of_whole ds 2) (λ mph. bind _ _ (of_whole ds 3) (λ rate.
     bind _ _ (of_whole ds 4) (λ time. bind _ _ (of_whole ds 5) (λ kind. of_train cm mph rate time kind))))))
 
 of_chosen_level : (ds : List Data) → Fits (chosen_level ds)
+unfolding chosen_level
 of_chosen_level ds = bind _ _ (of_lone_value ds) (λ z. bind _ _ (of_level z) (λ l. of_ok _))
 
 of_confirmed_item : (ds : List Data) → Fits (confirmed_item ds)
+unfolding confirmed_item
 of_confirmed_item ds = bind _ _ (of_lone_value ds) (λ z. bind _ _ (of_confirmed z) (λ l. of_ok _))
 
 of_acknowledged_kind : (ds : List Data) → Fits (acknowledged_kind ds)
+unfolding acknowledged_kind
 of_acknowledged_kind ds = bind _ _ (of_lone_value ds) (λ z. bind _ _ (of_acknowledged z) (λ l. of_ok _))
 
 of_bare : (a : Action) (ds : List Data) → Fits (bare a ds)
+unfolding bare
 of_bare a ds = bind _ _ (of_given (length ds == 1) Shape tt) (λ u. of_ok a)
 
 of_or_shape : {A : Type 0} (r : Result A ScenarioFault) → Fits (or_shape r)
@@ -160,6 +174,7 @@ of_or_shape (Ok x) = of_ok x
 of_or_shape (Err fault) = of_err Shape tt
 
 of_kind : (kind : ActionKind) (ds : List Data) → Fits (by_kind kind ds)
+unfolding by_kind
 of_kind a_kind.EnterIdentity ds = of_entered_identity ds
 of_kind a_kind.EnterRunningNumber ds = of_entered_number ds
 of_kind a_kind.EnterTrainData ds = of_entered_train ds
@@ -173,25 +188,31 @@ of_kind a_kind.Acknowledge ds = of_acknowledged_kind ds
 of_kind a_kind.CloseDesk ds = of_bare CloseDesk ds
 
 of_action : (ds : List Data) → Fits (action ds)
+unfolding action
 of_action ds = bind _ _ (of_whole ds 0) (λ code. bind _ _ (of_or_shape (numbered action_by code)) (λ kind. of_kind kind ds))
 
 -- ---- steps
 
 of_drive : (v : Data) → Fits (drive v)
+unfolding drive
 of_drive v =
     bind _ _ (of_shaped (list_in v)) (λ items. bind _ _ (of_given (length items == 2) Shape tt) (λ u. bind _ _ (of_whole items 0) (λ cm. bind _ _ (of_whole items 1) (λ mph.
     bind _ _ (of_given (int_le farthest_back cm && int_le cm (pos farthest)) OutOfRange tt) (λ w. bind _ _ (of_within 0 600_000 mph) (λ speed. of_ok _))))))
 
 of_telegram : (v : Data) → Fits (telegram v)
+unfolding telegram
 of_telegram v = bind _ _ (of_shaped (as_str v)) (λ text. bind _ _ (of_bytes text) (λ bytes. of_ok _))
 
 of_clock : (v : Data) → Fits (clock v)
+unfolding clock
 of_clock v = bind _ _ (of_shaped (whole v)) (λ z. bind _ _ (of_within 0 _ z) (λ ms. of_ok _))
 
 of_driver : (v : Data) → Fits (driver v)
+unfolding driver
 of_driver v = bind _ _ (of_shaped (list_in v)) (λ items. bind _ _ (of_action items) (λ a. of_ok _))
 
 of_flush : (v : Data) → Fits (flush v)
+unfolding flush
 of_flush v = bind _ _ (of_shaped (as_bool v)) (λ wanted. bind _ _ (of_given wanted Shape tt) (λ u. of_ok _))
 
 or_other : (o : Option Data) (this : Data → Result Asked ScenarioFault) (other : Result Asked ScenarioFault) → ((v : Data) → Fits (this v)) → Fits other → Fits (or_else o this other)
@@ -199,11 +220,13 @@ or_other (Some v) this other one rest = one v
 or_other None this other one rest = rest
 
 of_key : (d : Data) → Fits (by_key d)
+unfolding by_key
 of_key d =
     or_other (get (codes "drive") d) drive _ of_drive (or_other (get (codes "telegram") d) telegram _ of_telegram (or_other (get (codes "clock") d) clock _ of_clock
     (or_other (get (codes "driver") d) driver _ of_driver (or_other (get (codes "flush") d) flush _ of_flush (of_err Shape tt)))))
 
 of_asked : (d : Data) → Fits (asked d)
+unfolding asked
 of_asked d = either (has_members 1 d) _ _ (of_key d) (of_err Shape tt)
 
 -- ---- a life
@@ -213,19 +236,23 @@ of_lived ahead [] r = of_ok r
 of_lived ahead (d ∷ ds) r = bind _ _ (of_asked d) (λ step. of_lived ahead ds (taken ahead step r))
 
 of_steps : (ahead : ℤ → ℕ → List Balise) (ds : List Data) → Fits (steps_in ahead ds)
+unfolding steps_in
 of_steps ahead ds = bind _ _ (of_lived ahead ds start) (λ run. of_ok _)
 
 of_cold_word : (z : ℤ) → Fits (cold_word z)
 of_cold_word z = of_numbered word_by z
 
 of_cold : (o : Option Data) → Fits (cold_of o)
+unfolding cold_of
 of_cold None = of_ok _
 of_cold (Some v) = bind _ _ (of_shaped (whole v)) of_cold_word
 
 of_items : (key : List ℕ) (d : Data) → Fits (items_at key d)
+unfolding items_at
 of_items key d = bind _ _ (of_shaped (get key d)) (λ v. of_shaped (list_in v))
 
 pub of_life : (d : Data) → Fits (life_in d)
+unfolding life_in
 of_life d =
     bind _ _ (of_given (has_keys d) Shape tt) (λ u. bind _ _ (of_cold (get (codes "cold") d)) (λ cold. bind _ _ (of_items (codes "groups") d) (λ laid. bind _ _ (of_groups laid []) (λ balises.
     bind _ _ (of_items (codes "steps") d) (λ items. bind _ _ (of_steps (passed balises) items) (λ steps. of_ok _))))))

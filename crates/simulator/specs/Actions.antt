@@ -35,19 +35,19 @@ acknowledged z = numbered reason_by z
 abbrev pub identity : List ℕ → Result Action ScenarioFault
 identity text = if is_identity text then Ok (EnterIdentity text) else Err OutOfRange
 
-abbrev pub entered_identity : List Data → Result Action ScenarioFault
+unfoldable pub entered_identity : List Data → Result Action ScenarioFault
 entered_identity ds = do
   _ ← given (length ds == 2) Shape
   text ← text_item ds 1
   identity text
 
 -- one whole number
-abbrev pub lone_value : List Data → Result ℤ ScenarioFault
+unfoldable pub lone_value : List Data → Result ℤ ScenarioFault
 lone_value ds = do
   _ ← given (length ds == 2) Shape
   whole_item ds 1
 
-abbrev pub entered_number : List Data → Result Action ScenarioFault
+unfoldable pub entered_number : List Data → Result Action ScenarioFault
 entered_number ds = do
   z ← lone_value ds
   number ← within 0 99_999_999 z
@@ -60,7 +60,7 @@ brakes rate time = do
   reaction ← within 0 10_000 time
   Ok (record { deceleration = deceleration; reaction = reaction })
 
-abbrev pub train : ℤ → ℤ → ℤ → ℤ → ℤ → Result Action ScenarioFault
+unfoldable pub train : ℤ → ℤ → ℤ → ℤ → ℤ → Result Action ScenarioFault
 train cm mph rate time kind = do
   length ← within 1 409_500 cm
   maximum ← within 1 600_000 mph
@@ -68,7 +68,7 @@ train cm mph rate time kind = do
   category ← within 0 15 kind
   Ok (EnterTrainData (record { length = length; maximum = maximum; category = category; brakes = brakes }))
 
-abbrev pub entered_train : List Data → Result Action ScenarioFault
+unfoldable pub entered_train : List Data → Result Action ScenarioFault
 entered_train ds = do
   _ ← given (length ds == 6) Shape
   cm ← whole_item ds 1
@@ -78,26 +78,26 @@ entered_train ds = do
   kind ← whole_item ds 5
   train cm mph rate time kind
 
-abbrev pub chosen_level : List Data → Result Action ScenarioFault
+unfoldable pub chosen_level : List Data → Result Action ScenarioFault
 chosen_level ds = do
   z ← lone_value ds
   level ← level z
   Ok (ChooseLevel level)
 
-abbrev pub confirmed_item : List Data → Result Action ScenarioFault
+unfoldable pub confirmed_item : List Data → Result Action ScenarioFault
 confirmed_item ds = do
   z ← lone_value ds
   item ← confirmed z
   Ok (Confirm item)
 
-abbrev pub acknowledged_kind : List Data → Result Action ScenarioFault
+unfoldable pub acknowledged_kind : List Data → Result Action ScenarioFault
 acknowledged_kind ds = do
   z ← lone_value ds
   kind ← acknowledged z
   Ok (Acknowledge kind)
 
 -- an action without values
-abbrev pub bare : Action → List Data → Result Action ScenarioFault
+unfoldable pub bare : Action → List Data → Result Action ScenarioFault
 bare action ds = do
   _ ← given (length ds == 1) Shape
   Ok action
@@ -113,7 +113,7 @@ or_shape (Err fault) = Err Shape
 abbrev pub kind_told : ℤ → Result ActionKind ScenarioFault
 kind_told code = or_shape (numbered action_by code)
 
-abbrev pub by_kind : ActionKind → List Data → Result Action ScenarioFault
+unfoldable pub by_kind : ActionKind → List Data → Result Action ScenarioFault
 by_kind a_kind.EnterIdentity ds = entered_identity ds
 by_kind a_kind.EnterRunningNumber ds = entered_number ds
 by_kind a_kind.EnterTrainData ds = entered_train ds
@@ -126,7 +126,7 @@ by_kind a_kind.Override ds = bare Override ds
 by_kind a_kind.Acknowledge ds = acknowledged_kind ds
 by_kind a_kind.CloseDesk ds = bare CloseDesk ds
 
-abbrev pub action : List Data → Result Action ScenarioFault
+unfoldable pub action : List Data → Result Action ScenarioFault
 action ds = do
   code ← whole_item ds 0
   kind ← kind_told code

@@ -20,7 +20,7 @@ are_texts [] = true
 are_texts (d ∷ ds) = is_some (as_str d) && are_texts ds
 
 -- behind those before it, a balise at a place
-abbrev pub laid_one : ℕ → Data → List Balise → Result (List Balise) ScenarioFault
+unfoldable pub laid_one : ℕ → Data → List Balise → Result (List Balise) ScenarioFault
 laid_one at d bs = do
   text ← shaped (as_str d)
   bytes ← bytes_in text
@@ -32,7 +32,7 @@ laid at spacing [] bs = Ok bs
 laid at spacing (d ∷ ds) bs = laid_one at d bs >>= laid (at + spacing) spacing ds
 
 -- behind those before it, a group of 1 to 8 balises
-abbrev pub group : Data → List Balise → Result (List Balise) ScenarioFault
+unfoldable pub group : Data → List Balise → Result (List Balise) ScenarioFault
 group d bs = do
   _ ← given (has_members 3 d) Shape
   at ← shaped (whole_at (codes "at") d)

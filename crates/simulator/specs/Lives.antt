@@ -23,31 +23,31 @@ lived ahead (d ∷ ds) r = do
   step ← asked d
   lived ahead ds (taken ahead step r)
 
-abbrev pub steps_in : (ℤ → ℕ → List Balise) → List Data → Result (List Step) ScenarioFault
+unfoldable pub steps_in : (ℤ → ℕ → List Balise) → List Data → Result (List Step) ScenarioFault
 steps_in ahead ds = do
   run ← lived ahead ds start
   Ok (ended run).steps
 
 -- the keys groups and steps, and no other one but cold
-abbrev pub has_keys : Data → Bool
+unfoldable pub has_keys : Data → Bool
 has_keys d = has_members (if is_some (get (codes "cold") d) then 3 else 2) d && is_some (get (codes "groups") d) && is_some (get (codes "steps") d)
 
 -- whether the train was moved without power
 abbrev pub cold_word : ℤ → Result Cold ScenarioFault
 cold_word z = numbered word_by z
 
-abbrev pub cold_of : Option Data → Result Cold ScenarioFault
+unfoldable pub cold_of : Option Data → Result Cold ScenarioFault
 cold_of None = Ok Unknown
 cold_of (Some v) = shaped (whole v) >>= cold_word
 
 -- the items of a list that stands at a key
-abbrev pub items_at : List ℕ → Data → Result (List Data) ScenarioFault
+unfoldable pub items_at : List ℕ → Data → Result (List Data) ScenarioFault
 items_at key d = do
   v ← shaped (get key d)
   shaped (list_in v)
 
 -- the word and the steps of a life, or the first fault
-abbrev pub life_in : Data → Result (Cold × List Step) ScenarioFault
+unfoldable pub life_in : Data → Result (Cold × List Step) ScenarioFault
 life_in d = do
   _ ← given (has_keys d) Shape
   cold ← cold_of (get (codes "cold") d)
@@ -67,7 +67,7 @@ ends_by ahead (d ∷ ds) r ends = do
   ends_by ahead ds (taken ahead step r) (ends ++ length (taken ahead step r).steps ∷ [])
 
 -- .. of all steps of a value
-abbrev pub ends_in : Data → Result (List ℕ) ScenarioFault
+unfoldable pub ends_in : Data → Result (List ℕ) ScenarioFault
 ends_in d = do
   laid ← items_at (codes "groups") d
   balises ← groups laid []

@@ -14,7 +14,7 @@ use Rattle.simulator.specs.declared.fault.ScenarioFault.{ScenarioFault}
 use Rattle.simulator.specs.declared.fault.ScenarioFault.TheVariants.{Shape, OutOfRange}
 
 -- so many centimetres at a speed
-abbrev pub drive : Data → Result Asked ScenarioFault
+unfoldable pub drive : Data → Result Asked ScenarioFault
 drive v = do
   items ← shaped (list_in v)
   _ ← given (length items == 2) Shape
@@ -24,25 +24,25 @@ drive v = do
   speed ← within 0 600_000 mph
   Ok (Drive cm speed)
 
-abbrev pub telegram : Data → Result Asked ScenarioFault
+unfoldable pub telegram : Data → Result Asked ScenarioFault
 telegram v = do
   text ← shaped (as_str v)
   bytes ← bytes_in text
   Ok (Happens (Telegram bytes))
 
-abbrev pub clock : Data → Result Asked ScenarioFault
+unfoldable pub clock : Data → Result Asked ScenarioFault
 clock v = do
   z ← shaped (whole v)
   ms ← within 0 (longest_life - 1) z
   Ok (Happens (Clock ms))
 
-abbrev pub driver : Data → Result Asked ScenarioFault
+unfoldable pub driver : Data → Result Asked ScenarioFault
 driver v = do
   items ← shaped (list_in v)
   action ← actions.action items
   Ok (Happens (Driver action))
 
-abbrev pub flush : Data → Result Asked ScenarioFault
+unfoldable pub flush : Data → Result Asked ScenarioFault
 flush v = do
   wanted ← shaped (as_bool v)
   _ ← given wanted Shape
@@ -53,7 +53,7 @@ abbrev pub or_else : Option Data → (Data → Result Asked ScenarioFault) → R
 or_else (Some v) this other = this v
 or_else None this other = other
 
-abbrev pub by_key : Data → Result Asked ScenarioFault
+unfoldable pub by_key : Data → Result Asked ScenarioFault
 by_key d =
     or_else (get (codes "drive") d) drive
     (or_else (get (codes "telegram") d) telegram
@@ -62,5 +62,5 @@ by_key d =
     (or_else (get (codes "flush") d) flush (Err Shape)))))
 
 -- an object of one member, whose key says what is asked
-abbrev pub asked : Data → Result Asked ScenarioFault
+unfoldable pub asked : Data → Result Asked ScenarioFault
 asked d = if has_members 1 d then by_key d else Err Shape

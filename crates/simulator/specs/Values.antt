@@ -49,7 +49,7 @@ abbrev pub whole : Data → Option ℤ
 whole d = option_and_then as_i64 (as_number d)
 
 -- a whole number, and a text, that stand at a place in a list
-abbrev pub whole_item : List Data → ℕ → Result ℤ ScenarioFault
+unfoldable pub whole_item : List Data → ℕ → Result ℤ ScenarioFault
 whole_item ds n = shaped (option_and_then whole (slice_get ds n))
 
 abbrev pub text_item : List Data → ℕ → Result (List ℕ) ScenarioFault
@@ -58,7 +58,7 @@ text_item ds n = shaped (option_and_then as_str (slice_get ds n))
 -- ---- values
 
 -- a number from low to high
-abbrev pub within : ℕ → ℕ → ℤ → Result ℕ ScenarioFault
+unfoldable pub within : ℕ → ℕ → ℤ → Result ℕ ScenarioFault
 within low high z = if int_le (pos low) z && int_le z (pos high) then Ok (natural z) else Err OutOfRange
 
 -- what there is, or OutOfRange
@@ -76,7 +76,7 @@ hex_bytes (Ok bytes) = Ok bytes
 hex_bytes (Err fault) = Err BadHex
 
 -- the 1 to 104 bytes of a telegram, in hex
-abbrev pub bytes_in : List ℕ → Result (List ℕ) ScenarioFault
+unfoldable pub bytes_in : List ℕ → Result (List ℕ) ScenarioFault
 bytes_in text = do
   bytes ← hex_bytes (decode_of text)
   _ ← given (nat_le 1 (length bytes) && nat_le (length bytes) telegram_bytes) OutOfRange

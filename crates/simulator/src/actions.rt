@@ -42,6 +42,7 @@ fn identity_of(text: &str) -> Result<Action, ScenarioFault>
     }
 }
 
+#[tactic(auto, unfolding(crate::specs::Actions::entered_identity))]
 fn entered_identity(items: &[Value]) -> Result<Action, ScenarioFault>
     ensures { result ≡ entered_identity (map view items.now) }
 {
@@ -53,6 +54,7 @@ fn entered_identity(items: &[Value]) -> Result<Action, ScenarioFault>
 }
 
 // The one whole number behind the code.
+#[tactic(auto, unfolding(crate::specs::Actions::lone_value))]
 fn lone_value(items: &[Value]) -> Result<i64, ScenarioFault>
     ensures { result ≡ lone_value (map view items.now) }
 {
@@ -62,6 +64,7 @@ fn lone_value(items: &[Value]) -> Result<i64, ScenarioFault>
     whole_item(items, 1)
 }
 
+#[tactic(auto, unfolding(crate::specs::Actions::entered_number))]
 fn entered_number(items: &[Value]) -> Result<Action, ScenarioFault>
     ensures { result ≡ entered_number (map view items.now) }
 {
@@ -118,6 +121,7 @@ fn brakes_of(rate: i64, time: i64) -> Result<Brakes, ScenarioFault>
     })
 }
 
+#[tactic(auto, unfolding(crate::specs::Actions::train))]
 fn train_of(cm: i64, mph: i64, rate: i64, time: i64, kind: i64) -> Result<Action, ScenarioFault>
     ensures { result ≡ train cm mph rate time kind }
 {
@@ -131,6 +135,7 @@ fn train_of(cm: i64, mph: i64, rate: i64, time: i64, kind: i64) -> Result<Action
     }
 }
 
+#[tactic(auto, unfolding(crate::specs::Actions::entered_train))]
 fn entered_train(items: &[Value]) -> Result<Action, ScenarioFault>
     ensures { result ≡ entered_train (map view items.now) }
 {
@@ -145,6 +150,7 @@ fn entered_train(items: &[Value]) -> Result<Action, ScenarioFault>
     train_of(cm, mph, rate, time, kind)
 }
 
+#[tactic(auto, unfolding(crate::specs::Actions::chosen_level))]
 fn chosen_level(items: &[Value]) -> Result<Action, ScenarioFault>
     ensures { result ≡ chosen_level (map view items.now) }
 {
@@ -152,6 +158,7 @@ fn chosen_level(items: &[Value]) -> Result<Action, ScenarioFault>
     Ok(Action::ChooseLevel(level))
 }
 
+#[tactic(auto, unfolding(crate::specs::Actions::confirmed_item))]
 fn confirmed_item(items: &[Value]) -> Result<Action, ScenarioFault>
     ensures { result ≡ confirmed_item (map view items.now) }
 {
@@ -159,6 +166,7 @@ fn confirmed_item(items: &[Value]) -> Result<Action, ScenarioFault>
     Ok(Action::Confirm(item))
 }
 
+#[tactic(auto, unfolding(crate::specs::Actions::acknowledged_kind))]
 fn acknowledged_kind(items: &[Value]) -> Result<Action, ScenarioFault>
     ensures { result ≡ acknowledged_kind (map view items.now) }
 {
@@ -167,6 +175,7 @@ fn acknowledged_kind(items: &[Value]) -> Result<Action, ScenarioFault>
 }
 
 // An action without values.
+#[tactic(auto, unfolding(crate::specs::Actions::bare))]
 fn bare(action: Action, items: &[Value]) -> Result<Action, ScenarioFault>
     ensures { result ≡ bare action (map view items.now) }
 {
@@ -187,6 +196,7 @@ fn kind_of(code: i64) -> Result<ActionKind, ScenarioFault>
     }
 }
 
+#[tactic(auto, unfolding(crate::specs::Actions::by_kind))]
 fn by_kind(kind: ActionKind, items: &[Value]) -> Result<Action, ScenarioFault>
     ensures { result ≡ by_kind kind (map view items.now) }
 {
@@ -206,6 +216,7 @@ fn by_kind(kind: ActionKind, items: &[Value]) -> Result<Action, ScenarioFault>
 }
 
 /// The action that a code and its values tell.
+#[tactic(auto, unfolding(crate::specs::Actions::action))]
 pub(crate) fn action_of(items: &[Value]) -> Result<Action, ScenarioFault>
     ensures { result ≡ action (map view items.now) }
 {

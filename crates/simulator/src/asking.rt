@@ -14,6 +14,7 @@ use serde_json::Value;
 use std::alloc::Global;
 use units::{LONGEST_LIFE, Mph, Ms};
 
+#[tactic(auto, unfolding(crate::specs::Steps::drive))]
 fn drive_of(value: &Value) -> Result<Asked, ScenarioFault>
     ensures { result ≡ drive (view value.now) }
 {
@@ -28,6 +29,7 @@ fn drive_of(value: &Value) -> Result<Asked, ScenarioFault>
     Ok(Asked::Drive(distance, speed))
 }
 
+#[tactic(auto, unfolding(crate::specs::Steps::telegram))]
 fn telegram_of(alloc: Global, value: &Value) -> Result<Asked, ScenarioFault>
     ensures ok { IfOk result (λ step. telegram (view value.now) ≡ Ok step) }
     ensures err { IfErr result (λ fault. (fault ≡ ScenarioFault.NoMemory) ⊎ (telegram (view value.now) ≡ Err fault)) }
@@ -37,6 +39,7 @@ fn telegram_of(alloc: Global, value: &Value) -> Result<Asked, ScenarioFault>
     Ok(Asked::Happens(Input::Telegram(bytes)))
 }
 
+#[tactic(auto, unfolding(crate::specs::Steps::clock))]
 fn clock_of(value: &Value) -> Result<Asked, ScenarioFault>
     ensures { result ≡ clock (view value.now) }
 {
@@ -46,6 +49,7 @@ fn clock_of(value: &Value) -> Result<Asked, ScenarioFault>
     Ok(Asked::Happens(Input::Clock(moment)))
 }
 
+#[tactic(auto, unfolding(crate::specs::Steps::driver))]
 fn driver_of(value: &Value) -> Result<Asked, ScenarioFault>
     ensures { result ≡ driver (view value.now) }
 {
@@ -54,6 +58,7 @@ fn driver_of(value: &Value) -> Result<Asked, ScenarioFault>
     Ok(Asked::Happens(Input::Driver(action)))
 }
 
+#[tactic(auto, unfolding(crate::specs::Steps::flush))]
 fn flush_of(value: &Value) -> Result<Asked, ScenarioFault>
     ensures { result ≡ flush (view value.now) }
 {
@@ -63,6 +68,7 @@ fn flush_of(value: &Value) -> Result<Asked, ScenarioFault>
     }
 }
 
+#[tactic(auto, unfolding(crate::specs::Steps::by_key))]
 fn by_key(alloc: Global, value: &Value) -> Result<Asked, ScenarioFault>
     ensures ok { IfOk result (λ step. by_key (view value.now) ≡ Ok step) }
     ensures err { IfErr result (λ fault. (fault ≡ ScenarioFault.NoMemory) ⊎ (by_key (view value.now) ≡ Err fault)) }
@@ -86,6 +92,7 @@ fn by_key(alloc: Global, value: &Value) -> Result<Asked, ScenarioFault>
 }
 
 /// What an item of the steps asks for.
+#[tactic(auto, unfolding(crate::specs::Steps::asked))]
 pub(crate) fn asked_of(alloc: Global, value: &Value) -> Result<Asked, ScenarioFault>
     ensures ok { IfOk result (λ step. asked (view value.now) ≡ Ok step) }
     ensures err { IfErr result (λ fault. (fault ≡ ScenarioFault.NoMemory) ⊎ (asked (view value.now) ≡ Err fault)) }

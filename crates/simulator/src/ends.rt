@@ -59,6 +59,7 @@ fn ends_by(alloc: Global, track: &Track, items: &[Value]) -> Result<Vec<usize>, 
 /// Of each step of a scenario, how many steps of the life that `life_of` answers there are up to its end: so the step at
 /// a place of that life comes from the first step of the scenario whose end is behind the place; a last flush comes from
 /// none. An error is the first fault of the groups and the steps; NoMemory may come in the place of any.
+#[tactic(auto, unfolding(crate::specs::Lives::ends_in))]
 pub(crate) fn ends_of(alloc: Global, value: &Value) -> Result<Vec<usize>, ScenarioFault>
     ensures ok { IfOk result (λ ends. ends_in (view value.now) ≡ Ok ends.items) }
     ensures err { IfErr result (λ fault. (fault ≡ ScenarioFault.NoMemory) ⊎ (ends_in (view value.now) ≡ Err fault)) }

@@ -37,6 +37,7 @@ fn are_texts(items: &[Value]) -> bool
 }
 
 /// Lays a balise at a place.
+#[tactic(auto, unfolding(crate::specs::Groups::laid_one))]
 pub(crate) fn lay_one(
     alloc: Global,
     at: u64,
@@ -77,6 +78,7 @@ fn lay(
 }
 
 /// Lays the balises of a group.
+#[tactic(auto, unfolding(crate::specs::Groups::group))]
 pub(crate) fn lay_group(
     alloc: Global,
     value: &Value,

@@ -18,6 +18,7 @@ use mode_table::Cold;
 use serde_json::Value;
 use std::alloc::Global;
 
+#[tactic(auto, unfolding(crate::specs::Lives::has_keys))]
 fn has_keys(value: &Value) -> bool
     ensures { result ≡ has_keys (view value.now) }
 {
@@ -32,12 +33,14 @@ fn cold_word(number: i64) -> Result<Cold, ScenarioFault>
 }
 
 /// What the value of `cold` says.
+#[tactic(auto, unfolding(crate::specs::Lives::cold_of))]
 pub(crate) fn cold_in(value: &Value) -> Result<Cold, ScenarioFault>
     ensures { result ≡ cold_of (Some (view value.now)) }
 {
     cold_word(value.as_i64().ok_or(ScenarioFault::Shape)?)
 }
 
+#[tactic(auto, unfolding(crate::specs::Lives::cold_of))]
 fn cold_of(value: &Value) -> Result<Cold, ScenarioFault>
     ensures { result ≡ cold_of (get (codes "cold") (view value.now)) }
 {
@@ -48,6 +51,7 @@ fn cold_of(value: &Value) -> Result<Cold, ScenarioFault>
 }
 
 /// The items of the list at a key.
+#[tactic(auto, unfolding(crate::specs::Lives::items_at))]
 pub(crate) fn items_at<'a>(value: &'a Value, key: &str) -> Result<&'a [Value], ScenarioFault>
     ensures ok { IfOk result (λ items. items_at key.now (view value.now) ≡ Ok (map view items.now)) }
     ensures err { IfErr result (λ fault. items_at key.now (view value.now) ≡ Err fault) }
@@ -90,6 +94,7 @@ fn live(
     Ok(())
 }
 
+#[tactic(auto, unfolding(crate::specs::Lives::steps_in))]
 fn steps_of(alloc: Global, track: &Track, items: &[Value]) -> Result<Vec<Step>, ScenarioFault>
     ensures ok { IfOk result (λ steps. steps_in (passed track.now.balises.items) (map view items.now)
         ≡ Ok steps.items) }
@@ -104,6 +109,7 @@ fn steps_of(alloc: Global, track: &Track, items: &[Value]) -> Result<Vec<Step>, 
 /// What the train knows of movements without power, and the steps of the life that a value asks for; or the value's
 /// first fault. The faults come in this order: the keys of the object; the value of `cold`; the groups; the steps; in
 /// each item its shape, and then its numbers and texts. NoMemory may come in the place of any of them.
+#[tactic(auto, unfolding(crate::specs::Lives::life_in))]
 pub fn life_of(alloc: Global, value: &Value) -> Result<(Cold, Vec<Step>), ScenarioFault>
     ensures ok { IfOk result (λ life. life_in (view value.now) ≡ Ok (life.0, life.1.items)) }
     ensures err { IfErr result (λ fault. (fault ≡ ScenarioFault.NoMemory) ⊎ (life_in (view value.now) ≡ Err fault)) }

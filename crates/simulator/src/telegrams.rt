@@ -8,6 +8,7 @@ use hex::FromHexError;
 use std::alloc::Global;
 
 /// The bytes of a telegram in hex.
+#[tactic(auto, unfolding(crate::specs::Values::bytes_in))]
 pub(crate) fn bytes_of(alloc: Global, text: &str) -> Result<TelegramBytes, ScenarioFault>
     ensures ok { IfOk result (λ bytes. bytes_in text.now ≡ Ok bytes) }
     ensures err { IfErr result (λ fault. (fault ≡ ScenarioFault.NoMemory) ⊎ (bytes_in text.now ≡ Err fault)) }

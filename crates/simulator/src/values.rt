@@ -27,6 +27,7 @@ pub(crate) fn list_of(value: &Value) -> Option<&[Value]>
 }
 
 /// The whole number at a place in a list.
+#[tactic(auto, unfolding(crate::specs::Values::whole_item))]
 pub(crate) fn whole_item(items: &[Value], place: usize) -> Result<i64, ScenarioFault>
     ensures { result ≡ whole_item (map view items.now) place }
 {
@@ -48,6 +49,7 @@ pub(crate) fn text_item(items: &[Value], place: usize) -> Result<&str, ScenarioF
 }
 
 /// A number from `low` to `high`.
+#[tactic(auto, unfolding(crate::specs::Values::within))]
 pub(crate) fn within(low: u64, high: u64, number: i64) -> Result<u64, ScenarioFault>
     ensures value { result ≡ within low high number }
     ensures limits { IfOk result (λ n. (low ≤ n) × (n ≤ high)) }

@@ -1,9 +1,8 @@
 -- A life on an empty image: what it releases, and how it ends.
-use Rattle.std.proofs.Common.{◌≡◌, ◌≢◌, ◌⊎◌, inl, inr, ⊎_elim, ℕ, suc, ◌+◌, ◌<◌, ◌≤◌, IsTrue, List, [], ◌∷◌, ◌++◌, length, take, Option, Some, None, Result, Ok, Err, refl, sym, ◌∙◌, ap, subst, arith, append-nil}
+use Rattle.std.proofs.Common.{◌≡◌, ◌⊎◌, inl, inr, ⊎_elim, ℕ, ◌+◌, IsTrue, List, [], ◌∷◌, ◌++◌, take, None, Result, Ok, Err, refl, sym, ◌∙◌, ap, subst, arith, append-nil}
 use Rattle.std.specs.Result.{result_err}
 use Rattle.disk.specs.Memory.{Recording, memory_state}
-use Rattle.disk.specs.State.{State, contents_of}
-use Rattle.blocks.specs.FirstSector.{sectors_of}
+use Rattle.disk.specs.State.{contents_of}
 use Rattle.events.specs.declared.input.Event.{Event}
 use Rattle.events.specs.declared.input.Event.TheVariants as an_event
 use Rattle.events.specs.declared.step.Step.{Step}
@@ -15,8 +14,8 @@ use Rattle.ring.proofs.Rest.{at_rest}
 use Rattle.onboard.specs.Events.{account_of, pairs_of}
 use Rattle.onboard.specs.Lives.{IsReady, IsWord, IsBlank, IsOpenRefusal}
 use Rattle.onboard.specs.Releases.{Release}
-use Rattle.onboard.specs.Runs.{durable_by, Lives, NothingReleased}
-use Rattle.onboard.specs.Stops.{begun_with, AllStand, Stopped, StepsEnd, LifeEnds, IsUnopened, IsNextNumber, AreBehind, IsDone}
+use Rattle.onboard.specs.Runs.{durable_by, NothingReleased}
+use Rattle.onboard.specs.Stops.{begun_with, AllStand, Stopped, LifeEnds, IsUnopened, IsNextNumber, AreBehind, IsDone}
 use Rattle.onboard.specs.declared.errors.LiveError.{LiveError}
 use Rattle.onboard.specs.declared.errors.LiveError.TheVariants as a_live
 use Rattle.onboard.specs.declared.errors.OpenError.{OpenError}

@@ -9,7 +9,7 @@ use Rattle.events.specs.declared.input.Event.{Event}
 use Rattle.events.specs.declared.input.Event.TheVariants as an_event
 use Rattle.events.specs.declared.input.Input.{Input}
 use Rattle.events.specs.declared.step.Step.{Step}
-use Rattle.events.specs.declared.step.Step.TheVariants.{Accept, Flush}
+use Rattle.events.specs.declared.step.Step.TheVariants.{Accept}
 use Rattle.mode_table.specs.declared.statuses.Cold.{Cold}
 use Rattle.onboard.specs.Events.{pair_of, pairs_of}
 use Rattle.onboard.specs.Releases.{Release}

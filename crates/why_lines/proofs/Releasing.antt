@@ -1,5 +1,5 @@
 -- What is released of a life, beside the inputs that it accepts.
-use Rattle.std.proofs.Common.{◌≡◌, ℕ, zero, suc, ◌+◌, ◌<◌, ◌≤◌, List, [], ◌∷◌, ◌++◌, length, take, drop, get_or, Option, Some, None, refl, sym, ◌∙◌, ap, subst, arith, append_assoc, append-nil, length-append}
+use Rattle.std.proofs.Common.{◌≡◌, ℕ, zero, suc, ◌+◌, ◌<◌, List, [], ◌∷◌, ◌++◌, length, take, drop, get_or, Option, Some, None, refl, sym, ◌∙◌, ap, arith, append_assoc, append-nil, length-append}
 use Rattle.std.proofs.lemmas.List.{take-append-drop}
 use Rattle.std.proofs.lemmas.List.Sums.{fold-append}
 use Rattle.std.proofs.Math.Seq.{drop-append_seam}
@@ -11,7 +11,7 @@ use Rattle.events.specs.declared.step.Step.TheVariants.{Accept, Flush}
 use Rattle.mode_table.specs.declared.statuses.Cold.{Cold}
 use Rattle.onboard.specs.Events.{pair_of, pairs_of}
 use Rattle.onboard.specs.Releases.{Release}
-use Rattle.onboard.specs.Runs.{accept_one, accepted_by, flush_one, flushed_by, durable_by}
+use Rattle.onboard.specs.Runs.{accept_one, accepted_by, flushed_by, durable_by}
 use Rattle.onboard.specs.declared.errors.LiveError.{LiveError}
 use Rattle.onboard.specs.declared.errors.LiveError.TheVariants as a_live
 use Rattle.onboard.proofs.Chains.{accepted_on}

@@ -1,5 +1,5 @@
 //! The first and the last line of a life that is played.
-ghost use Rattle.std.specs.Prelude.{◌≡◌, ◌+◌, None, [], drop};
+ghost use Rattle.std.specs.Prelude.{◌≡◌, ◌+◌, drop};
 ghost use Rattle.std.specs.Option.{option_map};
 ghost use Rattle.onboard.specs.Stops.{step_of};
 ghost use Rattle.pieces.specs.Pieces.{texts};
@@ -99,25 +99,15 @@ fn stop_name(error: LiveError) -> &'static str
     }
 }
 
-// The step of the life at which it stopped; none where no life began.
-fn place_of(error: LiveError) -> Option<usize>
-    ensures { result ≡ step_of error }
-{
-    match error {
-        LiveError::Open(_) => None,
-        LiveError::Accept(place, _) => Some(place),
-        LiveError::Flush(place, _) => Some(place),
-        LiveError::NoMemory(place) => Some(place),
-    }
-}
-
-// .. of the scenario.
+// The step of the scenario at which the life stopped; none where no life began.
 fn step_named(ends: &[usize], error: LiveError) -> Option<u64>
     ensures { result ≡ option_map (step_at ends.now) (step_of error) }
 {
-    match place_of(error) {
-        None => None,
-        Some(place) => Some(step_from(ends, 0, place) as u64),
+    match error {
+        LiveError::Open(_) => None,
+        LiveError::Accept(place, _) => Some(step_from(ends, 0, place) as u64),
+        LiveError::Flush(place, _) => Some(step_from(ends, 0, place) as u64),
+        LiveError::NoMemory(place) => Some(step_from(ends, 0, place) as u64),
     }
 }
 
@@ -135,20 +125,21 @@ fn stopped_pieces(step: Option<u64>, number: u8, name: &'static str) -> [Piece; 
     ]
 }
 
-fn done_pieces() -> [Piece; 7]
-    ensures { texts Json result ≡ last_line [] None }
-{
-    let none = Piece::Nothing;
-    let done = Piece::Same("{\"end\":\"done\"}\n");
-    [done, none, none, none, none, none, none]
-}
-
 /// The line behind the last output: the life came to its end, or at which step of the scenario it stopped, and why.
 pub(crate) fn last_pieces(ends: &[usize], stopped: &Option<LiveError>) -> [Piece; 7]
     ensures { texts Json result ≡ last_line ends.now stopped.now }
 {
+    let none = Piece::Nothing;
     match stopped {
-        None => done_pieces(),
+        None => [
+            Piece::Same("{\"end\":\"done\"}\n"),
+            none,
+            none,
+            none,
+            none,
+            none,
+            none,
+        ],
         Some(error) => stopped_pieces(
             step_named(ends, *error),
             stop_number(*error),

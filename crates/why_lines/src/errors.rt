@@ -1,36 +1,28 @@
 //! Errors.
 use std::io;
 use std::io::ErrorKind;
-use thiserror::Error;
 
 /// Why a journal was not walked to its end (this project's profile).
-#[derive(Clone, Copy, Debug, PartialEq, Eq, Error)]
+#[derive(Clone, Copy)]
 pub enum WhyError {
     /// The device failed in this call.
-    #[error("DeviceFault")]
     DeviceFault,
     /// The first sector is not that of a journal, or there is none.
-    #[error("NotFormatted")]
     NotFormatted,
     /// The number of sectors isn't that of the slots.
-    #[error("Damaged")]
     Damaged,
     /// The text could not be written.
-    #[error("Write")]
     Write,
     /// Memory was refused.
-    #[error("NoMemory")]
     NoMemory,
 }
 
 /// Why a life was not told to its end (this project's profile).
-#[derive(Clone, Copy, Debug, PartialEq, Eq, Error)]
+#[derive(Clone, Copy)]
 pub enum PlayError {
     /// The text could not be written.
-    #[error("Write")]
     Write,
     /// Memory was refused.
-    #[error("NoMemory")]
     NoMemory,
 }
 

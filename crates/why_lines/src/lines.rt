@@ -1,5 +1,5 @@
 //! The line of an event with the causes of its brake and of its limit.
-ghost use Rattle.std.specs.Prelude.{◌≡◌, ◌++◌, OnOk, flat_map};
+ghost use Rattle.std.specs.Prelude.{◌≡◌, OnOk, flat_map};
 ghost use Rattle.std.specs.Io.KnownBytes.{Appends};
 ghost use Rattle.pieces.specs.Pieces.{texts};
 ghost use Rattle.pieces.specs.declared.piece.Form.{Form as a_form};
@@ -237,7 +237,8 @@ fn write_cause<W: Write>(form: Form, told: &Told, out: &mut W) -> io::Result<()>
     }
 }
 
-fn write_causes<W: Write>(form: Form, told: &[Told], out: &mut W) -> io::Result<()>
+/// Writes causes, in their order.
+pub(crate) fn write_causes<W: Write>(form: Form, told: &[Told], out: &mut W) -> io::Result<()>
     ensures { OnOk result (Appends (W.contents out.old) (W.contents out.new) (flat_map (cause_text form) told.now)) }
 {
     for one in told {
@@ -246,14 +247,15 @@ fn write_causes<W: Write>(form: Form, told: &[Told], out: &mut W) -> io::Result<
     Ok(())
 }
 
+/// Writes what the line begins with.
 pub(crate) fn write_front<W: Write>(form: Form, answer: &Answer, out: &mut W) -> io::Result<()>
     ensures { OnOk result (Appends (W.contents out.old) (W.contents out.new) (front_text form answer.now)) }
 {
     write_pieces(form, &front_pieces(answer), out)
 }
 
-// What follows the causes.
-fn write_last<W: Write>(
+/// Writes what follows the causes, up to the end of the line.
+pub(crate) fn write_last<W: Write>(
     form: Form,
     trip: &Option<TripTold>,
     told: &LimitTold,
@@ -276,22 +278,6 @@ fn write_last<W: Write>(
     )
 }
 
-/// Behind what the line begins with: the causes, and what follows them.
-pub(crate) fn write_why<W: Write>(
-    form: Form,
-    told: &[Told],
-    trip: &Option<TripTold>,
-    decides: &LimitTold,
-    out: &mut W,
-) -> io::Result<()>
-    ensures { OnOk result (Appends (W.contents out.old) (W.contents out.new) (flat_map (cause_text form) told.now
-        ++ last_text form trip.now decides.now)) }
-{
-    write_causes(form, told, out)?;
-    write_last(form, trip, decides, out)?;
-    Ok(())
-}
-
 /// Writes the line of an event with these causes of its brake, with the trip that is owed, where it is known why, and
 /// with what decides its limit. The error is that of a write.
 pub fn write_line<W: Write>(
@@ -305,6 +291,7 @@ pub fn write_line<W: Write>(
     ensures { OnOk result (Appends (W.contents out.old) (W.contents out.new) (line_of form answer.now told.now trip.now decides.now)) }
 {
     write_front(form, answer, out)?;
-    write_why(form, told, trip, decides, out)?;
+    write_causes(form, told, out)?;
+    write_last(form, trip, decides, out)?;
     Ok(())
 }

@@ -33,17 +33,7 @@ fn begin_life(alloc: Global, course: &mut Course, number: u64, word: Cold) -> Op
     Some(output)
 }
 
-// Runs one event more; None where the life isn't known.
-fn go_on(alloc: Global, course: &mut Course, event: &Event) -> Result<Option<Output>, LateError> {
-    match &mut course.life {
-        None => Ok(None),
-        Some(life) => match life.follow(alloc, event) {
-            Ok(output) => Ok(Some(output)),
-            Err(NoMemory) => Err(LateError::NoMemory),
-        },
-    }
-}
-
+// Runs one record more; None where its life isn't known.
 fn answered(
     alloc: Global,
     course: &mut Course,
@@ -51,8 +41,17 @@ fn answered(
     record: &BlockRecord,
 ) -> Result<Option<Output>, LateError> {
     match &record.event {
-        Event::PowerUp(word) if place == 0 => Ok(begin_life(alloc, course, record.number, *word)),
-        event => go_on(alloc, course, event),
+        Event::PowerUp(word) if place == 0 => {
+            return Ok(begin_life(alloc, course, record.number, *word));
+        }
+        _ => {}
+    }
+    let Some(life) = &mut course.life else {
+        return Ok(None);
+    };
+    match life.follow(alloc, &record.event) {
+        Ok(output) => Ok(Some(output)),
+        Err(NoMemory) => Err(LateError::NoMemory),
     }
 }
 

@@ -4,10 +4,9 @@ use Rattle.events.specs.declared.input.Event.{Event}
 use Rattle.events.specs.declared.input.Event.TheVariants as an_event
 use Rattle.events.specs.declared.kept.Kept.{Kept}
 use Rattle.events.specs.declared.step.Step.{Step}
-use Rattle.events.specs.declared.step.Step.TheVariants.{Accept, Flush}
+use Rattle.events.specs.declared.step.Step.TheVariants.{Accept}
 use Rattle.kernel.specs.Lives.{left_by}
 use Rattle.onboard.specs.Events.{pair_of}
-use Rattle.onboard.specs.Releases.{Release}
 use Rattle.onboard.specs.Runs.{accept_one, accepted_by}
 use Rattle.reasons.specs.Told.{Reasons}
 use Rattle.why_lines.specs.Ends.{step_at}

@@ -1,5 +1,0 @@
-use Rattle.std.proofs.KnownBytes.{Appends-trans}
-use Rattle.why_lines.proofs.played.write_played.Goals as goal
-
-pub returns : goal.returns
-returns g c = Appends-trans _ _ _ _ _ c.in_ok-write_front.ensures c.in_ok-write_output.ensures

@@ -22,6 +22,10 @@ CAUSES = {
 }
 
 
+# How many rows each kind of table has.
+ROWS = {"modes": 34, "statuses": 17, "brakes": 10, "acknowledgements": 5}
+
+
 def tool():
     loader = importlib.machinery.SourceFileLoader("tables", str(TOOL))
     made = importlib.util.module_from_spec(importlib.util.spec_from_loader("tables", loader))
@@ -43,16 +47,20 @@ def pairs(defined):
 
 
 def main():
-    found = 0
+    found, compared = 0, {}
     for name, ours, plain in pairs(tool()):
+        compared[name] = len(ours)
         differing = [(a, b) for a, b in zip(ours, plain) if a != b]
         for a, b in differing:
             print(f"{name}: the definitions say {a}, the plain program {b}")
-        if not ours or len(ours) != len(plain):
+        if len(ours) != len(plain):
             print(f"{name}: the definitions have {len(ours)} rows, the plain program {len(plain)}")
             found += 1
         found += len(differing)
         print(f"{name}: {len(ours)} rows, {len(differing)} differences")
+    if compared != ROWS:
+        print(f"the tables are to have these numbers of rows: {ROWS}")
+        found += 1
     return 1 if found else 0
 
 

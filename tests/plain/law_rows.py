@@ -6,7 +6,7 @@ last lines say of each law how often its premise held.
 
 Speeds are metres per hour, places centimetres, moments milliseconds. A law is a function of the life behind an event, of what was
 remembered before it (`Before`), and of the line that the row has. It answers None where its premise doesn't hold, else whether it
-is kept. The exit status is 1 where one isn't, or where no event met its premise.
+is kept. The exit status is 1 where one isn't, or where fewer events met its premise than are told here.
 """
 import sys
 from collections import Counter, namedtuple
@@ -18,10 +18,11 @@ from output import moments_of, rolled, since, stood
 from speed import Situation, Target
 from track import pieces
 
-Before = namedtuple("Before", "mode speed end trip")
+Before = namedtuple("Before", "mode speed end trip overridden")
 
 DATA_MODES = ("FS", "OS", "SR", "UN", "TR", "PT")
 AUTHORITY_MODES = ("FS", "OS")
+END_MODES = ("FS", "OS", "SR")
 
 
 @dataclass
@@ -101,8 +102,41 @@ def no_brake_only_where(life, before, line):
             and all(speed <= at + 10_000 for _, speed, at in behind))
 
 
+def passing_end_trips(life, before, line):
+    """Where the mode stays one of these, the end is that behind the event; where it deletes the authority, that before, unless this event
+    told another one."""
+    stays = life.mode() in END_MODES
+    end = life.end() if stays else before.end
+    if before.mode not in END_MODES or end is None or end.speed or life.stretch().min_front <= end.place:
+        return None
+    if life.is_overridden() or (not stays and (before.overridden or tells_authority(life))):
+        return None
+    return life.mode() == "TR" or (life.mode() == "SF" and life.now.overrun) or (life.mode() == "SB" and line.word == "close-desk" and before.speed == 0)
+
+
+def commands_emergency_where(life, before, line):
+    moments = moments_of(life, life.now.output.limit)
+    fast = any(speed > limit + 10_000 for _, speed, limit in since(stood, moments))
+    far = rolled(moments) > life.national.in_force.values.roll
+    return life.now.output.brake == "emergency" if fast or far else None
+
+
+def national_speeds_are_kept(life, before, line):
+    values = life.national.in_force.values
+    most = {"SR": values.staff_responsible, "UN": values.unfitted, "SH": values.shunting}.get(life.mode())
+    if most is None:
+        return None
+    if life.mode() == "SR" and life.is_overridden():
+        most = min(most, values.override_speed)
+    return life.now.output.limit <= most
+
+
+def tells_authority(life):
+    return any(fact.packet.kind == 12 and fact.entry == len(life.entries) - 1 for fact in life.facts)
+
+
 def end_never_moves_forward(life, before, line):
-    told = any(fact.packet.kind == 12 and fact.entry == len(life.entries) - 1 for fact in life.facts)
+    told = tells_authority(life)
     if line.word == "power-up" or life.end() is None or told:
         return None
     return before.end is not None and life.end().place <= before.end.place
@@ -221,16 +255,18 @@ def passes_by_at_most(life, before, line):
         beyond = -(-rest // (2592 * min(slowing))) - later
 
 
-LAWS = (runs_by_valid_data, has_an_authority, outstanding_trip_brakes, halts_at_location, passes_each_target, passes_by_at_most,
-        trip_is_left, failure_stays, stand_by_is_left, no_brake_only_where, end_never_moves_forward, more_restrictions_lower,
-        nearer_fits_no_more, starts_decide, starts_by_kind_decide, release_rule, release_by_case)
-# No row comes to an overrun, and so none to System Failure.
-NEVER_MET = ("failure_stays",)
+# Each law with how many events met its premise at least. No row comes to an overrun, and so none to System Failure.
+LEAST = {
+    runs_by_valid_data: 10_000, has_an_authority: 2_200, outstanding_trip_brakes: 650, halts_at_location: 1_700, passes_each_target: 2_200,
+    passes_by_at_most: 1_700, trip_is_left: 55, failure_stays: 0, stand_by_is_left: 1_400, no_brake_only_where: 10_800, passing_end_trips: 9,
+    commands_emergency_where: 4_600, national_speeds_are_kept: 10_000, end_never_moves_forward: 4_000, more_restrictions_lower: 310,
+    nearer_fits_no_more: 2_200, starts_decide: 2_200, starts_by_kind_decide: 2_200, release_rule: 2_200, release_by_case: 2_200,
+}
 
 
 def tried(row, laws):
     """Each law behind each event of a row, with what came of it."""
-    before, trips = Before("SB", 0, None, False), False
+    before, trips = Before("SB", 0, None, False, False), False
     for line, life in row.lives():
         if line.word in rows.ASKED:
             continue
@@ -240,14 +276,14 @@ def tried(row, laws):
             trips = True
         now = before._replace(trip=trips)
         if line.word == "power-up":
-            now = now._replace(mode="SB", speed=0, end=None)
+            now = now._replace(mode="SB", speed=0, end=None, overridden=False)
         for law in laws:
             yield law, line, law(life, now, line)
-        before = Before(life.mode(), life.speed(), life.end(), trips)
+        before = Before(life.mode(), life.speed(), life.end(), trips, life.is_overridden())
 
 
 def main(names):
-    laws = [law for law in LAWS if not names or law.__name__ in names]
+    laws = [law for law in LEAST if not names or law.__name__ in names]
     held, broken = Counter(), 0
     for row in rows.read(ROWS.read_text()):
         for law, line, kept in tried(row, laws):
@@ -257,7 +293,9 @@ def main(names):
                 print(f"{row.name}, line {line.number}: {law.__name__} fails")
     for law in laws:
         print(f"{law.__name__}: its premise held behind {held[law]} events")
-        broken += not held[law] and law.__name__ not in NEVER_MET
+        if held[law] < LEAST[law]:
+            broken += 1
+            print(f"{law.__name__}: its premise is to hold behind {LEAST[law]} events")
     return 1 if broken else 0
 
 

@@ -18,6 +18,8 @@ from program import WORDS, Image, event_of, inputs_of
 from program_rows import TOP, read, text_of
 
 GATE, LAST_OF_HEAD = 0, 2 * SECTOR_BYTES - 1
+# How many images are compared at least, and how many damaged ones.
+LEAST = (42, 1_250)
 
 
 def live(disk, scenario):
@@ -92,7 +94,10 @@ def main():
             if differ:
                 print(f"{case.path.name}, case {case.name}, line {number}: {differ} images are listed otherwise by the reader of the page")
     print(f"{whole} images and {altered} damaged ones listed by the reader of the page, {differences} differences")
-    return 1 if differences or not whole else 0
+    if (whole, altered) < LEAST or altered < LEAST[1]:
+        print(f"there are to be {LEAST[0]} images and {LEAST[1]} damaged ones")
+        return 1
+    return 1 if differences else 0
 
 
 if __name__ == "__main__":

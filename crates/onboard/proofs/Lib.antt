@@ -1,4 +1,5 @@
 pub mod Chains
+pub mod Damage
 pub mod Greatest
 pub mod LastBlock
 pub mod Lists

@@ -1,7 +1,7 @@
 //! What follows from the contracts alone (this project's profile).
 ghost use Rattle.onboard.specs.Answers.{RoomForOthers};
 ghost use Rattle.onboard.specs.Chains.{AnyNumberOfLives};
-ghost use Rattle.onboard.specs.Laws.{ForgetsAcross, ReleasesBrake, ImagesAreEndless, FormattedIsReady};
+ghost use Rattle.onboard.specs.Laws.{ForgetsAcross, ReleasesBrake, ImagesAreEndless, OutlivesDamage, FormattedIsReady};
 ghost use Rattle.onboard.specs.Lives.{OneCause, StandsBy};
 ghost use Rattle.onboard.specs.Runs.{LivesCompose};
 
@@ -37,12 +37,17 @@ pub fn commands_emergency_until_revalidated()
     brakes_until_revalidated();
 }
 
-/// A law: each image that represents a list has its last records, none skipped.
+/// A law: each image that represents a list has its last records, none skipped, from its first whole block on.
 pub fn images_are_endless()
     ensures { ImagesAreEndless }
 {
     ring_is_endless();
 }
+
+/// A law: a disk is ready for the next life whatever happened to its older slots, from the newest block on.
+pub fn outlives_damage()
+    ensures { OutlivesDamage }
+{}
 
 /// A law: a disk that `journal::format` made is ready for a first life.
 pub fn formatted_is_ready()

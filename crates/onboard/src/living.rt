@@ -1,5 +1,5 @@
 //! Whole lives.
-ghost use Rattle.std.specs.Prelude.{◌≡◌, ◌≢◌, false, ◌-◌, ◌<◌, [], ◌∷◌, List, Err, IsTrue, IfErr, vec_len, vec_capacity};
+ghost use Rattle.std.specs.Prelude.{◌≡◌, ◌≢◌, ℕ, false, ◌-◌, ◌<◌, [], ◌∷◌, List, Err, IsTrue, IfErr, vec_len, vec_capacity};
 ghost use Rattle.disk.specs.State.{now, contents_of, Counted, IsImage, AtEachMoment};
 ghost use Rattle.events.specs.Limits.{most_pending};
 ghost use Rattle.events.specs.declared.input.Event.{Event};
@@ -54,14 +54,16 @@ pub fn live_into<D: Disk, S: ReleaseSink>(
     ensures stopped { LifeEnds (D.state disk) steps.now result.1 }
 
     // Where power is lost and what is released, for every list of events that the disk represents.
-    ensures life { (durable accepted : List Event) → IsTrue (D.state disk).honest →
-        IsReady durable accepted (D.state disk) →
+    ensures life { (whole_from : ℕ) (durable accepted : List Event) → IsTrue (D.state disk).honest →
+        IsReady whole_from durable accepted (D.state disk) →
         (found : List Event) × (power_up_word : Cold) × (released : List Released) × S.Gave sink.old released sink.new
-        × (it : Lives durable accepted found cold power_up_word steps.now (D.state disk) (D.state result.0) [] released)
+        × (it : Lives whole_from durable accepted found cold power_up_word steps.now (D.state disk)
+        (D.state result.0) [] released)
         × IsDone (PowerUp power_up_word ∷ found) steps.now
-        (OnlyOpens durable accepted found power_up_word (D.state disk) (D.state result.0)) result.1 it.steps_taken
-        it.durable_at_end it.accepted_at_end it.released
-        × IsUnflushed (IsOfLife (D.state disk).sectors durable accepted found power_up_word) steps.now result.1
+        (OnlyOpens whole_from durable accepted found power_up_word (D.state disk) (D.state result.0))
+        result.1 it.steps_taken it.durable_at_end it.accepted_at_end it.released
+        × IsUnflushed whole_from
+        (IsOfLife whole_from (D.state disk).sectors durable accepted found power_up_word) steps.now result.1
         it.durable_at_end (D.state disk) (D.state result.0)
         × LeavesLast found power_up_word steps.now result.1 (D.state result.0) }
 {
@@ -105,15 +107,16 @@ pub fn live<D: Disk>(
     ensures stopped { LifeEnds (D.state disk) steps.now result.1 }
 
     // Where power is lost and what is released, for every list of events that the disk represents.
-    ensures life { (durable accepted : List Event) → IsTrue (D.state disk).honest →
-        IsReady durable accepted (D.state disk) →
+    ensures life { (whole_from : ℕ) (durable accepted : List Event) → IsTrue (D.state disk).honest →
+        IsReady whole_from durable accepted (D.state disk) →
         (found : List Event) × (power_up_word : Cold)
-        × (it : Lives durable accepted found cold power_up_word steps.now (D.state disk) (D.state result.0)
+        × (it : Lives whole_from durable accepted found cold power_up_word steps.now (D.state disk) (D.state result.0)
         out.old.items out.new.items)
         × IsDone (PowerUp power_up_word ∷ found) steps.now
-        (OnlyOpens durable accepted found power_up_word (D.state disk) (D.state result.0)) result.1 it.steps_taken
-        it.durable_at_end it.accepted_at_end it.released
-        × IsUnflushed (IsOfLife (D.state disk).sectors durable accepted found power_up_word) steps.now result.1
+        (OnlyOpens whole_from durable accepted found power_up_word (D.state disk) (D.state result.0))
+        result.1 it.steps_taken it.durable_at_end it.accepted_at_end it.released
+        × IsUnflushed whole_from
+        (IsOfLife whole_from (D.state disk).sectors durable accepted found power_up_word) steps.now result.1
         it.durable_at_end (D.state disk) (D.state result.0)
         × LeavesLast found power_up_word steps.now result.1 (D.state result.0) }
 {

@@ -1,5 +1,5 @@
 //! The steps of a life.
-ghost use Rattle.std.specs.Prelude.{◌≡◌, ◌≢◌, false, ◌-◌, ◌<◌, [], ◌∷◌, List, IsTrue, IfErr, OnOk, OnErr, None, Some, vec_len, vec_capacity};
+ghost use Rattle.std.specs.Prelude.{◌≡◌, ◌≢◌, ℕ, false, ◌-◌, ◌<◌, [], ◌∷◌, List, IsTrue, IfErr, OnOk, OnErr, None, Some, vec_len, vec_capacity};
 ghost use Rattle.disk.specs.State.{contents_of, Counted};
 ghost use Rattle.events.specs.Limits.{most_pending};
 ghost use Rattle.events.specs.declared.input.Event.{Event};
@@ -28,13 +28,15 @@ fn flush_into<D: Disk, S: ReleaseSink>(
     sink: &mut S,
 ) -> Result<(), LiveError>
     ensures counted { Counted (live_failed result) (D.state unit.old.disk) (D.state unit.new.disk) }
-    ensures stepped { (durable accepted : List Event) → IsTrue (D.state unit.old.disk).honest →
-        IsOpen unit.old.journal (account_of durable) (D.state unit.old.disk) → IsAhead durable accepted unit.old.life →
-        IsStepped a_step.Flush durable accepted (D.state unit.old.disk) (D.state unit.new.disk)
-        × OnOk result (IsOpen unit.new.journal (account_of accepted) (D.state unit.new.disk)
+    ensures stepped { (whole_from : ℕ) (durable accepted : List Event) → IsTrue (D.state unit.old.disk).honest →
+        IsOpen unit.old.journal (account_of whole_from durable) (D.state unit.old.disk) →
+        IsAhead durable accepted unit.old.life →
+        IsStepped whole_from a_step.Flush durable accepted (D.state unit.old.disk) (D.state unit.new.disk)
+        × OnOk result (IsOpen unit.new.journal (account_of whole_from accepted) (D.state unit.new.disk)
         × IsAhead accepted accepted unit.new.life) }
-    ensures last { (earlier durable accepted : List Event) → IsTrue (D.state unit.old.disk).honest →
-        IsOpen unit.old.journal (account_of durable) (D.state unit.old.disk) → IsAhead durable accepted unit.old.life →
+    ensures last { (whole_from : ℕ) (earlier durable accepted : List Event) → IsTrue (D.state unit.old.disk).honest →
+        IsOpen unit.old.journal (account_of whole_from durable) (D.state unit.old.disk) →
+        IsAhead durable accepted unit.old.life →
         IsLastWritten (D.state unit.old.disk).sectors earlier durable (contents_of (D.state unit.old.disk)) →
         OnOk result (IsLastWritten (D.state unit.new.disk).sectors (earlier_one earlier durable accepted a_step.Flush)
         accepted (contents_of (D.state unit.new.disk))) }
@@ -67,13 +69,15 @@ fn accept_one<D: Disk>(
     input: &Input,
 ) -> Result<(), LiveError>
     ensures counted { Counted (live_failed result) (D.state unit.old.disk) (D.state unit.new.disk) }
-    ensures stepped { (durable accepted : List Event) → IsTrue (D.state unit.old.disk).honest →
-        IsOpen unit.old.journal (account_of durable) (D.state unit.old.disk) → IsAhead durable accepted unit.old.life →
-        IsStepped (a_step.Accept input.now) durable accepted (D.state unit.old.disk) (D.state unit.new.disk)
-        × OnOk result (IsOpen unit.new.journal (account_of durable) (D.state unit.new.disk)
+    ensures stepped { (whole_from : ℕ) (durable accepted : List Event) → IsTrue (D.state unit.old.disk).honest →
+        IsOpen unit.old.journal (account_of whole_from durable) (D.state unit.old.disk) →
+        IsAhead durable accepted unit.old.life →
+        IsStepped whole_from (a_step.Accept input.now) durable accepted (D.state unit.old.disk) (D.state unit.new.disk)
+        × OnOk result (IsOpen unit.new.journal (account_of whole_from durable) (D.state unit.new.disk)
         × IsAhead durable (an_input input.now ∷ accepted) unit.new.life) }
-    ensures last { (earlier durable accepted : List Event) → IsTrue (D.state unit.old.disk).honest →
-        IsOpen unit.old.journal (account_of durable) (D.state unit.old.disk) → IsAhead durable accepted unit.old.life →
+    ensures last { (whole_from : ℕ) (earlier durable accepted : List Event) → IsTrue (D.state unit.old.disk).honest →
+        IsOpen unit.old.journal (account_of whole_from durable) (D.state unit.old.disk) →
+        IsAhead durable accepted unit.old.life →
         IsLastWritten (D.state unit.old.disk).sectors earlier durable (contents_of (D.state unit.old.disk)) →
         OnOk result (IsLastWritten (D.state unit.new.disk).sectors
         (earlier_one earlier durable accepted (a_step.Accept input.now)) durable
@@ -99,13 +103,15 @@ fn take<D: Disk, S: ReleaseSink>(
     sink: &mut S,
 ) -> Result<(), LiveError>
     ensures counted { Counted (live_failed result) (D.state unit.old.disk) (D.state unit.new.disk) }
-    ensures stepped { (durable accepted : List Event) → IsTrue (D.state unit.old.disk).honest →
-        IsOpen unit.old.journal (account_of durable) (D.state unit.old.disk) → IsAhead durable accepted unit.old.life →
-        IsStepped step.now durable accepted (D.state unit.old.disk) (D.state unit.new.disk)
+    ensures stepped { (whole_from : ℕ) (durable accepted : List Event) → IsTrue (D.state unit.old.disk).honest →
+        IsOpen unit.old.journal (account_of whole_from durable) (D.state unit.old.disk) →
+        IsAhead durable accepted unit.old.life →
+        IsStepped whole_from step.now durable accepted (D.state unit.old.disk) (D.state unit.new.disk)
         × OnOk result ((released : List Released) × S.Gave sink.old released sink.new
-        × Took durable accepted step.now unit.new.journal unit.new.life (D.state unit.new.disk) released) }
-    ensures last { (earlier durable accepted : List Event) → IsTrue (D.state unit.old.disk).honest →
-        IsOpen unit.old.journal (account_of durable) (D.state unit.old.disk) → IsAhead durable accepted unit.old.life →
+        × Took whole_from durable accepted step.now unit.new.journal unit.new.life (D.state unit.new.disk) released) }
+    ensures last { (whole_from : ℕ) (earlier durable accepted : List Event) → IsTrue (D.state unit.old.disk).honest →
+        IsOpen unit.old.journal (account_of whole_from durable) (D.state unit.old.disk) →
+        IsAhead durable accepted unit.old.life →
         IsLastWritten (D.state unit.old.disk).sectors earlier durable (contents_of (D.state unit.old.disk)) →
         OnOk result (IsLastWritten (D.state unit.new.disk).sectors (earlier_one earlier durable accepted step.now)
         (flush_one durable accepted step.now) (contents_of (D.state unit.new.disk))) }
@@ -140,15 +146,18 @@ pub fn run_into<D: Disk, S: ReleaseSink>(
     ensures full { IfErr result (λ e. IsTrue (is_full e) → S.room sink.new < most_pending) }
     ensures stopped { StepsEnd (progress_of unit.old.journal unit.old.life) steps.now result }
     ensures named { IfErr result (λ e. step_of e ≢ None) }
-    ensures ran { (initial : List Event) → IsTrue (D.state unit.old.disk).honest →
-        IsOpen unit.old.journal (account_of initial) (D.state unit.old.disk) → IsAhead initial initial unit.old.life →
+    ensures ran { (whole_from : ℕ) (initial : List Event) → IsTrue (D.state unit.old.disk).honest →
+        IsOpen unit.old.journal (account_of whole_from initial) (D.state unit.old.disk) →
+        IsAhead initial initial unit.old.life →
         (released : List Released) × S.Gave sink.old released sink.new
-        × (it : Ran initial steps.now (D.state unit.old.disk) (D.state unit.new.disk) [] released)
+        × (it : Ran whole_from initial steps.now (D.state unit.old.disk) (D.state unit.new.disk) [] released)
         × IsDone initial steps.now ⊥ result it.steps_taken it.durable_at_end it.accepted_at_end it.released
-        × IsUnflushed (IsOfRun (D.state unit.old.disk).sectors initial) steps.now result it.durable_at_end
+        × IsUnflushed whole_from (IsOfRun whole_from (D.state unit.old.disk).sectors initial) steps.now result
+        it.durable_at_end
         (D.state unit.old.disk) (D.state unit.new.disk) }
-    ensures last { (earlier initial : List Event) → IsTrue (D.state unit.old.disk).honest →
-        IsOpen unit.old.journal (account_of initial) (D.state unit.old.disk) → IsAhead initial initial unit.old.life →
+    ensures last { (whole_from : ℕ) (earlier initial : List Event) → IsTrue (D.state unit.old.disk).honest →
+        IsOpen unit.old.journal (account_of whole_from initial) (D.state unit.old.disk) →
+        IsAhead initial initial unit.old.life →
         IsLastWritten (D.state unit.old.disk).sectors earlier initial (contents_of (D.state unit.old.disk)) →
         OnOk result (IsLastWritten (D.state unit.new.disk).sectors (earlier_by earlier initial initial steps.now)
         (durable_by initial steps.now) (contents_of (D.state unit.new.disk))) }
@@ -172,14 +181,18 @@ pub fn run<D: Disk>(
     ensures counted { Counted (live_failed result) (D.state unit.old.disk) (D.state unit.new.disk) }
     ensures full { IfErr result (λ e. IsTrue (is_full e) → vec_capacity out.new - vec_len out.new < most_pending) }
     ensures stopped { StepsEnd (progress_of unit.old.journal unit.old.life) steps.now result }
-    ensures ran { (initial : List Event) → IsTrue (D.state unit.old.disk).honest →
-        IsOpen unit.old.journal (account_of initial) (D.state unit.old.disk) → IsAhead initial initial unit.old.life →
-        (it : Ran initial steps.now (D.state unit.old.disk) (D.state unit.new.disk) out.old.items out.new.items)
+    ensures ran { (whole_from : ℕ) (initial : List Event) → IsTrue (D.state unit.old.disk).honest →
+        IsOpen unit.old.journal (account_of whole_from initial) (D.state unit.old.disk) →
+        IsAhead initial initial unit.old.life →
+        (it : Ran whole_from initial steps.now (D.state unit.old.disk) (D.state unit.new.disk) out.old.items
+        out.new.items)
         × IsDone initial steps.now ⊥ result it.steps_taken it.durable_at_end it.accepted_at_end it.released
-        × IsUnflushed (IsOfRun (D.state unit.old.disk).sectors initial) steps.now result it.durable_at_end
+        × IsUnflushed whole_from (IsOfRun whole_from (D.state unit.old.disk).sectors initial) steps.now result
+        it.durable_at_end
         (D.state unit.old.disk) (D.state unit.new.disk) }
-    ensures last { (earlier initial : List Event) → IsTrue (D.state unit.old.disk).honest →
-        IsOpen unit.old.journal (account_of initial) (D.state unit.old.disk) → IsAhead initial initial unit.old.life →
+    ensures last { (whole_from : ℕ) (earlier initial : List Event) → IsTrue (D.state unit.old.disk).honest →
+        IsOpen unit.old.journal (account_of whole_from initial) (D.state unit.old.disk) →
+        IsAhead initial initial unit.old.life →
         IsLastWritten (D.state unit.old.disk).sectors earlier initial (contents_of (D.state unit.old.disk)) →
         OnOk result (IsLastWritten (D.state unit.new.disk).sectors (earlier_by earlier initial initial steps.now)
         (durable_by initial steps.now) (contents_of (D.state unit.new.disk))) }

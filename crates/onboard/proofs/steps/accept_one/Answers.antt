@@ -16,23 +16,23 @@ use Rattle.onboard.specs.declared.errors.AcceptError.TheVariants.{NoMemory}
 use Rattle.onboard.proofs.steps.accept_one.Goals as goal
 
 pub returns-in-Ok-clause-stepped : goal.returns-in-Ok-clause-stepped
-returns-in-Ok-clause-stepped g c = λ durable accepted honest opened ahead.
+returns-in-Ok-clause-stepped g c = λ whole_from durable accepted honest opened ahead.
     let old : State = g.D.Disk.state c.args.unit.now.disk in
     let same : g.D.Disk.state c.accept.new.self.disk ≡ old = ap g.D.Disk.state c.accept.ensures.device.0 in
-    let S : State → Type 0 = λ d. IsStepped (Accept c.args.input.now) durable accepted old d in
-    let O : State → Type 0 = λ d. IsOpen c.accept.new.self.journal (account_of durable) d in
-    let J : Journal → Type 0 = λ j. IsOpen j (account_of durable) old in
+    let S : State → Type 0 = λ d. IsStepped whole_from (Accept c.args.input.now) durable accepted old d in
+    let O : State → Type 0 = λ d. IsOpen c.accept.new.self.journal (account_of whole_from durable) d in
+    let J : Journal → Type 0 = λ j. IsOpen j (account_of whole_from durable) old in
     let A : Input → Type 0 = λ input. IsAhead durable (an_event.Input input ∷ accepted) c.accept.new.self.life in (
-      subst S (sym same) (quiet_step (Accept c.args.input.now) c.args.unit.now.journal durable accepted ahead.more old opened ahead.accepted_is),
+      subst S (sym same) (quiet_step whole_from (Accept c.args.input.now) c.args.unit.now.journal durable accepted ahead.more old opened ahead.accepted_is),
       (subst O (sym same) (subst J (sym c.accept.ensures.device.1) opened), subst A c.copy.ensures (c.in-Ok.ensures.accepted durable accepted ahead)),
     )
 
 pub returns-in-Err-clause-stepped : goal.returns-in-Err-clause-stepped
-returns-in-Err-clause-stepped g c = λ durable accepted honest opened ahead.
+returns-in-Err-clause-stepped g c = λ whole_from durable accepted honest opened ahead.
     let old : State = g.D.Disk.state c.args.unit.now.disk in
     let same : g.D.Disk.state c.accept.new.self.disk ≡ old = ap g.D.Disk.state c.accept.ensures.device.0 in
-    let S : State → Type 0 = λ d. IsStepped (Accept c.args.input.now) durable accepted old d in
-    (subst S (sym same) (quiet_step (Accept c.args.input.now) c.args.unit.now.journal durable accepted ahead.more old opened ahead.accepted_is), tt)
+    let S : State → Type 0 = λ d. IsStepped whole_from (Accept c.args.input.now) durable accepted old d in
+    (subst S (sym same) (quiet_step whole_from (Accept c.args.input.now) c.args.unit.now.journal durable accepted ahead.more old opened ahead.accepted_is), tt)
 
 pub returns-in-Ok-clause-stood : goal.returns-in-Ok-clause-stood
 returns-in-Ok-clause-stood g c =
@@ -45,6 +45,6 @@ returns-in-Err-clause-stopped g c =
     accept_stops (progress_of c.args.unit.now.journal c.args.unit.now.life) c.args.unit.now.life.state c.args.k c.args.input.now c.copy.result c.accept.result c.in-Err.error c.in-Err.is c.copy.ensures c.accept.ensures.exact c.accept.ensures.quiet
 
 pub returns-in-Ok-clause-last : goal.returns-in-Ok-clause-last
-returns-in-Ok-clause-last g c = λ earlier durable accepted honest opened ahead last.
+returns-in-Ok-clause-last g c = λ whole_from earlier durable accepted honest opened ahead last.
     let L : State → Type 0 = λ s. IsLastWritten s.sectors earlier durable (contents_of s) in
     subst L (sym (ap g.D.Disk.state c.accept.ensures.device.0)) last

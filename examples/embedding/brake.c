@@ -11,10 +11,12 @@
 enum { CYCLE_MS = 500, MOST_CYCLES = 1000, SLOTS = 64 };
 
 /* The equipment around the unit. Here it is a train that is simulated: it pulls up to 100 km/h, and slows where a brake
- * is commanded. */
+ * is commanded. A reading tells whole centimetres: what is left of a movement is carried over to the next one, since cut
+ * off it would be lost, at 5 km/h and ten readings a second 64 m of 1,000. */
 typedef struct {
     uint64_t moment_ms;
     int64_t movement_cm;
+    int64_t rest; /* in 1/36,000 cm, as a way is m/h * ms */
     uint32_t speed_m_per_h;
     uint8_t brake;
     uint8_t mode;
@@ -25,7 +27,9 @@ static void go_on(train *our) {
     static const int64_t gained[] = {900, -1260, -1800};
     const int64_t speed = (int64_t)our->speed_m_per_h + gained[our->brake];
     our->speed_m_per_h = speed < 0 ? 0 : speed > 100000 ? 100000 : (uint32_t)speed;
-    our->movement_cm = (int64_t)our->speed_m_per_h * CYCLE_MS / 36000;
+    const int64_t way = (int64_t)our->speed_m_per_h * CYCLE_MS + our->rest;
+    our->movement_cm = way / 36000;
+    our->rest = way % 36000;
     our->moment_ms += CYCLE_MS;
 }
 
@@ -104,9 +108,9 @@ static int run(train *our, etcs_file *file, etcs_unit *unit) {
 
 int main(int count, char **words) {
     /* Before the first output the emergency brake is on. */
-    train our = {0, 0, 0, ETCS_BRAKE_EMERGENCY, ETCS_STAND_BY};
+    train our = {0, 0, 0, 0, ETCS_BRAKE_EMERGENCY, ETCS_STAND_BY};
     etcs_unit unit = {0};
-    etcs_file file;
+    etcs_file file = {0};
     if (count != 2)
         return 2;
     uint32_t answer = etcs_file_open(&file, words[1], &unit, ETCS_COLD_UNKNOWN);

@@ -98,6 +98,7 @@ constexpr std::uint32_t slots = 64;
 struct Train {
     std::uint64_t moment_ms = 0;
     std::int64_t movement_cm = 0;
+    std::int64_t rest = 0; // of a movement, in 1/36,000 cm: it is carried over to the next one
     std::int64_t speed_m_per_h = 0;
     std::uint8_t brake = ETCS_BRAKE_EMERGENCY;
     std::uint8_t mode = ETCS_STAND_BY;
@@ -107,7 +108,9 @@ struct Train {
         constexpr std::array<std::int64_t, 3> gained{900, -1260, -1800};
         speed_m_per_h += gained.at(brake);
         speed_m_per_h = speed_m_per_h < 0 ? 0 : speed_m_per_h > 100000 ? 100000 : speed_m_per_h;
-        movement_cm = speed_m_per_h * cycle_ms / 36000;
+        const std::int64_t way = speed_m_per_h * cycle_ms + rest;
+        movement_cm = way / 36000;
+        rest = way % 36000;
         moment_ms += cycle_ms;
     }
 
@@ -158,7 +161,7 @@ void run(const std::string &path) {
 }
 
 void make_where_missing(const std::string &path) {
-    etcs_file file;
+    etcs_file file{};
     if (access(path.c_str(), F_OK) != 0 && etcs_file_format(&file, path.c_str(), slots) != ETCS_FILE_OK)
         throw Refused("formatting", ETCS_FILE_UNIT, file.status, file.error);
 }

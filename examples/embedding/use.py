@@ -20,14 +20,16 @@ class Train:
 
     def __init__(self) -> None:
         self.moment_ms = self.speed = 0
+        self.rest = 0  # of a movement, in 1/36,000 cm: it is carried over to the next one
         self.brake, self.mode = Brake.EMERGENCY, Mode.STAND_BY
         self.last_event = -1
 
     def go_on(self) -> int:
-        """How far it goes in a cycle."""
+        """How far it goes in a cycle, in whole centimetres."""
         self.speed = min(max(self.speed + GAINED[self.brake], 0), 100_000)
         self.moment_ms += CYCLE_MS
-        return self.speed * CYCLE_MS // 36_000
+        moved, self.rest = divmod(self.speed * CYCLE_MS + self.rest, 36_000)
+        return moved
 
     def obey(self, output: Output) -> None:
         """Does what is commanded, and tells of it."""

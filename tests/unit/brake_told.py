@@ -5,6 +5,8 @@ is what that file holds.
     tests/unit/brake_told.py [FILE]
 """
 import sys
+from fractions import Fraction
+from math import floor
 from pathlib import Path
 
 sys.path.insert(0, str(Path(__file__).resolve().parents[1] / "plain"))
@@ -22,7 +24,7 @@ class Train:
 
     def __init__(self):
         self.life, self.events, self.lines = Life(), 1, []
-        self.moment = self.speed = 0
+        self.moment = self.speed = self.way = self.told = 0
         self.brake, self.mode = "emergency", "SB"
 
     def accept(self, *inputs):
@@ -41,9 +43,13 @@ class Train:
         self.brake, self.mode = brake, mode
 
     def go_on(self):
+        """How far it goes in a cycle: all movements together are the way so far, in whole centimetres."""
         self.speed = min(max(self.speed + GAINED[self.brake], 0), 100_000)
         self.moment += CYCLE_MS
-        return self.speed * CYCLE_MS // 36_000
+        self.way += Fraction(self.speed * CYCLE_MS, 36_000)
+        moved = floor(self.way) - self.told
+        self.told += moved
+        return moved
 
 
 def told():

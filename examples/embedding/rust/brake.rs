@@ -282,18 +282,22 @@ impl Iterator for Journal<'_> {
 struct Train {
     moment_ms: u64,
     speed_m_per_h: i64,
+    /// Of a movement, in 1/36,000 cm: it is carried over to the next one.
+    rest: i64,
     brake: u8,
     mode: u8,
     last_event: u64,
 }
 
 impl Train {
-    /// How far it goes in a cycle, in centimetres.
+    /// How far it goes in a cycle, in whole centimetres.
     fn go_on(&mut self) -> i64 {
         let gained = [900, -1260, -1800][usize::from(self.brake)];
         self.speed_m_per_h = (self.speed_m_per_h + gained).clamp(0, 100_000);
         self.moment_ms += CYCLE_MS;
-        self.speed_m_per_h * CYCLE_MS as i64 / 36_000
+        let way = self.speed_m_per_h * CYCLE_MS as i64 + self.rest;
+        self.rest = way % 36_000;
+        way / 36_000
     }
 
     fn obey(&mut self, output: Output) {
@@ -322,7 +326,7 @@ fn run() -> Result<(), Refused> {
     // SAFETY: it takes nothing.
     assert_eq!(unsafe { library::etcs_abi() }, ABI, "the library is of another interface");
     let mut unit = Unit::open(Medium::formatted(SLOTS)?, COLD_UNKNOWN)?;
-    let mut train = Train { moment_ms: 0, speed_m_per_h: 0, brake: 2, mode: 6, last_event: 0 };
+    let mut train = Train { moment_ms: 0, speed_m_per_h: 0, rest: 0, brake: 2, mode: 6, last_event: 0 };
     make_ready(&mut unit)?;
     for _ in 0..MOST_CYCLES {
         for output in unit.flush()? {

@@ -232,7 +232,7 @@ static inline uint32_t etcs_file_carry_out(etcs_file *file, etcs_unit *unit) {
     uint32_t answer = etcs_file_told_(file, etcs_unit_state(unit, &state));
     if (answer != ETCS_FILE_OK)
         return answer;
-    for (uint32_t index = state.done; answer == ETCS_FILE_OK && index < state.requests; index++) {
+    for (uint32_t index = (uint32_t)state.done; answer == ETCS_FILE_OK && index < state.requests; index++) {
         answer = etcs_file_told_(file, etcs_unit_request(unit, index, &request, bytes, sizeof bytes));
         if (answer == ETCS_FILE_OK)
             answer = etcs_file_do_(file, &request, bytes);

@@ -378,9 +378,15 @@ static inline uint32_t etcs_unit_fail(etcs_unit *unit) {
 
 /* Releases what was held back, all of it, into room for ETCS_UNIT_OUTPUTS, and empties the list; `count` says how many
  * there are, the oldest first. Answers OK, NOT_OPEN, NO_ROOM (fewer than ETCS_UNIT_OUTPUTS), FAILED, or REQUESTS_OWED
- * where not all requests are done; but for OK nothing changes, and no output is written. */
+ * where not all requests are done; but for OK nothing changes, and neither an output nor `count` is written. */
 static inline uint32_t etcs_unit_release(etcs_unit *unit, etcs_unit_output *outputs, size_t room, uint32_t *count) {
-    return unit && outputs && count ? etcs_unit_release_(unit, outputs, room, count) : (uint32_t)ETCS_UNIT_NULL_POINTER;
+    uint32_t released = 0;
+    if (!unit || !outputs || !count)
+        return ETCS_UNIT_NULL_POINTER;
+    const uint32_t status = etcs_unit_release_(unit, outputs, room, &released);
+    if (status == ETCS_UNIT_OK)
+        *count = released;
+    return status;
 }
 
 /* Tells how far the unit is, and what is known of its life. Answers OK, or NOT_OPEN; then `state` isn't written. */

@@ -39,7 +39,7 @@ export GAKNIFUR_ETCS_UNIT=$shared LD_LIBRARY_PATH=$prefix/lib
 
 compilers=(gcc)
 ! command -v clang >/dev/null || compilers+=(clang)
-strict=(-Wall -Wextra -Werror -pedantic)
+strict=(-Wall -Wextra -Werror -Wconversion -Wsign-conversion -pedantic)
 # (static, since lives.py loads a library of its own first)
 sanitizers=(-fsanitize=address,undefined -fno-sanitize-recover=all -static-libasan)
 

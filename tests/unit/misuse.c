@@ -182,7 +182,7 @@ static void untouched(const char *what) {
     uint8_t other[ETCS_UNIT_REQUEST_BYTES];
     memset(other, 0xAA, sizeof other);
     is(what, (uint64_t)memcmp(outputs, other, sizeof outputs) | (uint64_t)memcmp(&request, other, sizeof request) |
-       (uint64_t)memcmp(&state, other, sizeof state) | (uint64_t)memcmp(bytes, other, sizeof bytes), 0);
+       (uint64_t)memcmp(&state, other, sizeof state) | (uint64_t)memcmp(bytes, other, sizeof bytes) | (uint64_t)memcmp(&count, other, sizeof count), 0);
 }
 
 static void touch(void) {
@@ -190,6 +190,7 @@ static void touch(void) {
     memset(&request, 0xAA, sizeof request);
     memset(&state, 0xAA, sizeof state);
     memset(bytes, 0xAA, sizeof bytes);
+    memset(&count, 0xAA, sizeof count);
 }
 
 static void relaying(medium *on) {
@@ -323,7 +324,7 @@ static void formatting(void) {
     is("1,048,576 slots", etcs_unit_format_request(1048576, 0, &request, bytes, 512), ETCS_UNIT_OK);
     uint32_t last = 0, index = 0, first = 0;
     for (; etcs_unit_format_request(2, index, &request, bytes, 512) == ETCS_UNIT_OK && index < 100; index++) {
-        last = request.kind;
+        last = (uint32_t)request.kind;
         if (request.kind == ETCS_REQUEST_WRITE)
             first = request.sector == 0;
     }

@@ -17,6 +17,7 @@ what it raises. Outputs come from `Unit.flush` alone, and only when all of it is
 """
 import ctypes
 import enum
+import errno
 import fcntl
 import functools
 import os
@@ -288,6 +289,24 @@ class MemoryMedium:
         return made
 
 
+def _sync_what_waits(descriptor: int) -> None:
+    """Syncs. What takes no writes has no such call, and nothing that waits."""
+    try:
+        os.fsync(descriptor)
+    except OSError as error:
+        if error.errno not in (errno.EINVAL, errno.EROFS):
+            raise
+
+
+def _sync_folder(path: str | Path) -> None:
+    """Syncs the folder that holds the file, so that its name survives a loss of power."""
+    folder = os.open(Path(path).resolve().parent, os.O_RDONLY | os.O_CLOEXEC)
+    try:
+        _sync_what_waits(folder)
+    finally:
+        os.close(folder)
+
+
 class FileMedium:
     """A file, or a block device, under the exclusive lock that `etcs run` takes (flock). BlockingIOError where another
     program, or another handle of this one, holds it."""
@@ -314,7 +333,8 @@ class FileMedium:
         self.descriptor = -1
 
     def read(self) -> bytes:
-        """All of its bytes."""
+        """All of its bytes, as the medium has them."""
+        self._settle()
         size, data = os.lseek(self.descriptor, 0, os.SEEK_END), bytearray()
         while len(data) < size:
             part = os.pread(self.descriptor, size - len(data), len(data))
@@ -333,6 +353,11 @@ class FileMedium:
         """Returns when the system says that all is kept."""
         os.fsync(self.descriptor)
 
+    def _settle(self) -> None:
+        """Syncs, and drops the system's copies of the pages: a failed sync may have left them other than the medium."""
+        _sync_what_waits(self.descriptor)
+        os.posix_fadvise(self.descriptor, 0, 0, os.POSIX_FADV_DONTNEED)
+
     @classmethod
     def formatted(cls, path: str | Path, slots: int) -> Self:
         """Makes the file, or empties the one that is there, an empty journal of 2 to 1,048,576 slots."""
@@ -342,6 +367,7 @@ class FileMedium:
             os.ftruncate(made.descriptor, 0)
             os.ftruncate(made.descriptor, SECTOR * (1 + 6 * slots))
             format_medium(made, slots)
+            _sync_folder(path)
         except BaseException:
             made.close()
             raise

@@ -5,9 +5,13 @@ import enum
 import os
 import struct
 import re
+import stat
 import tempfile
 import unittest
+from collections.abc import Callable
+from contextlib import ExitStack
 from pathlib import Path
+from unittest import mock
 
 import gaknifur
 from gaknifur import lives
@@ -181,6 +185,28 @@ class Calls(unittest.TestCase):
                         unit.clock(1)
                         unit.flush()
             self.assertEqual(path.read_bytes(), memory.data)
+
+    def test_a_file_is_settled(self) -> None:
+        """It is synced, and the system's copies are dropped, before it is read; the folder of a new one is synced."""
+        calls: list[str] = []
+
+        def noted(name: str) -> Callable[..., object]:
+            call = getattr(os, name)
+
+            def made(descriptor: int, *words: object) -> object:
+                calls.append(f"{name} of a folder" if stat.S_ISDIR(os.fstat(descriptor).st_mode) else name)
+                return call(descriptor, *words)
+            return made
+
+        with tempfile.TemporaryDirectory() as folder, ExitStack() as patches:
+            for name in ("fsync", "posix_fadvise", "pread", "pwrite"):
+                patches.enter_context(mock.patch.object(os, name, noted(name)))
+            path = Path(folder) / "image"
+            with FileMedium.formatted(path, 2) as medium:
+                self.assertEqual(calls[-2:], ["fsync", "fsync of a folder"])
+                calls.clear()
+                self.assertEqual(len(medium.read()), 6656)
+                self.assertEqual(calls, ["fsync", "posix_fadvise", "pread"])
 
     def test_a_journal(self) -> None:
         medium = MemoryMedium.formatted(4)

@@ -50,11 +50,11 @@ def room():
     return tempfile.TemporaryDirectory(dir="/dev/shm" if os.access("/dev/shm", os.W_OK) else None)
 
 
-def recorded_by(record, image, words):
+def recorded_by(record, image, words, **environment):
     """Status and text of a run, and the calls of an image file and of standard output that it made: letter, place, bytes (record.c)."""
     to = Path(f"{image}.calls")
     to.unlink(missing_ok=True)
-    answer = ran(words, record, RECORD_OF=str(image), RECORD_TO=str(to))
+    answer = ran(words, record, RECORD_OF=str(image), RECORD_TO=str(to), **environment)
     data, at, calls = to.read_bytes() if to.exists() else b"", 0, []
     while at < len(data):
         kind, place, length = struct.unpack_from("<cQQ", data, at)

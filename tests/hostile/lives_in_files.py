@@ -2,9 +2,11 @@
 """Pseudo-random lives on image files, since no contract speaks of a file of the system: behind each life the file holds the bytes that the
 plain unit leaves on the plain disk, and its calls were right.
 
-Calls are right where the file is synced before anything is read or written; where a sync stands between any write of a gate and a write
-of what lies behind a gate, and before anything is printed and at the end; and where they tell the story of the plain unit: between two
-syncs just the sectors that the plain disk is handed there, with their bytes, and between the same two just what is released there.
+Calls are right where the file is settled before anything is read or written (synced, and then the system's copies of its
+pages dropped); where a sync stands between any write of a gate and a write of what lies behind a gate, and before
+anything is printed and at the end; and where they tell the story of the plain unit: between two syncs just the sectors
+that the plain disk is handed there, with their bytes, and between the same two just what is released there. A format
+syncs the file and its folder before it says that it is done.
 
     tests/hostile/lives_in_files.py [LIVES [SEED]]    1,000 lives, seed 2026
 """
@@ -12,7 +14,7 @@ import json
 import sys
 from pathlib import Path
 
-from built import SECTOR, Failures, built, formatted, ran, recorded_by, room, sectors_of
+from built import SECTOR, Failures, built, recorded_by, room, sectors_of
 from disk import SECTOR_BYTES, Disk
 from items import Kept
 from journal import first_sector
@@ -80,11 +82,13 @@ def part_of(sector):
 
 def wrong_calls(recorded):
     """What is wrong in the order of the calls."""
-    is_synced, parts = False, set()
+    is_synced, is_settled, parts = False, False, set()
     for kind, place, body in recorded:
-        if kind in "rw" and not is_synced:
-            yield "the file isn't synced before it is read or written"
-            is_synced = True
+        if kind in "rw" and not is_settled:
+            yield "the file isn't synced, and then its pages dropped, before it is read or written"
+            is_settled = True
+        if kind == "d":
+            is_settled = is_synced
         if kind == "w":
             if place % SECTOR or len(body) % SECTOR:
                 yield f"{len(body)} bytes at {place} are no whole sectors"
@@ -101,6 +105,27 @@ def wrong_calls(recorded):
             yield "the length is set"
     if parts:
         yield "not synced at the end"
+
+
+def wrong_format(recorded):
+    """What is wrong in the order of the calls of a format."""
+    before = [kind for kind, _, _ in recorded]
+    before = before[:before.index("o")] if "o" in before else before
+    if "n" not in before:
+        yield "the folder isn't synced before it prints"
+    if not before or "s" not in before[max(place for place, kind in enumerate(before) if kind in "wl"):]:
+        yield "the file isn't synced before it prints"
+
+
+def formats(image, slots, record, failures):
+    """Makes an image, each second time where there was none."""
+    if slots % 2:
+        image.unlink(missing_ok=True)
+    wanted = (0, f"formatted {slots} blocks {SECTOR * (1 + 6 * slots)} bytes\n")
+    found, recorded = recorded_by(record, image, ["format", image, slots])
+    failures.unless(found == wanted, f"format: {found}, wanted {wanted}")
+    wrong = list(wrong_format(recorded))
+    failures.unless(not wrong, f"a format of {slots} slots: {', '.join(wrong)}")
 
 
 def story_of(recorded):
@@ -140,7 +165,7 @@ def main(words):
         for number in range(count):
             if number % LIVES == 0:
                 slots = 2 + numbers.below(MOST_SLOTS - 1)
-                formatted(folder / "image", slots)
+                formats(folder / "image", slots, record, failures)
                 disk = Telling([first_sector(slots)] + [bytes(SECTOR)] * 6 * slots)
                 failures.unless((folder / "image").read_bytes() == bytes_of(disk), f"life {number}: an image that was made holds other bytes")
             scenario = Made(numbers, Known(kept_on(disk) or Kept())).scenario()

@@ -3,11 +3,33 @@
  *     files FOLDER    makes its files in this folder */
 #define _POSIX_C_SOURCE 200809L
 #include <errno.h>
+#include <fcntl.h>
+#include <stdlib.h>
+#include <string.h>
+#include <sys/stat.h>
 #include <sys/types.h>
 #include <unistd.h>
 
-/* What the system is to do wrong. */
-static int writes_left = -1, fails_sync, does_parts;
+/* What the system is to do wrong: a number that each sync fails with, and that each sync of a folder and each drop does. */
+static int writes_left = -1, fails_sync, fails_folder, fails_drop, does_parts;
+
+/* The calls in their order, a letter for those of a kind that come together: W write, R read, S sync, D drop of the system's copies, F sync of a
+ * folder; how many bytes were read; and which folder was synced last. */
+static char order[64];
+static size_t bytes_read;
+static ino_t folder;
+
+static void note(char call) {
+    const size_t len = strlen(order);
+    if (len + 1 < sizeof order && (len == 0 || order[len - 1] != call))
+        order[len] = call;
+}
+
+static void forget(void) {
+    memset(order, 0, sizeof order);
+    bytes_read = 0;
+    folder = 0;
+}
 
 static ssize_t planted_write(int descriptor, const void *bytes, size_t len, off_t at) {
     static int interrupted;
@@ -21,6 +43,7 @@ static ssize_t planted_write(int descriptor, const void *bytes, size_t len, off_
     }
     if (writes_left > 0)
         writes_left--;
+    note('W');
     return pwrite(descriptor, bytes, does_parts && len > 100 ? 100 : len, at);
 }
 
@@ -30,17 +53,34 @@ static ssize_t planted_read(int descriptor, void *bytes, size_t len, off_t at) {
         errno = EINTR;
         return -1;
     }
-    return pread(descriptor, bytes, does_parts && len > 100 ? 100 : len, at);
+    note('R');
+    const ssize_t got = pread(descriptor, bytes, does_parts && len > 100 ? 100 : len, at);
+    bytes_read += got > 0 ? (size_t)got : 0;
+    return got;
 }
 
 static int planted_sync(int descriptor) {
-    errno = EIO;
+    struct stat of;
+    if (fstat(descriptor, &of) == 0 && S_ISDIR(of.st_mode)) {
+        note('F');
+        folder = of.st_ino;
+        errno = fails_folder;
+        return fails_folder ? -1 : fsync(descriptor);
+    }
+    note('S');
+    errno = fails_sync;
     return fails_sync ? -1 : fsync(descriptor);
+}
+
+static int planted_drop(int descriptor, off_t at, off_t len, int advice) {
+    note(at == 0 && len == 0 && advice == POSIX_FADV_DONTNEED ? 'D' : '?');
+    return fails_drop ? fails_drop : posix_fadvise(descriptor, at, len, advice);
 }
 
 #define pwrite planted_write
 #define pread planted_read
 #define fsync planted_sync
+#define posix_fadvise planted_drop
 #include "etcs_file.h"
 
 #include "medium.h"
@@ -54,7 +94,7 @@ static long size_of(const char *path) {
 }
 
 static void formats(void) {
-    etcs_file file;
+    etcs_file file = {0};
     is("1 slot", etcs_file_format(&file, "none", 1), ETCS_FILE_UNIT);
     is("its status", file.status, ETCS_UNIT_BAD_SLOTS);
     is("no file is made", size_of("none") == -1, 1);
@@ -67,7 +107,7 @@ static void formats(void) {
     is("a write that fails", etcs_file_format(&file, "image", 4), ETCS_FILE_CANT_WRITE);
     is("its number", (uint64_t)file.error, EIO);
     writes_left = -1;
-    fails_sync = 1;
+    fails_sync = EIO;
     is("a sync that fails", etcs_file_format(&file, "image", 4), ETCS_FILE_CANT_SYNC);
     fails_sync = 0;
     is("4 slots", etcs_file_format(&file, "image", 4), ETCS_FILE_OK);
@@ -75,8 +115,137 @@ static void formats(void) {
     is("no file is open", (uint64_t)(int64_t)file.descriptor, (uint64_t)-1);
 }
 
+static ino_t number_of(const char *path) {
+    struct stat of;
+    return stat(path, &of) == 0 ? of.st_ino : 0;
+}
+
+/* The folder of a new file is synced, also where links lead there, and before a format answers OK. */
+static void names(void) {
+    etcs_file file = {0};
+    char here[4096] = "";
+    is("folders", mkdir("one", 0777) == 0 && mkdir("one/two", 0777) == 0 && mkdir("three", 0777) == 0, 1);
+    is("links", symlink("../one/two/far", "three/link") == 0 && symlink("three/link", "image.link") == 0 && symlink("circle", "circle") == 0, 1);
+    forget();
+    is("a new file", etcs_file_format(&file, "new", 2), ETCS_FILE_OK);
+    is("its folder is synced, and it is itself at the end", strchr(order, 'F') != NULL && order[strlen(order) - 1] == 'S', 1);
+    is("this folder", folder, number_of("."));
+    is("in another folder", etcs_file_format(&file, "one/two/new", 2), ETCS_FILE_OK);
+    is("that folder", folder, number_of("one/two"));
+    is("by a whole path", getcwd(here, sizeof here - 16) == here && etcs_file_format(&file, strcat(here, "/three/new"), 2) == ETCS_FILE_OK, 1);
+    is("that folder", folder, number_of("three"));
+    is("by two links", etcs_file_format(&file, "image.link", 2), ETCS_FILE_OK);
+    is("the folder where they lead", folder, number_of("one/two"));
+    is("there it is", (uint64_t)size_of("one/two/far"), 6656);
+    is("links that lead nowhere", etcs_file_format(&file, "circle", 2), ETCS_FILE_CANT_OPEN);
+    fails_folder = EIO;
+    is("a folder whose sync fails", etcs_file_format(&file, "newer", 2), ETCS_FILE_CANT_SYNC);
+    is("its number", (uint64_t)file.error, EIO);
+    fails_folder = EINVAL;
+    is("a folder that has no sync", etcs_file_format(&file, "newer", 2), ETCS_FILE_OK);
+    fails_folder = 0;
+}
+
+/* A file is synced, and the system's copies are dropped, before it is read. */
+static void settles(void) {
+    etcs_file file = {0};
+    etcs_unit unit = {0};
+    forget();
+    is("open", etcs_file_open(&file, "image", &unit, 0), ETCS_FILE_OK);
+    is("a sync, a drop, and reads", strcmp(order, "SDR") == 0, 1);
+    is("close", etcs_file_close(&file, &unit), ETCS_FILE_OK);
+    forget();
+    fails_sync = EIO;
+    is("a sync that fails", etcs_file_open(&file, "image", &unit, 0), ETCS_FILE_CANT_SYNC);
+    is("its number", (uint64_t)file.error, EIO);
+    is("nothing is read", strcmp(order, "S") == 0, 1);
+    fails_sync = EROFS;
+    is("a file that takes no writes", etcs_file_open(&file, "image", &unit, 0), ETCS_FILE_OK);
+    is("close", etcs_file_close(&file, &unit), ETCS_FILE_OK);
+    fails_sync = 0;
+    forget();
+    fails_drop = ENOSYS;
+    is("a system that drops nothing", etcs_file_open(&file, "image", &unit, 0), ETCS_FILE_CANT_SYNC);
+    is("its number", (uint64_t)file.error, ENOSYS);
+    is("nothing is read", strcmp(order, "SD") == 0, 1);
+    fails_drop = 0;
+    is("the unit isn't open", unit.is_open, 0);
+}
+
+/* What is open stays so, with its lock, where it is opened or formatted once more. */
+static void open_already(void) {
+    etcs_file file = {0}, other = {0};
+    etcs_unit unit = {0}, second = {0};
+    is("open", etcs_file_open(&file, "image", &unit, 0), ETCS_FILE_OK);
+    const int descriptor = file.descriptor;
+    is("once more", etcs_file_open(&file, "image", &unit, 0), ETCS_FILE_UNIT);
+    is("its status", file.status, ETCS_UNIT_IS_OPEN);
+    is("the file, with another unit", etcs_file_open(&file, "new", &second, 0), ETCS_FILE_UNIT);
+    is("its status", file.status, ETCS_UNIT_IS_OPEN);
+    is("that unit isn't open", second.is_open, 0);
+    forget();
+    is("the unit, with another file", etcs_file_open(&other, "new", &unit, 0), ETCS_FILE_UNIT);
+    is("its status", other.status, ETCS_UNIT_IS_OPEN);
+    is("that file isn't touched", order[0] == 0, 1);
+    is("a format of it", etcs_file_format(&file, "new", 4), ETCS_FILE_UNIT);
+    is("its status", file.status, ETCS_UNIT_IS_OPEN);
+    is("the same descriptor", (uint64_t)file.descriptor, (uint64_t)descriptor);
+    is("the lock is held", etcs_file_open(&other, "image", &second, 0), ETCS_FILE_LOCKED);
+    is("the other file isn't", etcs_file_open(&other, "new", &second, 0), ETCS_FILE_OK);
+    is("close the other", etcs_file_close(&other, &second), ETCS_FILE_OK);
+    is("the unit goes on", etcs_file_flush(&file, &unit, outputs, &count), ETCS_FILE_OK);
+    is("close", etcs_file_close(&file, &unit), ETCS_FILE_OK);
+    is("the lock is given back", etcs_file_open(&file, "image", &unit, 0), ETCS_FILE_OK);
+    is("close", etcs_file_close(&file, &unit), ETCS_FILE_OK);
+}
+
+/* A file of zeros is none: no descriptor is closed, nor written to. */
+static void zeros(void) {
+    static uint8_t before[6656], after[6656];
+    etcs_file file = {0}, none = {0};
+    etcs_unit unit = {0};
+    const int zero = open("new", O_RDWR);
+    is("descriptor 0", (uint64_t)dup2(zero, 0), 0);
+    is("its bytes", read(zero, before, sizeof before) == (ssize_t)sizeof before && lseek(zero, 0, SEEK_SET) == 0, 1);
+    is("close a file of zeros", etcs_file_close(&none, &unit), ETCS_FILE_UNIT);
+    is("descriptor 0 is open", fcntl(0, F_GETFD) >= 0, 1);
+    memset(&none, 0, sizeof none);
+    is("open", etcs_file_open(&file, "image", &unit, 0), ETCS_FILE_OK);
+    forget();
+    is("flush to a file of zeros", etcs_file_flush(&none, &unit, outputs, &count) != ETCS_FILE_OK, 1);
+    is("its number", (uint64_t)none.error, EBADF);
+    is("the same bytes", read(zero, after, sizeof after) == (ssize_t)sizeof after && memcmp(before, after, sizeof after) == 0, 1);
+    is("close", etcs_file_close(&file, &unit), ETCS_FILE_OK);
+    close(zero);
+}
+
+/* Of a great file that isn't a journal of its size the first sector alone is read. */
+static void great(void) {
+    etcs_file file = {0};
+    etcs_unit unit = {0};
+    uint8_t first[ETCS_UNIT_SECTOR];
+    const int from = open("image", O_RDONLY), to = open("great", O_RDWR | O_CREAT, 0666);
+    is("3 GB", ftruncate(to, (off_t)3 << 30) == 0, 1);
+    forget();
+    is("no journal", etcs_file_open(&file, "great", &unit, 0), ETCS_FILE_UNIT);
+    is("its status", file.status, ETCS_UNIT_OPEN_NOT_FORMATTED);
+    is("no more is read than its first sector, twice", bytes_read <= 2 * sizeof first, 1);
+    is("the first sector of another one", read(from, first, sizeof first) == (ssize_t)sizeof first && write(to, first, sizeof first) == (ssize_t)sizeof first, 1);
+    forget();
+    is("a journal of another size", etcs_file_open(&file, "great", &unit, 0), ETCS_FILE_UNIT);
+    is("its status", file.status, ETCS_UNIT_OPEN_DAMAGED);
+    is("no more is read than its first sector, twice", bytes_read <= 2 * sizeof first, 1);
+    is("cold 3 comes first", etcs_file_open(&file, "great", &unit, 3), ETCS_FILE_UNIT);
+    is("its status", file.status, ETCS_UNIT_OUT_OF_RANGE);
+    is("511 bytes", ftruncate(to, 511) == 0 && etcs_file_open(&file, "great", &unit, 0) == ETCS_FILE_UNIT, 1);
+    is("its status", file.status, ETCS_UNIT_OPEN_NOT_FORMATTED);
+    close(from);
+    close(to);
+    unlink("great");
+}
+
 static void opens(void) {
-    etcs_file file, other;
+    etcs_file file = {0}, other = {0};
     etcs_unit unit = {0}, second = {0};
     is("no file", etcs_file_open(&file, "none", &unit, 0), ETCS_FILE_CANT_OPEN);
     is("its number", (uint64_t)file.error, ENOENT);
@@ -102,7 +271,7 @@ static void opens(void) {
 
 /* A life in which every call of the system does a part or is interrupted. */
 static void lives(void) {
-    etcs_file file;
+    etcs_file file = {0};
     etcs_unit unit = {0};
     does_parts = 1;
     is("open", etcs_file_open(&file, "image", &unit, ETCS_COLD_NOT_MOVED), ETCS_FILE_OK);
@@ -132,13 +301,13 @@ static void lives(void) {
 
 /* Where the file fails nothing is released any more. */
 static void fails(int at_sync) {
-    etcs_file file;
+    etcs_file file = {0};
     etcs_unit unit = {0};
     etcs_unit_state_told state;
     is("open", etcs_file_open(&file, "image", &unit, 0), ETCS_FILE_OK);
     is("flush", etcs_file_flush(&file, &unit, outputs, &count), ETCS_FILE_OK);
     is("an input", etcs_unit_clock(&unit, 1), ETCS_UNIT_OK);
-    fails_sync = at_sync;
+    fails_sync = at_sync ? EIO : 0;
     writes_left = at_sync ? -1 : 0;
     is("flush", etcs_file_flush(&file, &unit, outputs, &count), at_sync ? ETCS_FILE_CANT_SYNC : ETCS_FILE_CANT_WRITE);
     is("nothing is released", count, 0);
@@ -157,9 +326,14 @@ int main(int words, char **word) {
     if (words != 2 || chdir(word[1]) != 0)
         return 2;
     formats();
+    names();
     opens();
+    settles();
+    open_already();
+    great();
     lives();
     fails(0);
     fails(1);
-    return told("files", 79);
+    zeros();
+    return told("files", 147);
 }

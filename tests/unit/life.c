@@ -98,7 +98,7 @@ static uint32_t live(etcs_file *file, etcs_unit *unit) {
 
 int main(int count, char **words) {
     etcs_unit unit = {0};
-    etcs_file file;
+    etcs_file file = {0};
     if (count == 4 && strcmp(words[1], "format") == 0)
         return etcs_file_format(&file, words[2], (uint32_t)strtoul(words[3], NULL, 10)) == ETCS_FILE_OK ? DONE : DEVICE;
     if (count != 3 && count != 4)

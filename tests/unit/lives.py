@@ -62,7 +62,7 @@ def scenario_of(numbers):
 
 
 def recorded(record, image, words, text=""):
-    """Status and text of a run, and its writes, syncs and prints in their order."""
+    """Status and text of a run, and its writes, syncs, drops of pages and prints in their order."""
     calls_file = image.with_suffix(".calls")
     calls_file.unlink(missing_ok=True)
     env = dict(os.environ, LD_PRELOAD=record, RECORD_OF=str(image), RECORD_TO=str(calls_file))
@@ -75,13 +75,20 @@ def recorded(record, image, words, text=""):
         at += 17
         body = data[at:at + length] if kind in b"wo" else b""
         at += len(body)
-        if kind in b"wso":
+        if kind in b"wsdo":
             calls.append((kind.decode(), place, body))
     return ran.returncode, ran.stdout, calls
 
 
 def requests_of(calls):
     return [call for call in calls if call[0] != "o"]
+
+
+def behind_settling(calls):
+    """The calls of a life behind the two that settle its file, which are no requests of the unit."""
+    if [kind for kind, _, _ in calls[:2]] != ["s", "d"]:
+        raise SystemExit(f"the file isn't synced, and its pages dropped, at first: {calls[:2]}")
+    return calls[2:]
 
 
 def cut_off(before, calls, count):
@@ -135,6 +142,7 @@ class Pair:
 
     def cut(self, name, before, calls, words, text, numbers):
         """The life stops between two requests."""
+        calls = behind_settling(calls)
         count = numbers.randrange(len(requests_of(calls)))
         self.other.write_bytes(before)
         status, printed, _ = recorded(self.record, self.other, [*words, count], text)

@@ -3,6 +3,7 @@ ghost use Rattle.std.specs.Prelude.{◌≡◌, ◌+◌, ◌*◌, ◌/◌, ◌%�
 ghost use Rattle.disk.specs.State.{contents_of, IsSynced, HoldsZeros};
 ghost use Rattle.file_disk.specs.Files.{bytes_of, disk_over, whole_disk};
 
+use crate::settling::{settle, sync_folder};
 use crate::whole::{read_all, write_all};
 use crate::{RawFile, ReadOnlyFile};
 use disk::{Disk, DiskFault, SECTOR_BYTES};
@@ -31,12 +32,12 @@ pub struct FileDisk<F: RawFile = File> {
 impl FileDisk {
     /// Makes the file, or empties the one that is there, and fills it with so many sectors of zeros; a block device of
     /// just so many sectors stays as it is. The zeros are a hole in the file, and take no time: that the device has no
-    /// room left shows at a write.
+    /// room left shows at a write. The folder is synced too, so that the name of a new file survives a loss of power.
     ///
     /// The file is locked for this handle alone before it is touched, until the disk is dropped. DiskFault where it
-    /// can't be made or locked, where another handle holds a lock on it, and before it is touched where no file has so
-    /// many bytes.
-    pub fn create<R: Files<File = File>>(
+    /// can't be made or locked, where another handle holds a lock on it, where its folder can't be synced, and before
+    /// it is touched where no file has so many bytes.
+    pub fn create<R: Files<File = File> + AllocGlobal>(
         rt: &R,
         path: &str,
         sectors: u64,
@@ -53,22 +54,25 @@ impl FileDisk {
         let file = options.open(rt, path).map_err(|_| DiskFault)?;
         locked(&file)?;
         if is_device(&file)? {
-            FileDisk::of_size(file, sectors)
-        } else {
-            FileDisk::fill(file, sectors)
+            return FileDisk::of_size(file, sectors);
         }
+        let disk = FileDisk::fill(file, sectors)?;
+        sync_folder(rt, path)?;
+        Ok(disk)
     }
 
     /// Opens the file to read and to write; its sectors are its whole 512-byte parts. A file that may only be read
     /// opens too, and answers DiskFault to each write.
     ///
-    /// The file is locked for this handle alone until the disk is dropped. DiskFault where it can't be opened or
-    /// locked, and where another handle holds a lock on it.
+    /// The file is locked for this handle alone until the disk is dropped, and settled before it is read: it is synced,
+    /// and the system's copies of its pages are dropped. DiskFault where it can't be opened, locked or settled, and
+    /// where another handle holds a lock on it.
     pub fn open<R: Files<File = File>>(rt: &R, path: &str) -> Result<FileDisk, DiskFault>
         ensures faults { IfOk result (λ disk. (⟦<FileDisk<File> as Disk>⟧.state disk).faults ≡ 0) }
     {
         let file = open_file(rt, path)?;
         locked(&file)?;
+        settle(&file)?;
         FileDisk::over(file)
     }
 }
@@ -77,8 +81,8 @@ impl FileDisk<ReadOnlyFile> {
     /// Opens the file for reading alone; its sectors are its whole 512-byte parts. The disk answers DiskFault to each
     /// write, and nothing that is called of it writes to the file.
     ///
-    /// The file is locked for handles that read until the disk is dropped. DiskFault where it can't be opened or
-    /// locked, where another handle holds the lock to write, and where it is a folder.
+    /// The file is locked for handles that read until the disk is dropped, and settled as by `open`. DiskFault where it
+    /// can't be opened, locked or settled, where another handle holds the lock to write, and where it is a folder.
     pub fn open_to_read<R: Files<File = File>>(
         rt: &R,
         path: &str,

@@ -4,6 +4,7 @@
 mod filedisk;
 mod raw;
 mod readonly;
+mod settling;
 mod system;
 mod whole;
 

@@ -2,9 +2,9 @@
 ghost use Rattle.file_disk.specs.SystemFile.{read_only_state};
 
 use crate::RawFile;
+use crate::settling::{settle, sync_what_waits};
 use disk::DiskFault;
 use std::fs::File;
-use std::io::ErrorKind;
 use std::rt::Files;
 
 /// A file of the operating system that was opened for reading alone, and is locked for handles that read. What would
@@ -15,8 +15,8 @@ pub struct ReadOnlyFile {
 }
 
 impl ReadOnlyFile {
-    /// Opens and locks a file. DiskFault where it can't be opened or locked, where another handle holds the lock to
-    /// write, and where it is a folder.
+    /// Opens, locks and settles a file. DiskFault where one of these can't be done, where another handle holds the lock
+    /// to write, and where it is a folder.
     pub(crate) fn open<R: Files<File = File>>(
         rt: &R,
         path: &str,
@@ -27,6 +27,7 @@ impl ReadOnlyFile {
             _ => return Err(DiskFault),
         }
         file.try_lock_shared().map_err(|_| DiskFault)?;
+        settle(&file)?;
         Ok(ReadOnlyFile { file })
     }
 }
@@ -50,14 +51,8 @@ impl RawFile for ReadOnlyFile {
         Err(DiskFault)
     }
 
-    // What others wrote before is settled. A file system that takes no writes has no such call, and nothing to settle.
+    // What others wrote before is settled.
     fn sync(&mut self) -> Result<(), DiskFault> {
-        match self.file.sync_all() {
-            Ok(()) => Ok(()),
-            Err(error) => match error.kind() {
-                ErrorKind::InvalidInput | ErrorKind::ReadOnlyFilesystem => Ok(()),
-                _ => Err(DiskFault),
-            },
-        }
+        sync_what_waits(&self.file)
     }
 }

@@ -20,10 +20,11 @@ status=0
 
 fails() { echo "$*"; status=1; }
 
+strict=(-Wall -Wextra -Werror -Wconversion -Wsign-conversion)
 # compiled NAME FILE: makes NAME.c and NAME.cpp of a file.
 compiled() {
-    gcc -x c -O2 -Wall -Wextra -Werror -I "$top/include" "$2" -x none "$library" -o "$made/$1.c" || fails "$1 doesn't compile as C"
-    g++ -x c++ -O2 -Wall -Wextra -Werror -I "$top/include" "$2" -x none "$library" -o "$made/$1.cpp" || fails "$1 doesn't compile as C++"
+    gcc -x c -O2 "${strict[@]}" -I "$top/include" "$2" -x none "$library" -o "$made/$1.c" || fails "$1 doesn't compile as C"
+    g++ -x c++ -O2 "${strict[@]}" -I "$top/include" "$2" -x none "$library" -o "$made/$1.cpp" || fails "$1 doesn't compile as C++"
 }
 
 sed -n '/^```c$/,/^```$/{/^```/d;p}' "$readme" >"$made/readme"

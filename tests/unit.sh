@@ -97,6 +97,10 @@ for name in brake flash why; do
     build "$name.checked" "$top/examples/embedding/$name.c" gcc -x c -std=c99 -O1 "${sanitizers[@]}"
 done
 build brake.cpp "$top/examples/embedding/brake.cpp" g++ -x c++ -std=c++17 -O2
+for name in brake flash why; do
+    g++ -x c++ -std=c++17 "${strict[@]}" -Wno-missing-field-initializers -I "$include" -fsyntax-only "$top/examples/embedding/$name.c" ||
+        fails "examples/embedding/$name.c isn't C++ too"
+done
 link=("$archive" -Wl,--wrap=malloc,--wrap=realloc,--wrap=free)
 build refused.gcc "$top/tests/unit/refused.c" gcc -x c -std=c99 -O2
 build refused.checked "$top/tests/unit/refused.c" gcc -x c -std=c99 -O1 "${sanitizers[@]}"

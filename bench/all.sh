@@ -3,7 +3,7 @@
 # run behind it. What the builds have to say goes to bench/out/said.
 #
 #     bench/all.sh [--keep] [PART..]    the parts: measure kernel blocks journal onboard run program worst mixed; with --keep the new rows are kept
-top=$(cd "$(dirname "$0")/.." && pwd) || exit 1
+top=$(cd "$(dirname "$(readlink -f -- "$0")")/.." && pwd) || exit 1
 out=$top/bench/out
 mkdir -p "$out/printed"
 keep=

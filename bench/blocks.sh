@@ -6,7 +6,7 @@
 #
 #     bench/blocks.sh [RUNS]
 set -e
-top=$(cd "$(dirname "$0")/.." && pwd)
+top=$(cd "$(dirname "$(readlink -f -- "$0")")/.." && pwd)
 out=$top/bench/out
 runs=${1:-1000}
 # What the library calls to take memory is in the toolchain's C library.

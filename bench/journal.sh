@@ -8,7 +8,7 @@
 #
 #     bench/journal.sh [SLOTS..]
 set -e
-top=$(cd "$(dirname "$0")/.." && pwd)
+top=$(cd "$(dirname "$(readlink -f -- "$0")")/.." && pwd)
 out=$top/bench/out
 slots=${*:-1024 4096 16384}
 # What the library calls to take memory is in the toolchain's C library.

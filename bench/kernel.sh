@@ -8,7 +8,7 @@
 #
 #     bench/kernel.sh [EVENTS [CALLS]]
 set -e
-top=$(cd "$(dirname "$0")/.." && pwd)
+top=$(cd "$(dirname "$(readlink -f -- "$0")")/.." && pwd)
 out=$top/bench/out
 events=${1:-5000}
 calls=${2:-200}

@@ -6,7 +6,7 @@
 #
 #     bench/measure.sh [CALL..]    the calls of the harness, and plain_decode and plain_encode
 set -e
-top=$(cd "$(dirname "$0")/.." && pwd)
+top=$(cd "$(dirname "$(readlink -f -- "$0")")/.." && pwd)
 out=$top/bench/out
 calls=${*:-decode decode_into encode walk walk_into etcs_decode etcs_packet_count plain_decode plain_encode}
 

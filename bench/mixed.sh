@@ -5,7 +5,7 @@
 #
 #     bench/mixed.sh
 set -e
-top=$(cd "$(dirname "$0")/.." && pwd)
+top=$(cd "$(dirname "$(readlink -f -- "$0")")/.." && pwd)
 out=$top/bench/out
 export PYTHONDONTWRITEBYTECODE=1
 

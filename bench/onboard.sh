@@ -8,7 +8,7 @@
 #
 #     bench/onboard.sh [BATCHES]
 set -e
-top=$(cd "$(dirname "$0")/.." && pwd)
+top=$(cd "$(dirname "$(readlink -f -- "$0")")/.." && pwd)
 out=$top/bench/out
 batches=${1:-10000}
 # What the library calls to take memory is in the toolchain's C library.

@@ -3,7 +3,7 @@
 # blocks.
 #
 #     bench/program.sh [STEPS]
-top=$(cd "$(dirname "$0")/.." && pwd) || exit 1
+top=$(cd "$(dirname "$(readlink -f -- "$0")")/.." && pwd) || exit 1
 program=$top/crates/etcs/out/etcs
 [ -x "$program" ] || { echo "there is no program $program: rt ci or ./etcs --prove makes it"; exit 1; }
 room=$(mktemp -d) || exit 1

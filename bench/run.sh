@@ -5,7 +5,7 @@
 # (./etcs --prove).
 #
 #     bench/run.sh [EVENTS]     4,000
-top=$(cd "$(dirname "$0")/.." && pwd) || exit 1
+top=$(cd "$(dirname "$(readlink -f -- "$0")")/.." && pwd) || exit 1
 program=$top/crates/etcs/out/etcs
 events=${1:-4000}
 [ -x "$program" ] || { echo "there is no program $program: rt ci or ./etcs --prove makes it"; exit 1; }

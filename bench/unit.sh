@@ -6,7 +6,7 @@
 #
 #     bench/unit.sh PREFIX
 set -e
-top=$(cd "$(dirname "$0")/.." && pwd)
+top=$(cd "$(dirname "$(readlink -f -- "$0")")/.." && pwd)
 prefix=$(cd "$1" && pwd)
 out=$top/bench/out
 mkdir -p "$out"

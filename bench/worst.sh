@@ -13,7 +13,7 @@
 # by a few steps, and keeps it where a call takes at least as much. Its figures are the greatest that were found, and no
 # bound.
 set -e
-top=$(cd "$(dirname "$0")/.." && pwd)
+top=$(cd "$(dirname "$(readlink -f -- "$0")")/.." && pwd)
 out=$top/bench/out
 # What the library calls to take memory is in the toolchain's C library.
 memory=$(dirname "$(rt doc)")/c/liblibc_c.a

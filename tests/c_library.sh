@@ -4,7 +4,7 @@
 #
 #     tests/c_library.sh [LIBRARY]    proves and builds the library first, or takes this one
 export PYTHONDONTWRITEBYTECODE=1
-top=$(cd "$(dirname "$0")/.." && pwd) || exit 1
+top=$(cd "$(dirname "$(readlink -f -- "$0")")/.." && pwd) || exit 1
 readme=$top/crates/etcs_c/README.md
 library=$top/crates/etcs_c/out/libetcs_c.a
 made=$(mktemp -d) || exit 1

@@ -3,7 +3,7 @@
 # planted fault is told, and the program answers to the same events as the library. And the commands of docs/TESTING_A_TRAIN.md that drive.
 #
 #     tests/drive.sh [ETCS_LAB ETCS [PREFIX]]    on other programs, and on the library below PREFIX
-top=$(cd "$(dirname "$0")/.." && pwd) || exit 1
+top=$(cd "$(dirname "$(readlink -f -- "$0")")/.." && pwd) || exit 1
 lab=${1:-$top/crates/etcs_lab/out/etcs_lab}
 etcs=${2:-$top/crates/etcs/out/etcs}
 lab=$(realpath "$lab") && etcs=$(realpath "$etcs") || exit 1

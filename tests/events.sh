@@ -3,8 +3,8 @@
 # examples, whole and damaged, and of pseudo-random blocks in all three formats.
 #
 #     tests/events.sh [PROGRAM [RINGS [SEED]]]    on another program, with more or other rings
-program=$(realpath "${1:-$(dirname "$0")/../crates/etcs_lab/out/etcs_lab}") || exit 1
-cd "$(dirname "$0")" || exit 1
+program=$(realpath "${1:-$(dirname "$(readlink -f -- "$0")")/../crates/etcs_lab/out/etcs_lab}") || exit 1
+cd "$(dirname "$(readlink -f -- "$0")")" || exit 1
 export PYTHONDONTWRITEBYTECODE=1
 [ -x "$program" ] || { echo "there is no program $program: rt ci makes it"; exit 1; }
 python3 events/event_rows.py "$program" "${@:2}"

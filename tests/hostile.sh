@@ -11,7 +11,7 @@
 #
 # ETCS=PROGRAM names another program than the one that the gate leaves behind.
 [ -z "$ETCS" ] || ETCS=$(realpath "$ETCS") || exit 1
-cd "$(dirname "$0")" || exit 1
+cd "$(dirname "$(readlink -f -- "$0")")" || exit 1
 export PYTHONDONTWRITEBYTECODE=1
 memory() { python3 hostile/refused_memory.py ../examples/*/scenario.json 2>&1; }
 cuts() { python3 hostile/cut_files.py 2>&1; }

@@ -3,10 +3,10 @@
 # each command of docs/INVESTIGATING.md.
 #
 #     tests/lab.sh [ETCS_LAB ETCS]    on other programs
-lab=${1:-$(dirname "$0")/../crates/etcs_lab/out/etcs_lab}
-etcs=${2:-$(dirname "$0")/../crates/etcs/out/etcs}
+lab=${1:-$(dirname "$(readlink -f -- "$0")")/../crates/etcs_lab/out/etcs_lab}
+etcs=${2:-$(dirname "$(readlink -f -- "$0")")/../crates/etcs/out/etcs}
 lab=$(realpath "$lab") && etcs=$(realpath "$etcs") || exit 1
-cd "$(dirname "$0")" || exit 1
+cd "$(dirname "$(readlink -f -- "$0")")" || exit 1
 export PYTHONDONTWRITEBYTECODE=1
 for program in "$lab" "$etcs"; do
     [ -x "$program" ] || { echo "there is no program $program: rt ci makes it"; exit 1; }

@@ -3,10 +3,10 @@
 # docs/LABORATORY.md, tables and database beside plain readers, and reports.
 #
 #     tests/lab_package.sh [ETCS_LAB ETCS [IMAGES [SEED]]]    on other programs, with more or other images
-lab=${1:-$(dirname "$0")/../crates/etcs_lab/out/etcs_lab}
-etcs=${2:-$(dirname "$0")/../crates/etcs/out/etcs}
+lab=${1:-$(dirname "$(readlink -f -- "$0")")/../crates/etcs_lab/out/etcs_lab}
+etcs=${2:-$(dirname "$(readlink -f -- "$0")")/../crates/etcs/out/etcs}
 lab=$(realpath "$lab") && etcs=$(realpath "$etcs") || exit 1
-cd "$(dirname "$0")/.." || exit 1
+cd "$(dirname "$(readlink -f -- "$0")")/.." || exit 1
 export PYTHONDONTWRITEBYTECODE=1 GAKNIFUR_ETCS_LAB=$lab
 python=/usr/bin/python3 # Debian's packages belong to this one
 for program in "$lab" "$etcs"; do

@@ -4,7 +4,7 @@
 #     tests/programs.sh [PROGRAM]    the rows alone, on another program
 program=
 [ $# -eq 0 ] || program=$(realpath "$1") || exit 1
-cd "$(dirname "$0")" || exit 1
+cd "$(dirname "$(readlink -f -- "$0")")" || exit 1
 export PYTHONDONTWRITEBYTECODE=1
 program=${program:-$PWD/../crates/etcs/out/etcs}
 [ -x "$program" ] || { echo "there is no program $program: rt ci or ./etcs --prove makes it"; exit 1; }

@@ -3,12 +3,12 @@
 # docs/TESTS.md.
 #
 #     tests/replay.sh [PROGRAM..]    on another program, with its words
-lab=$(dirname "$0")/../crates/etcs_lab/out/etcs_lab
+lab=$(dirname "$(readlink -f -- "$0")")/../crates/etcs_lab/out/etcs_lab
 if [ $# -eq 0 ]; then
     lab=$(realpath "$lab") || exit 1
     [ -x "$lab" ] || { echo "there is no program $lab: rt ci makes it"; exit 1; }
     set -- "$lab" replay
 fi
-cd "$(dirname "$0")" || exit 1
+cd "$(dirname "$(readlink -f -- "$0")")" || exit 1
 export PYTHONDONTWRITEBYTECODE=1
 exec python3 lab/replay_rows.py "$@"

@@ -6,9 +6,9 @@
 #
 #     tests/rows.sh          with the program etcs that rt ci leaves in crates/, for the rows that ask it
 #     tests/rows.sh ETCS     with another one
-ETCS=$(realpath "${1:-$(dirname "$0")/../crates/etcs/out/etcs}") || exit 1
+ETCS=$(realpath "${1:-$(dirname "$(readlink -f -- "$0")")/../crates/etcs/out/etcs}") || exit 1
 export ETCS PYTHONDONTWRITEBYTECODE=1
-cd "$(dirname "$0")/rows" || exit 1
+cd "$(dirname "$(readlink -f -- "$0")")/rows" || exit 1
 [ -x "$ETCS" ] || { echo "rows: no program $ETCS"; exit 1; }
 made=$(mktemp -d) || exit 1
 trap 'rm -rf "$made"' EXIT

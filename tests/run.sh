@@ -5,7 +5,7 @@
 # that the rows of the program and the examples want. The reader that was written from the page of the format alone
 # lists what the plain unit wrote. The tables of the plain program are those of the definitions. The safety laws hold
 # behind each event of the kernel's rows.
-cd "$(dirname "$0")/plain" || exit 1
+cd "$(dirname "$(readlink -f -- "$0")")/plain" || exit 1
 export PYTHONDONTWRITEBYTECODE=1
 status=0
 found=$(python3 check_rows.py) || status=1

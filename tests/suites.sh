@@ -3,10 +3,10 @@
 # a case or a reason, what is untrue fails, and docs/TESTING_A_TRAIN.md prints what it says; and a search over random lives.
 #
 #     tests/suites.sh [ETCS_LAB ETCS]    on other programs
-lab=${1:-$(dirname "$0")/../crates/etcs_lab/out/etcs_lab}
-etcs=${2:-$(dirname "$0")/../crates/etcs/out/etcs}
+lab=${1:-$(dirname "$(readlink -f -- "$0")")/../crates/etcs_lab/out/etcs_lab}
+etcs=${2:-$(dirname "$(readlink -f -- "$0")")/../crates/etcs/out/etcs}
 lab=$(realpath "$lab") && etcs=$(realpath "$etcs") || exit 1
-cd "$(dirname "$0")/.." || exit 1
+cd "$(dirname "$(readlink -f -- "$0")")/.." || exit 1
 export PYTHONDONTWRITEBYTECODE=1 GAKNIFUR_ETCS_LAB=$lab GAKNIFUR_ETCS=$etcs
 least=480 # results
 for program in "$lab" "$etcs"; do

@@ -3,10 +3,10 @@
 # tells of bytes beside what plain readers and writers do, each message once, the schema; what is wrong in a scenario, and where.
 #
 #     tests/telegrams.sh [ETCS_LAB ETCS]    on other programs
-lab=${1:-$(dirname "$0")/../crates/etcs_lab/out/etcs_lab}
-etcs=${2:-$(dirname "$0")/../crates/etcs/out/etcs}
+lab=${1:-$(dirname "$(readlink -f -- "$0")")/../crates/etcs_lab/out/etcs_lab}
+etcs=${2:-$(dirname "$(readlink -f -- "$0")")/../crates/etcs/out/etcs}
 lab=$(realpath "$lab") && etcs=$(realpath "$etcs") || exit 1
-cd "$(dirname "$0")" || exit 1
+cd "$(dirname "$(readlink -f -- "$0")")" || exit 1
 ../tools/python --checks || exit 1
 export PYTHONDONTWRITEBYTECODE=1
 for program in "$lab" "$etcs"; do

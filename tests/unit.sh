@@ -7,7 +7,7 @@
 #     tests/unit.sh [PREFIX [LIVES]]    builds and installs the library first, or takes the one below PREFIX; 400 lives; $ETCS and $ETCS_LAB name
 #                                       other programs than the gate's
 export PYTHONDONTWRITEBYTECODE=1
-top=$(cd "$(dirname "$0")/.." && pwd) || exit 1
+top=$(cd "$(dirname "$(readlink -f -- "$0")")/.." && pwd) || exit 1
 python=/usr/bin/python3 # Debian's packages belong to this one
 made=$(mktemp -d) || exit 1
 trap 'rm -rf "$made"' EXIT

@@ -1,6 +1,6 @@
 #!/bin/bash
 # What an investigator asks: images of each state of a slot, cut off, altered and big ones, on the program etcs_lab that the gate leaves behind; and
-# each command of docs/INVESTIGATING.md.
+# each command of docs/INVESTIGATING.md. And examination and replay in one (etcs_lab check).
 #
 #     tests/lab.sh [ETCS_LAB ETCS]    on other programs
 lab=${1:-$(dirname "$(readlink -f -- "$0")")/../crates/etcs_lab/out/etcs_lab}
@@ -13,5 +13,6 @@ for program in "$lab" "$etcs"; do
 done
 status=0
 python3 lab/image_rows.py "$lab" "$etcs" || status=1
+python3 lab/verdict_rows.py "$lab" || status=1
 python3 lab/page_rows.py "$etcs" "$lab" || status=1
 exit $status

@@ -301,15 +301,16 @@ def compare_words(program, room, compared):
         [], ["examine"], ["examine", "--jso", str(good)], ["examine", str(good), "x"], ["look", str(good)], ["examine", "--json"], ["--json"], [""], ["help"],
         ["--", "examine", str(good)], ["--json", "examine", str(good)], ["examine", "--json", "--json", str(good)], ["examine", "--json=1", str(good)],
         ["examine", "--help"], ["examine", "-j", str(good)], ["examine", "--all", str(good)], ["events", "--json", str(good)], ["why", str(good), "x"],
-        ["why", str(good), "-1"], ["why", str(good), "8", "9"], ["telegram"], ["telegram", "--schema", str(good)], ["decode"], ["lint", str(good), "x"],
+        ["why", str(good), "-1"], ["why", str(good), "8", "9"], ["check"], ["check", str(good), "x"], ["check", "--all", str(good)], ["telegram"], ["telegram", "--schema", str(good)], ["decode"], ["lint", str(good), "x"],
         ["--help", "--help"], ["--help", "look"], ["--help", "--", "x"],
     )
     for words in wrong:
         printed, said, status = run(program, words)
         compared.same(f"words {words}", (printed, said.count("\n"), status), ("", 1, 2))
     for path in ("none", str(room)):
-        printed, said, status = run(program, ["examine", path])
-        compared.same(f"file {path}", (printed, said.count("\n"), path in said, status), ("", 1, True, 3))
+        for word in ("examine", "check"):
+            printed, said, status = run(program, [word, path])
+            compared.same(f"{word} of file {path}", (printed, said.count("\n"), path in said, status), ("", 1, True, 3))
     printed, said, status = run(program, ["--help"])
     compared.same("help", ("examine" in printed, "digest" in printed.split("\n\n")[-1], "copy" in printed.split("\n\n")[-1], said, status), (True, True, True, "", 0))
     compared.same("help, and the end of the options", run(program, ["--help", "--"]), (printed, "", 0))
@@ -333,8 +334,9 @@ def compare_words(program, room, compared):
         done = subprocess.run(["sh", "-c", f'"$0" examine "$1" {closes}', program, str(good)], capture_output=True)
         wanted = ("", 1) if "1" in digits else (text, 0)
         compared.same(f"without the streams {digits}", (done.stdout.decode(), done.returncode), wanted)
-    done = subprocess.run(["sh", "-c", '"$0" examine "$1" >/dev/full', program, str(good)], capture_output=True)
-    compared.same("a full device", done.returncode, 1)
+    for word in ("examine", "check"):
+        done = subprocess.run(["sh", "-c", f'"$0" {word} "$1" >/dev/full', program, str(good)], capture_output=True)
+        compared.same(f"{word} on a full device", done.returncode, 1)
     compared.same("the file after all", good.read_bytes() == image, True)
 
 

@@ -11,6 +11,8 @@ carries, how one is written, and what is wrong in a scenario.
                                      with --all also those of other readable blocks, each with its source
   etcs_lab replay [--json] IMAGE     runs each life through the kernel again, and tells whether the journal is what
                                      this kernel answers, or the first record that differs
+  etcs_lab check [--json] IMAGE      prints what examine and replay print, and a last line: whether the image is whole,
+                                     and whether the kernel would have answered so
   etcs_lab why [--json] IMAGE [EVENT]
                                      tells of each event at which brake, limit or a cause is another one than before,
                                      or of this one, which causes of its brake hold, since which event, how each ends,
@@ -31,8 +33,8 @@ carries, how one is written, and what is wrong in a scenario.
   nothing can be written   2 wrong words   3 a file or the device   4 something is lost, damaged, contradicts or
   differs, or lint has something to tell; all that can be read was told
 
-examine, replay, why and lint print lines, or with --json JSON: examine one object, the others one a line. Errors go to
-standard error. Behind -- a word may begin with -.
+examine, replay, check, why and lint print lines, or with --json JSON: examine one object, the others one a line. Errors
+go to standard error. Behind -- a word may begin with -.
 The image is opened for reading alone, and may be a file that can't be written.
 
 Take a digest of the image before anything reads it, and work on a copy. The journal has no checksum and no

@@ -2,6 +2,7 @@
 //! kernel answers so; and a laboratory what a telegram carries, and how one is written.
 #![tactic(auto)]
 
+mod checked;
 mod digest;
 mod examined;
 mod help;

@@ -1,5 +1,6 @@
 //! What the words ask for is done.
 
+use crate::checked::checked;
 use crate::examined::examined;
 use crate::help::HELP;
 use crate::linted::linted;
@@ -26,6 +27,7 @@ pub(crate) fn answer<R: Files<File = File> + Input + AllocGlobal + Eprint, W: Wr
         Some(Asked::Examine(image, form)) => examined(rt, image, form, out),
         Some(Asked::Events(image, all)) => events_told(rt, image, all, out),
         Some(Asked::Replay(image, form)) => replayed(rt, image, form, out),
+        Some(Asked::Check(image, form)) => checked(rt, image, form, out),
         Some(Asked::Why(image, only, form)) => why_told(rt, image, only, form, out),
         Some(Asked::Telegram(file)) => telegram_told(rt, file, out),
         Some(Asked::Schema) => text_told(rt, SCHEMA, "--schema", out),

@@ -7,8 +7,8 @@ use std::fs::File;
 use std::io::Write;
 use std::rt::Files;
 
-// Says why a replay did not come to its end.
-fn stopped<R: Eprint>(rt: &R, path: &str, error: ReplayError) -> Status {
+/// Says why a replay did not come to its end.
+pub(crate) fn stopped<R: Eprint>(rt: &R, path: &str, error: ReplayError) -> Status {
     let (what, status) = match error {
         ReplayError::DeviceFault => ("can't be read", Status::Device),
         ReplayError::NotFormatted => ("is not a formatted image", Status::Refused),

@@ -14,6 +14,8 @@ pub(crate) enum Asked<'a> {
     Events(&'a str, bool),
     /// To replay an image.
     Replay(&'a str, Form),
+    /// To examine an image and replay it.
+    Check(&'a str, Form),
     /// Why the brakes were commanded, at each change or at the event of a number.
     Why(&'a str, Option<u64>, Form),
     /// The telegram that a file tells.
@@ -54,6 +56,7 @@ fn command<'a>(name: &str, words: &'a [String]) -> Option<Asked<'a>> {
         (Some(image), None) if name == "examine" => Some(Asked::Examine(image, form)),
         (Some(image), None) if name == "events" => Some(Asked::Events(image, has_option)),
         (Some(image), None) if name == "replay" => Some(Asked::Replay(image, form)),
+        (Some(image), None) if name == "check" => Some(Asked::Check(image, form)),
         (Some(image), None) if name == "why" => Some(Asked::Why(image, None, form)),
         (Some(image), Some(event)) if name == "why" => {
             Some(Asked::Why(image, Some(event.parse().ok()?), form))

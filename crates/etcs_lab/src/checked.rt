@@ -1,0 +1,98 @@
+//! The command `check`.
+
+use crate::examined::verdict_of;
+use crate::images::opened;
+use crate::replayed::stopped;
+use crate::status::{Status, fail, unwritten};
+use file_disk::{FileDisk, ReadOnlyFile};
+use lab_lines::{Form, Verdict};
+use replay_lines::{Outcome, ReplayError, replay};
+use std::fs::File;
+use std::io::Write;
+use std::rt::Files;
+
+// What a check came to: what the image is found to be, and what the replay came to; None where nothing was replayed.
+#[derive(Clone, Copy)]
+struct Checked {
+    verdict: Verdict,
+    outcome: Option<Outcome>,
+}
+
+impl Checked {
+    // The last line, for people and as JSON.
+    fn last_line(self, form: Form) -> &'static str {
+        let (people, json) = match (self.verdict, self.outcome) {
+            (Verdict::Whole, Some(Outcome::Whole)) => (
+                "the image is whole, and the kernel would have answered so to each event that is replayed\n",
+                "{\"check\":{\"whole\":true,\"replay\":\"nothing_differs\"}}\n",
+            ),
+            (Verdict::Whole, Some(Outcome::Differs)) => (
+                "the image is whole, but the kernel would have answered otherwise\n",
+                "{\"check\":{\"whole\":true,\"replay\":\"differs_or_lost\"}}\n",
+            ),
+            (_, Some(Outcome::Whole)) => (
+                "the image is not whole; the kernel would have answered so to each event that is replayed\n",
+                "{\"check\":{\"whole\":false,\"replay\":\"nothing_differs\"}}\n",
+            ),
+            (_, Some(Outcome::Differs)) => (
+                "the image is not whole; the kernel would have answered otherwise, or events are lost\n",
+                "{\"check\":{\"whole\":false,\"replay\":\"differs_or_lost\"}}\n",
+            ),
+            (_, None) => (
+                "the image is not whole; no event is replayed\n",
+                "{\"check\":{\"whole\":false,\"replay\":null}}\n",
+            ),
+        };
+        match form {
+            Form::People => people,
+            Form::Json => json,
+        }
+    }
+
+    fn status(self) -> Status {
+        match (self.verdict, self.outcome) {
+            (Verdict::Whole, Some(Outcome::Whole)) => Status::Whole,
+            (Verdict::Refused, _) => Status::Refused,
+            _ => Status::Damaged,
+        }
+    }
+}
+
+// Examines an opened image, and then replays its journal.
+fn check<R: Files<File = File> + AllocGlobal + Eprint, W: Write>(
+    rt: &R,
+    disk: &mut FileDisk<ReadOnlyFile>,
+    path: &str,
+    form: Form,
+    out: &mut W,
+) -> Result<Checked, Status> {
+    let verdict = verdict_of(rt, disk, path, form, out)?;
+    let outcome = match replay(rt.alloc(), disk, form, out) {
+        Ok(outcome) => Some(outcome),
+        // The examination tells which.
+        Err(ReplayError::NotFormatted | ReplayError::Damaged) => None,
+        Err(error) => return Err(stopped(rt, path, error)),
+    };
+    Ok(Checked { verdict, outcome })
+}
+
+/// Examines an image and replays its journal, tells both in one line, and answers the status.
+pub(crate) fn checked<R: Files<File = File> + AllocGlobal + Eprint, W: Write>(
+    rt: &R,
+    path: &str,
+    form: Form,
+    out: &mut W,
+) -> Status {
+    let mut disk = match opened(rt, path) {
+        Ok(disk) => disk,
+        Err(status) => return status,
+    };
+    let found = match check(rt, &mut disk, path, form, out) {
+        Ok(found) => found,
+        Err(status) => return status,
+    };
+    match out.write_all(found.last_line(form).as_bytes()) {
+        Ok(()) => found.status(),
+        Err(_) => unwritten(rt, path),
+    }
+}

@@ -8,24 +8,29 @@ reads the bytes of an image. `journal` is the call for a notebook:
     events[events["brake"] == "emergency"]
 """
 from pathlib import Path
+from typing import TYPE_CHECKING
 
-import pandas as pd
-
-from . import causes, reading, tables
 from .lives import replay, why
+
+if TYPE_CHECKING:
+    import pandas as pd
 
 __all__ = ["brake_causes", "journal", "replay", "why"]
 
 
-def journal(path: str | Path, other_blocks: bool = False) -> pd.DataFrame:
+def journal(path: str | Path, other_blocks: bool = False) -> "pd.DataFrame":
     """The records of an image as a table, one row each, the oldest first; `tables` has its columns.
 
     With `other_blocks` also the records that aren't of the journal, which column `source` tells.
     """
+    from . import reading, tables  # (pandas takes a while to load, which the words of ./lab that have no table needn't)
     return tables.frame(reading.read(path, other_blocks=other_blocks, replay=True, why=True))
 
 
-def brake_causes(path: str | Path) -> pd.DataFrame:
+def brake_causes(path: str | Path) -> "pd.DataFrame":
     """A row for each cause that holds behind an event of which causes are told, the oldest first: since which event, what it
     says and how it ends."""
+    import pandas as pd
+
+    from . import causes, reading
     return pd.DataFrame(causes.rows(reading.read(path, replay=True, why=True)), columns=causes.ROW)

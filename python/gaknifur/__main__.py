@@ -1,15 +1,18 @@
 """The words of `./lab`: `table`, `database`, `report`, `build`, `test`, `coverage`, `drive`, `campaign`, `compare`."""
 import argparse
 import os
+import subprocess
 import sys
 from collections.abc import Callable, Sequence
 from pathlib import Path
+from typing import NoReturn
 
-from . import campaign_words, coverage, database, drive_words, report, scenarios, tables
-from .extent import Extent, bound
+from . import campaign_words, coverage, drive_words, files, scenarios
+from .last_net import caught, say
 from .program import DEVICE, REFUSED, WRONG_WORDS, Failed
 from .progress import Terminal
 from .reading import Journal, Progress, read
+from .shown import shown
 
 NEXT = """\
   0 made   1 refused: not formatted, no database of journals, a fault in a YAML file, or a test that failed
@@ -20,12 +23,32 @@ before anything reads it, and work on a copy. docs/LABORATORY.md goes through th
 docs/TESTING_A_TRAIN.md, CLOSED_LOOP.md and CAMPAIGNS.md through the others."""
 
 
+class Parser(argparse.ArgumentParser):
+    """A parser that says on one line what is wrong with words."""
+
+    def error(self, message: str) -> NoReturn:
+        """Wrong words."""
+        super().error(shown(message))
+
+
+class Version(argparse.Action):
+    """The word that tells the version, as the other scripts do."""
+
+    def __call__(self, parser: argparse.ArgumentParser, *told: object) -> NoReturn:
+        """Prints it, and ends."""
+        tool = Path(__file__).resolve().parents[2] / "tools" / "version"
+        print(f"lab {subprocess.run([tool], stdin=subprocess.DEVNULL, capture_output=True, text=True).stdout.strip()}")
+        print("not proved: the package is tested")
+        parser.exit()
+
+
 def words() -> argparse.ArgumentParser:
     """The words, with their help."""
-    lab = argparse.ArgumentParser(
+    lab = Parser(
         prog="lab", description="Tables, a database and reports of images of journals, as etcs_lab reads them; and suites of "
         "test cases.",
         epilog=NEXT, formatter_class=argparse.RawDescriptionHelpFormatter, allow_abbrev=False)
+    lab.add_argument("--version", action=Version, nargs=0, help="tells version and commit")
     subjects = lab.add_subparsers(dest="word", metavar="WORD", required=True)
 
     def word(name: str, told: str, more: str) -> argparse.ArgumentParser:
@@ -36,6 +59,7 @@ def words() -> argparse.ArgumentParser:
     table.add_argument("image", metavar="IMAGE", type=Path)
     table.add_argument("out", metavar="OUT.csv", nargs="?", type=Path, help="the file; else standard output")
     add_all(table)
+    add_force(table)
     data = word("database", "adds images to an SQLite database",
                 "A database that isn't there is made. An image that is in it already, by its SHA-256, is left as it is.")
     data.add_argument("images", metavar="IMAGE", nargs="+", type=Path)
@@ -48,6 +72,7 @@ def words() -> argparse.ArgumentParser:
     page.add_argument("--from", dest="first", metavar="WHERE", help="an event (120), a place (300m), a moment (20.5s)")
     page.add_argument("--to", dest="last", metavar="WHERE", help="the same")
     page.add_argument("--life", metavar="N", type=int, help="this life alone")
+    add_force(page)
     add_suites(word)
     drive_words.add_words(word)
     campaign_words.add_words(word)
@@ -60,11 +85,16 @@ def add_suites(word: Callable[[str, str, str], argparse.ArgumentParser]) -> None
                  "Each fault is told with its file, line and column.")
     build.add_argument("yaml", metavar="FILE.yaml", type=Path)
     build.add_argument("out", metavar="OUT.json", nargs="?", type=Path, help="the file; else standard output")
+    add_force(build)
     test = word("test", "plays the test cases of a folder, and judges what they expect",
                 "Further words are pytest's: -k, -x, --junitxml=FILE and the others.")
     test.add_argument("folder", metavar="FOLDER", type=Path, help="or a file of cases")
     test.add_argument("--section", action="append", default=[], help="only results about this section, or a part of it")
     test.add_argument("--feature", action="append", default=[], help="only cases of this feature")
+    test.add_argument("--junitxml", "--junit-xml", metavar="OUT.xml", type=Path, help="the results, for other programs")
+    test.add_argument("--python", action="store_true", help="also run what the folder has for pytest: conftest.py, settings, modules of "
+                      "tests. They are programs, and may do whatever you may")
+    add_force(test)
     told = word("coverage", "tells which sections and transitions the cases of a folder are about",
                 "1 where one that the product covers has no case, and no reason why.")
     told.add_argument("folder", metavar="FOLDER", type=Path)
@@ -76,46 +106,54 @@ def add_all(parser: argparse.ArgumentParser) -> None:
                         help="also the records of readable blocks that aren't of the journal; `source` tells them apart")
 
 
+def add_force(parser: argparse.ArgumentParser) -> None:
+    """The word for files that are there."""
+    parser.add_argument("--force", action="store_true", help="write over files that lab made; nothing writes over others")
+
+
 def note(journal: Journal) -> None:
     """Says that an image isn't whole."""
     if journal.refusal is not None:
-        print(f"lab: {journal.path}: no event can be told: {journal.refusal}", file=sys.stderr)
+        say(f"{journal.path}: no event can be told: {journal.refusal}")
     elif not journal.is_whole:
-        print(f"lab: {journal.path}: something is lost, damaged or contradicts", file=sys.stderr)
+        say(f"{journal.path}: something is lost, damaged or contradicts")
 
 
-def write(path: Path, text: str) -> None:
-    """Writes a file whole, or not at all."""
-    beside = path.with_name(f".{path.name}.{os.getpid()}")
-    try:
-        beside.write_text(text, encoding="utf-8", newline="\n")
-        beside.replace(path)
-    except OSError as error:
-        beside.unlink(missing_ok=True)
-        raise Failed(f"{path}: {error.strerror}", DEVICE) from error
-
-
-def write_table(told: argparse.Namespace, progress: Progress) -> None:
-    """The word `table`."""
-    journal = read(told.image, other_blocks=told.other_blocks, replay=True, why=True, progress=progress)
-    text = tables.csv_text(tables.frame(journal))
-    if told.out is None:
+def write(out: files.Out | None, text: str, source: Path) -> None:
+    """Writes to a file, or to standard output."""
+    if out is None:
         sys.stdout.write(text)
         sys.stdout.flush()
     else:
-        write(told.out, text)
+        files.write(out, text, [source])
+
+
+def out_of(told: argparse.Namespace, kind: files.Kind, source: Path) -> files.Out | None:
+    """The file that a command is to make, where it is told one. Looked at before anything is read, which may take long."""
+    out = files.Out(told.out, kind, told.force) if told.out is not None else None
+    files.check_all([out] if out else [], [source])
+    return out
+
+
+def write_table(told: argparse.Namespace, progress: Progress) -> None:
+    """The word `table`. (pandas, and matplotlib of a report, take a second to load, which other words needn't.)"""
+    from . import tables
+    out = out_of(told, files.TABLE, told.image)
+    journal = read(told.image, other_blocks=told.other_blocks, replay=True, why=True, progress=progress)
+    write(out, tables.csv_text(tables.frame(journal)), told.image)
     note(journal)
 
 
 def write_database(told: argparse.Namespace, progress: Progress) -> None:
     """The word `database`."""
-    connection = database.open_database(told.out)
+    from . import database, tables
+    connection = database.open_database(told.out, told.images)
     try:
         for image in told.images:
             journal = read(image, other_blocks=told.other_blocks, replay=True, why=True, progress=progress)
             progress("database", 0, 0)
             if not database.add(connection, journal, tables.frame(journal)):
-                print(f"lab: {image}: is in the database already", file=sys.stderr)
+                say(f"{image}: is in the database already")
             note(journal)
     finally:
         connection.close()
@@ -123,34 +161,57 @@ def write_database(told: argparse.Namespace, progress: Progress) -> None:
 
 def write_report(told: argparse.Namespace, progress: Progress) -> None:
     """The word `report`."""
+    from . import report
+    from .extent import Extent, bound
     extent = Extent(bound(told.first) if told.first else None, bound(told.last) if told.last else None, told.life)
+    out = out_of(told, files.REPORT, told.image)
     journal = read(told.image, replay=True, why=True, progress=progress)
-    write(told.out, report.page(journal, extent, progress))
+    write(out, report.page(journal, extent, progress), told.image)
     note(journal)
 
 
 def write_scenario(told: argparse.Namespace, progress: Progress) -> None:
     """The word `build`."""
-    text = scenarios.read(told.yaml).text()
-    if told.out is None:
-        sys.stdout.write(text)
-        sys.stdout.flush()
-    else:
-        write(told.out, text)
+    out = out_of(told, scenarios.FILE, told.yaml)
+    write(out, scenarios.read(told.yaml).text(), told.yaml)
+
+
+WITHOUT_PYTHON = ("-c", os.devnull, "--noconftest", *(word for name in ("python", "unittest", "nose", "doctest")
+                                                      for word in ("-p", f"no:{name}")))
+"""Words of pytest, by which it runs nothing of the folder."""
+WRITING = ("--log-file", "--basetemp", "--debug", "--pastebin")
+"""Words of pytest that write where they are told, or send."""
+
+
+def begun(folder: Path, words: list[str], plugins: list[object]) -> int:
+    """What pytest answers."""
+    import pytest
+    try:
+        return pytest.main(words, plugins)
+    except ImportError as error:  # a plugin that the folder's settings name
+        raise Failed(f"{folder}: pytest doesn't begin: {error}", REFUSED) from error
 
 
 def run_tests(told: argparse.Namespace, progress: Progress) -> None:
     """The word `test`."""
     try:
         import pytest
+
+        from .junit import results_in_xml
     except ImportError as error:
         raise Failed("pytest is missing; tools/python installs it by Debian's packages", DEVICE) from error
     if not told.folder.exists():
         raise Failed(f"{told.folder}: there is no such folder", DEVICE)
+    for word in told.others:
+        if word.partition("=")[0] in WRITING:
+            raise Failed(f"pytest's {word} isn't taken here, since it writes over what is there", WRONG_WORDS)
+    out = files.Out(told.junitxml, files.JUNIT, told.force) if told.junitxml else None
+    files.check_all([out] if out else [])
     root = told.folder if told.folder.is_dir() else told.folder.parent
     selected = [f"--{name}={one}" for name in ("section", "feature") for one in getattr(told, name)]
-    status = pytest.main(["-q", "--no-header", "-p", "no:cacheprovider", "-p", "gaknifur.pytest_plugin", f"--rootdir={root}",
-                          str(told.folder), *selected, *told.others])
+    with results_in_xml(out) as (words, plugins):
+        status = begun(told.folder, ["-q", "--no-header", "-p", "no:cacheprovider", "-p", "gaknifur.pytest_plugin", f"--rootdir={root}",
+                              *([] if told.python else WITHOUT_PYTHON), *words, str(told.folder), *selected, *told.others], plugins)
     if status == pytest.ExitCode.NO_TESTS_COLLECTED:
         raise Failed(f"{told.folder}: there is no such test", REFUSED)
     if status == pytest.ExitCode.USAGE_ERROR:
@@ -181,20 +242,18 @@ def main(given: Sequence[str] | None = None) -> int:
         parser.error(f"unrecognized arguments: {' '.join(others)}")
     told.others = others
     progress = Terminal()
-    try:
-        return WORDS[told.word](told, progress) or 0
-    except Failed as failed:
-        progress.end()
-        print(f"lab: {failed}", file=sys.stderr)
-        return failed.status
-    except BrokenPipeError:
-        os.dup2(os.open(os.devnull, os.O_WRONLY), sys.stdout.fileno())
-        return 1
-    except OSError as error:
-        print(f"lab: {error.strerror}", file=sys.stderr)
-        return DEVICE
-    finally:
-        progress.end()
+
+    def do() -> int:
+        try:
+            return WORDS[told.word](told, progress) or 0
+        except Failed as failed:
+            progress.end()
+            say(str(failed))
+            return failed.status
+        finally:
+            progress.end()
+
+    return caught(do)
 
 
 if __name__ == "__main__":

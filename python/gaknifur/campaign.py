@@ -6,6 +6,7 @@ goes on where it was. A row tells the same whoever plays it, but for `seconds` a
 """
 import csv
 import hashlib
+import io
 import os
 import random
 import re
@@ -20,9 +21,10 @@ from dataclasses import dataclass
 from pathlib import Path
 from typing import Any
 
-from . import cases, coverage, playing, program, random_lives
+from . import cases, coverage, files, playing, program, random_lives
 from .program import DEVICE, REFUSED, Failed
 from .reading import Json, digest, read
+from .shown import shown
 
 Row = dict[str, Any]
 Take = Callable[[Row], None]
@@ -74,11 +76,11 @@ def of_folder(folder: Path, slots: int) -> Iterator[Job]:
         files = files_of(path)
         named.update(files)
         root = Path(os.path.commonpath([one.parent for one in files]))
-        yield Job(path.relative_to(folder).as_posix(), "case",
+        yield Job(shown(path.relative_to(folder).as_posix()), "case",
                   tuple((one.relative_to(root).as_posix(), one.read_bytes()) for one in files), slots)
     for path in paths:
         if path.suffix == ".json" and path.resolve() not in named:
-            yield Job(path.relative_to(folder).as_posix(), "scenario", (("scenario.json", path.read_bytes()),), slots)
+            yield Job(shown(path.relative_to(folder).as_posix()), "scenario", (("scenario.json", path.read_bytes()),), slots)
 
 
 def files_of(path: Path) -> list[Path]:
@@ -274,18 +276,19 @@ class Table:
     """The results, in SQLite. A table is of one pair of programs."""
 
     def __init__(self, path: Path, settings: dict[str, str]) -> None:
-        is_new = not path.exists() or path.stat().st_size == 0
-        self.path, self.connection, self.written = path, sqlite3.connect(path), time.monotonic()
+        def fill(connection: sqlite3.Connection) -> None:
+            connection.executescript(SCHEMA)
+            connection.executemany("INSERT INTO campaign VALUES (?, ?)", settings.items())
+
+        self.path, self.connection, self.written = path, files.open_database(path, files.CAMPAIGN, fill), time.monotonic()
         try:
-            if is_new:
-                self.connection.executescript(SCHEMA)
-                self.connection.executemany("INSERT INTO campaign VALUES (?, ?)", settings.items())
-                self.connection.commit()
             found = dict(self.connection.execute("SELECT name, value FROM campaign"))
         except sqlite3.DatabaseError as error:
+            self.connection.close()
             raise Failed(f"{path}: is no table of a campaign", REFUSED) from error
         for name, value in settings.items():
             if found.get(name) != value:
+                self.connection.close()
                 raise Failed(f"{path}: was made with {name} {found.get(name)}, and this is {value}; take another file", REFUSED)
 
     def is_there(self, job: Job) -> bool:
@@ -296,11 +299,14 @@ class Table:
     def take(self, row: Row) -> None:
         """Adds a row, or puts it in the place of the one with its name. It is on the disk within a second."""
         marks = ", ".join("?" * len(COLUMNS))
-        self.connection.execute(f"INSERT OR REPLACE INTO result ({', '.join(COLUMNS)}) VALUES ({marks})",
-                                [row[name] for name in COLUMNS])
-        if time.monotonic() - self.written > COMMIT_SECONDS:
-            self.connection.commit()
-            self.written = time.monotonic()
+        try:
+            self.connection.execute(f"INSERT OR REPLACE INTO result ({', '.join(COLUMNS)}) VALUES ({marks})",
+                                    [row[name] for name in COLUMNS])
+            if time.monotonic() - self.written > COMMIT_SECONDS:
+                self.connection.commit()
+                self.written = time.monotonic()
+        except sqlite3.Error as error:
+            raise Failed(f"{self.path}: {error}", DEVICE) from error
 
     def close(self) -> None:
         """All rows are on the disk."""
@@ -319,9 +325,7 @@ def settings_of() -> dict[str, str]:
 
 def rows_of(path: Path) -> dict[str, Row]:
     """The rows of a table by their names, as they are compared."""
-    if not path.exists():
-        raise Failed(f"{path}: there is no such file", DEVICE)
-    connection = sqlite3.connect(f"file:{path}?mode=ro", uri=True)
+    connection = files.read_database(path, files.CAMPAIGN)
     try:
         kept = [name for name in COLUMNS if name not in NOT_COMPARED]
         return {row[0]: dict(zip(kept, row)) for row in connection.execute(f"SELECT {', '.join(kept)} FROM result ORDER BY name")}
@@ -331,18 +335,16 @@ def rows_of(path: Path) -> dict[str, Row]:
         connection.close()
 
 
-def write_csv(path: Path, out: Path) -> None:
+def write_csv(path: Path, out: files.Out) -> None:
     """Writes the whole table as CSV, in the order of the names."""
-    connection = sqlite3.connect(f"file:{path}?mode=ro", uri=True)
+    connection, text = files.read_database(path, files.CAMPAIGN), io.StringIO()
     try:
-        with out.open("w", encoding="utf-8", newline="") as file:
-            writer = csv.writer(file, lineterminator="\n")
-            writer.writerow(COLUMNS)
-            writer.writerows(connection.execute(f"SELECT {', '.join(COLUMNS)} FROM result ORDER BY name"))
-    except OSError as error:
-        raise Failed(f"{out}: {error.strerror}", DEVICE) from error
+        writer = csv.writer(text, lineterminator="\n")
+        writer.writerow(COLUMNS)
+        writer.writerows(connection.execute(f"SELECT {', '.join(COLUMNS)} FROM result ORDER BY name"))
     finally:
         connection.close()
+    files.write(out, text.getvalue(), [path])
 
 
 def differences(one: Path, other: Path) -> Iterator[str]:

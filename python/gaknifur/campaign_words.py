@@ -6,9 +6,10 @@ import re
 from collections.abc import Callable
 from pathlib import Path
 
-from . import campaign
+from . import campaign, files
 from .program import NOT_WHOLE, REFUSED, WRONG_WORDS, Failed
 from .reading import Progress
+from .shown import shown
 
 Word = Callable[[str, str, str], argparse.ArgumentParser]
 
@@ -26,6 +27,7 @@ def add_words(word: Word) -> None:
     many.add_argument("--workers", metavar="N", type=natural, default=os.cpu_count() or 1, help="processes of this machine")
     many.add_argument("--scheduler", metavar="tcp://HOST:PORT", help="a scheduler of Dask, in place of processes here")
     many.add_argument("--csv", metavar="OUT.csv", type=Path, help="the whole table, at the end")
+    many.add_argument("--force", action="store_true", help="write over a CSV that lab made; nothing writes over others")
     two = word("compare", "tells which rows of two campaigns differ", "Seconds and workers aren't compared. Status 4: some differ.")
     two.add_argument("first", metavar="ONE.db", type=Path)
     two.add_argument("second", metavar="OTHER.db", type=Path)
@@ -42,6 +44,8 @@ def play_campaign(told: argparse.Namespace, progress: Progress) -> int:
     """The word `campaign`."""
     if told.folder is None and not told.random:
         raise Failed("a campaign needs a folder or --random", WRONG_WORDS)
+    out = files.Out(told.csv, files.CAMPAIGN_TABLE, told.force) if told.csv else None
+    files.check_all([out] if out else [], [told.out], [told.out])
     jobs: list[campaign.Job] = list(campaign.of_folder(told.folder, told.slots)) if told.folder else []
     table = campaign.Table(told.out, campaign.settings_of())
     played = 0
@@ -64,12 +68,12 @@ def play_campaign(told: argparse.Namespace, progress: Progress) -> int:
         raise Failed(f"{played} played; the same command goes on", REFUSED) from None
     table.close()
     rows = campaign.rows_of(told.out)
-    if told.csv:
-        campaign.write_csv(told.out, told.csv)
+    if out:
+        campaign.write_csv(told.out, out)
     unsound = [row for row in rows.values() if not row["sound"]]
     print(f"{len(rows)} rows, {played} of them played now; {len(unsound)} not sound")
     for row in unsound[:10]:
-        print(f"  {row['name']}: {row['ended']}{'; ' + row['first_missed'].splitlines()[0] if row['first_missed'] else ''}")
+        print(shown(f"  {row['name']}: {row['ended']}{'; ' + row['first_missed'].splitlines()[0] if row['first_missed'] else ''}"))
     return NOT_WHOLE if unsound else 0
 
 
@@ -77,7 +81,7 @@ def compare_campaigns(told: argparse.Namespace, progress: Progress) -> int:
     """The word `compare`."""
     found = list(campaign.differences(told.first, told.second))
     for line in found:
-        print(line)
+        print(shown(line))
     print(f"{len(found)} rows differ")
     return NOT_WHOLE if found else 0
 

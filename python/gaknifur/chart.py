@@ -10,11 +10,10 @@ from collections.abc import Iterator, Sequence
 from dataclasses import dataclass, field
 from typing import Any
 
-import matplotlib
 import numpy as np
 import pandas as pd
-from matplotlib.backends.backend_svg import FigureCanvasSVG
-from matplotlib.figure import Figure
+
+from .drawing import Figure, FigureCanvasSVG, plain
 
 STYLE = {"svg.fonttype": "none", "svg.hashsalt": "gaknifur", "font.family": "sans-serif", "font.size": 9,
          "axes.spines.top": False, "axes.spines.right": False, "path.simplify": True, "path.simplify_threshold": 0.3,
@@ -225,7 +224,7 @@ def svg_of(figure: Figure, prefix: str) -> str:
 
 def draw(table: pd.DataFrame, picture: Picture) -> str:
     """The SVG of one life, or of a part of one; the table has at least one record."""
-    with matplotlib.rc_context(STYLE):
+    with plain(STYLE):
         figure = Figure(figsize=(11, picture.height))
         FigureCanvasSVG(figure)
         main, brakes, modes = figure.subplots(3, 1, sharex=True, gridspec_kw={

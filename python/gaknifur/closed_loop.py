@@ -2,7 +2,7 @@
 from . import driving, program, scenarios
 from .drives import Drive, slots_for
 from .program import DEVICE, REFUSED, Failed
-from .unit import Cold, MemoryMedium, Refused, Unit, library
+from .unit import Cold, Medium, MemoryMedium, Refused, Unit, library
 from .words import SCALES_CM
 
 
@@ -19,14 +19,19 @@ def check_library() -> None:
 
 def over_image(data: bytes, scenario: scenarios.Scenario, drive: Drive) -> tuple[driving.Driven, bytes]:
     """A life on an image: what came of the drive, and the image behind it."""
-    check_library()
     medium = MemoryMedium(data)
+    driven = on_medium(medium, scenario, drive)
+    return driven, medium.read()
+
+
+def on_medium(medium: Medium, scenario: scenarios.Scenario, drive: Drive) -> driving.Driven:
+    """A life on a medium: each write and sync in the order in which the unit asks for them, and outputs behind them."""
+    check_library()
     try:
         with Unit(medium, Cold(scenario.cold)) as unit:
-            driven = driving.play(unit, scenario, drive)
+            return driving.play(unit, scenario, drive)
     except Refused as refused:
         raise Failed(f"{drive.at.path}:{drive.at.line}: the unit answers {refused}", REFUSED) from refused
-    return driven, medium.read()
 
 
 def fresh(scenario: scenarios.Scenario, drive: Drive) -> bytes:

@@ -10,7 +10,7 @@ from typing import Any
 
 import pandas as pd
 
-from . import causes, tables
+from . import causes, files, tables
 from .program import DEVICE, REFUSED, Failed
 from .reading import Journal, Json
 
@@ -36,21 +36,24 @@ def schema() -> str:
     return (Path(__file__).parent / "schema.sql").read_text(encoding="utf-8")
 
 
-def open_database(path: str | Path) -> sqlite3.Connection:
-    """The database in a file. A new file is made; a database of another kind is refused."""
+def fill(connection: sqlite3.Connection) -> None:
+    """Makes an empty database: its tables and views, and what causes say."""
+    connection.executescript(schema())
+    insert(connection, "cause_word", ["cause", "says", "ends"], ([name, *told] for name, told in causes.CAUSES.items()))
+
+
+def open_database(path: str | Path, images: Iterable[Path] = ()) -> sqlite3.Connection:
+    """The database in a file, which is none of the images. A new file is made; a database of another kind is refused."""
+    connection = files.open_database(Path(path), files.JOURNALS, fill, images, isolation=None)
     try:
-        connection = sqlite3.connect(path, isolation_level=None)
         connection.execute("PRAGMA foreign_keys = ON")
         version = connection.execute("PRAGMA user_version").fetchone()[0]
-        is_empty = connection.execute("SELECT COUNT(*) FROM sqlite_schema").fetchone()[0] == 0
-        if is_empty:
-            connection.executescript("BEGIN;" + schema())
-            insert(connection, "cause_word", ["cause", "says", "ends"], ([name, *told] for name, told in causes.CAUSES.items()))
-            connection.execute("COMMIT")
-        elif version != VERSION:
-            raise Failed(f"{path}: is no database of journals of version {VERSION}", REFUSED)
     except sqlite3.Error as error:
+        connection.close()
         raise Failed(f"{path}: {error}", DEVICE) from error
+    if version != VERSION:
+        connection.close()
+        raise Failed(f"{path}: is no database of journals of version {VERSION}", REFUSED)
     return connection
 
 
@@ -70,12 +73,11 @@ def plain(column: Any) -> list[Any]:
 
 def add(connection: sqlite3.Connection, journal: Journal, table: pd.DataFrame) -> bool:
     """Adds a journal; answers whether it wasn't there yet."""
-    found = connection.execute("SELECT 1 FROM image WHERE sha256 = ?", [journal.sha256]).fetchone()
-    if found:
-        return False
     try:
-        connection.execute("BEGIN")
-        add_all(connection, journal, table)
+        connection.execute("BEGIN IMMEDIATE")  # another program that adds to it waits
+        found = connection.execute("SELECT 1 FROM image WHERE sha256 = ?", [journal.sha256]).fetchone()
+        if not found:
+            add_all(connection, journal, table)
         connection.execute("COMMIT")
     except BaseException as error:
         if connection.in_transaction:
@@ -83,7 +85,7 @@ def add(connection: sqlite3.Connection, journal: Journal, table: pd.DataFrame) -
         if isinstance(error, sqlite3.Error):
             raise Failed(f"{journal.path}: can't be added: {error}", DEVICE) from error
         raise
-    return True
+    return not found
 
 
 def add_all(connection: sqlite3.Connection, journal: Journal, table: pd.DataFrame) -> None:

@@ -2,16 +2,13 @@
 import io
 from typing import Any
 
-import matplotlib
-from matplotlib.backends.backend_agg import FigureCanvasAgg
-from matplotlib.backends.backend_svg import FigureCanvasSVG
-from matplotlib.figure import Figure
-
+from . import files
 from .chart import BRAKES, END, HATCHES, INK, SPEED, STYLE
+from .drawing import Figure, FigureCanvasAgg, FigureCanvasSVG, plain
 from .driving import Driven
-from .program import WRONG_WORDS, Failed
 
 CANVASES = {".svg": ("svg", FigureCanvasSVG), ".png": ("png", FigureCanvasAgg)}
+METADATA: dict[str, dict[str, str | None]] = {"svg": {"Date": None, "Creator": files.MAKER}, "png": {"Software": files.MAKER}}
 
 
 def shade(axes: Any, driven: Driven) -> None:
@@ -57,22 +54,15 @@ def draw(axes: Any, driven: Driven, ends: tuple[int, int] | None) -> None:
     axes.legend(frameon=False, loc="upper left", bbox_to_anchor=(1.0, 1.0), fontsize=8)
 
 
-def check_suffix(suffix: str) -> None:
-    """A picture is of one of these forms."""
-    if suffix not in CANVASES:
-        raise Failed(f"a picture is a file .svg or .png, and not \"{suffix}\"", WRONG_WORDS)
-
-
 def drawn(driven: Driven, ends: tuple[int, int] | None, title: str, suffix: str) -> bytes:
     """The picture as a file of this suffix. The same drive gives the same bytes each time."""
-    check_suffix(suffix)
     form, canvas = CANVASES[suffix]
-    with matplotlib.rc_context(STYLE):
+    with plain(STYLE):
         figure = Figure(figsize=(9, 3.8), layout="constrained")
         canvas(figure)
         axes = figure.subplots()
         draw(axes, driven, ends)
         axes.set_title(title, loc="left", fontsize=10)
         file = io.BytesIO()
-        figure.savefig(file, format=form, dpi=110, metadata={"Date": None, "Creator": None} if form == "svg" else {"Software": None})
+        figure.savefig(file, format=form, dpi=110, metadata=METADATA[form])
     return file.getvalue()

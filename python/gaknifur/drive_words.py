@@ -3,17 +3,17 @@ import argparse
 import csv
 import io
 import json
-import os
 from collections.abc import Callable
 from dataclasses import asdict, replace
 from pathlib import Path
 
-from . import drive_picture, driving, scenarios
-from .closed_loop import check_library, ends_of, fresh, over_image
-from .drives import Drive, read, slots_for
+from . import driving, files, scenarios
+from .closed_loop import check_library, ends_of, fresh, on_medium, over_image
+from .drives import Drive, read
 from .located import BadFile
-from .program import DEVICE, REFUSED, Failed
+from .program import DEVICE, REFUSED, WRONG_WORDS, Failed
 from .reading import Progress
+from .shown import shown
 from .unit import FileMedium
 
 Word = Callable[[str, str, str], argparse.ArgumentParser]
@@ -30,6 +30,7 @@ def add_words(word: Word) -> None:
     drive.add_argument("--picture", metavar="OUT", type=Path, help="speed and limit over the place, .svg or .png")
     drive.add_argument("--image", metavar="IMAGE", type=Path, help="the journal; a life more where the file is there")
     drive.add_argument("--scenario", metavar="OUT.json", type=Path, help="what the unit was told, for etcs run")
+    drive.add_argument("--force", action="store_true", help="write over files that lab made; nothing writes over others")
     drive.add_argument("--build-up", metavar="TIMES", help="a table in place of all that: the same drive with each of these "
                        "build-up times of the brakes, as \"0 s, 1 s, 2 s\"")
 
@@ -108,31 +109,49 @@ def table(scenario: scenarios.Scenario, drive: Drive, build_ups: list[int]) -> l
 
 # ---- the word
 
-def write_bytes(path: Path, data: bytes) -> None:
-    """Writes a file whole, or not at all."""
-    beside = path.with_name(f".{path.name}.{os.getpid()}")
-    try:
-        beside.write_bytes(data)
-        beside.replace(path)
-    except OSError as error:
-        beside.unlink(missing_ok=True)
-        raise Failed(f"{path}: {error.strerror}", DEVICE) from error
-
-
 def on_file(path: Path, scenario: scenarios.Scenario, drive: Drive) -> driving.Driven:
-    """A life on the image of a file, under its lock. One that isn't there is made."""
+    """A life on the image of a file. One that isn't there is made, with its first life. One that is there goes on under its lock,
+    write by write and sync by sync as the unit asks for them, so that a loss of power takes no event of it away."""
     try:
-        if not path.exists():
-            FileMedium.formatted(path, slots_for(scenario, drive)).close()
+        if not files.is_there(path, [drive.at.path]):
+            driven, data = over_image(fresh(scenario, drive), scenario, drive)
+            files.write_new(path, data)
+            return driven
         with FileMedium(path) as medium:
-            driven, data = over_image(medium.read(), scenario, drive)
-            medium.write(0, data)
-            medium.sync()
+            return on_medium(medium, scenario, drive)
+    except FileExistsError as error:
+        raise files.refused(path, "is there since a moment ago; nothing writes over it") from error
     except BlockingIOError as error:
         raise Failed(f"{path}: another program holds this image", DEVICE) from error
     except OSError as error:
         raise Failed(f"{path}: {error.strerror}", DEVICE) from error
-    return driven
+
+
+PICTURES = {".svg": files.SVG, ".png": files.PNG}
+
+
+def picture_kind(path: Path | None) -> files.Kind | None:
+    """The kind of a picture, by its suffix."""
+    if path is None:
+        return None
+    if path.suffix not in PICTURES:
+        raise Failed(f"a picture is a file .svg or .png, and not \"{path.suffix}\"", WRONG_WORDS)
+    return PICTURES[path.suffix]
+
+
+def picture(driven: driving.Driven, name: str, suffix: str) -> bytes:
+    """The picture of a drive. (matplotlib takes a second to load, which other drives needn't.)"""
+    from . import drive_picture
+    return drive_picture.drawn(driven, ends_of(driven), name, suffix)
+
+
+def outs_of(given: argparse.Namespace) -> dict[str, files.Out]:
+    """The files that a drive is to make, by their words; looked at before anything is played."""
+    kinds = {"csv": files.DRIVE_TABLE, "scenario": scenarios.FILE, "picture": picture_kind(given.picture)}
+    outs = {name: files.Out(path, kind, given.force) for name, kind in kinds.items() if (path := getattr(given, name)) and kind}
+    images = [given.image] if given.image else []
+    files.check_all(outs.values(), [given.yaml, *images], images)
+    return outs
 
 
 def build_ups_of(text: str, drive: Drive) -> list[int]:
@@ -149,18 +168,16 @@ def play_drive(given: argparse.Namespace, progress: Progress) -> None:
     scenario, drive = read(given.yaml)
     if drive is None:
         raise Failed(f"{given.yaml}: has no drive", REFUSED)
-    if given.picture:
-        drive_picture.check_suffix(given.picture.suffix)
+    outs = outs_of(given)
     if given.build_up:
         print("\n".join(table(scenario, drive, build_ups_of(given.build_up, drive))))
         return
     driven = on_file(given.image, scenario, drive) if given.image else over_image(fresh(scenario, drive), scenario, drive)[0]
-    if given.csv:
-        write_bytes(given.csv, csv_text(driven).encode())
-    if given.scenario:
-        write_bytes(given.scenario, scenario_text(scenario, driven).encode())
-    if given.picture:
-        write_bytes(given.picture, drive_picture.drawn(driven, ends_of(driven), given.yaml.stem, given.picture.suffix))
+    makers: dict[str, Callable[[], str | bytes]] = {
+        "csv": lambda: csv_text(driven), "scenario": lambda: scenario_text(scenario, driven),
+        "picture": lambda: picture(driven, shown(given.yaml.stem), given.picture.suffix)}
+    for name, out in outs.items():
+        files.write(out, makers[name](), [given.yaml])
     print("\n".join(told(driven)))
 
 

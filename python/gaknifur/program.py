@@ -1,7 +1,8 @@
 """The programs `etcs_lab` and `etcs`. No other module starts a process.
 
-`$GAKNIFUR_ETCS_LAB` and `$GAKNIFUR_ETCS` name the programs; without them the scripts of this repository are taken,
-which run the proved program or say that a run isn't of the proved build.
+`$GAKNIFUR_ETCS_LAB` and `$GAKNIFUR_ETCS` name the programs. Without them the scripts of this repository are asked, once a
+process, whether there is a proved program of these sources: then that is run. Else the scripts are, which compile the sources at
+each call and say that a run isn't of the proved build.
 """
 import functools
 import os
@@ -26,31 +27,40 @@ class Failed(Exception):
         self.status = status
 
 
+def script(name: str) -> Path:
+    """The script of a program."""
+    found = Path(__file__).resolve().parents[2] / name
+    if found.exists():
+        return found
+    raise Failed(f"there is no {name} beside this package; GAKNIFUR_{name.upper()} may name it", DEVICE)
+
+
+@functools.cache
+def proved(script: Path) -> Path | None:
+    """The proved program of a script, where there is one of its sources. It takes a digest of all of them, so this is asked once a
+    process: whoever proves anew while one runs is told of by the next one."""
+    if subprocess.run([script, "--is-proved"], stdin=subprocess.DEVNULL, capture_output=True).returncode:
+        return None
+    return script.parent / "crates" / script.name / "out" / script.name
+
+
 def find(name: str = "etcs_lab") -> str:
-    """The path of a program."""
-    variable = f"GAKNIFUR_{name.upper()}"
-    if told := os.environ.get(variable):
+    """The path of a program; of its script, where there is none."""
+    if told := os.environ.get(f"GAKNIFUR_{name.upper()}"):
         return told
-    script = Path(__file__).resolve().parents[2] / name
-    if script.exists():
-        return str(script)
-    raise Failed(f"there is no {name} beside this package; {variable} may name it", DEVICE)
+    return str(proved(script(name)) or script(name))
 
 
 def is_built(name: str) -> bool:
     """Whether a program is there already. Where it isn't, its script compiles the sources at each call."""
-    if os.environ.get(f"GAKNIFUR_{name.upper()}"):
-        return True
-    return not subprocess.run([find(name), "--is-proved"], stdin=subprocess.DEVNULL, capture_output=True).returncode
+    return bool(os.environ.get(f"GAKNIFUR_{name.upper()}")) or proved(script(name)) is not None
 
 
 def built(name: str) -> Path:
     """The file of a program that is there already. A script that would compile the sources at each call is refused."""
     if not is_built(name):
         raise Failed(f"there is no proved {name} of these sources; ./{name} --prove makes it", REFUSED)
-    if told := os.environ.get(f"GAKNIFUR_{name.upper()}"):
-        return Path(told)
-    return Path(find(name)).parent / "crates" / name / "out" / name
+    return Path(find(name))
 
 
 def note_slow(name: str) -> None:
@@ -78,12 +88,12 @@ CASE = re.compile(r"case=(\d+) run=ended status=(\d+) .*")
 def prepare(image: Path, runs: Sequence[Sequence[str]]) -> bool:
     """Where `etcs_lab` would be compiled at each call, compiles it once and runs it on all these words; answers whether it
     was so. A run that doesn't come to its end is left to a call of its own."""
-    if is_built("etcs_lab") or shutil.which("rt") is None:
+    if is_built("etcs_lab") or shutil.which("rt") is None or "\n" in str(image.absolute()):
         return False
     words = [(*one, "--", str(image.absolute())) for one in runs]
     with tempfile.TemporaryDirectory() as room:
         for number, one in enumerate(words, 1):
-            Path(room, f"{number}.args").write_text("".join(f"{word}\n" for word in one), encoding="utf-8")
+            Path(room, f"{number}.args").write_bytes(os.fsencode("".join(f"{word}\n" for word in one)))
             Path(room, str(number)).touch()
         done = subprocess.run(["rt", "try", "--cases", room], cwd=Path(find()).parent / "crates" / "etcs_lab", stdin=subprocess.DEVNULL,
                               capture_output=True, text=True, encoding="utf-8", errors="replace")
@@ -132,7 +142,7 @@ class Run:
             except OSError as error:
                 raise Failed(f"{self.words[0]}: {error.strerror}", DEVICE) from error
             errors.seek(0)
-            self.said = errors.read().decode("utf-8", "replace").splitlines()
+            self.said = os.fsdecode(errors.read()).split("\n")[:-1]
         note_unproved(self.said)
 
     def last_said(self) -> str:

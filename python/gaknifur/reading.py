@@ -7,6 +7,7 @@ from pathlib import Path
 from typing import Any
 
 from .program import DEVICE, NOT_WHOLE, REFUSED, WHOLE, Failed, Run, prepare
+from .shown import shown
 
 Json = dict[str, Any]
 Progress = Callable[[str, int, int], None]
@@ -41,8 +42,8 @@ class Journal:
 
     @property
     def name(self) -> str:
-        """The name of the file, without its folders."""
-        return self.path.name
+        """The name of the file, without its folders, as it is shown."""
+        return shown(self.path.name)
 
     @property
     def image(self) -> Json:

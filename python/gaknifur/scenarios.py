@@ -10,7 +10,7 @@ from decimal import Decimal
 from pathlib import Path
 from typing import Any
 
-from . import program, telegrams
+from . import files, program, telegrams
 from .located import Value, document
 
 COLD = {"unknown": 0, "moved": 1, "not_moved": 2}
@@ -57,6 +57,18 @@ class Scenario:
         groups = ",".join("\n    " + json.dumps(group) for group in self.groups)
         steps = ",".join("\n    " + json.dumps(step) for step in self.steps)
         return f'{{\n  {head}"groups": [{groups}{chr(10) + "  " if groups else ""}],\n  "steps": [{steps}\n  ]\n}}\n'
+
+
+def is_built(data: bytes) -> bool:
+    """Whether bytes are a scenario as `text` lays it out."""
+    try:
+        told = json.loads(data)
+        return Scenario(told.get("cold", 0), told["groups"], told["steps"]).text().encode() == data
+    except (ValueError, TypeError, KeyError, AttributeError, RecursionError):
+        return False
+
+
+FILE = files.Kind("a scenario", is_built, is_whole=True)
 
 
 @dataclass

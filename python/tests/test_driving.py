@@ -7,7 +7,7 @@ from pathlib import Path
 from typing import Any
 from unittest.mock import patch
 
-from gaknifur import cases, closed_loop, drive_words, drives, driving, playing
+from gaknifur import cases, closed_loop, drive_words, drives, driving, files, playing
 from gaknifur.drives import Drive, Driver, Train
 from gaknifur.driving import Driven, Driving, Loop, Motion, Row
 from gaknifur.located import document
@@ -291,7 +291,9 @@ class Pictures(unittest.TestCase):
             self.assertEqual(sum(text in svg for text in (b"end of authority", b"supervised location")), count)
         self.assertTrue(drawn(told, None, "a drive", ".png").startswith(b"\x89PNG"))
         with self.assertRaisesRegex(Failed, "a picture is a file .svg or .png"):
-            drawn(told, None, "a drive", ".gif")
+            drive_words.picture_kind(Path("drive.gif"))
+        self.assertTrue(files.SVG.is_own(svg[:files.FIRST_BYTES]))
+        self.assertTrue(files.PNG.is_own(drawn(told, None, "a drive", ".png")[:files.FIRST_BYTES]))
 
 
 if __name__ == "__main__":

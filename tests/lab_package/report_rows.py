@@ -113,7 +113,8 @@ def damaged(rows):
              said="lab: 3.5: is neither an event (120) nor a place (300m) nor a moment (20.5s)")
     rows.lab("database", "trip", "trip.db")
     rows.lab("database", "trip", "trip.db", said="lab: trip: is in the database already")
-    rows.lab("database", "trip", "trip", status=3, said="lab: trip: file is not a database")
+    rows.lab("database", "trip", "trip", status=1, said="lab: trip: is trip itself, which is read here")
+    rows.lab("report", "trip", "byte", "--force", status=1, said="lab: byte: holds a journal, and nothing writes over that")
     for word in ("table", "database", "report"):
         rows.wants(f"lab {word} --help", f"usage: lab {word}" in rows.lab(word, "--help"), True)
     rows.wants("./lab table", rows.script("table", rows.room / "trip"), rows.lab("table", "trip"))

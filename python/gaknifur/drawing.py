@@ -1,0 +1,40 @@
+"""matplotlib as it comes, whatever file `matplotlibrc` the current folder, the environment or the user has.
+
+matplotlib reads such a file while it is imported, from the current folder first. So it is imported in a folder of this package,
+and a picture is drawn by its own defaults.
+"""
+import contextlib
+import os
+from collections.abc import Iterator, Mapping
+from pathlib import Path
+from typing import Any
+
+
+@contextlib.contextmanager
+def elsewhere() -> Iterator[None]:
+    """The folder of this package is the current one."""
+    here = os.open(".", os.O_PATH | os.O_DIRECTORY | os.O_CLOEXEC)
+    try:
+        os.chdir(Path(__file__).parent)
+        yield
+    finally:
+        os.fchdir(here)
+        os.close(here)
+
+
+with elsewhere():
+    import matplotlib
+    from matplotlib.backends.backend_agg import FigureCanvasAgg
+    from matplotlib.backends.backend_svg import FigureCanvasSVG
+    from matplotlib.figure import Figure
+
+__all__ = ["Figure", "FigureCanvasAgg", "FigureCanvasSVG", "plain"]
+
+
+@contextlib.contextmanager
+def plain(style: Mapping[str, Any]) -> Iterator[None]:
+    """What is drawn here in a style looks the same for everybody."""
+    with matplotlib.rc_context():
+        matplotlib.rcdefaults()
+        matplotlib.rcParams.update(style)
+        yield

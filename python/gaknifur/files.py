@@ -1,0 +1,277 @@
+"""The files that `lab` makes, and how nothing that stands under a name is lost by it.
+
+What is made is a new file. In place of one that is there it comes only with `--force`, and only where that is a regular file
+which this package made before, as its first bytes tell (`Kind`). An image is never written over, whatever its name is. A file is
+written beside its name and synced, and takes the name once it is whole.
+"""
+import os
+import secrets
+import sqlite3
+import stat
+from collections.abc import Callable, Iterable
+from dataclasses import dataclass
+from pathlib import Path
+from urllib.parse import quote
+
+from .program import DEVICE, REFUSED, Failed
+from .shown import shown
+
+IMAGE_MARK = b"ETCSJRU1"
+"""What an image begins with (docs/FORMAT.md)."""
+FIRST_BYTES = 4096
+SQLITE, SQLITE_ID = b"SQLite format 3\0", slice(68, 72)
+WAIT_SECONDS = 60.0
+"""How long a database is waited for that another program writes to."""
+
+
+@dataclass(frozen=True)
+class Kind:
+    """A kind of file, and whether bytes, those of a whole file or its first ones, are of one that this package made."""
+
+    name: str
+    is_own: Callable[[bytes], bool]
+    is_whole: bool = False
+    """Whether all bytes are asked, and not the first ones alone."""
+
+
+def beginning(name: str, *marks: bytes) -> Kind:
+    """A kind whose files begin with one of some marks."""
+    return Kind(name, lambda data: data.startswith(marks))
+
+
+def holding(name: str, beginning: bytes, mark: bytes) -> Kind:
+    """A kind whose first bytes begin as told and hold a mark."""
+    return Kind(name, lambda data: data.startswith(beginning) and mark in data)
+
+
+MAKER = "gaknifur lab"
+"""The maker that pages and pictures tell."""
+TABLE = beginning("a table", b"block,event,life,stretch,kind,time_ms,mode,")
+DRIVE_TABLE = beginning("a table of a drive", b"time_ms,first_event,event,place_cm,speed_m_per_h,")
+CAMPAIGN_TABLE = beginning("a table of a campaign", b"name,job_sha256,kind,ended,image_sha256,")
+REPORT = holding("a report", b"<!DOCTYPE html>\n", b'<meta name="generator" content="%s">' % MAKER.encode())
+SVG = holding("a picture", b"<?xml", b"<dc:title>%s</dc:title>" % MAKER.encode())
+PNG = holding("a picture", b"\x89PNG\r\n\x1a\n", b"tEXtSoftware\0%s" % MAKER.encode())
+JUNIT = beginning("results in XML", b'<?xml version="1.0" encoding="utf-8"?><testsuites><testsuite name="pytest" ')
+
+
+@dataclass(frozen=True)
+class Out:
+    """A file that a command is to make."""
+
+    path: Path
+    kind: Kind
+    is_forced: bool = False
+
+
+def refused(path: Path, said: str) -> Failed:
+    """What is said of a file that isn't written."""
+    return Failed(f"{path}: {said}", REFUSED)
+
+
+def standing(path: Path) -> os.stat_result | None:
+    """What stands under a name, links followed; None where nothing does."""
+    try:
+        return path.stat()
+    except FileNotFoundError:
+        return None
+    except OSError as error:
+        raise Failed(f"{path}: {error.strerror}", DEVICE) from error
+
+
+def bytes_of(path: Path, most: int | None = None) -> bytes:
+    """The bytes of a regular file, or its first ones."""
+    try:
+        with open(os.open(path, os.O_RDONLY | os.O_NONBLOCK | os.O_CLOEXEC), "rb") as file:
+            return file.read() if most is None else file.read(most)
+    except OSError as error:
+        raise Failed(f"{path}: {error.strerror}", DEVICE) from error
+
+
+def is_same(one: os.stat_result, other: os.stat_result) -> bool:
+    """Whether both are of one file, under whatever names."""
+    return (one.st_dev, one.st_ino) == (other.st_dev, other.st_ino)
+
+
+def check_plain(path: Path, found: os.stat_result, inputs: Iterable[Path]) -> None:
+    """What stands there is a regular file, none that is read here, and no image."""
+    if not stat.S_ISREG(found.st_mode):
+        raise refused(path, "is there, and is no regular file")
+    for one in inputs:
+        read = standing(one)
+        if read is not None and is_same(found, read):
+            raise refused(path, f"is {shown(one)} itself, which is read here")
+    if bytes_of(path, len(IMAGE_MARK)) == IMAGE_MARK:
+        raise refused(path, "holds a journal, and nothing writes over that")
+
+
+def check(out: Out, inputs: Iterable[Path] = ()) -> os.stat_result | None:
+    """Refuses a file that may not be written; answers what is there that it takes the place of."""
+    path, found = out.path, standing(out.path)
+    if found is None:
+        return None
+    check_plain(path, found, inputs)
+    if not out.kind.is_own(bytes_of(path, None if out.kind.is_whole else FIRST_BYTES)):
+        raise refused(path, f"is there, and is not {out.kind.name} that lab made; nothing writes over it")
+    if not out.is_forced:
+        raise refused(path, "is there; --force writes over what lab made")
+    if not found.st_mode & 0o222:
+        raise refused(path, "is there, and nobody may write to it")
+    return found
+
+
+def check_all(outs: Iterable[Out], inputs: Iterable[Path] = (), others: Iterable[Path] = ()) -> None:
+    """Refuses files that may not be written before anything is done, and two of one name; `others` are made here too."""
+    inputs, seen = list(inputs), {os.path.realpath(path) for path in others}
+    for out in outs:
+        check(out, inputs)
+        real = os.path.realpath(out.path)
+        if real in seen:
+            raise refused(out.path, "is told twice; each file has a name of its own")
+        seen.add(real)
+
+
+def write(out: Out, data: str | bytes, inputs: Iterable[Path] = ()) -> None:
+    """Makes a file, whole or not at all."""
+    before = check(out, inputs)
+    try:
+        put(Path(os.path.realpath(out.path)), data.encode() if isinstance(data, str) else data, before)
+    except FileExistsError as error:
+        raise refused(out.path, "is there since a moment ago; nothing writes over it") from error
+    except OSError as error:
+        raise Failed(f"{out.path}: {error.strerror}", DEVICE) from error
+
+
+def put(path: Path, data: bytes, before: os.stat_result | None) -> None:
+    """Writes a file beside its name, and gives it the name: a new one where nothing stood there (FileExistsError where
+    something does now), else in place of what did."""
+    beside = path.with_name(f".lab-{os.getpid()}-{secrets.token_hex(8)}")
+    descriptor = os.open(beside, os.O_WRONLY | os.O_CREAT | os.O_EXCL | os.O_CLOEXEC, 0o666)
+    try:
+        with open(descriptor, "wb") as file:
+            if before is not None:
+                os.fchmod(descriptor, stat.S_IMODE(before.st_mode))
+            file.write(data)
+            file.flush()
+            os.fsync(descriptor)
+        if before is None:
+            name_new(beside, path)
+        else:
+            name_over(beside, path, before)
+        sync_folder(path.parent)
+    finally:
+        beside.unlink(missing_ok=True)
+
+
+def name_new(beside: Path, path: Path) -> None:
+    """Gives a file a name that nothing has."""
+    try:
+        os.link(beside, path)
+    except FileExistsError:
+        raise
+    except OSError:  # a file system without links
+        os.close(os.open(path, os.O_WRONLY | os.O_CREAT | os.O_EXCL | os.O_CLOEXEC, 0o666))
+        os.replace(beside, path)
+
+
+def name_over(beside: Path, path: Path, before: os.stat_result) -> None:
+    """Gives a file the name of another one, where that is still the one that was looked at."""
+    now = standing(path)
+    if now is None or not is_same(now, before):
+        raise FileExistsError
+    os.replace(beside, path)
+
+
+def sync_folder(folder: Path) -> None:
+    """The name outlives a loss of power too."""
+    descriptor = os.open(folder, os.O_RDONLY | os.O_DIRECTORY | os.O_CLOEXEC)
+    try:
+        os.fsync(descriptor)
+    finally:
+        os.close(descriptor)
+
+
+def write_new(path: Path, data: bytes) -> None:
+    """Makes a file that isn't there yet; FileExistsError where it is."""
+    put(Path(os.path.realpath(path)), data, None)
+
+
+def is_there(path: Path, inputs: Iterable[Path] = ()) -> bool:
+    """Whether an image is there, which a command goes on with. What is no regular file is none."""
+    found = standing(path)
+    if found is None:
+        return False
+    if not stat.S_ISREG(found.st_mode):
+        raise refused(path, "is no regular file")
+    if any(read is not None and is_same(found, read) for read in map(standing, inputs)):
+        raise refused(path, "is a file that is read here")
+    return True
+
+
+# ---- databases
+
+@dataclass(frozen=True)
+class Database:
+    """A kind of database in SQLite, by the number that its files have at byte 68 (`PRAGMA application_id`)."""
+
+    name: str
+    application_id: int
+
+    def is_own(self, data: bytes) -> bool:
+        """Whether these are the first bytes of one."""
+        return data.startswith(SQLITE) and data[SQLITE_ID] == self.application_id.to_bytes(4, "big")
+
+
+JOURNALS = Database("a database of journals", 0x474B4A4C)
+CAMPAIGN = Database("a table of a campaign", 0x474B4350)
+
+
+def address(path: Path, mode: str) -> str:
+    """The URI of a database's file, whatever characters its name has. It is never made by being opened."""
+    return f"file:{quote(os.fsencode(os.path.abspath(path)))}?mode={mode}"
+
+
+def made(kind: Database, fill: Callable[[sqlite3.Connection], None]) -> bytes:
+    """The bytes of a new database."""
+    connection = sqlite3.connect(":memory:")
+    try:
+        connection.execute(f"PRAGMA application_id = {kind.application_id}")
+        fill(connection)
+        connection.commit()
+        return bytes(connection.serialize())
+    finally:
+        connection.close()
+
+
+def check_database(path: Path, kind: Database, inputs: Iterable[Path] = ()) -> bool:
+    """Refuses what is there and is no such database; answers whether one is there."""
+    found = standing(path)
+    if found is None:
+        return False
+    check_plain(path, found, inputs)
+    if not kind.is_own(bytes_of(path, SQLITE_ID.stop)):
+        raise refused(path, f"is there, and is not {kind.name} that lab made")
+    return True
+
+
+def open_database(path: Path, kind: Database, fill: Callable[[sqlite3.Connection], None], inputs: Iterable[Path] = (),
+                  isolation: str | None = "") -> sqlite3.Connection:
+    """The database in a file. A new file is made whole or not at all, also where two programs make it at once."""
+    try:
+        if not check_database(path, kind, inputs):
+            try:
+                write_new(path, made(kind, fill))
+            except FileExistsError:
+                check_database(path, kind, inputs)
+        return sqlite3.connect(address(path, "rw"), uri=True, timeout=WAIT_SECONDS, isolation_level=isolation)  # type: ignore[arg-type]
+    except OSError as error:
+        raise Failed(f"{path}: {error.strerror}", DEVICE) from error
+    except sqlite3.Error as error:
+        raise Failed(f"{path}: {error}", DEVICE) from error
+
+
+def read_database(path: Path, kind: Database) -> sqlite3.Connection:
+    """The database in a file, to be read alone."""
+    if not check_database(path, kind):
+        raise Failed(f"{path}: there is no such file", DEVICE)
+    return sqlite3.connect(address(path, "ro"), uri=True, timeout=WAIT_SECONDS)

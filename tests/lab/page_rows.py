@@ -10,7 +10,7 @@ import tempfile
 from pathlib import Path
 
 TOP = Path(__file__).resolve().parents[2]
-LEAST = 8
+LEAST = 24
 
 
 def commands(page):
@@ -31,7 +31,8 @@ def main(words):
     etcs, lab = (str(Path(word).resolve()) for word in words)
     compared = differ = 0
     with tempfile.TemporaryDirectory() as room:
-        for command, wanted in commands((TOP / "docs/INVESTIGATING.md").read_text()):
+        page = (TOP / "docs/INVESTIGATING.md").read_text()
+        for command, wanted in commands(page):
             line = re.sub(r"\./etcs_lab\b", lab, re.sub(r"\./etcs\b(?!_)", etcs, command)).replace("examples/", f"{TOP}/examples/")
             done = subprocess.run(["sh", "-c", line], cwd=room, capture_output=True, text=True, stdin=subprocess.DEVNULL)
             printed = done.stdout + done.stderr.replace(lab, "etcs_lab")
@@ -39,8 +40,9 @@ def main(words):
             if printed != wanted:
                 differ += 1
                 print(f"docs/INVESTIGATING.md: {command}\n  prints {printed!r}\n  wanted {wanted!r}")
-    print(f"docs/INVESTIGATING.md: {compared} comparisons, {differ} differ")
-    return 0 if differ == 0 and compared >= LEAST else 1
+    there = len(re.findall(r"^ *\$ ", page, re.MULTILINE))
+    print(f"docs/INVESTIGATING.md: {compared} of {there} commands compared, {differ} differ")
+    return 0 if differ == 0 and compared == there >= LEAST else 1
 
 
 if __name__ == "__main__":

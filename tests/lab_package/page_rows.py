@@ -13,7 +13,7 @@ from pathlib import Path
 
 TOP = Path(__file__).resolve().parents[2]
 PAGE = TOP / "docs/LABORATORY.md"
-LEAST = 18
+LEAST = 26
 
 
 def parts(page):
@@ -33,6 +33,11 @@ def parts(page):
     return found
 
 
+def count(told):
+    """How many commands a page has, whatever is made of it."""
+    return len(re.findall(r"^ *\$ ", told, re.MULTILINE))
+
+
 def run(command, etcs, room, env):
     """What a command prints, both streams."""
     line = "\n".join(part[6:] for part in command.splitlines())
@@ -46,7 +51,8 @@ def main(words):
     etcs, lab = (str(Path(word).resolve()) for word in words[is_write:])
     env = {**os.environ, "GAKNIFUR_ETCS_LAB": lab}
     compared = differ = 0
-    told = parts(PAGE.read_text())
+    page = PAGE.read_text()
+    told, there = parts(page), count(page)
     with tempfile.TemporaryDirectory() as room:
         for part in told:
             if isinstance(part, str):
@@ -61,8 +67,8 @@ def main(words):
     if is_write:
         PAGE.write_text("".join(part if isinstance(part, str) else part[0] + part[1] for part in told))
         return 0
-    print(f"docs/LABORATORY.md: {compared} comparisons, {differ} differ")
-    return 0 if differ == 0 and compared >= LEAST else 1
+    print(f"docs/LABORATORY.md: {compared} of {there} commands compared, {differ} differ")
+    return 0 if differ == 0 and compared == there >= LEAST else 1
 
 
 if __name__ == "__main__":

@@ -11,10 +11,10 @@ import tempfile
 from pathlib import Path
 
 TOP = Path(__file__).resolve().parents[2]
-PAGE, LEAST = TOP / "docs/TESTING_A_TRAIN.md", 20
-DRIVES, LEAST_DRIVES = TOP / "docs/CLOSED_LOOP.md", 11
+PAGE, LEAST = TOP / "docs/TESTING_A_TRAIN.md", 37
+DRIVES, LEAST_DRIVES = TOP / "docs/CLOSED_LOOP.md", 13
 sys.path.insert(0, str(TOP / "tests/lab_package"))
-from page_rows import parts, run  # noqa: E402
+from page_rows import count, parts, run  # noqa: E402
 
 
 def main(words):
@@ -22,7 +22,7 @@ def main(words):
     etcs, lab = (str(Path(word).resolve()) for word in words if not word.startswith("--"))
     env = {**os.environ, "GAKNIFUR_ETCS": etcs, "GAKNIFUR_ETCS_LAB": lab}
     compared = differ = 0
-    told = parts(page.read_text())
+    told, there = parts(page.read_text()), count(page.read_text())
     with tempfile.TemporaryDirectory() as room:
         for part in told:
             if isinstance(part, str):
@@ -40,8 +40,8 @@ def main(words):
     if is_write:
         page.write_text("".join(part if isinstance(part, str) else part[0] + part[1] for part in told))
         return 0
-    print(f"docs/{page.name}: {compared} comparisons, {differ} differ")
-    return 0 if differ == 0 and compared >= least else 1
+    print(f"docs/{page.name}: {compared} of {there} commands compared, {differ} differ")
+    return 0 if differ == 0 and compared == there >= least else 1
 
 
 if __name__ == "__main__":

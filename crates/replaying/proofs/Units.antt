@@ -65,8 +65,8 @@ told_answers s (r ∷ rs) are =
     ap (record_told Three) are.0 ∙ ap (λ (e : Event). answer_to Three s e) (sym same) in
     (first, rest)
 
-pub units_agree : (events : List Event) (block : Block) → Tells (account_of events) block → block.format ≡ Three → (s : List Event) × AreAnswers block.format s block.records.items
-units_agree events block tells three =
+pub units_agree : (whole_from : ℕ) (events : List Event) (block : Block) → Tells (account_of whole_from events) block → block.format ≡ Three → (s : List Event) × AreAnswers block.format s block.records.items
+units_agree whole_from events block tells three =
     let all : AreRecords [] (tells.before ++ (tells.its ++ tells.after)) = subst (AreRecords []) tells.split (all_records events) in
     let s = events_behind tells.before [] in
     let its : AreRecords s tells.its = earlier s tells.its tells.after (later [] tells.before (tells.its ++ tells.after) all) in

@@ -12,7 +12,7 @@ use Rattle.replaying.specs.declared.differences.RecordField.{RecordField}
 
 -- what a block of format 3 tells of the events of a unit are the kernel's answers, behind some of these events
 abbrev pub UnitsAgree : Type 0
-UnitsAgree = (events : List Event) (block : Block) → Tells (account_of events) block → block.format ≡ Three → (s : List Event) × AreAnswers block.format s block.records.items
+UnitsAgree = (whole_from : ℕ) (events : List Event) (block : Block) → Tells (account_of whole_from events) block → block.format ≡ Three → (s : List Event) × AreAnswers block.format s block.records.items
 
 -- where all are answers, none differs
 abbrev pub VerdictsExclude : Type 0

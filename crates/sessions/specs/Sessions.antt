@@ -3,7 +3,7 @@
 -- six sectors.
 
 -- Taken for granted: where a write failed, nothing is said of what was written. A session is a life on an honest disk.
-use Rattle.std.specs.Prelude.{◌≡◌, ◌⊎◌, ℕ, ◌+◌, ◌*◌, List, [], ◌∷◌, ◌++◌, Bool, true, false, IsTrue, Option, Some, None, Result, IfOk, IfErr, codes, decimal}
+use Rattle.std.specs.Prelude.{◌≡◌, ◌⊎◌, ℕ, ◌*◌, List, [], ◌∷◌, ◌++◌, Bool, true, false, IsTrue, Option, Some, None, Result, IfOk, IfErr, codes, decimal}
 use Rattle.std.specs.Io.KnownBytes.{Appends}
 use Rattle.blocks.specs.FirstSector.{sectors_of}
 use Rattle.disk.specs.State.{State, Counted}
@@ -49,7 +49,7 @@ report_of released ended = lines_of released ++ ending_of ended
 
 -- A life, as the program writes it, on a disk whose images each represented `durable` or `accepted`. `cold` is the word
 -- on movements without power that was handed in; `before` and `after` are what was written, where that is known.
-pub record Session {E : Type 0} (durable accepted : List Event) (cold : Cold) (steps : List Step) (old new : State) (before after : Option (List ℕ)) (answer : Result Status E) : Type 0 where
+pub record Session {E : Type 0} (whole_from : ℕ) (durable accepted : List Event) (cold : Cold) (steps : List Step) (old new : State) (before after : Option (List ℕ)) (answer : Result Status E) : Type 0 where
   -- the events on which the life goes on, the newest first
   pub found : List Event
   -- the word that the power-up recorded
@@ -59,11 +59,11 @@ pub record Session {E : Type 0} (durable accepted : List Event) (cold : Cold) (s
   -- how the life ended: where it stopped, the step and why
   pub ended : Result (Unit {0}) LiveError
   -- it is a life by the contract of `onboard::live_into`
-  pub life : Lives durable accepted found cold power_up_word steps old new [] released
+  pub life : Lives whole_from durable accepted found cold power_up_word steps old new [] released
   -- it released exactly what the steps before its end ask for, and nothing where it wasn't opened
-  pub done : IsDone (PowerUp power_up_word ∷ found) steps (OnlyOpens durable accepted found power_up_word old new) ended life.steps_taken life.durable_at_end life.accepted_at_end life.released
+  pub done : IsDone (PowerUp power_up_word ∷ found) steps (OnlyOpens whole_from durable accepted found power_up_word old new) ended life.steps_taken life.durable_at_end life.accepted_at_end life.released
   -- a flush that found no room put nothing on the disk
-  pub unflushed : IsUnflushed (IsOfLife old.sectors durable accepted found power_up_word) steps ended life.durable_at_end old new
+  pub unflushed : IsUnflushed whole_from (IsOfLife whole_from old.sectors durable accepted found power_up_word) steps ended life.durable_at_end old new
   -- where it didn't stop, the newest block is that of its last flush of something pending
   pub last : LeavesLast found power_up_word steps ended new
   -- where it stopped, that is at the first step that isn't carried out, for its cause
@@ -91,7 +91,7 @@ Plays state gives bytes opener Missing before after answer =
 Plays {D} state gives bytes opener (Opened new) before after answer =
     TellsOne bytes (λ cold steps. (old : D) × gives opener (Some old)
     × IfOk answer (λ status. Counted (is_device status) (state old) (state new))
-    × ((durable accepted : List Event) → IsTrue (state old).honest → IsReady durable accepted (state old) → Session durable accepted cold steps (state old) (state new) before after answer))
+    × ((whole_from : ℕ) (durable accepted : List Event) → IsTrue (state old).honest → IsReady whole_from durable accepted (state old) → Session whole_from durable accepted cold steps (state old) (state new) before after answer))
 
 -- ---- an image is made
 

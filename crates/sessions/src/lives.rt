@@ -1,5 +1,5 @@
 //! A life, as the program writes it.
-ghost use Rattle.std.specs.Prelude.{◌≡◌, List, IsTrue, IfOk};
+ghost use Rattle.std.specs.Prelude.{◌≡◌, ℕ, List, IsTrue, IfOk};
 ghost use Rattle.disk.specs.State.{Counted};
 ghost use Rattle.events.specs.declared.input.Event.{Event};
 ghost use Rattle.onboard.specs.Lives.{IsReady};
@@ -28,10 +28,10 @@ pub fn run_life<D: Disk, W: Write>(
     // The status is that of a device exactly where the device failed.
     ensures counted { IfOk result.2 (λ status. Counted (is_device status) (D.state disk) (D.state result.0)) }
 
-    ensures session { (durable accepted : List Event) → IsTrue (D.state disk).honest →
-        IsReady durable accepted (D.state disk) →
-        Session durable accepted cold steps.now (D.state disk) (D.state result.0) (W.contents out) (W.contents result.1)
-        result.2 }
+    ensures session { (whole_from : ℕ) (durable accepted : List Event) → IsTrue (D.state disk).honest →
+        IsReady whole_from durable accepted (D.state disk) →
+        Session whole_from durable accepted cold steps.now (D.state disk) (D.state result.0) (W.contents out)
+        (W.contents result.1) result.2 }
 {
     let mut printer = Printer { out, told: Ok(()) };
     let (disk, ended) = live_into(alloc, disk, cold, steps, &mut printer);

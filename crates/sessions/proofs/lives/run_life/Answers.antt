@@ -2,8 +2,8 @@ use Rattle.sessions.proofs.Telling.{all_printed, told_whole, no_want}
 use Rattle.sessions.proofs.lives.run_life.Goals as goal
 
 pub returns-in-Ok-clause-session : goal.returns-in-Ok-clause-session
-returns-in-Ok-clause-session g c durable accepted honest ready =
-    let it = c.live_into-disk.ensures.life durable accepted honest ready in
+returns-in-Ok-clause-session g c whole_from durable accepted honest ready =
+    let it = c.live_into-disk.ensures.life whole_from durable accepted honest ready in
     record {
       found = it.0;
       power_up_word = it.1;
@@ -20,8 +20,8 @@ returns-in-Ok-clause-session g c durable accepted honest ready =
     }
 
 pub returns-in-Err-clause-session : goal.returns-in-Err-clause-session
-returns-in-Err-clause-session g c durable accepted honest ready =
-    let it = c.live_into-disk.ensures.life durable accepted honest ready in
+returns-in-Err-clause-session g c whole_from durable accepted honest ready =
+    let it = c.live_into-disk.ensures.life whole_from durable accepted honest ready in
     record {
       found = it.0;
       power_up_word = it.1;

@@ -24,8 +24,8 @@ returns g c = record {
       c.in-Some.disk,
       c.in-Some.ensures,
       c.run_life-disk.ensures.counted,
-      λ durable accepted honest ready.
-          let session = c.run_life-disk.ensures.session durable accepted honest ready in
+      λ whole_from durable accepted honest ready.
+          let session = c.run_life-disk.ensures.session whole_from durable accepted honest ready in
           rw c.as_slice.ensures.value at session,
     ),
   );

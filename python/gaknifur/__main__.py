@@ -92,8 +92,8 @@ def add_suites(word: Callable[[str, str, str], argparse.ArgumentParser]) -> None
     test.add_argument("--section", action="append", default=[], help="only results about this section, or a part of it")
     test.add_argument("--feature", action="append", default=[], help="only cases of this feature")
     test.add_argument("--junitxml", "--junit-xml", metavar="OUT.xml", type=Path, help="the results, for other programs")
-    test.add_argument("--python", action="store_true", help="also run what the folder has for pytest: conftest.py, settings, modules of "
-                      "tests. They are programs, and may do whatever you may")
+    test.add_argument("--python", action="store_true", help="also run what the folder has for pytest: conftest.py, settings, "
+                      "modules of tests. They are programs, and may do whatever you may")
     add_force(test)
     told = word("coverage", "tells which sections and transitions the cases of a folder are about",
                 "1 where one that the product covers has no case, and no reason why.")
@@ -129,7 +129,7 @@ def write(out: files.Out | None, text: str, source: Path) -> None:
 
 
 def out_of(told: argparse.Namespace, kind: files.Kind, source: Path) -> files.Out | None:
-    """The file that a command is to make, where it is told one. Looked at before anything is read, which may take long."""
+    """The file that a command is to make, where it is told one. It is looked at before what may take long."""
     out = files.Out(told.out, kind, told.force) if told.out is not None else None
     files.check_all([out] if out else [], [source])
     return out
@@ -137,9 +137,9 @@ def out_of(told: argparse.Namespace, kind: files.Kind, source: Path) -> files.Ou
 
 def write_table(told: argparse.Namespace, progress: Progress) -> None:
     """The word `table`. (pandas, and matplotlib of a report, take a second to load, which other words needn't.)"""
-    from . import tables
     out = out_of(told, files.TABLE, told.image)
     journal = read(told.image, other_blocks=told.other_blocks, replay=True, why=True, progress=progress)
+    from . import tables
     write(out, tables.csv_text(tables.frame(journal)), told.image)
     note(journal)
 
@@ -161,11 +161,11 @@ def write_database(told: argparse.Namespace, progress: Progress) -> None:
 
 def write_report(told: argparse.Namespace, progress: Progress) -> None:
     """The word `report`."""
-    from . import report
     from .extent import Extent, bound
     extent = Extent(bound(told.first) if told.first else None, bound(told.last) if told.last else None, told.life)
     out = out_of(told, files.REPORT, told.image)
     journal = read(told.image, replay=True, why=True, progress=progress)
+    from . import report
     write(out, report.page(journal, extent, progress), told.image)
     note(journal)
 
@@ -210,8 +210,9 @@ def run_tests(told: argparse.Namespace, progress: Progress) -> None:
     root = told.folder if told.folder.is_dir() else told.folder.parent
     selected = [f"--{name}={one}" for name in ("section", "feature") for one in getattr(told, name)]
     with results_in_xml(out) as (words, plugins):
-        status = begun(told.folder, ["-q", "--no-header", "-p", "no:cacheprovider", "-p", "gaknifur.pytest_plugin", f"--rootdir={root}",
-                              *([] if told.python else WITHOUT_PYTHON), *words, str(told.folder), *selected, *told.others], plugins)
+        status = begun(told.folder, [
+            "-q", "--no-header", "-p", "no:cacheprovider", "-p", "gaknifur.pytest_plugin", f"--rootdir={root}",
+            *([] if told.python else WITHOUT_PYTHON), *words, str(told.folder), *selected, *told.others], plugins)
     if status == pytest.ExitCode.NO_TESTS_COLLECTED:
         raise Failed(f"{told.folder}: there is no such test", REFUSED)
     if status == pytest.ExitCode.USAGE_ERROR:

@@ -80,7 +80,8 @@ def of_folder(folder: Path, slots: int) -> Iterator[Job]:
                   tuple((one.relative_to(root).as_posix(), one.read_bytes()) for one in files), slots)
     for path in paths:
         if path.suffix == ".json" and path.resolve() not in named:
-            yield Job(shown(path.relative_to(folder).as_posix()), "scenario", (("scenario.json", path.read_bytes()),), slots)
+            yield Job(shown(path.relative_to(folder).as_posix()), "scenario",
+                      (("scenario.json", path.read_bytes()),), slots)
 
 
 def files_of(path: Path) -> list[Path]:
@@ -280,7 +281,8 @@ class Table:
             connection.executescript(SCHEMA)
             connection.executemany("INSERT INTO campaign VALUES (?, ?)", settings.items())
 
-        self.path, self.connection, self.written = path, files.open_database(path, files.CAMPAIGN, fill), time.monotonic()
+        self.path, self.written = path, time.monotonic()
+        self.connection = files.open_database(path, files.CAMPAIGN, fill)
         try:
             found = dict(self.connection.execute("SELECT name, value FROM campaign"))
         except sqlite3.DatabaseError as error:

@@ -44,7 +44,7 @@ def fill(connection: sqlite3.Connection) -> None:
 
 def open_database(path: str | Path, images: Iterable[Path] = ()) -> sqlite3.Connection:
     """The database in a file, which is none of the images. A new file is made; a database of another kind is refused."""
-    connection = files.open_database(Path(path), files.JOURNALS, fill, images, isolation=None)
+    connection = files.open_database(Path(path), files.JOURNALS, fill, images, is_by_hand=True)
     try:
         connection.execute("PRAGMA foreign_keys = ON")
         version = connection.execute("PRAGMA user_version").fetchone()[0]

@@ -1,7 +1,7 @@
 """matplotlib as it comes, whatever file `matplotlibrc` the current folder, the environment or the user has.
 
-matplotlib reads such a file while it is imported, from the current folder first. So it is imported in a folder of this package,
-and a picture is drawn by its own defaults.
+matplotlib reads such a file while it is imported, from the current folder first. So it is imported in a folder of this
+package, and a picture is drawn by its own defaults.
 """
 import contextlib
 import os

@@ -8,7 +8,8 @@ from .drawing import Figure, FigureCanvasAgg, FigureCanvasSVG, plain
 from .driving import Driven
 
 CANVASES = {".svg": ("svg", FigureCanvasSVG), ".png": ("png", FigureCanvasAgg)}
-METADATA: dict[str, dict[str, str | None]] = {"svg": {"Date": None, "Creator": files.MAKER}, "png": {"Software": files.MAKER}}
+METADATA: dict[str, dict[str, str | None]] = {
+    "svg": {"Date": None, "Creator": files.MAKER}, "png": {"Software": files.MAKER}}
 
 
 def shade(axes: Any, driven: Driven) -> None:

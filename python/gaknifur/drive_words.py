@@ -110,8 +110,8 @@ def table(scenario: scenarios.Scenario, drive: Drive, build_ups: list[int]) -> l
 # ---- the word
 
 def on_file(path: Path, scenario: scenarios.Scenario, drive: Drive) -> driving.Driven:
-    """A life on the image of a file. One that isn't there is made, with its first life. One that is there goes on under its lock,
-    write by write and sync by sync as the unit asks for them, so that a loss of power takes no event of it away."""
+    """A life on the image of a file. One that isn't there is made, with its first life. One that is there goes on under its
+    lock, write by write and sync by sync as the unit asks for them, so that a loss of power takes no event of it away."""
     try:
         if not files.is_there(path, [drive.at.path]):
             driven, data = over_image(fresh(scenario, drive), scenario, drive)
@@ -148,7 +148,8 @@ def picture(driven: driving.Driven, name: str, suffix: str) -> bytes:
 def outs_of(given: argparse.Namespace) -> dict[str, files.Out]:
     """The files that a drive is to make, by their words; looked at before anything is played."""
     kinds = {"csv": files.DRIVE_TABLE, "scenario": scenarios.FILE, "picture": picture_kind(given.picture)}
-    outs = {name: files.Out(path, kind, given.force) for name, kind in kinds.items() if (path := getattr(given, name)) and kind}
+    outs = {name: files.Out(path, kind, given.force) for name, kind in kinds.items()
+            if (path := getattr(given, name)) and kind}
     images = [given.image] if given.image else []
     files.check_all(outs.values(), [given.yaml, *images], images)
     return outs

@@ -1,8 +1,8 @@
 """The files that `lab` makes, and how nothing that stands under a name is lost by it.
 
-What is made is a new file. In place of one that is there it comes only with `--force`, and only where that is a regular file
-which this package made before, as its first bytes tell (`Kind`). An image is never written over, whatever its name is. A file is
-written beside its name and synced, and takes the name once it is whole.
+What is made is a new file. In place of one that is there it comes only with `--force`, and only where that is a regular
+file which this package made before, as its first bytes tell (`Kind`). An image is never written over, whatever its name
+is. A file is written beside its name and synced, and takes the name once it is whole.
 """
 import os
 import secrets
@@ -121,7 +121,7 @@ def check(out: Out, inputs: Iterable[Path] = ()) -> os.stat_result | None:
 
 
 def check_all(outs: Iterable[Out], inputs: Iterable[Path] = (), others: Iterable[Path] = ()) -> None:
-    """Refuses files that may not be written before anything is done, and two of one name; `others` are made here too."""
+    """Refuses files that may not be written before anything is done, and two of one name; `others` are made too."""
     inputs, seen = list(inputs), {os.path.realpath(path) for path in others}
     for out in outs:
         check(out, inputs)
@@ -255,15 +255,19 @@ def check_database(path: Path, kind: Database, inputs: Iterable[Path] = ()) -> b
 
 
 def open_database(path: Path, kind: Database, fill: Callable[[sqlite3.Connection], None], inputs: Iterable[Path] = (),
-                  isolation: str | None = "") -> sqlite3.Connection:
-    """The database in a file. A new file is made whole or not at all, also where two programs make it at once."""
+                  is_by_hand: bool = False) -> sqlite3.Connection:
+    """The database in a file. A new file is made whole or not at all, also where two programs make it at once. Its
+    transactions may be begun by hand alone."""
     try:
         if not check_database(path, kind, inputs):
             try:
                 write_new(path, made(kind, fill))
             except FileExistsError:
                 check_database(path, kind, inputs)
-        return sqlite3.connect(address(path, "rw"), uri=True, timeout=WAIT_SECONDS, isolation_level=isolation)  # type: ignore[arg-type]
+        connection = sqlite3.connect(address(path, "rw"), uri=True, timeout=WAIT_SECONDS)
+        if is_by_hand:
+            connection.isolation_level = None
+        return connection
     except OSError as error:
         raise Failed(f"{path}: {error.strerror}", DEVICE) from error
     except sqlite3.Error as error:

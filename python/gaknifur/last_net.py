@@ -32,7 +32,7 @@ class Closed(io.TextIOBase):
 
 
 def hold_streams() -> None:
-    """Where a standard stream is closed, no file that is opened takes its number, and what would be written to it is a fault."""
+    """Where a standard stream is closed, no file that is opened takes its number, and writing to it is a fault."""
     for number in range(3):
         try:
             os.fstat(number)

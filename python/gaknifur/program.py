@@ -1,8 +1,8 @@
 """The programs `etcs_lab` and `etcs`. No other module starts a process.
 
-`$GAKNIFUR_ETCS_LAB` and `$GAKNIFUR_ETCS` name the programs. Without them the scripts of this repository are asked, once a
-process, whether there is a proved program of these sources: then that is run. Else the scripts are, which compile the sources at
-each call and say that a run isn't of the proved build.
+`$GAKNIFUR_ETCS_LAB` and `$GAKNIFUR_ETCS` name the programs. Without them the scripts of this repository are asked, once
+a process, whether there is a proved program of these sources: then that is run. Else the scripts are, which compile the
+sources at each call and say that a run isn't of the proved build.
 """
 import functools
 import os
@@ -37,8 +37,8 @@ def script(name: str) -> Path:
 
 @functools.cache
 def proved(script: Path) -> Path | None:
-    """The proved program of a script, where there is one of its sources. It takes a digest of all of them, so this is asked once a
-    process: whoever proves anew while one runs is told of by the next one."""
+    """The proved program of a script, where there is one of its sources. That takes a digest of all of them, so it is asked
+    once a process."""
     if subprocess.run([script, "--is-proved"], stdin=subprocess.DEVNULL, capture_output=True).returncode:
         return None
     return script.parent / "crates" / script.name / "out" / script.name

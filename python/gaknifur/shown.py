@@ -2,7 +2,7 @@
 import unicodedata
 
 HIDDEN = ("Cc", "Cf", "Cs", "Co", "Cn", "Zl", "Zp")
-"""Kinds of characters that nobody sees: controls, marks of direction, bytes that are no UTF-8, and what has no meaning."""
+"""Kinds of characters that nobody sees: controls, marks of direction, bytes that are no UTF-8, what has no meaning."""
 
 
 def spelled(character: str) -> str:

@@ -1,7 +1,7 @@
 """How `./lab` begins: its own folder is looked in before all others, and nothing of the current folder is.
 
-The script runs this file in Python's isolated mode (`-I`). So neither the current folder nor `PYTHONPATH` nor a folder of the user's
-is looked in for modules, and this file adds the folder `python` of its own repository.
+The script runs this file in Python's isolated mode (`-I`). So neither the current folder nor `PYTHONPATH` nor a folder of
+the user's is looked in for modules, and this file adds the folder `python` of its own repository.
 """
 import sys
 from importlib.util import find_spec
@@ -14,8 +14,8 @@ MISSING = 3
 def begin() -> int:
     """Does what the words ask, and answers the status."""
     if not all(map(find_spec, NEEDED)):
-        print(f"lab: {', '.join(NEEDED[:-1])} or {NEEDED[-1]} is missing; tools/python installs them by Debian's packages",
-              file=sys.stderr)
+        print(f"lab: {', '.join(NEEDED[:-1])} or {NEEDED[-1]} is missing; tools/python installs them by Debian's "
+              "packages", file=sys.stderr)
         return MISSING
     sys.path.insert(0, str(Path(__file__).resolve().parents[1]))
     from gaknifur.last_net import caught, hold_streams

@@ -9,7 +9,7 @@ from contextlib import redirect_stderr
 from pathlib import Path
 from unittest.mock import patch
 
-from gaknifur.program import Failed, Run, etcs, prepare
+from gaknifur.program import Failed, Run, built, etcs, prepare
 from gaknifur.reading import Journal, read
 
 from .samples import journal, line, record
@@ -121,6 +121,24 @@ class Unproved(unittest.TestCase):
             self.assertEqual([etcs("a"), etcs("b")], [(0, ["a"]), (0, ["b"])])
         self.assertEqual(said.getvalue(), "lab: there is no proved etcs of these sources, so each call of it compiles them, for about "
                          "a minute; ./etcs --prove makes it once\n")
+
+
+class Proved(unittest.TestCase):
+    """A script whose program is proved."""
+
+    def test_is_asked_once_a_process(self) -> None:
+        with tempfile.TemporaryDirectory() as folder:
+            top = Path(folder)
+            (top / "crates/etcs/out").mkdir(parents=True)
+            for path, text in ((top / "etcs", f"#!/bin/sh\necho \"$@\" >>{top}/asked\n"),
+                               (top / "crates/etcs/out/etcs", "#!/bin/sh\necho ran \"$@\"\n")):
+                path.write_text(text)
+                path.chmod(0o755)
+            with patch.dict(os.environ), patch("gaknifur.program.script", lambda name: top / name):
+                os.environ.pop("GAKNIFUR_ETCS", None)
+                self.assertEqual([etcs("decode", str(number)) for number in range(3)], [(0, [f"ran decode {number}"]) for number in range(3)])
+                self.assertEqual(built("etcs"), top / "crates/etcs/out/etcs")
+            self.assertEqual((top / "asked").read_text(), "--is-proved\n")
 
 
 RT = """#!/bin/sh

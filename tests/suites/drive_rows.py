@@ -19,8 +19,8 @@ from unittest.mock import patch
 TOP = Path(__file__).resolve().parents[2]
 DRIVES = TOP / "drives"
 sys.path.insert(0, str(TOP / "python"))
-from gaknifur import cases, closed_loop, coverage, driving, playing, program  # noqa: E402
-from gaknifur.unit import Brake, Unit  # noqa: E402
+from gaknifur import cases, closed_loop, coverage, drive_words, drives, driving, playing, program  # noqa: E402
+from gaknifur.unit import Brake, FileMedium, Unit  # noqa: E402
 
 SWAPPED = {Brake.NONE: Brake.EMERGENCY, Brake.SERVICE: Brake.SERVICE, Brake.EMERGENCY: Brake.NONE}
 FLUSH, MOVE, READ, DUE, CYCLE = Unit.flush, driving.Motion.move, driving.Loop.read, driving.Motion.due, driving.Loop.cycle
@@ -107,7 +107,10 @@ class Compared:
                                     (["drive", kept, "--picture", self.room / "x.gif"], 2, "a picture is a file .svg or .png"),
                                     (["drive", kept, "--build-up", "2 m"], 1, "--build-up: a time is wanted here"),
                                     (["build", kept], 1, "lab drive has --scenario"),
-                                    (["drive", kept, "--image", self.room], 3, "Is a directory")):
+                                    (["drive", kept, "--image", self.room], 1, "is no regular file"),
+                                    (["drive", kept, "--image", kept], 1, "is a file that is read here"),
+                                    (["drive", kept, "--image", none], 1, "the unit answers 2 OPEN_NOT_FORMATTED"),
+                                    (["drive", kept, "--csv", kept, "--force"], 1, "itself, which is read here")):
             found = lab(*words)
             self.same(f"{words}", (found[0], said in found[2]), (status, True))
         found = lab("drive", kept, env={"GAKNIFUR_ETCS_UNIT": str(self.room / "no.so")}.items())
@@ -130,8 +133,38 @@ class Compared:
         for _ in range(2):
             self.same("a life", lab("drive", DRIVES / "heeds_the_limit.yaml", "--image", image)[0], 0)
         done = subprocess.run([os.environ["GAKNIFUR_ETCS_LAB"], "replay", "--json", image], capture_output=True, text=True)
+        self.cuts(image, [line for line in subprocess.run([os.environ["GAKNIFUR_ETCS"], "journal", image], capture_output=True,
+                                                          text=True).stdout.splitlines()])
         self.same("two lives", (done.returncode, len(re.findall('"replay":"agrees"', done.stdout)), "differ" in done.stdout.replace("nothing_differs", "")),
                   (0, 2, False))
+
+
+    def cuts(self, image, listed):
+        """Where a life on an image that is there is cut off within a write, all is still there that was."""
+        scenario, drive = drives.read(DRIVES / "heeds_the_limit.yaml")
+        begun, write = image.read_bytes(), FileMedium.write
+        for last in (1, 2, 3, 10, 11, 100):
+            image.write_bytes(begun)
+            done = 0
+
+            def cut(medium, sector, data):
+                nonlocal done
+                done += 1
+                if done == last:
+                    write(medium, sector, data[:len(data) // 2])
+                if done >= last:
+                    raise OSError(5, "the power is cut")
+                write(medium, sector, data)
+
+            with patch.object(FileMedium, "write", cut):
+                try:
+                    drive_words.on_file(image, scenario, drive)
+                    self.same(f"cut at {last}", "a life", "a cut")
+                except program.Failed as failed:
+                    self.same(f"cut at {last}", "the power is cut" in str(failed), True)
+            told = subprocess.run([os.environ["GAKNIFUR_ETCS"], "journal", image], capture_output=True, text=True).stdout.splitlines()
+            self.same(f"the events before, cut at {last}", told[:len(listed)], listed)
+        image.write_bytes(begun)
 
 
 def main(etcs, etcs_lab):

@@ -9,16 +9,17 @@ from typing import NoReturn
 
 from . import campaign_words, coverage, drive_words, files, scenarios
 from .last_net import caught, say
-from .program import DEVICE, REFUSED, WRONG_WORDS, Failed
+from .program import DEVICE, NOT_WHOLE, REFUSED, WRONG_WORDS, Failed
 from .progress import Terminal
 from .reading import Journal, Progress, read
 from .shown import shown
 
 NEXT = """\
   0 made   1 refused: not formatted, no database of journals, a fault in a YAML file, or a test that failed
-  2 wrong words   3 a file, etcs or etcs_lab
+  2 wrong words   3 a file, etcs or etcs_lab   5 a fault of lab itself
+  4 made, and something of an image is lost, damaged or contradicts, or the replay differs
 
-Of a damaged image all is told that can be read, and one line on standard error says so. Take a digest of the image
+Of a damaged image all is told that can be read, and one line on standard error says what is wrong. Take a digest of the image
 before anything reads it, and work on a copy. docs/LABORATORY.md goes through the first three words,
 docs/TESTING_A_TRAIN.md, CLOSED_LOOP.md and CAMPAIGNS.md through the others."""
 
@@ -73,6 +74,7 @@ def words() -> argparse.ArgumentParser:
     page.add_argument("--to", dest="last", metavar="WHERE", help="the same")
     page.add_argument("--life", metavar="N", type=int, help="this life alone")
     add_force(page)
+    page.add_argument("--newest-first", action="store_true", help="the lives from the last one to the first")
     add_suites(word)
     drive_words.add_words(word)
     campaign_words.add_words(word)
@@ -111,12 +113,13 @@ def add_force(parser: argparse.ArgumentParser) -> None:
     parser.add_argument("--force", action="store_true", help="write over files that lab made; nothing writes over others")
 
 
-def note(journal: Journal) -> None:
-    """Says that an image isn't whole."""
-    if journal.refusal is not None:
-        say(f"{journal.path}: no event can be told: {journal.refusal}")
-    elif not journal.is_whole:
-        say(f"{journal.path}: something is lost, damaged or contradicts")
+def note(journal: Journal) -> int:
+    """Says that an image isn't whole, or that the replay differs; answers the status."""
+    from . import brief
+    found = brief.faults(journal)
+    if found:
+        say(f"{journal.path}: {'; '.join(found)}")
+    return NOT_WHOLE if found else 0
 
 
 def write(out: files.Out | None, text: str, source: Path) -> None:
@@ -135,39 +138,40 @@ def out_of(told: argparse.Namespace, kind: files.Kind, source: Path) -> files.Ou
     return out
 
 
-def write_table(told: argparse.Namespace, progress: Progress) -> None:
+def write_table(told: argparse.Namespace, progress: Progress) -> int:
     """The word `table`. (pandas, and matplotlib of a report, take a second to load, which other words needn't.)"""
     out = out_of(told, files.TABLE, told.image)
     journal = read(told.image, other_blocks=told.other_blocks, replay=True, why=True, progress=progress)
     from . import tables
     write(out, tables.csv_text(tables.frame(journal)), told.image)
-    note(journal)
+    return note(journal)
 
 
-def write_database(told: argparse.Namespace, progress: Progress) -> None:
+def write_database(told: argparse.Namespace, progress: Progress) -> int:
     """The word `database`."""
     from . import database, tables
-    connection = database.open_database(told.out, told.images)
+    connection, status = database.open_database(told.out, told.images), 0
     try:
         for image in told.images:
             journal = read(image, other_blocks=told.other_blocks, replay=True, why=True, progress=progress)
             progress("database", 0, 0)
             if not database.add(connection, journal, tables.frame(journal)):
                 say(f"{image}: is in the database already")
-            note(journal)
+            status = max(status, note(journal))
     finally:
         connection.close()
+    return status
 
 
-def write_report(told: argparse.Namespace, progress: Progress) -> None:
+def write_report(told: argparse.Namespace, progress: Progress) -> int:
     """The word `report`."""
     from .extent import Extent, bound
     extent = Extent(bound(told.first) if told.first else None, bound(told.last) if told.last else None, told.life)
     out = out_of(told, files.REPORT, told.image)
     journal = read(told.image, replay=True, why=True, progress=progress)
     from . import report
-    write(out, report.page(journal, extent, progress), told.image)
-    note(journal)
+    write(out, report.page(journal, extent, progress, told.newest_first), told.image)
+    return note(journal)
 
 
 def write_scenario(told: argparse.Namespace, progress: Progress) -> None:

@@ -1,5 +1,5 @@
-"""Why a brake was commanded, and what decided the limit, as `etcs_lab why` tells it. Nothing here guesses a cause from
-what a record shows.
+"""Why a brake was commanded, why the train was tripped, and what decided the limit, as `etcs_lab why` tells it. Nothing
+here guesses a cause from what a record shows.
 
 `etcs_lab why` has a line of each event at which brake, limit, a cause or the kind of what decides the limit is another
 one than before in its life, so between two lines the causes are those of the first. (Before it told what decides the
@@ -29,6 +29,14 @@ CAUSES = {
     "owes_too_long": ("an acknowledgement has been owed for 5000 ms or longer",
                       "ends when the driver acknowledges, a mode deletes it, or a further transition begins it anew")}
 """Of each cause, in the order of the brake table, what it says and how it ends, in the words of `etcs_lab why`."""
+TRIP_CAUSES = {
+    "end_passed": ("the minimum safe front was past the end of authority", "3.8"),
+    "linking": ("linking or a balise group asked for it", "3.4.4, 3.16.2"),
+    "stop": ("an authority with V_MAIN 0 was used", "3.8"),
+    "staff_distance": ("the path in Staff Responsible was above D_NVSTFF", "4.4"),
+    "level": ("the level was 1, and the authority or the track ahead was not known", "5.10")}
+"""Of each cause of a trip what it says, in the words of `etcs_lab why`, and its sections of SUBSET-026."""
+TRIP_BEFORE = "it was tripped before the power-up, and why isn't known"
 LIMIT_CAUSE = "limit_cause"
 """The member that tells the kind of what decides the limit; others of the same beginning tell more of it."""
 REASONS = {"before_oldest_block": "what was kept before its power-up was overwritten",
@@ -73,6 +81,30 @@ class Known:
     """The causes of its brake that hold; None where they aren't told."""
     limit: str | None = None
     """The kind of what decides the limit; None where it isn't told."""
+    trip: "Trip | None" = None
+    """The trip that is owed; None where none is, or where it isn't told."""
+
+
+@dataclass(frozen=True)
+class Trip:
+    """A trip that is owed: why it was entered, and by which event; None both where it was entered in a life before."""
+
+    cause: str | None
+    event: int | None
+
+    def text(self) -> str:
+        """Why the train was tripped, for people."""
+        if self.cause is None:
+            return TRIP_BEFORE
+        says, section = TRIP_CAUSES.get(self.cause, (self.cause, "?"))
+        return f"{says} (event {self.event}, {section})"
+
+
+def trip_of(line: Json) -> Trip | None:
+    """The trip that is owed behind the event of a line."""
+    if line.get("owes_trip") is None or "trip_cause" not in line:
+        return None
+    return Trip(line["trip_cause"], line["trip_cause_event"])
 
 
 def known(journal: Journal) -> list[Known]:
@@ -88,7 +120,7 @@ def known(journal: Journal) -> list[Known]:
         if one.reason is None:
             latest = one.line or (before if is_complete and record["kind"] != "powerup" else None)
             if latest:
-                one.held, one.limit = held(latest), latest.get(LIMIT_CAUSE)
+                one.held, one.limit, one.trip = held(latest), latest.get(LIMIT_CAUSE), trip_of(latest)
             before = latest
         else:
             before = None

@@ -14,19 +14,22 @@ from . import causes, files, tables
 from .program import DEVICE, REFUSED, Failed
 from .reading import Journal, Json
 
-VERSION = 2
+VERSION = 3
 """The `user_version` of the schema."""
 GREATEST = 2**62
 EVENT = (
     "block event life stretch kind time_ms mode level brake place_cm uncertainty_cm min_safe_front_cm max_safe_front_cm "
     "limit_m_per_h movement_cm reading_m_per_h speed_m_per_h word now_ms action refused identity running_number "
     "chosen_level confirmed acknowledged length_cm maximum_m_per_h category deceleration_cm_per_s2 reaction_ms "
-    "causes_not_known limit_cause"
+    "causes_not_known trip_cause trip_cause_event limit_cause"
 ).split() + list(tables.SHOWS)
+BEFORE = {"mode_before": "mode", "level_before": "level", "brake_before": "brake", "speed_before_m_per_h": "speed_m_per_h"}
+NEXT = {"next_event": "event", "next_ms": "time_ms", "next_cm": "place_cm"}
+"""What of the record before and of the next one of its stretch stands beside a record, so that no view has to look for them."""
 SLOT = ("slot state block first_sector last_sector format life first_event last_event gate_is_own in_journal field record "
         "byte").split()
-WHY = ("brake limit_m_per_h speed_m_per_h backward_cm allowed_backward_cm limit_cause limit_cause_speed_m_per_h "
-       "limit_cause_place_cm limit_cause_number limit_cause_section").split()
+WHY = ("brake limit_m_per_h speed_m_per_h backward_cm allowed_backward_cm trip_cause trip_cause_event trip_cause_section "
+       "limit_cause limit_cause_speed_m_per_h limit_cause_place_cm limit_cause_number limit_cause_section").split()
 REPLAY = "replay life first_event last_event block reason field".split()
 HEADER = "Q_UPDOWN M_VERSION Q_MEDIA N_PIG N_TOTAL M_DUP M_MCOUNT NID_C NID_BG Q_LINK".split()
 
@@ -40,6 +43,8 @@ def fill(connection: sqlite3.Connection) -> None:
     """Makes an empty database: its tables and views, and what causes say."""
     connection.executescript(schema())
     insert(connection, "cause_word", ["cause", "says", "ends"], ([name, *told] for name, told in causes.CAUSES.items()))
+    insert(connection, "trip_word", ["trip_cause", "says", "section"],
+           ([name, *told] for name, told in causes.TRIP_CAUSES.items()))
 
 
 def open_database(path: str | Path, images: Iterable[Path] = ()) -> sqlite3.Connection:
@@ -134,8 +139,10 @@ def add_events(connection: sqlite3.Connection, image: int, table: pd.DataFrame) 
     insert(connection, "block", ["image", "block", "source", "first_event", "last_event"],
            ([image, *row] for row in zip(*(plain(blocks[name]) for name in blocks))))
     bounded = table.assign(uncertainty_cm=table["uncertainty_cm"].where(table["uncertainty_cm"] <= GREATEST))
-    columns = [plain(bounded[name]) for name in EVENT]
-    insert(connection, "event", ["image", *EVENT], ([image, *row] for row in zip(*columns)))
+    beside = {name: tables.before(table, told) for name, told in BEFORE.items()} | {
+        name: tables.behind(table, told) for name, told in NEXT.items()}
+    columns = [plain(bounded[name]) for name in EVENT] + [plain(column) for column in beside.values()]
+    insert(connection, "event", ["image", *EVENT, *beside], ([image, *row] for row in zip(*columns)))
     heard = table[table["kind"] == "telegram"]
     rows = list(zip(plain(heard["block"]), plain(heard["event"]), heard["telegram"], heard["decoded"]))
     insert(connection, "telegram", ["image", "block", "event", "digits", "fault", *map(str.lower, HEADER)],

@@ -7,7 +7,7 @@ import jinja2
 import numpy as np
 import pandas as pd
 
-from . import causes, chart, tables, words
+from . import brief, causes, chart, tables, words
 from .chart import Picture
 from .extent import Extent
 from .reading import Journal, Json, Progress, silent
@@ -154,39 +154,70 @@ def environment() -> jinja2.Environment:
                               lstrip_blocks=True, undefined=jinja2.StrictUndefined)
 
 
-def page(journal: Journal, extent: Extent = Extent(), progress: Progress = silent) -> str:
-    """The page of a journal, or of a part of it."""
-    table = extent.take(tables.frame(journal))
+def is_usual(one: Any) -> bool:
+    """Whether an intervention is that of each power-up, which lasts until the driver has revalidated."""
+    return bool(one["kind"] == "powerup" and one["causes"] and all(held.cause == "not_revalidated" for held in one["causes"]))
+
+
+def in_order(rows: pd.DataFrame, is_newest_first: bool) -> pd.DataFrame:
+    """Rows of lives as they are asked for: from the first life to the last one, or from the last to the first."""
+    return rows.sort_values("life", ascending=False, kind="stable") if is_newest_first else rows
+
+
+def interventions(table: pd.DataFrame, is_newest_first: bool) -> tuple[pd.DataFrame, pd.DataFrame]:
+    """The interventions of a part of a journal, by rows of its records; and those apart that each power-up brings."""
     found = tables.interventions(table)
     for name in ("first_row", "last_row", "most_over_row"):
         found[name] = [None if pd.isna(at) else int(table.index[int(at)]) for at in found[name]]
+    usual = np.array([is_usual(one) for one in found.to_dict("records")], bool)
+    return in_order(found[~usual], is_newest_first), in_order(found[usual], is_newest_first)
+
+
+def led_to(told: pd.DataFrame) -> set[int]:
+    """The rows to which interventions lead: their first ones, and those of their causes."""
+    found = {int(row) for row in told["first_row"]}
+    return found | {int(one["first_row"]) + number - int(one["first_event"]) for _, one in told.iterrows()
+                    for cause in one["causes"] for number in (cause.since, cause.last, cause.gone) if number is not None}
+
+
+def pictures_of(table: pd.DataFrame, drawn: list[Life], chosen: pd.DataFrame, rows: set[int], progress: Progress) -> tuple[list[str], set[int]]:
+    """Draws the lives, and the pictures of some interventions; answers these, and which rows have an anchor in a picture."""
+    anchors, pictures, whole = set[int](), list[str](), len(drawn) + len(chosen)
+    for number, life in enumerate(drawn):
+        progress("charts", number, whole)
+        draw_life(life, rows, anchors)
+    for number, picture in enumerate(windows(table, chosen)):
+        progress("charts", len(drawn) + number, whole)
+        pictures.append(picture)
+    return pictures, anchors
+
+
+def page(journal: Journal, extent: Extent = Extent(), progress: Progress = silent, is_newest_first: bool = False) -> str:
+    """The page of a journal, or of a part of it."""
+    records = tables.frame(journal)
+    at_top = brief.brief(journal, records, tables.interventions(records))
+    table = extent.take(records)
+    found, usual = interventions(table, is_newest_first)
     fastest, over = top_of(table[table["kind"] == "odometer"], "speed_kmh"), top_of(table, "over_limit_kmh")
     told = found.head(MOST_TOLD)
-    chosen = farthest(found) if len(table) > SHORT else found.head(0)
-    linked = {int(row) for row in [*told["first_row"], *chosen["first_row"]]}
+    chosen = in_order(farthest(found), is_newest_first) if len(table) > SHORT else found.head(0)
     told = told.assign(limit_text=[limit_text(table, row) for row in told["first_row"]])
-    linked |= {int(one["first_row"]) + number - int(one["first_event"]) for _, one in told.iterrows()
-               for cause in one["causes"] for number in (cause.since, cause.last, cause.gone) if number is not None}
-    linked |= {top["row"] for top in (fastest, over) if top}
-    shown = listed(table, linked)
-    rows, anchors = set(shown.index), set[int]()
+    linked = {int(row) for row in chosen["first_row"]} | led_to(told) | at_top.rows | {top["row"] for top in (fastest, over) if top}
+    shown = in_order(listed(table, linked), is_newest_first)
     lives = [Life(int(life), part) for life, part in table.groupby("life", sort=True)]
     drawn = [life for life in lives if len(life.table) > 1][-MOST_LIVES:]
-    for number, life in enumerate(drawn):
-        progress("charts", number, len(drawn) + len(chosen))
-        draw_life(life, rows, anchors)
-    pictures = []
-    for number, picture in enumerate(windows(table, chosen)):
-        progress("charts", len(drawn) + number, len(drawn) + len(chosen))
-        pictures.append(picture)
-    template = environment().get_template("report.html.j2")
-    return template.render(
-        journal=journal, extent=extent, events=len(table), lives=[life.summary() for life in lives[:MOST_TOLD]],
+    if is_newest_first:
+        lives, drawn = lives[::-1], drawn[::-1]
+    rows, notable = set(shown.index), tables.is_notable(table)
+    pictures, anchors = pictures_of(table, drawn, chosen, rows, progress)
+    return environment().get_template("report.html.j2").render(
+        journal=journal, extent=extent, brief=at_top, events=len(table), lives=[life.summary() for life in lives[:MOST_TOLD]],
         more_lives=max(len(lives) - MOST_TOLD, 0), drawn=[life for life in drawn if life.pictures],
         undrawn=len(lives) - len(drawn), found=told.to_dict("records"), more_found=len(found) - len(told),
+        usual=usual.head(MOST_TOLD).to_dict("records"), usual_count=len(usual),
         first_told=FIRST_TOLD, windows=pictures, all_windows=len(found[found["kind"] != "powerup"]),
         rows=told_rows(journal, table, shown), row_set=rows, anchors=anchors,
-        quiet=int((~tables.is_notable(table)).sum()), left_out=int(tables.is_notable(table).sum()) - len(shown),
+        quiet=int((~notable).sum()), left_out=int(notable.sum()) - len(shown),
         fastest=fastest, over=over if over and over["value"] > 0 else None,
         way_m=float(table["movement_cm"].fillna(0).abs().sum()) / 100, modes=list(dict.fromkeys(table["mode"])),
         service=int((found["worst"] == "service").sum()), emergency=int((found["worst"] == "emergency").sum()),

@@ -82,9 +82,18 @@ CREATE TABLE block (
     PRIMARY KEY (image, block)
 ) STRICT, WITHOUT ROWID;
 
+-- what the cause of a trip says, and its sections of SUBSET-026
+CREATE TABLE trip_word (
+    trip_cause TEXT PRIMARY KEY,
+    says TEXT NOT NULL,
+    section TEXT NOT NULL
+) STRICT, WITHOUT ROWID;
+
 -- Each record. Those of one stretch are of one life, and follow one another without a gap. speed_m_per_h is that of the
 -- last reading of the stretch, 0 from a power-up on. An uncertainty beyond 2^62 cm is NULL. causes_not_known tells why
--- the causes of its brake can't be told; NULL where the replay agrees. limit_cause is the kind of what decides the limit.
+-- the causes of its brake can't be told; NULL where the replay agrees. trip_cause tells why the trip was entered that is
+-- owed, trip_cause_event by which event. limit_cause is the kind of what decides the limit. Behind them stands what the
+-- record before it in its stretch told (NULL at the beginning of a stretch), and when and where the next one of it came.
 CREATE TABLE event (
     image INTEGER NOT NULL,
     block INTEGER NOT NULL,
@@ -126,7 +135,16 @@ CREATE TABLE event (
     deceleration_cm_per_s2 INTEGER,
     reaction_ms INTEGER,
     causes_not_known TEXT,
+    trip_cause TEXT REFERENCES trip_word,
+    trip_cause_event INTEGER,
     limit_cause TEXT,
+    mode_before TEXT,
+    level_before INTEGER,
+    brake_before TEXT,
+    speed_before_m_per_h INTEGER,
+    next_event INTEGER,
+    next_ms INTEGER,
+    next_cm INTEGER,
     PRIMARY KEY (image, block, event),
     FOREIGN KEY (image, block) REFERENCES block ON DELETE CASCADE
 ) STRICT, WITHOUT ROWID;
@@ -142,6 +160,9 @@ CREATE TABLE why (
     speed_m_per_h INTEGER NOT NULL,
     backward_cm INTEGER NOT NULL,
     allowed_backward_cm INTEGER NOT NULL,
+    trip_cause TEXT,
+    trip_cause_event INTEGER,
+    trip_cause_section TEXT,
     limit_cause TEXT,
     limit_cause_speed_m_per_h INTEGER,
     limit_cause_place_cm INTEGER,
@@ -215,19 +236,19 @@ CREATE TABLE field (
     FOREIGN KEY (image, block, event, packet) REFERENCES packet ON DELETE CASCADE
 ) STRICT, WITHOUT ROWID;
 
--- each record of the journal, beside what the record before it told (NULL at the beginning of a stretch) and when and
--- where the next one of its stretch came
+-- each record of the journal
 CREATE VIEW step AS
-SELECT event.*, LAG(mode) OVER behind AS mode_before, LAG(level) OVER behind AS level_before,
-    LAG(brake) OVER behind AS brake_before, LAG(speed_m_per_h) OVER behind AS speed_before_m_per_h,
-    LEAD(event.event) OVER behind AS next_event, LEAD(time_ms) OVER behind AS next_ms,
-    LEAD(place_cm) OVER behind AS next_cm
-FROM event JOIN block USING (image, block) WHERE source = 'journal'
-WINDOW behind AS (PARTITION BY event.image, stretch ORDER BY event.block, event.event);
+SELECT event.* FROM event JOIN block USING (image, block) WHERE source = 'journal';
 
 CREATE VIEW mode_change AS
 SELECT image, block, event, life, time_ms, place_cm, mode_before, mode, level, brake, kind, action
 FROM step WHERE mode <> mode_before;
+
+-- each event by which Trip was entered, and why
+CREATE VIEW trip AS
+SELECT image, block, event, life, time_ms, place_cm, mode_before, kind, speed_m_per_h / 1000.0 AS speed_kmh, trip_cause, says,
+    section, causes_not_known
+FROM step LEFT JOIN trip_word USING (trip_cause) WHERE mode = 'TR' AND mode_before <> 'TR';
 
 -- each reading of the odometer
 CREATE VIEW reading AS
@@ -285,14 +306,14 @@ GROUP BY run.image, intervention, cause, since_event;
 -- (`until`, NULL where there is none).
 CREATE VIEW above_limit AS
 WITH
-    told AS (
-        SELECT *, COALESCE(speed_m_per_h > limit_m_per_h, 0) AS is_over FROM step),
     numbered AS (
-        SELECT *, SUM(1 - is_over) OVER (PARTITION BY image, stretch ORDER BY block, event) AS run FROM told),
+        SELECT image, stretch, block, event, speed_m_per_h - limit_m_per_h AS over,
+            event - ROW_NUMBER() OVER (PARTITION BY image, stretch ORDER BY block, event) AS run
+        FROM step WHERE speed_m_per_h > limit_m_per_h),
     extent AS (
         SELECT image, stretch, run, MIN(event) AS first_event, MAX(event) AS last_event, MIN(block) AS first_block,
-            MAX(block) AS last_block, MAX(speed_m_per_h - limit_m_per_h) / 1000.0 AS most_over_kmh
-        FROM numbered WHERE is_over GROUP BY image, stretch, run)
+            MAX(block) AS last_block, MAX(over) / 1000.0 AS most_over_kmh
+        FROM numbered GROUP BY image, stretch, run)
 SELECT extent.image, first.life, first_event, extent.last_event, last.next_event AS until_event, most_over_kmh,
     first.time_ms, last.next_ms AS until_ms, last.next_ms - first.time_ms AS lasted_ms, first.place_cm,
     last.next_cm AS until_cm, last.next_cm - first.place_cm AS way_cm
@@ -300,4 +321,4 @@ FROM extent
 JOIN step AS first ON (first.image, first.block, first.event) = (extent.image, extent.first_block, extent.first_event)
 JOIN step AS last ON (last.image, last.block, last.event) = (extent.image, extent.last_block, extent.last_event);
 
-PRAGMA user_version = 2;
+PRAGMA user_version = 3;

@@ -12,8 +12,9 @@ Columns of `frame`, in their order:
 - `word`, `now_ms`, `action` and the driver's entries; `refused`: whether the action can't have been accepted.
 - `nid_c`, `nid_bg`, `n_pig`, `n_total`, `m_dup`, `m_mcount`, `q_link`, `packets`, `fault`, `telegram`, `decoded`.
 - `causes`: the causes of its brake, and the event since which each holds; `causes_not_known`: why they aren't known;
-  `limit_cause`: the kind of what decides the limit; `held`: the causes as a dictionary; `why`: the line of `etcs_lab why`
-  (module `causes`). They are missing where they aren't told.
+  `trip_cause`, `trip_cause_event`: while a trip is owed, why it was entered and by which event; `limit_cause`: the kind of
+  what decides the limit; `held`: the causes as a dictionary; `trip`: the trip that is owed; `why`: the line of `etcs_lab
+  why` (module `causes`). They are missing where they aren't told.
 """
 from collections.abc import Callable, Sequence
 from operator import itemgetter
@@ -77,11 +78,16 @@ def decoded_columns(decoded: Sequence[Json | None]) -> dict[str, Any]:
     return columns
 
 
-def cause_columns(journal: Journal) -> dict[str, list[Any]]:
-    """The causes of each record's brake, why they aren't known, what decides its limit, and the line that tells them."""
+def cause_columns(journal: Journal) -> dict[str, Any]:
+    """The causes of each record's brake, why they aren't known, the trip that is owed, what decides its limit, and the line that
+    tells them."""
     told = causes.known(journal)
+    trips = [one.trip for one in told]
     return {"causes": [causes.text(one.held) for one in told], "causes_not_known": [one.reason for one in told],
-            "limit_cause": [one.limit for one in told], "held": [one.held for one in told], "why": [one.line for one in told]}
+            "trip_cause": [trip.cause if trip else None for trip in trips],
+            "trip_cause_event": numbers([trip.event if trip else None for trip in trips]),
+            "limit_cause": [one.limit for one in told], "held": [one.held for one in told], "trip": trips,
+            "why": [one.line for one in told]}
 
 
 def by_kind(records: Sequence[Json]) -> dict[str, list[Any]]:
@@ -135,11 +141,17 @@ def before(table: pd.DataFrame, name: str) -> Any:
     return table[name].shift().where(table["stretch"] == table["stretch"].shift())
 
 
+def behind(table: pd.DataFrame, name: str) -> Any:
+    """A column of whole numbers one record later; missing at the end of a stretch."""
+    return table[name].astype("Int64").shift(-1).where(table["stretch"] == table["stretch"].shift(-1))
+
+
 def interventions(table: pd.DataFrame) -> pd.DataFrame:
     """One row for each run of records of a stretch that command a brake, in their order.
 
     `first_row` and `last_row` are rows of the table. `steps` are the commands in their order, as "service emergency".
-    `goes_on` tells that the last record told of its stretch still commands it. `causes` is a list of `causes.Held`.
+    `goes_on` tells that the last record told of its stretch still commands it. `causes` is a list of `causes.Held`, `trips`
+    one of `causes.Trip`.
     """
     brake, stretch = table["brake"].to_numpy(object), table["stretch"].to_numpy()
     commanded = brake != "none"
@@ -155,7 +167,7 @@ def interventions(table: pd.DataFrame) -> pd.DataFrame:
 
 INTERVENTION = ("first_row", "last_row", "life", "first_block", "first_event", "last_event", "brake", "worst", "steps",
                 "kind", "time_ms", "until_ms", "place_cm", "until_cm", "mode_before", "mode", "speed_kmh", "limit_kmh",
-                "most_over_kmh", "most_over_row", "goes_on", "causes", "causes_not_known")
+                "most_over_kmh", "most_over_row", "goes_on", "causes", "trips", "causes_not_known")
 
 
 def intervention(table: pd.DataFrame, brake: Any, first: int, last: int) -> Json:
@@ -178,7 +190,16 @@ def intervention(table: pd.DataFrame, brake: Any, first: int, last: int) -> Json
         "most_over_kmh": None if farthest is None else over[farthest],
         "most_over_row": None if farthest is None else first + farthest,
         "goes_on": last + 1 == len(table) or stretch.iat[last + 1] != stretch.iat[last],
-        "causes": causes.of_run(table["event"].iloc[first:last + 1], table["held"].iloc[first:last + 1]), "causes_not_known": value("causes_not_known", first)}
+        "causes": causes.of_run(table["event"].iloc[first:last + 1], table["held"].iloc[first:last + 1]),
+        "trips": list(dict.fromkeys(trip for trip in table["trip"].iloc[first:last + 1] if trip is not None)),
+        "causes_not_known": value("causes_not_known", first)}
+
+
+def trips(table: pd.DataFrame) -> pd.DataFrame:
+    """The records that entered Trip."""
+    mode = before(table, "mode")
+    entered: pd.DataFrame = table[(table["mode"] == "TR") & mode.notna() & (mode != "TR")]
+    return entered
 
 
 def is_notable(table: pd.DataFrame) -> Any:
@@ -192,7 +213,7 @@ def is_notable(table: pd.DataFrame) -> Any:
 
 
 def csv_text(table: pd.DataFrame) -> str:
-    """The table as comma-separated values, without the columns `decoded`, `held` and `why`; nothing stands where nothing is
-    known."""
-    text: str = table.drop(columns=["decoded", "held", "why"]).to_csv(index=False, lineterminator="\n")
+    """The table as comma-separated values, without the columns `decoded`, `held`, `trip` and `why`; nothing stands where
+    nothing is known."""
+    text: str = table.drop(columns=["decoded", "held", "trip", "why"]).to_csv(index=False, lineterminator="\n")
     return text

@@ -1,16 +1,20 @@
 """Pages, charts, the database, parts of a journal, and texts."""
+import csv
+import io
 import re
 import sqlite3
 import tempfile
 import unittest
 from pathlib import Path
 
+import pandas as pd
+
 import gaknifur.tables as tables
-from gaknifur import chart, database, report, words
+from gaknifur import brief, chart, database, report, words
 from gaknifur.causes import CAUSES
 from gaknifur.extent import Extent, bound
 from gaknifur.program import Failed
-from gaknifur.reading import Journal
+from gaknifur.reading import Journal, Json
 
 from .samples import AUTHORITY, action, journal, line, reading, record
 
@@ -21,7 +25,7 @@ RUN = (record(0, "powerup", mode="SB", brake="emergency"), record(1, "telegram",
 def told() -> Journal:
     """The journal of RUN, with the causes of its brakes."""
     found = journal(*RUN)
-    found.replay = [{"replay": "agrees", "life": 1, "first_event": 0, "last_event": 4}]
+    found.replay = [{"replay": "agrees", "life": 1, "first_event": 0, "last_event": 4}, {"end": "nothing_differs"}]
     found.why = [line(0, "emergency", not_revalidated=0), line(1, "none"), line(3, "emergency", far_too_fast=3), line(4, "none")]
     return found
 
@@ -60,8 +64,117 @@ class Pages(unittest.TestCase):
 
     def test_causes_are_told(self) -> None:
         page = report.page(told())
-        self.assertNotIn("not known", page)
+        self.assertNotIn("ause not known", page)
         self.assertIn(f"<li>{CAUSES['far_too_fast'][0]}: since <a href=\"#r3\">event 3</a>; ends when the train stands</li>", page)
+
+
+def tripped() -> Journal:
+    """Two lives. In the first one the train is tripped, and stays so; the power-up of the second one finds the trip outstanding."""
+    found = journal(record(0, "powerup", mode="SB", brake="emergency"), reading(1, 20_000, mode="SR"),
+                    reading(2, 20_000, mode="TR", brake="emergency"), reading(3, 0, mode="TR", brake="emergency"),
+                    record(4, "powerup", mode="SB", brake="emergency", life=2), record(5, "clock", mode="SB", brake="emergency", life=2))
+    found.replay = [{"replay": "agrees", "life": 1, "first_event": 0, "last_event": 3},
+                    {"replay": "agrees", "life": 2, "first_event": 4, "last_event": 5}, {"end": "nothing_differs"}]
+    trip = {"trip_cause": "staff_distance", "trip_cause_event": 2, "trip_cause_section": "4.4"}
+    owed = {"trip_cause": None, "trip_cause_event": None, "trip_cause_section": None}
+    found.why = [one | {"limit_cause": "no_speed"} for one in (
+        line(0, "emergency", not_revalidated=0) | owed, line(1, "none") | owed, line(2, "emergency", in_trip=2, owes_trip=2) | trip,
+        line(4, "emergency", not_revalidated=4, owes_trip=4) | owed)]
+    return found
+
+
+STAFF = "the path in Staff Responsible was above D_NVSTFF (event 2, 4.4)"
+
+
+class Trips(unittest.TestCase):
+    """Why a train was tripped."""
+
+    def test_in_the_table(self) -> None:
+        table = tables.frame(tripped())
+        self.assertEqual(list(table["trip_cause"]), [None, None, "staff_distance", "staff_distance", None, None])
+        self.assertEqual([None if event is pd.NA else event for event in table["trip_cause_event"]], [None, None, 2, 2, None, None])
+        rows = list(csv.DictReader(io.StringIO(tables.csv_text(table))))
+        self.assertEqual([(row["trip_cause"], row["trip_cause_event"]) for row in rows[1:4]], [("", ""), *[("staff_distance", "2")] * 2])
+
+    def test_on_the_page(self) -> None:
+        page = report.page(tripped())
+        self.assertIn(f"<li>the train was tripped: {STAFF}</li>", page)
+        self.assertIn(f"life 1, <a href=\"#r2\">event 2</a>, at 2.00 m, 20.0 km/h: {STAFF}", page)
+        self.assertIn("<li>the train was tripped: it was tripped before the power-up, and why isn&#39;t known</li>", page)
+
+    def test_where_it_is_not_known(self) -> None:
+        told = tripped()
+        told.replay, told.why = [], []
+        self.assertIn("km/h: cause not known: no replay was made", report.page(told))
+
+
+class Briefs(unittest.TestCase):
+    """The box at the top."""
+
+    def brief(self, told: Journal) -> brief.Brief:
+        table = tables.frame(told)
+        return brief.brief(told, table, tables.interventions(table))
+
+    def test_of_lives(self) -> None:
+        found = self.brief(tripped())
+        assert found.last and found.intervention
+        self.assertEqual((found.last["life"], found.first_event, found.last["event"], found.last["brake"]), (2, 4, 5, "emergency"))
+        self.assertEqual((found.intervention["first_event"], found.intervention["last_event"]), (2, 3))
+        self.assertEqual([(trip["life"], trip["event"], trip["why"]) for trip in found.trips], [(1, 2, STAFF)])
+        self.assertEqual(found.faults, [])
+
+    def test_of_nothing(self) -> None:
+        found = self.brief(journal())
+        self.assertEqual((found.last, found.intervention, found.trips, found.newest), (None, None, [], None))
+
+    def test_only_power_ups_are_folded(self) -> None:
+        page = report.page(tripped())
+        _, _, behind = page.partition("<details><summary>1 power-up, each")
+        self.assertIn('<a href="#r0">0</a>–0', behind.partition("</details>")[0])
+        self.assertNotIn('<a href="#r4">', behind.partition("</details>")[0])
+        self.assertIn("1 power-up", page.partition("<h2>What was read")[0])
+
+    def test_lives_newest_first(self) -> None:
+        lives = [re.findall(r'<tr><td class="n">(\d)</td>', report.page(tripped(), is_newest_first=newest)) for newest in (False, True)]
+        self.assertEqual(lives, [["1", "2"], ["2", "1"]])
+        page = report.page(tripped(), is_newest_first=True)
+        self.assertEqual(re.findall(r'<tr id="r(\d)"', page), ["4", "5", "0", "1", "2", "3"])
+
+    def test_what_is_perhaps_not_released(self) -> None:
+        block = {"slot": 0, "state": "block", "block": 1, "life": 1, "first_event": 0, "last_event": 4, "gate_is_own": True, "in_journal": True}
+        behind = {"slot": 1, "state": "unwritten", "block": 2, "life": 1, "first_event": 5, "last_event": 6}
+        for slots, wanted in (([block], (False, None)), ([block, behind], (True, 5)), ([block, behind | {"life": 2}], (False, 5))):
+            told = journal(*RUN, slots=slots)
+            told.records = [one | {"block": 1} for one in told.records]
+            found = self.brief(told).newest
+            assert found
+            self.assertEqual((found.is_released, found.unwritten and found.unwritten["first_event"]), wanted)
+            page = report.page(told)
+            self.assertEqual("<b>perhaps not</b>: the outputs of block 1, the newest, of events 0 to 4" in page, not wanted[0])
+            self.assertEqual("<b>None</b> of the outputs of block 2, events 5 to 6" in page, wanted[1] is not None)
+
+    def test_a_power_up_alone_releases_nothing(self) -> None:
+        block = {"slot": 0, "state": "block", "block": 1, "life": 1, "first_event": 0, "last_event": 0, "gate_is_own": True, "in_journal": True}
+        self.assertIn("holds a power-up alone, whose output is never released", report.page(journal(record(0, "powerup"), slots=[block])))
+
+    def test_faults(self) -> None:
+        differs = {"replay": "record_differs", "life": 1, "block": 1, "event": 3, "field": "brake", "journal": {}, "kernel": {}}
+        left = {"replay": "not_replayed", "life": 1, "first_event": 4, "last_event": 4, "reason": "behind_difference"}
+        head = {"replay": "head_differs", "life": 1, "block": 2, "field": "level", "journal": {}, "kernel": {}}
+        old = {"replay": "not_replayed", "life": 1, "first_event": 0, "last_event": 4, "reason": "before_oldest_block"}
+        ends = {"end": "nothing_differs"}, {"end": "differs_or_lost"}
+        lost = "something is lost, damaged or contradicts"
+        rows: list[tuple[list[Json], Json, list[str]]] = [
+                ([ends[0]], {}, []), ([old, ends[0]], {}, []), ([ends[0]], {"whole": False}, [lost]),
+                ([differs, left, ends[1]], {}, ["the replay differs: life 1, event 3, in brake"]),
+                ([differs, head, ends[1]], {"whole": False}, [lost, "the replay differs: life 1, event 3, in brake, and 1 more"]),
+                ([head, ends[1]], {}, ["the replay differs: life 1, the head of block 2, in level"]),
+                ([left | {"reason": "within_block"}, ends[1]], {}, ["events 4 to 4 can't be replayed: no head tells what was kept before its power-up"]),
+                ([ends[1]], {}, ["the replay says that something differs or is lost"])]
+        for replay, told, wanted in rows:
+            one = journal(*RUN, **told)
+            one.replay = replay
+            self.assertEqual(brief.faults(one), wanted)
 
 
 class Charts(unittest.TestCase):
@@ -143,6 +256,14 @@ class Databases(unittest.TestCase):
         found = self.connection.execute("SELECT cause, since_event, told_until_event, ends FROM intervention_cause").fetchall()
         self.assertEqual(found, [("not_revalidated", 0, 0, CAUSES["not_revalidated"][1]), ("far_too_fast", 3, 3, "ends when the train stands")])
         self.assertEqual(self.count("why"), 4)
+
+    def test_trips(self) -> None:
+        told = tripped()
+        database.add(self.connection, told, tables.frame(told))
+        found = self.connection.execute("SELECT life, event, trip_cause, says, section FROM trip").fetchall()
+        self.assertEqual(found, [(1, 2, "staff_distance", "the path in Staff Responsible was above D_NVSTFF", "4.4")])
+        found = self.connection.execute("SELECT event, trip_cause_event, trip_cause_section FROM why WHERE trip_cause IS NOT NULL").fetchall()
+        self.assertEqual(found, [(2, 2, "4.4")])
 
     def test_another_database_is_refused(self) -> None:
         other = self.path.with_name("other.db")

@@ -4,13 +4,16 @@
     tests/lab_package/report_rows.py ETCS ETCS_LAB
 """
 import contextlib
+import csv
 import io
 import json
 import os
 import resource
+import sqlite3
 import subprocess
 import sys
 import tempfile
+import time
 from pathlib import Path
 
 HERE = Path(__file__).resolve().parent
@@ -21,7 +24,7 @@ import gaknifur.__main__  # noqa: E402
 from images import blocks, slots_of  # noqa: E402
 from told_rows import page_faults, page_of  # noqa: E402
 
-LONG, MOST_SECONDS, MOST_BYTES = 100_000, 20, 3_000_000
+LONG, MOST_SECONDS, MOST_BYTES, MOST_VIEW_SECONDS = 100_000, 20, 3_000_000, 1
 RECORDS = 8
 EXAMPLES = {"full_supervision": 2, "linking_fault": 2, "on_sight": 2, "power_cut": 4, "staff_responsible": 1, "trip": 2}
 """Examples, and charts on their pages at the least."""
@@ -57,10 +60,10 @@ class Rows:
             print(f"{name}:\n  told   {got}\n  wanted {want}")
 
     def page(self, name, *words, charts, text=(), said=""):
-        """A report whose page has so many charts at the least, and these texts."""
+        """A report whose page has so many charts at the least, and these texts; its status is 4 where something is said."""
         out = self.room / "out.html"
         out.unlink(missing_ok=True)
-        self.lab("report", name, out.name, *words, said=said)
+        self.lab("report", name, out.name, *words, said=said, status=4 if said else 0)
         told = out.read_text() if out.exists() else ""
         page = page_of(told)
         self.wants(f"{name} {words}, faults of the page", page_faults(told), [])
@@ -82,7 +85,11 @@ def examples(rows):
                 rows.run("run", TOP / "examples" / name / scenario, name)
         first = rows.page(name, charts=charts, text=["each event agrees with the kernel", "IC 704"])
         rows.wants(f"{name}, the same page twice", rows.page(name, charts=charts), first)
-    rows.page("trip", charts=2, text=["the mode is Trip: since event 10", "not stood since: since event 8, no longer behind event", "15.0 km/h", "event 8", "the driver starts (not accepted)", "300.00 – 327.00", "end announced by event 1"])
+    rows.page("trip", charts=2, text=["the mode is Trip: since event 10", "not stood since: since event 8, no longer behind event", "15.0 km/h", "event 8", "the driver starts (not accepted)", "300.00 – 327.00", "end announced by event 1",
+              "the train was tripped: the minimum safe front was past the end of authority (event 10, 3.8)",
+              "life 1, event 10, at 325.00 m", "perhaps not: the outputs of block", "1 power-up, each with the emergency brake"])
+    row = next(row for row in csv.DictReader(io.StringIO(rows.lab("table", "trip"))) if row["event"] == "11")
+    rows.wants("the cause of a trip in the table", (row["mode"], row["trip_cause"], row["trip_cause_event"]), ("TR", "end_passed", "10"))
     rows.page("trip", "--from", "8", "--to", "11", charts=1, text=["from 8 to 11"])
     rows.page("trip", "--from", "200m", "--to", "315m", charts=1, text=["from 200m to 315m"])
     rows.page("on_sight", "--from", "20s", "--to", "40s", "--life", "1", charts=1, text=["of life 1"])
@@ -103,7 +110,9 @@ def damaged(rows):
     rows.run("format", "empty", 4)
     rows.page("empty", charts=0, text=["No block of a journal can be read", "There is nothing to draw"])
     rows.lab("table", "empty")
-    rows.lab("database", "empty", "byte", "short", "empty.db", said=short)
+    rows.lab("database", "empty", "byte", "short", "empty.db", said=short, status=4)
+    rows.lab("database", "short", "empty", "again.db", status=4, said=short)
+    differs(rows)
     (rows.room / "none").write_bytes(b"x" * 5000)
     rows.lab("report", "none", "none.html", status=1, said="lab: none: is not a formatted image")
     rows.wants("no page of what is no image", (rows.room / "none.html").exists(), False)
@@ -118,6 +127,20 @@ def damaged(rows):
     for word in ("table", "database", "report"):
         rows.wants(f"lab {word} --help", f"usage: lab {word}" in rows.lab(word, "--help"), True)
     rows.wants("./lab table", rows.script("table", rows.room / "trip"), rows.lab("table", "trip"))
+
+
+def differs(rows):
+    """A limit that somebody raised: nothing is lost, and the replay differs. All is made, with status 4."""
+    image = bytearray((rows.room / "trip").read_bytes())
+    at = 512 * (1 + 6 * 2) + 1024 + 42  # the limit of the second block's first record
+    wide = rows.lab("table", "trip")
+    image[at] += 1
+    (rows.room / "raised").write_bytes(image)
+    event = next(row["event"] for row in csv.DictReader(io.StringIO(wide)) if row["block"] == "2")
+    said = f"lab: raised: the replay differs: life 1, event {event}, in limit_m_per_h"
+    rows.page("raised", charts=EXAMPLES["trip"], said=said, text=["In brief", f"event {event}, in limit_m_per_h", "Cause not known"])
+    rows.wants("a table of what differs", len(rows.lab("table", "raised", status=4, said=said).splitlines()), len(wide.splitlines()))
+    rows.lab("database", "raised", "trip", "raised.db", status=4, said=said)
 
 
 def processor_seconds():
@@ -167,13 +190,21 @@ def braked(rows):
 def long(rows):
     (rows.room / "long").write_bytes(long_image(LONG))
     begun = processor_seconds()
-    told = rows.page("long", charts=14, text=[f"{LONG:,} events", "The 12 interventions farthest above the limit"])
+    said = "lab: long: the replay differs: life 1, event 0, in mode"
+    told = rows.page("long", charts=14, said=said, text=[f"{LONG:,} events", "The 12 interventions farthest above the limit"])
     took = processor_seconds() - begun
     rows.wants(f"a report of {LONG} events takes less than {MOST_SECONDS} s of processor time and {MOST_BYTES} bytes",
                (took < MOST_SECONDS, len(told.encode()) < MOST_BYTES), (True, True))
     print(f"lab: a report of {LONG} events took {took:.1f} s of processor time, and has {len(told.encode()):,} bytes")
-    rows.page("long", "--from", "6950", "--to", "7050", charts=2, text=["101"])
-    rows.lab("database", "long", "long.db")
+    rows.page("long", "--from", "6950", "--to", "7050", charts=2, said=said, text=["101"])
+    rows.lab("database", "long", "long.db", said=said, status=4)
+    with contextlib.closing(sqlite3.connect("long.db")) as connection:
+        for view in ("mode_change", "driver_action", "brake_intervention", "intervention_cause", "above_limit", "trip"):
+            begun = time.process_time()
+            found = len(connection.execute(f"SELECT * FROM {view}").fetchall())
+            took = time.process_time() - begun
+            rows.wants(f"{view} of {LONG} events takes less than {MOST_VIEW_SECONDS} s of processor time", took < MOST_VIEW_SECONDS, True)
+            rows.wants(f"{view} has rows", found > 0, view in ("brake_intervention", "above_limit"))
 
 
 def main(words):

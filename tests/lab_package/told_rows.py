@@ -26,6 +26,7 @@ from pathlib import Path
 TOP = Path(__file__).resolve().parents[2]
 sys.path[:0] = [str(TOP / "python"), str(TOP / "tests/events"), str(TOP / "tests/plain"), str(TOP / "tests/lab")]
 
+import pandas as pd  # noqa: E402
 from gaknifur import causes, database, program, reading, report, tables  # noqa: E402
 from gaknifur.program import Run  # noqa: E402
 from replay import replayed  # noqa: E402
@@ -38,13 +39,22 @@ from told import SIGNS, Refused, told  # noqa: E402
 IMAGES, SEED = 200, 44
 LIVES, EACH = 25, 7
 """Images of each kind of lives; of the events of which nothing new is told each seventh is compared."""
-LEAST_KNOWN, LEAST_UNKNOWN = 150, 20
+LEAST_KNOWN, LEAST_UNKNOWN, LEAST_TRIPS = 150, 20, 3
 LEAST_RECORDS, LEAST_INTERVENTIONS, LEAST_TELEGRAMS = 4_000, 500, 300
 PLAIN = ("block event life kind time_ms mode level brake place_cm uncertainty_cm min_safe_front_cm max_safe_front_cm limit_m_per_h movement_cm "
          "now_ms word action identity running_number chosen_level confirmed acknowledged length_cm maximum_m_per_h category "
          "deceleration_cm_per_s2 reaction_ms telegram").split()
 HEADER = "NID_C NID_BG N_PIG N_TOTAL M_DUP M_MCOUNT Q_LINK".split()
 GREATEST = 2**62
+
+BESIDE = """
+SELECT image, block, event FROM (
+    SELECT *, LAG(mode) OVER w AS mode_was, LAG(level) OVER w AS level_was, LAG(brake) OVER w AS brake_was,
+        LAG(speed_m_per_h) OVER w AS speed_was, LEAD(event) OVER w AS event_is, LEAD(time_ms) OVER w AS ms_is, LEAD(place_cm) OVER w AS cm_is
+    FROM event WINDOW w AS (PARTITION BY image, stretch ORDER BY block, event))
+WHERE (mode_before, level_before, brake_before, speed_before_m_per_h, next_event, next_ms, next_cm)
+    IS NOT (mode_was, level_was, brake_was, speed_was, event_is, ms_is, cm_is)"""
+"""Records beside which something else stands than what the record before and the next one of their stretch tell."""
 
 
 def plain_records(image, all_blocks):
@@ -203,6 +213,7 @@ def images_agree(room, images, seed):
             added = compare_database(count, name, connection, journal, table, records)
             if not all_blocks:
                 compare_views(count, name, connection, added, records)
+        count.compare("what stands beside a record", connection.execute(BESIDE).fetchall(), [])
         faults = connection.execute("PRAGMA foreign_key_check").fetchall() + [
             row for row in connection.execute("PRAGMA integrity_check") if row != ("ok",)]
         count.compare("the database", faults, [])
@@ -249,7 +260,7 @@ def causes_agree(room):
     """Compares the causes of all images of lives."""
     count, path = Count(), Path(room) / "image"
     known = unknown = 0
-    met = set()
+    met, tripped = set(), set()
     connection = database.open_database(Path(room) / "causes.db")
     for name, image in lives():
         path.write_bytes(image)
@@ -277,16 +288,35 @@ def causes_agree(room):
             for first, held, reason in zip(runs["first_event"], runs["causes"], runs["causes_not_known"])], wanted)
         if database.add(connection, journal, table):
             in_database(count, name, connection, journal, got, wanted)
-        words_agree(count, name, path)
+        tripped |= words_agree(count, name, path)
+        trips_agree(count, name, path, table, reasons)
         known += sum(reason is None for _, _, reason in wanted)
         unknown += sum(reason is not None for _, _, reason in wanted)
         met |= {cause for _, held, _ in wanted for cause, _ in held}
     connection.close()
     print(f"lab: causes of {known} interventions, and {unknown} of which they aren't known: {count.compared} comparisons, {count.differ} differ")
     few = known < LEAST_KNOWN or unknown < LEAST_UNKNOWN or len(met) < len(causes.CAUSES) - 1  # no image leads to System Failure
+    few = few or len(tripped) < LEAST_TRIPS
     if few:
-        print(f"too little was tried; causes that came: {sorted(met)}")
+        print(f"too little was tried; causes that came: {sorted(met)}, {sorted(tripped)}")
     return 1 if count.differ or few else 0
+
+
+def plain_trips(path):
+    """Of each event that the plain program tells the trip that is owed: its cause, and the event by which it was entered."""
+    said = io.StringIO()
+    with contextlib.redirect_stdout(said):
+        plain_why(["--json", str(path)])
+    lines = map(json.loads, said.getvalue().splitlines())
+    return {line["event"]: (line["trip_cause"], line["trip_cause_event"]) for line in lines}
+
+
+def trips_agree(count, name, path, table, reasons):
+    """The trips of the table are those of the plain program."""
+    told = {event: (cause, None if at is pd.NA else int(at))
+            for event, cause, at in zip(table["event"], table["trip_cause"], table["trip_cause_event"])}
+    wanted = {event: trip for event, trip in plain_trips(path).items() if event not in reasons}
+    count.compare(f"{name}, trips", {event: told.get(event) for event in wanted}, wanted)
 
 
 def in_database(count, name, connection, journal, got, wanted):
@@ -306,8 +336,13 @@ def in_database(count, name, connection, journal, got, wanted):
 def words_agree(count, name, path):
     """What the program says of causes to people is what the package says."""
     line = re.compile(r"; ([^()]*) \(since event \d+, ([^()]*)\)")
-    said = {pair for text in Run(["why"], path).lines() for pair in line.findall(text)}
+    trip = re.compile(r"; the train was tripped: ([^()]*) \(event \d+, ([^()]*)\)")
+    told = list(Run(["why"], path).lines())
+    said = {pair for text in told for pair in line.findall(text)}
     count.compare(f"{name}, words", said <= set(causes.CAUSES.values()), True)
+    trips = {pair for text in told for pair in trip.findall(text)}
+    count.compare(f"{name}, words of trips", trips <= set(causes.TRIP_CAUSES.values()), True)
+    return trips
 
 
 class Page(html.parser.HTMLParser):

@@ -1,9 +1,11 @@
 """Pictures of a stretch of a life, as SVG text for a page: speed and limit over distance, time or events.
 
 Behind speed and limit stand the brake commands, below them a strip of brakes and one of modes, with letters: colour
-alone carries nothing. The colours are those of Okabe and Ito, which colour-blind people tell apart. Marks of single
+alone carries nothing. The colours are those of Okabe and Ito, which colour-blind people tell apart; on a dark screen
+`templates/report.css` has others in their place, so a colour that is added here is added there. Marks of single
 events are anchors `pN` that link to the row `rN` of the page. The same table gives the same bytes each time.
 """
+import html
 import io
 import re
 from collections.abc import Iterator, Sequence
@@ -18,7 +20,7 @@ from .drawing import Figure, FigureCanvasSVG, plain
 STYLE = {"svg.fonttype": "none", "svg.hashsalt": "gaknifur", "font.family": "sans-serif", "font.size": 9,
          "axes.spines.top": False, "axes.spines.right": False, "path.simplify": True, "path.simplify_threshold": 0.3,
          "hatch.linewidth": 0.6, "text.parse_math": False, "axes.titley": 1.0}
-INK, SPEED, ABOVE, END = "#222222", "#0072B2", "#D55E00", "#882255"
+INK, SPEED, ABOVE, END, QUIET = "#222222", "#0072B2", "#D55E00", "#882255", "#5b6875"
 BRAKES = {"none": "#ffffff", "service": "#E69F00", "emergency": "#D55E00"}
 HATCHES = {"service": "///", "emergency": "xxx"}
 LETTERS = {"service": "S", "emergency": "E"}
@@ -29,6 +31,11 @@ SEVERITY = {"none": 0, "service": 1, "emergency": 2}
 AXES = {"distance": ("place from the power-up of the life, m", "place_cm", 100.0),
         "time": ("moment of the clock in the life, s", "time_ms", 1000.0), "event": ("event", "event", 1.0)}
 MOST_DRAWN, MOST_MARKS, MOST_LABELS, COLUMNS = 6000, 120, 14, 400
+MOST_SIGNS, BARS = 60, 90
+"""So many telegrams have each a sign of its own; of more the picture tells how many there are, in so many parts of the way."""
+
+MARK = re.compile(r'(<g id="(?:p|\w+-to)(\d+)">\s*<g[^>]*>\s*<use [^>]*/>\s*</g>\s*</g>)')
+"""A circle, by its id. The lines of this library have no links of their own."""
 
 
 @dataclass
@@ -160,10 +167,20 @@ def draw_bands(main: Any, x: Any, speed: Any, limit: Any) -> None:
     main.plot(middle, np.maximum(over, 0), color=ABOVE, lw=1.0, label="most above the limit")
 
 
+def draw_many(main: Any, places: list[float], left: float, right: float, top: float) -> None:
+    """Telegrams of which each one's sign would cover the next ones: how many there are in each part of the way."""
+    count, edges = np.histogram(places, BARS, (left, right))
+    part = float(edges[1] - edges[0])
+    main.bar(edges[:-1] + part / 2, count / count.max() * top * 0.06, part * 0.6, color=QUIET, lw=0,
+             label=f"telegrams read,\nup to {count.max()} in {part:,.3g} m")
+
+
 def draw_track(main: Any, picture: Picture, left: float, right: float, top: float) -> float:
     """Balise groups and announced ends; answers how far to the right the picture reaches."""
     groups = [(place / 100, text) for place, text in picture.groups if left <= place / 100 <= right]
-    if groups:
+    if len(groups) > MOST_SIGNS:
+        draw_many(main, [place for place, _ in groups], left, right, top)
+    elif groups:
         main.plot([place for place, _ in groups], [0] * len(groups), "^", color=INK, ms=5, clip_on=False, ls="none",
                   label="telegram read")
     for place, text in groups if len(groups) <= MOST_LABELS else ():
@@ -191,9 +208,7 @@ def draw_marks(main: Any, picture: Picture, table: pd.DataFrame, x: Any, speed: 
             main.plot(fronts, [height] * 2, color=SPEED, lw=4, alpha=0.22, solid_capstyle="butt", zorder=4, label=label)
             label = None
         dot, = main.plot([x[place]], [height], "o", mfc="white", mec=SPEED, mew=1, ms=5, zorder=5, clip_on=False)
-        if picture.has_anchors:
-            dot.set_gid(f"p{row}")
-        dot.set_url(f"#r{row}")
+        dot.set_gid(f"p{row}" if picture.has_anchors else f"to{row}")
 
 
 def finish(main: Any, last: Any, picture: Picture, table: pd.DataFrame, reach: tuple[float, float]) -> None:
@@ -211,15 +226,29 @@ def finish(main: Any, last: Any, picture: Picture, table: pd.DataFrame, reach: t
         for event, place in list(zip(table["event"], numbers(table, "place_cm")))[::max(len(table) // 8, 1)]:
             if not np.isnan(place):
                 main.text(event, 1.02, f"{place / 100:,.0f} m", transform=main.get_xaxis_transform(), fontsize=7,
-                          color="#5b6875", ha="center")
+                          color=QUIET, ha="center")
 
 
-def svg_of(figure: Figure, prefix: str) -> str:
-    """The text of a figure, its ids set apart but for the anchors of events."""
+def described(table: pd.DataFrame) -> str:
+    """What a picture shows, for who doesn't see it. The table of events tells the same as its circles do."""
+    brake, speed = table["brake"], table["speed_kmh"].dropna()
+    fast = f"; speed at most {float(speed.max()):.1f} km/h" if len(speed) else ""
+    return (f"Events {table['event'].iat[0]} to {table['event'].iat[-1]}; modes {', '.join(dict.fromkeys(table['mode']))}{fast}; "
+            f"{int((brake == 'service').sum())} of {len(table)} events command the service brake, "
+            f"{int((brake == 'emergency').sum())} the emergency brake.")
+
+
+def svg_of(figure: Figure, prefix: str, title: str, description: str) -> str:
+    """The text of a figure, its ids set apart but for the anchors of events. It is one picture with a title and a description:
+    its links, which the table of events has too, are no stops of the keyboard."""
     text = io.StringIO()
     figure.savefig(text, format="svg", metadata={"Date": None, "Creator": None})
     svg = text.getvalue()
-    return re.sub(r'(\bid="|url\(#|xlink:href="#)(?![pr]\d+")', rf"\g<1>{prefix}-", svg[svg.index("<svg"):])
+    svg = re.sub(r'(\bid="|url\(#|xlink:href="#)(?![pr]\d+")', rf"\g<1>{prefix}-", svg[svg.index("<svg"):])
+    svg = MARK.sub(r'<a tabindex="-1" xlink:href="#r\2">\1</a>', svg)
+    head, _, body = svg.partition(">")
+    return (f'{head} role="img" aria-labelledby="{prefix}-title {prefix}-desc"><title id="{prefix}-title">{html.escape(title)}</title>'
+            f'<desc id="{prefix}-desc">{html.escape(description)}</desc>{body}')
 
 
 def draw(table: pd.DataFrame, picture: Picture) -> str:
@@ -245,4 +274,4 @@ def draw(table: pd.DataFrame, picture: Picture) -> str:
         if not picture.is_vast:
             draw_marks(main, picture, table, x, speed)
         finish(main, modes, picture, table, (left, right))
-        return svg_of(figure, picture.prefix)
+        return svg_of(figure, picture.prefix, picture.title, described(table))

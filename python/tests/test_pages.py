@@ -177,8 +177,54 @@ class Briefs(unittest.TestCase):
             self.assertEqual(brief.faults(one), wanted)
 
 
+class Forms(unittest.TestCase):
+    """The page on screens, on paper, and for who doesn't see it."""
+
+    CSS = (Path(report.__file__).parent / "templates/report.css").read_text(encoding="utf-8")
+
+    def test_charts_have_role_and_title(self) -> None:
+        found = re.findall(r'<svg [^>]*role="img" aria-labelledby="(\S+) (\S+)"><title id="(\S+)">([^<]+)</title><desc id="(\S+)">([^<]+)</desc>',
+                           report.page(told()))
+        self.assertEqual(len(found), report.page(told()).count("<svg "))
+        self.assertEqual([(one[0], one[1]) for one in found], [(one[2], one[4]) for one in found])
+        self.assertEqual(found[0][3], "Life 1: speed over distance")
+        self.assertEqual(found[0][5], "Events 0 to 4; modes SB, FS; speed at most 55.0 km/h; 0 of 5 events command the service brake, "
+                                      "2 the emergency brake.")
+
+    def test_no_link_of_a_chart_is_a_stop_of_the_keyboard(self) -> None:
+        pictures = re.findall("<svg .*?</svg>", report.page(told()), re.DOTALL)
+        links = [link for picture in pictures for link in re.findall("<a [^>]*>", picture)]
+        self.assertTrue(links)
+        self.assertEqual([link for link in links if 'tabindex="-1"' not in link], [])
+
+    def test_each_colour_of_a_chart_has_one_for_dark_screens(self) -> None:
+        dark = self.CSS.partition("@media screen and (prefers-color-scheme: dark)")[2].partition("@media print")[0]
+        drawn = {chart.INK, chart.SPEED, chart.ABOVE, chart.END, chart.QUIET, *chart.BRAKES.values(), *chart.MODES.values()}
+        self.assertEqual([colour for colour in drawn if f'[style*="fill: {colour.lower()}"]' not in dark], [])
+        self.assertEqual([colour for colour in (chart.INK, chart.SPEED, chart.ABOVE, chart.END)
+                          if f'[style*="stroke: {colour.lower()}"]' not in dark], [])
+
+    def test_on_paper(self) -> None:
+        paper = self.CSS.partition("@media print")[2]
+        self.assertIn("details::details-content { display: block; content-visibility: visible;", paper)
+        for one in ("h2", "h2 + .sub", "summary", "thead"):
+            self.assertRegex(paper, rf"[ ,]{re.escape(one)}[, ][^{{}}]*{{ break-after: avoid; }}")
+        page = report.page(tripped())
+        self.assertEqual(page.count("<table>"), page.count("<table><thead>"))
+        self.assertGreater(page.count("<table>"), 3)
+
+
 class Charts(unittest.TestCase):
     """What charts keep of long runs."""
+
+    def test_many_telegrams_are_no_black_bar(self) -> None:
+        for count, is_many in ((chart.MOST_SIGNS, False), (1_000, True)):
+            records = [record(n, "telegram", telegram="90", decoded=AUTHORITY) for n in range(count)]
+            table = tables.frame(journal(*records))
+            svg = chart.draw(table, chart.Picture("distance", "a", "x", groups=report.groups_of(table)))
+            self.assertEqual(("telegrams read," in svg, ">telegram read<" in svg), (is_many, not is_many))
+            # a sign has the ink's colour, and a bar covers three fifths of its part of the way
+            self.assertEqual(len(re.findall(f"fill: {chart.QUIET}", svg)), chart.BARS + 1 if is_many else 0)
 
     def test_each_brake_is_kept(self) -> None:
         records = [reading(n, 1_000, brake="emergency" if n == 4_321 else "service" if n % 7 == 0 else "none")

@@ -178,9 +178,14 @@ def last_commanded(records: list[Json]) -> list[int]:
 
 
 def tell_why(journal: Journal, progress: Progress) -> None:
-    """Takes what `etcs_lab why` tells of changes."""
+    """Takes what `etcs_lab why` tells of changes. What it leaves out the replay tells too."""
     progress("causes", 0, 0)
-    run = objects(["why", "--json"], journal.path, journal.why.append)
+
+    def step(told: Json) -> None:
+        if "event" in told:
+            journal.why.append(told)
+
+    run = objects(["why", "--json"], journal.path, step)
     if run.status == REFUSED and not journal.why:
         journal.why_refusal = run.last_said()
     elif run.status not in (WHOLE, NOT_WHOLE):

@@ -20,13 +20,14 @@ from limit_tracks import BY_HAND as LIMITS_BY_HAND, FAST, LEVEL, TRAIN, authorit
 from onboard import Unit  # noqa: E402
 from random_lists import SUPERVISION, TRACK, Numbers, event  # noqa: E402
 from replay_rows import blocks_of, bytes_of, damaged, examples, formats, formatted, image_of, on, parts, random_lives  # noqa: E402
-from why import TRIPS, WORDS, told_of, walked  # noqa: E402
+from why import TRIPS, WORDS, told_of, walk_of  # noqa: E402
 
 LEAST = 400  # so many comparisons at least
 LEAST_LINES = 2_000  # so many lines with what decides a limit
 TRACKS, LEAST_RAISED = 560, 500  # so many tracks, and limits that are greater without what decided them
 # 2^40 cm would take more events than an image holds; the two modes that supervise by train data are entered with valid ones, and keep them.
 UNMET = ("in_system_failure", "no_train_data")
+LEFT_OUT = ("before_oldest_block", "gap", "within_block", "unreadable")  # what is told of events and blocks that aren't run again
 RANDOM = 150  # images of pseudo-random lives, beside those of the replays
 
 SR = ("enter-identity A 1", "choose-level 1", "enter-train-data 20000 160000 70 0 15", "start")
@@ -156,9 +157,9 @@ class Tried:
 
     def beside_the_plain(self):
         for number, (name, data) in enumerate(images()):
-            events = walked(data)
+            walk = walk_of(data)
             for is_json, only in ((False, None), (True, None), (True, number % 40)):
-                wanted = told_of(events, is_json, only)
+                wanted = told_of(walk, is_json, only)
                 found = self.run(data, *(["--json"] if is_json else []), "@", *([] if only is None else [str(only)]))
                 self.tried += 1
                 if found != wanted:
@@ -169,6 +170,9 @@ class Tried:
     def count(self, text):
         for line in text.splitlines():
             told = json.loads(line)
+            if "event" not in told:
+                self.met[told.get("reason", told["replay"])] += 1
+                continue
             self.lines += 1
             self.met.update(word for word, *_ in WORDS.values() if told[word] is not None)
             self.met[told["limit_cause"]] += 1
@@ -207,9 +211,9 @@ class Tried:
         print(f"why: {self.tried} comparisons, {self.lines} lines with what decides a limit, {self.differ} differ")
         print(f"tracks without what decides: limit greater {counted['greater']}, another of equal force {counted['of equal force']}, left out "
               f"{counted['of more than one thing']}")
-        for word in [*(word for word, *_ in WORDS.values()), *KINDS, *(f"trip {why}" for why in TRIPS)]:
+        for word in [*(word for word, *_ in WORDS.values()), *KINDS, *(f"trip {why}" for why in TRIPS), *LEFT_OUT]:
             if not self.met[word] and word not in UNMET:
-                self.tell(f"no image has the cause {word}")
+                self.tell(f"no image has {word}")
         if self.tried < LEAST or self.lines < LEAST_LINES or counted["greater"] < LEAST_RAISED:
             self.tell(f"too few: {LEAST} comparisons, {LEAST_LINES} lines and {LEAST_RAISED} greater limits are wanted")
         return 1 if self.differ else 0

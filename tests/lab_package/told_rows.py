@@ -243,7 +243,7 @@ def plain_causes(path, event=None):
     said = io.StringIO()
     with contextlib.redirect_stdout(said):
         plain_why(["--json", str(path), *([] if event is None else [str(event)])])
-    lines = map(json.loads, said.getvalue().splitlines())
+    lines = [line for line in map(json.loads, said.getvalue().splitlines()) if "event" in line]
     return {line["event"]: {word: line[word] for word, *_ in WORDS.values() if line[word] is not None} for line in lines}
 
 

@@ -1,7 +1,7 @@
 #!/usr/bin/env python3
 """Tells why the plain unit brakes, and what decides its limit: each life of an image is run again from its power-up on, behind what the
 head before it tells, and each event has a line at which brake, limit, a cause of the brake or the kind of the limit's cause is another
-one than before in its life.
+one than before in its life. Events whose life can't be run again have one line with the reason, and each block that can't be read has one.
 
     tests/plain/why.py [--json] IMAGE [EVENT]     prints what `etcs_lab why` prints, and ends with its status
 """
@@ -15,9 +15,9 @@ from items import Kept
 from journal import COLD, SLOT_SECTORS, kept_in, read_block, slots_in
 from life import Life
 from limit_reasons import KINDS, limit_cause
-from replay import input_of, run_of
+from replay import REASONS, input_of, run_of
 
-WHOLE, REFUSED, UNKNOWN = 0, 1, 4
+WHOLE, REFUSED, LOST = 0, 1, 4
 
 # Of each row of the plain table, in its order: the word, what it says, and how it ends.
 WORDS = {
@@ -108,15 +108,39 @@ class Reasons:
 
 
 class Walk:
-    """Of each event whose life is known its number, whether it has a line of its own, and what the line says in both forms."""
+    """Of each event whose life is known its number, whether it has a line of its own, and what the line says in both forms; `lines` has with
+    them, as events of no number, those that are left out and the blocks that can't be read."""
 
     def __init__(self):
-        self.events, self.told, self.kept = [], None, None
+        self.lines, self.told, self.kept = [], None, None
+        self.left, self.reason, self.is_whole = [], "before_oldest_block", True
+
+    @property
+    def events(self):
+        return [line for line in self.lines if line[0] is not None]
+
+    def say(self, line, **members):
+        self.lines.append((None, True, line, json.dumps(members, separators=(",", ":"))))
+
+    def end_life(self):
+        if self.left:
+            (life, first), (_, last) = self.left[0], self.left[-1]
+            self.say(f"life {life} events {first}..{last} can't be replayed: {REASONS[self.reason]}",
+                     life=life, first_event=first, last_event=last, replay="not_replayed", reason=self.reason)
+        self.left = []
+
+    def gap(self):
+        self.end_life()
+        self.told = self.kept = None
+        self.reason, self.is_whole = "gap", False
 
     def record(self, block, at):
         record = block["records"][at]
         number, event = record["number"], record["event"]
         if event[0] == "powerup":
+            self.end_life()
+            if at and not self.told:
+                self.reason = "within_block"
             if at:
                 kept = self.told and self.told.life.kept()
             else:
@@ -126,22 +150,26 @@ class Walk:
             self.told.take(event, number)
         if self.told:
             members = json.dumps(self.told.members(number), separators=(",", ":"))
-            self.events.append((number, self.told.is_new(), self.told.line(number), members))
+            self.lines.append((number, self.told.is_new(), self.told.line(number), members))
+        else:
+            begun = sum(later["event"][0] == "powerup" for later in block["records"][at + 1:])
+            self.left.append((max(0, block["lives"] - begun), number))
 
     def block(self, number, data):
         block = read_block(data)
         if block is None or block["number"] != number:
-            self.told = self.kept = None
+            self.gap()
+            self.say(f"block {number} can't be read", block=number, replay="unreadable")
             return
         if self.kept and self.kept.events != block["records"][0]["number"]:
-            self.told = self.kept = None
+            self.gap()
         for at in range(len(block["records"])):
             self.record(block, at)
         self.kept = kept_in(block)
 
 
-def walked(data):
-    """The events of an image; None where it is refused."""
+def walk_of(data):
+    """The walk over an image; None where it is refused."""
     slots = slots_in(data[:SECTOR_BYTES]) if len(data) >= SECTOR_BYTES else None
     if slots is None or len(data) // SECTOR_BYTES != 1 + SLOT_SECTORS * slots:
         return None
@@ -149,20 +177,28 @@ def walked(data):
     for number in run_of(data, slots):
         at = SECTOR_BYTES * (1 + SLOT_SECTORS * (number % slots))
         walk.block(number, data[at:at + SECTOR_BYTES * SLOT_SECTORS])
-    return walk.events
+    walk.end_life()
+    return walk
 
 
-def told_of(events, is_json, only=None):
+def walked(data):
+    """The events of an image whose lives are known; None where it is refused."""
+    walk = walk_of(data)
+    return walk and walk.events
+
+
+def told_of(walk, is_json, only=None):
     """Status and text."""
-    if events is None:
+    if walk is None:
         return REFUSED, ""
-    lines = [members if is_json else line for number, is_new, line, members in events if (is_new if only is None else number == only)]
-    return (WHOLE if lines or only is None else UNKNOWN), "".join(line + "\n" for line in lines)
+    lines = [members if is_json else line for number, is_new, line, members in walk.lines if (is_new if only is None else number == only)]
+    is_told = walk.is_whole if only is None else bool(lines)
+    return (WHOLE if is_told else LOST), "".join(line + "\n" for line in lines)
 
 
 def main(words):
     is_json, words = "--json" in words, [word for word in words if word != "--json"]
-    status, said = told_of(walked(Path(words[0]).read_bytes()), is_json, int(words[1]) if words[1:] else None)
+    status, said = told_of(walk_of(Path(words[0]).read_bytes()), is_json, int(words[1]) if words[1:] else None)
     print(said, end="")
     return status
 

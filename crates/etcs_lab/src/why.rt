@@ -35,12 +35,13 @@ pub(crate) fn why_told<R: Files<File = File> + AllocGlobal + Eprint, W: Write>(
         Err(status) => return status,
     };
     match tell_why(rt.alloc(), &mut disk, only, form, out) {
-        Ok(0) if only.is_some() => fail(
+        Ok(walked) if only.is_some() && walked.lines == 0 => fail(
             rt,
             "has no such event whose life can be replayed",
             path,
             Status::Damaged,
         ),
+        Ok(walked) if only.is_none() && !walked.is_whole => Status::Damaged,
         Ok(_) => Status::Whole,
         Err(error) => stopped(rt, path, error),
     }

@@ -5,12 +5,13 @@ use Rattle.blocks.specs.declared.records.BlockRecord.{BlockRecord}
 use Rattle.events.specs.declared.input.Event.{Event}
 use Rattle.events.specs.declared.input.Event.TheVariants.{PowerUp, Input}
 use Rattle.pieces.specs.declared.piece.Form.{Form}
-use Rattle.replay_lines.specs.Lines.{agrees_text, unjudged_text}
+use Rattle.record_objects.specs.LeftOut.{left_out_text}
+use Rattle.record_objects.specs.declared.left_out.Reason.TheVariants.{BeforeOldest, Gap, BehindDifference}
+use Rattle.record_objects.specs.declared.left_out.Stretch.{Stretch}
+use Rattle.replay_lines.specs.Lines.{agrees_text}
 use Rattle.replay_lines.specs.declared.course.Course.{Course}
 use Rattle.replay_lines.specs.declared.course.Judged.{Judged}
 use Rattle.replay_lines.specs.declared.course.Judged.TheVariants.{Agrees, Not}
-use Rattle.replay_lines.specs.declared.reports.Reason.TheVariants.{BeforeOldest, Gap, BehindDifference}
-use Rattle.replay_lines.specs.declared.reports.Stretch.{Stretch}
 use Rattle.replay_lines.specs.declared.walk.Outcome.{Outcome}
 use Rattle.replay_lines.specs.declared.walk.Outcome.TheVariants.{Whole, Differs}
 
@@ -57,7 +58,7 @@ with_more stretch (Some more) = Some (extended stretch more)
 -- their line: they agree, or why they can't be replayed
 abbrev pub judged_text : Form → Judged → Stretch → List ℕ
 judged_text form (Agrees replay) s = agrees_text form s
-judged_text form (Not reason) s = unjudged_text form s reason
+judged_text form (Not reason) s = left_out_text form s reason
 
 abbrev pub stretch_text : Form → Judged → Option Stretch → List ℕ
 stretch_text form judged None = []

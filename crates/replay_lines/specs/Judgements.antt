@@ -17,8 +17,8 @@ use Rattle.replaying.specs.declared.heads.HeadFound.{HeadFound}
 use Rattle.replay_lines.specs.declared.course.Course.{Course}
 use Rattle.replay_lines.specs.declared.course.Judged.{Judged}
 use Rattle.replay_lines.specs.declared.course.Judged.TheVariants.{Agrees, Not}
-use Rattle.replay_lines.specs.declared.reports.Reason.{Reason}
-use Rattle.replay_lines.specs.declared.reports.Reason.TheVariants.{Gap, WithinBlock}
+use Rattle.record_objects.specs.declared.left_out.Reason.{Reason}
+use Rattle.record_objects.specs.declared.left_out.Reason.TheVariants.{Gap, WithinBlock}
 
 -- ---- records
 

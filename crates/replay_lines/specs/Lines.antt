@@ -7,11 +7,10 @@ use Rattle.pieces.specs.Pieces.{text_in, joined}
 use Rattle.pieces.specs.declared.piece.Form.{Form}
 use Rattle.replaying.specs.declared.differences.KeptField.{KeptField}
 use Rattle.replaying.specs.declared.differences.RecordField.{RecordField}
+use Rattle.record_objects.specs.declared.left_out.Stretch.{Stretch}
 use Rattle.replay_lines.specs.Answers.{answer_behind}
 use Rattle.replay_lines.specs.KeptObject.{kept_behind}
-use Rattle.replay_lines.specs.Words.{kept_field_text, record_field_text, reason_in}
-use Rattle.replay_lines.specs.declared.reports.Reason.{Reason}
-use Rattle.replay_lines.specs.declared.reports.Stretch.{Stretch}
+use Rattle.replay_lines.specs.Words.{kept_field_text, record_field_text}
 use Rattle.replay_lines.specs.declared.walk.Outcome.{Outcome}
 use Rattle.replay_lines.specs.declared.walk.Outcome.TheVariants.{Whole, Differs}
 
@@ -21,14 +20,6 @@ agrees_text form s =
     joined (text_in form (codes "life ") (codes "{\"life\":") ∷ decimal s.life ∷ text_in form (codes " events ") (codes ",\"first_event\":")
     ∷ decimal s.first ∷ text_in form (codes "..") (codes ",\"last_event\":") ∷ decimal s.last
     ∷ text_in form (codes " agree\n") (codes ",\"replay\":\"agrees\"}\n") ∷ [])
-
--- they can't be replayed
-abbrev pub unjudged_text : Form → Stretch → Reason → List ℕ
-unjudged_text form s reason =
-    joined (text_in form (codes "life ") (codes "{\"life\":") ∷ decimal s.life ∷ text_in form (codes " events ") (codes ",\"first_event\":")
-    ∷ decimal s.first ∷ text_in form (codes "..") (codes ",\"last_event\":") ∷ decimal s.last
-    ∷ text_in form (codes " can't be replayed: ") (codes ",\"replay\":\"not_replayed\",\"reason\":\"") ∷ reason_in form reason
-    ∷ text_in form (codes "\n") (codes "\"}\n") ∷ [])
 
 -- before what the journal tells, and before what the kernel answers
 abbrev pub journal_text : Form → List ℕ
@@ -72,12 +63,6 @@ kernel_kept form kept = kept_behind (kernel_kept_text form) kept ++ kept_end_tex
 abbrev pub head_text : Form → ℕ → ℕ → KeptField → Kept → Kept → List ℕ
 head_text form life block field told kept =
     kept_behind (head_front form life block field) told ++ kernel_kept form kept
-
--- a block can't be read
-abbrev pub unreadable_text : Form → ℕ → List ℕ
-unreadable_text form block =
-    joined (text_in form (codes "block ") (codes "{\"block\":") ∷ decimal block
-    ∷ text_in form (codes " can't be read\n") (codes ",\"replay\":\"unreadable\"}\n") ∷ [])
 
 -- what it came to
 abbrev pub outcome_text : Form → Outcome → List ℕ

@@ -5,11 +5,12 @@ use Rattle.std.specs.Io.KnownBytes.{Appends}
 use Rattle.blocks.specs.declared.block.Block.{Block}
 use Rattle.lab_lines.specs.Walks.{IsMet}
 use Rattle.pieces.specs.declared.piece.Form.{Form}
+use Rattle.record_objects.specs.LeftOut.{lost_block_text}
 use Rattle.ring.specs.Scans.{IsScanned}
 use Rattle.ring.specs.Slots.{Valid, IsFormatted, valid_at}
 use Rattle.replay_lines.specs.BlockLines.{AddsBlock}
 use Rattle.replay_lines.specs.Courses.{open_text, begun, behind_gap, outcome_of}
-use Rattle.replay_lines.specs.Lines.{unreadable_text, outcome_text}
+use Rattle.replay_lines.specs.Lines.{outcome_text}
 use Rattle.replay_lines.specs.declared.course.Course.{Course}
 use Rattle.replay_lines.specs.declared.walk.Outcome.{Outcome}
 
@@ -17,7 +18,7 @@ use Rattle.replay_lines.specs.declared.walk.Outcome.{Outcome}
 abbrev pub TellsNumber : Form → ℕ → Block → Bool → Course → Course → Option (List ℕ) → Option (List ℕ) → Type 0
 TellsNumber form number b true c next old new = AddsBlock form b c next old new
 TellsNumber form number b false c next old new =
-    (next ≡ behind_gap) × Appends old new (open_text form c ++ unreadable_text form number)
+    (next ≡ behind_gap) × Appends old new (open_text form c ++ lost_block_text form number)
 
 -- Known bytes grew by what is told of a number that is retained.
 pub record AddsNumber (form : Form) (slots : ℕ) (valids : ℕ → Option Valid) (number : ℕ) (c next : Course) (old new : Option (List ℕ)) : Type 0 where

@@ -1,13 +1,9 @@
 -- The words of a replay's lines (this project's profile).
 use Rattle.std.specs.Prelude.{ℕ, List, codes}
-use Rattle.pieces.specs.Pieces.{text_in}
-use Rattle.pieces.specs.declared.piece.Form.{Form}
 use Rattle.replaying.specs.declared.differences.KeptField.{KeptField}
 use Rattle.replaying.specs.declared.differences.KeptField.TheVariants as kept_field
 use Rattle.replaying.specs.declared.differences.RecordField.{RecordField}
 use Rattle.replaying.specs.declared.differences.RecordField.TheVariants as a_field
-use Rattle.replay_lines.specs.declared.reports.Reason.{Reason}
-use Rattle.replay_lines.specs.declared.reports.Reason.TheVariants as a_reason
 
 -- the field of a record
 abbrev pub record_field_text : RecordField → List ℕ
@@ -35,20 +31,3 @@ kept_field_text kept_field.Level = codes "level"
 kept_field_text kept_field.Position = codes "position"
 kept_field_text kept_field.NationalValues = codes "national_values"
 kept_field_text kept_field.Countries = codes "countries"
-
--- why events aren't replayed
-abbrev pub reason_text : Reason → List ℕ
-reason_text a_reason.BeforeOldest = codes "what was kept before its power-up is in no block that is retained"
-reason_text a_reason.Gap = codes "blocks or events are missing before"
-reason_text a_reason.WithinBlock = codes "no head tells what was kept before its power-up"
-reason_text a_reason.BehindDifference = codes "they follow a record that differs"
-
--- .. in one word
-abbrev pub reason_code : Reason → List ℕ
-reason_code a_reason.BeforeOldest = codes "before_oldest_block"
-reason_code a_reason.Gap = codes "gap"
-reason_code a_reason.WithinBlock = codes "within_block"
-reason_code a_reason.BehindDifference = codes "behind_difference"
-
-abbrev pub reason_in : Form → Reason → List ℕ
-reason_in form reason = text_in form (reason_text reason) (reason_code reason)

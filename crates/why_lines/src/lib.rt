@@ -19,4 +19,4 @@ pub use onboard::{FlushError, LiveError, OpenError};
 pub use pieces::Form;
 pub use played::{Played, write_played_line};
 pub use playing::{PlayedLife, play};
-pub use walk::tell_why;
+pub use walk::{Walked, tell_why};

@@ -6,8 +6,9 @@ use crate::lines::{Answer, told_of, write_line};
 use blocks::{Block, BlockRecord};
 use events::{Event, Kept, Output};
 use mode_table::Cold;
-use pieces::Form;
+use pieces::{Form, Piece, write_pieces};
 use reasons::{Reasoning, limit_told};
+use record_objects::power_ups_in;
 use std::alloc::Global;
 use std::io::Write;
 use units::NoMemory;
@@ -44,7 +45,8 @@ fn answered(
         Event::PowerUp(word) if place == 0 => {
             return Ok(begin_life(alloc, course, record.number, *word));
         }
-        _ => {}
+        Event::PowerUp(_) => course.begin_within(),
+        Event::Input(_) => {}
     }
     let Some(life) = &mut course.life else {
         return Ok(None);
@@ -89,19 +91,34 @@ fn write_event<W: Write>(
     }
 }
 
-// Tells one record, if it is asked for.
+// Writes the line of events that are left out, if there are any.
+pub(crate) fn write_left<W: Write>(
+    left: &[Piece],
+    form: Form,
+    out: &mut W,
+) -> Result<(), LateError> {
+    match write_pieces(form, left, out) {
+        Ok(()) => Ok(()),
+        Err(error) => Err(writing_error(&error)),
+    }
+}
+
+// Tells one record of a life, if it is asked for.
 fn tell_record<W: Write>(
     alloc: Global,
     course: &mut Course,
     place: usize,
+    number: u32,
     record: &BlockRecord,
     form: Form,
     out: &mut W,
 ) -> Result<(), LateError> {
-    let Some(output) = answered(alloc, course, place, record)? else {
-        return Ok(());
-    };
-    let Some(life) = &course.life else {
+    if let Event::PowerUp(_) = record.event {
+        write_left(&course.finish(), form, out)?;
+    }
+    let output = answered(alloc, course, place, record)?;
+    let (Some(output), Some(life)) = (output, &course.life) else {
+        course.leave_out(number, record.number);
         return Ok(());
     };
     let shown = shown_in(life, &output);
@@ -130,12 +147,13 @@ pub(crate) fn tell_block<W: Write>(
     out: &mut W,
 ) -> Result<(), LateError> {
     if !follows(course, block) {
-        course.pass_gap();
+        write_left(&course.pass_gap(), form, out)?;
     }
-    let mut place = 0;
-    for record in block.records.as_slice() {
-        tell_record(alloc, course, place, record, form, out)?;
-        place = 1;
+    let records = block.records.as_slice();
+    for place in 0..records.len() {
+        let later = power_ups_in(&records[place + 1..]);
+        let life = block.kept.lives.saturating_sub(later);
+        tell_record(alloc, course, place, life, &records[place], form, out)?;
     }
     course.before = Some(block.kept.copy());
     Ok(())

@@ -1,13 +1,16 @@
 -- How Trip, System Failure and Stand By are left.
-use Rattle.std.proofs.Common.{◌≡◌, Bool, true, false, List, [], ◌∷◌, cond, refl, sym, ◌∙◌, subst, inl, inr, ◌⊎◌, arith}
-use Rattle.std.specs.Prelude.{Option, Some, None, ◌&&◌, ◌==◌}
+use Rattle.std.proofs.Common.{◌≡◌, Bool, true, false, ℤ, List, [], ◌∷◌, cond, refl, ap, sym, ◌∙◌, subst, inl, inr, ◌⊎◌, arith}
+use Rattle.std.specs.Prelude.{Option, Some, None, ◌&&◌, ◌||◌, not, ◌==◌, ◌<ℤ◌}
+use Rattle.std.specs.Option.{option_map_or}
+use Rattle.authority.specs.Authority.{end_of}
+use Rattle.authority.specs.declared.answers.End.{End}
 use Rattle.std.proofs.lemmas.Bool.{and_parts, not-true}
 use Rattle.std.proofs.lemmas.Bool.Decides.{nat_tests}
 use Rattle.balise_groups.specs.declared.message.Closed.{Closed}
 use Rattle.balise_groups.specs.declared.message.Closed.TheVariants as closed
 use Rattle.driver.specs.Accepting.{accepts, stands_in, stands, may_leave}
 use Rattle.driver.specs.declared.action.Action.{Action}
-use Rattle.driver.specs.declared.action.Action.TheVariants.{Start, ChooseShunting, Acknowledge}
+use Rattle.driver.specs.declared.action.Action.TheVariants.{Start, ChooseShunting, Acknowledge, CloseDesk}
 use Rattle.driver.specs.declared.action.Acknowledged.TheVariants as kind
 use Rattle.driver.specs.declared.action_situation.ActionSituation.{ActionSituation}
 use Rattle.driver.specs.Data.{is_valid}
@@ -19,13 +22,15 @@ use Rattle.mode_table.specs.declared.mode.Mode.TheVariants.{FullSupervision, OnS
 use Rattle.mode_table.specs.Modes.{is_one_of}
 use Rattle.odometry.specs.Place.{has_room}
 use Rattle.track_picture.specs.Entry.{TrackEntry, Begun, Used}
-use Rattle.track_picture.specs.History.{place_of, speed_of, groups_of}
+use Rattle.track_picture.specs.History.{place_of, speed_of, groups_of, authorities, happened_of, is_stopped}
 use Rattle.track_picture.specs.Sentences.{begun, happened_first, with_closed, closed_by, used_by}
 use Rattle.mode_control.specs.declared.deed.Deed.{Deed}
-use Rattle.mode_control.specs.Conditions.{is_start, is_shunting_choice, is_trip_acknowledging}
+use Rattle.mode_control.specs.Conditions.{is_start, is_shunting_choice, is_trip_acknowledging, is_desk_closing, is_overridden, is_beyond, is_beyond_end}
 use Rattle.mode_control.specs.History.{action_of, mode_of, tracks}
 use Rattle.mode_control.specs.Life.{Life, driver_of}
-use Rattle.mode_control.specs.Sentences.{situation, occasion, deed_of, entry_of}
+use Rattle.mode_control.specs.Sentences.{situation, occasion, deed_of, entry_of, train_in}
+use Rattle.mode_control.specs.Tripping.{seen_by}
+use Rattle.safety_laws.specs.Intervening.{modes_to_end, seen, HasPassedEnd}
 use Rattle.safety_laws.specs.Modes.{IsOverrun, IsDoneAtStandstill, modes_by_start}
 use Rattle.safety_laws.proofs.Events.{turned, found}
 
@@ -49,6 +54,23 @@ from_stand_by c false false true true false level_0 = inr (inl (refl, refl))
 from_stand_by c false false true false full true = inr (inl (refl, refl))
 from_stand_by c false false true false full false = inl refl
 from_stand_by c false false false level_1 full level_0 = inl refl
+
+-- past the end of authority: the rows that come before the trip lead to Stand By and to System Failure
+abbrev past_end : Mode → Mode → Conditions → Type 0
+past_end old new c = (new ≡ Trip) ⊎ ((new ≡ SystemFailure) × (c.overrun ≡ true)) ⊎ ((new ≡ StandBy) × (c.desk_closed ≡ true))
+
+from_each : (old : Mode) (c : Conditions) (overrun desk_closed : Bool) → is_one_of modes_to_end old ≡ true →
+    (let now = record c { overrun = overrun; desk_closed = desk_closed; trip = true } in past_end old (turned old now) now)
+from_each FullSupervision c true desk_closed h = inr (inl (refl, refl))
+from_each FullSupervision c false true h = inr (inr (refl, refl))
+from_each FullSupervision c false false h = inl refl
+from_each OnSight c true desk_closed h = inr (inl (refl, refl))
+from_each OnSight c false true h = inr (inr (refl, refl))
+from_each OnSight c false false h = inl refl
+from_each StaffResponsible c true desk_closed h = inr (inl (refl, refl))
+from_each StaffResponsible c false true h = inr (inr (refl, refl))
+from_each StaffResponsible c false false h = inl refl
+from_each old c overrun desk_closed h = absurd (let no : false ≡ true = h in cc)
 
 -- ---- an overrun
 
@@ -111,6 +133,9 @@ module _ (life : Life) where
   acknowledged (Clock moment) h = absurd (let no : false ≡ true = h in cc)
   acknowledged (Driver action) h = acknowledged_by action (accepts (driver_of life) (situation life) action) refl h
 
+  abbrev all_but_stand_by : List Mode
+  all_but_stand_by = FullSupervision ∷ OnSight ∷ StaffResponsible ∷ Shunting ∷ Unfitted ∷ PostTrip ∷ []
+
   started_by : (action : Action) (b : Bool) → accepts (driver_of life) (situation life) action ≡ b →
       is_start (action_of (given action b)) ≡ true → IsDoneAtStandstill life (Driver action) Start
   started_by Start true is h =
@@ -143,7 +168,53 @@ module _ (life : Life) where
   chosen (Clock moment) h = absurd (let no : false ≡ true = h in cc)
   chosen (Driver action) h = chosen_by action (accepts (driver_of life) (situation life) action) refl h
 
+  closed_by_driver : (action : Action) (b : Bool) → accepts (driver_of life) (situation life) action ≡ b →
+      is_desk_closing (action_of (given action b)) ≡ true → IsDoneAtStandstill life (Driver action) CloseDesk
+  closed_by_driver CloseDesk true is h = done CloseDesk is (is_still (situation life) all_but_stand_by is)
+  closed_by_driver action true is h = absurd (let no : false ≡ true = h in cc)
+  closed_by_driver action false is h = absurd (let no : false ≡ true = h in cc)
+
+  desk_closed : (input : Input) → is_desk_closing (action_of (deed_of life input)) ≡ true → IsDoneAtStandstill life input CloseDesk
+  desk_closed (Telegram bytes) h = absurd (let no : false ≡ true = h in cc)
+  desk_closed (Odometer reading) h = absurd (let no : false ≡ true = h in cc)
+  desk_closed (Clock moment) h = absurd (let no : false ≡ true = h in cc)
+  desk_closed (Driver action) h = closed_by_driver action (accepts (driver_of life) (situation life) action) refl h
+
   -- ---- one event
+
+  is_tripping : (overridden beyond asked stopped : Bool) → overridden ≡ false → beyond ≡ true →
+      (not overridden && (beyond || asked || stopped)) ≡ true
+  is_tripping false true asked stopped o h = refl
+  is_tripping true beyond asked stopped o h = absurd (let no : true ≡ false = o in cc)
+  is_tripping false false asked stopped o h = absurd (let no : false ≡ true = h in cc)
+
+  is_past : (place : ℤ) (end : Option End) (told : End) → end ≡ Some told → told.speed ≡ 0 → told.end <ℤ place →
+      option_map_or (is_beyond place) end false ≡ true
+  is_past place (Some end) told is no_speed past = grind (arith, nat_tests)
+  is_past place None told is no_speed past = absurd (let no : None ≡ Some told = is in cc)
+
+  pub trips_past_end : (input : Input) → is_one_of modes_to_end (mode_of life.entries) ≡ true → HasPassedEnd life input →
+      is_overridden (seen life input) ≡ false →
+      (mode_of (entry_of life input ∷ life.entries) ≡ Trip)
+      ⊎ ((mode_of (entry_of life input ∷ life.entries) ≡ SystemFailure) × IsOverrun life input)
+      ⊎ ((mode_of (entry_of life input ∷ life.entries) ≡ StandBy) × IsDoneAtStandstill life input CloseDesk)
+  trips_past_end input watched passed free =
+      let c : Conditions = found life input in
+      let now = seen life input in
+      let beyond = is_past (train_in now (seen_by life input)).min_front (end_of (authorities (tracks now.entries))) passed.end passed.known passed.no_speed passed.is_past in
+      let tripped : c.trip ≡ true =
+      is_tripping (is_overridden now) (is_beyond_end now (train_in now (seen_by life input))) (happened_of (tracks now.entries)).asked.trip
+      (is_stopped (tracks now.entries)) free beyond in
+      let same : record c { trip = true } ≡ c = ap (λ (b : Bool). record c { trip = b }) (sym tripped) in
+      let each = subst (λ (other : Conditions). past_end (mode_of life.entries) (turned (mode_of life.entries) other) other) same
+      (from_each (mode_of life.entries) c c.overrun c.desk_closed watched) in
+      elim each [
+        | inl trip ↦ inl trip
+        | inr other ↦ elim other [
+          | inl w ↦ inr (inl (w.0, overran input w.1))
+          | inr w ↦ inr (inr (w.0, desk_closed input w.1))
+        ]
+      ]
 
   abbrev after_trip : Input → Mode → Type 0
   after_trip input new =

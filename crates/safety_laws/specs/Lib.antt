@@ -8,3 +8,4 @@ pub mod Keeping
 pub mod Starts
 pub mod Release
 pub mod Outputs
+pub mod Intervening

@@ -5,6 +5,7 @@
 
 mod approaching;
 mod ends;
+mod intervening;
 mod keeping;
 mod modes;
 mod outputs;
@@ -15,6 +16,7 @@ mod unbraked;
 
 pub use approaching::{release_rule, starts_decide};
 pub use ends::end_never_moves_forward;
+pub use intervening::{commands_emergency_where, national_speeds_are_kept, passing_end_trips};
 pub use keeping::level_and_position_over_all;
 pub use modes::{failure_stays, stand_by_is_left, trip_is_left};
 pub use outputs::{released_brakes_for_trips, released_halts};

@@ -55,6 +55,20 @@ def recorded_by(record, image, words, **environment):
     to = Path(f"{image}.calls")
     to.unlink(missing_ok=True)
     answer = ran(words, record, RECORD_OF=str(image), RECORD_TO=str(to), **environment)
+    return answer, calls_of(to)
+
+
+def settled(record, image, **environment):
+    """Settles an image (tools/settle), and answers the calls of its file."""
+    to = Path(f"{image}.calls")
+    to.unlink(missing_ok=True)
+    subprocess.run([TOP / "tools/settle", image], check=True,
+                   env=dict(os.environ, LD_PRELOAD=record, RECORD_OF=str(image), RECORD_TO=str(to), **environment))
+    return calls_of(to)
+
+
+def calls_of(to):
+    """The calls that were recorded in a file."""
     data, at, calls = to.read_bytes() if to.exists() else b"", 0, []
     while at < len(data):
         kind, place, length = struct.unpack_from("<cQQ", data, at)
@@ -62,7 +76,7 @@ def recorded_by(record, image, words, **environment):
         body = data[at:at + length] if kind in b"wo" else b""
         at += len(body)
         calls.append((kind.decode(), place, body))
-    return answer, calls
+    return calls
 
 
 def sectors_of(place, body):

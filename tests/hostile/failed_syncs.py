@@ -8,8 +8,9 @@ A life is recorded with one of its syncs failing, each in turn, and two more liv
 - as Linux does: what was written may have reached the medium or not, or in part; later syncs write it no more; and reads find what was written
   until the system drops its copies of the pages. What is read then is what the medium has (record.c hands it out).
 
-Behind the failed sync a listing is to list what a loss of power would leave. So that this test can fail, the same is tried with a Linux that
-drops nothing: there some event has to be lost.
+Behind the failed sync the image is settled, as docs/REFUSALS.md asks for (tools/settle), before it is opened again; then a listing is to list
+what a loss of power would leave. So that this test can fail, the same is tried with a Linux whose pages nobody drops: there some event has to
+be lost.
 """
 import json
 import random
@@ -17,7 +18,7 @@ import sys
 from copy import deepcopy
 from pathlib import Path
 
-from built import ENTRIES, SECTOR, Failures, built, formatted, ran, recorded_by, room, sectors_of
+from built import ENTRIES, SECTOR, Failures, built, formatted, ran, recorded_by, room, sectors_of, settled
 from cut_files import images
 
 CUTS = 2  # so many images at a call, and behind the failed sync
@@ -51,9 +52,8 @@ class Medium:
         """What the medium may be behind the failed sync: here no other than before."""
         return [self]
 
-    def environment(self, folder):
-        """What a later life is run with: nothing is other for it where the system reads what the medium has."""
-        return {}
+    def settles(self, record, image):
+        """What is done before the image is opened again: nothing is needed where a sync settles all."""
 
 
 class Linux(Medium):
@@ -72,20 +72,19 @@ class Linux(Medium):
             for sector, handed in self.waiting.items():
                 self.read[sector * SECTOR:(sector + 1) * SECTOR] = handed[-1]
 
-    def environment(self, folder):
-        (folder / "medium").write_bytes(self.kept)
-        return {"RECORD_DROPS_TO": str(folder / "medium")}
+    def settles(self, record, image):
+        medium = image.with_name("medium")
+        medium.write_bytes(self.kept)
+        for kind, place, body in settled(record, image, RECORD_DROPS_TO=str(medium)):
+            self.note(kind, place, body)
+        self.read = bytearray(image.read_bytes())
 
 
 class Keeping(Linux):
-    """The same, but that nothing is dropped."""
+    """The same, but that the image isn't settled."""
 
-    def note(self, kind, place, body):
-        if kind != "d":
-            super().note(kind, place, body)
-
-    def environment(self, folder):
-        return {}
+    def settles(self, record, image):
+        """Nothing is done."""
 
 
 WAYS = {"the model": Medium, "Linux": Linux, "Linux that drops nothing": Keeping}
@@ -115,11 +114,9 @@ class Tried:
         self.slots, self.folder, self.record, self.numbers = slots, folder, record, numbers
         self.image, self.count, self.lost, self.seen = folder / "image", 0, 0, set()
 
-    def listing_of(self, data, **environment):
+    def listing_of(self, data):
         self.image.write_bytes(data)
-        if not environment:
-            return ran(["journal", self.image])
-        return recorded_by(self.record, self.image, ["journal", self.image], **environment)[0]
+        return ran(["journal", self.image])
 
     def cuts(self, medium, released):
         """Some of the images that a loss of power may leave now."""
@@ -142,7 +139,9 @@ class Tried:
 
     def listed(self, medium):
         """A listing lists what a loss of power would leave behind its own sync."""
-        found = self.listing_of(medium.read, **medium.environment(self.folder))
+        self.image.write_bytes(medium.read)
+        medium.settles(self.record, self.image)
+        found = self.listing_of(medium.read)
         medium.note("s", 0, b"")
         self.lost += found != self.listing_of(medium.kept)
 
@@ -156,8 +155,10 @@ class Tried:
             self.listed(deepcopy(left))
             known = list(released)
             self.cuts(left, known)
+            self.image.write_bytes(left.read)
+            left.settles(self.record, self.image)
             for _ in range(2):
-                self.life(left, known, True, **left.environment(self.folder))
+                self.life(left, known, True)
         return True
 
 

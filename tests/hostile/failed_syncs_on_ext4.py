@@ -1,6 +1,6 @@
 #!/usr/bin/env python3
-"""A sync that fails on a real file system: ext4 over a loop device that is cut off while one sync of a life runs, each in turn. Behind two more
-lives power is lost (the file system is unmounted, so that only what is on the medium is left), and what was released is listed.
+"""A sync that fails on a real file system: ext4 over a loop device that is cut off while one sync of a life runs, each in turn. The
+image is settled (tools/settle). Behind two more lives power is lost (the file system is unmounted, so that only what is on the medium is left), and what was released is listed.
 
 It needs root, a loop device and mkfs.ext4. Where one of these can't be had it says so, in one line, and ends with 0.
 """
@@ -15,7 +15,7 @@ import tempfile
 from contextlib import contextmanager
 from pathlib import Path
 
-from built import Failures, built, formatted, ran, recorded_by
+from built import TOP, Failures, built, formatted, ran, recorded_by
 from failed_syncs import BATCHES, is_kept, released_in
 
 SLOTS, LIVES = 8, 6  # so many lives first that each slot is used, and each block of the file has its place on the device
@@ -85,6 +85,7 @@ def fails_at(number, loop, folder, record, failures):
     syncs = [kind for kind, _, _ in calls if kind in "sf"]
     failures.unless(status == (3 if "f" in syncs else 0), f"sync {number}: status {status}, {text}")
     released = released_in(text)
+    subprocess.run([TOP / "tools/settle", image], check=True)
     for _ in range(2):
         status, text = ran(["run", scenario, image])
         failures.unless(status == 0, f"sync {number}: a life behind it ends with {status}, {text}")

@@ -82,13 +82,11 @@ def part_of(sector):
 
 def wrong_calls(recorded):
     """What is wrong in the order of the calls."""
-    is_synced, is_settled, parts = False, False, set()
+    is_synced, parts = False, set()
     for kind, place, body in recorded:
-        if kind in "rw" and not is_settled:
-            yield "the file isn't synced, and then its pages dropped, before it is read or written"
-            is_settled = True
-        if kind == "d":
-            is_settled = is_synced
+        if kind in "rw" and not is_synced:
+            yield "the file isn't synced before it is read or written"
+            is_synced = True
         if kind == "w":
             if place % SECTOR or len(body) % SECTOR:
                 yield f"{len(body)} bytes at {place} are no whole sectors"

@@ -3,7 +3,7 @@ ghost use Rattle.std.specs.Prelude.{◌≡◌, ◌+◌, ◌*◌, ◌/◌, ◌%�
 ghost use Rattle.disk.specs.State.{contents_of, IsSynced, HoldsZeros};
 ghost use Rattle.file_disk.specs.Files.{bytes_of, disk_over, whole_disk};
 
-use crate::settling::{settle, sync_folder};
+use crate::syncing::sync_folder;
 use crate::whole::{read_all, write_all};
 use crate::{RawFile, ReadOnlyFile};
 use disk::{Disk, DiskFault, SECTOR_BYTES};
@@ -64,15 +64,15 @@ impl FileDisk {
     /// Opens the file to read and to write; its sectors are its whole 512-byte parts. A file that may only be read
     /// opens too, and answers DiskFault to each write.
     ///
-    /// The file is locked for this handle alone until the disk is dropped, and settled before it is read: it is synced,
-    /// and the system's copies of its pages are dropped. DiskFault where it can't be opened, locked or settled, and
-    /// where another handle holds a lock on it.
+    /// The file is locked for this handle alone until the disk is dropped. DiskFault where it can't be opened or
+    /// locked, and where another handle holds a lock on it. Behind a sync that failed in an earlier process the system
+    /// may read what isn't on the medium: then its copies of the file's pages have to be dropped first, for which there
+    /// is no call here.
     pub fn open<R: Files<File = File>>(rt: &R, path: &str) -> Result<FileDisk, DiskFault>
         ensures faults { IfOk result (λ disk. (⟦<FileDisk<File> as Disk>⟧.state disk).faults ≡ 0) }
     {
         let file = open_file(rt, path)?;
         locked(&file)?;
-        settle(&file)?;
         FileDisk::over(file)
     }
 }
@@ -81,8 +81,8 @@ impl FileDisk<ReadOnlyFile> {
     /// Opens the file for reading alone; its sectors are its whole 512-byte parts. The disk answers DiskFault to each
     /// write, and nothing that is called of it writes to the file.
     ///
-    /// The file is locked for handles that read until the disk is dropped, and settled as by `open`. DiskFault where it
-    /// can't be opened, locked or settled, where another handle holds the lock to write, and where it is a folder.
+    /// The file is locked for handles that read until the disk is dropped. DiskFault where it can't be opened or
+    /// locked, where another handle holds the lock to write, and where it is a folder.
     pub fn open_to_read<R: Files<File = File>>(
         rt: &R,
         path: &str,

@@ -4,7 +4,7 @@
 mod filedisk;
 mod raw;
 mod readonly;
-mod settling;
+mod syncing;
 mod system;
 mod whole;
 

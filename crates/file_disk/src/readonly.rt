@@ -2,7 +2,7 @@
 ghost use Rattle.file_disk.specs.SystemFile.{read_only_state};
 
 use crate::RawFile;
-use crate::settling::{settle, sync_what_waits};
+use crate::syncing::sync_what_waits;
 use disk::DiskFault;
 use std::fs::File;
 use std::rt::Files;
@@ -15,8 +15,8 @@ pub struct ReadOnlyFile {
 }
 
 impl ReadOnlyFile {
-    /// Opens, locks and settles a file. DiskFault where one of these can't be done, where another handle holds the lock
-    /// to write, and where it is a folder.
+    /// Opens and locks a file. DiskFault where it can't be opened or locked, where another handle holds the lock to
+    /// write, and where it is a folder.
     pub(crate) fn open<R: Files<File = File>>(
         rt: &R,
         path: &str,
@@ -27,7 +27,6 @@ impl ReadOnlyFile {
             _ => return Err(DiskFault),
         }
         file.try_lock_shared().map_err(|_| DiskFault)?;
-        settle(&file)?;
         Ok(ReadOnlyFile { file })
     }
 }

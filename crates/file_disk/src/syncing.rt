@@ -1,22 +1,10 @@
-//! What a file owes before it is read, and a new one before it is told.
+//! Syncs of what isn't written through a disk: what other handles wrote, and the name of a new file.
 use disk::DiskFault;
 use std::fs;
 use std::fs::File;
 use std::io::ErrorKind;
-use std::os::fd::AsRawFd;
 use std::path::Path;
 use std::rt::Files;
-
-/// Settles a file before its first read: syncs it, and drops the system's copies of its pages. A sync that failed in an
-/// earlier process may have left these other than the medium is, and the system syncs them no more. DiskFault where
-/// the sync fails, or where the system drops no pages of such a file.
-pub(crate) fn settle(file: &File) -> Result<(), DiskFault> {
-    sync_what_waits(file)?;
-    match libc::posix_fadvise(file.as_raw_fd(), 0, 0, libc::POSIX_FADV_DONTNEED) {
-        0 => Ok(()),
-        _ => Err(DiskFault),
-    }
-}
 
 /// Syncs what other handles wrote. A file system that takes no writes has no such call, and nothing that waits.
 pub(crate) fn sync_what_waits(file: &File) -> Result<(), DiskFault> {

@@ -2,11 +2,10 @@
 """Pseudo-random lives on image files, since no contract speaks of a file of the system: behind each life the file holds the bytes that the
 plain unit leaves on the plain disk, and its calls were right.
 
-Calls are right where the file is settled before anything is read or written (synced, and then the system's copies of its
-pages dropped); where a sync stands between any write of a gate and a write of what lies behind a gate, and before
-anything is printed and at the end; and where they tell the story of the plain unit: between two syncs just the sectors
-that the plain disk is handed there, with their bytes, and between the same two just what is released there. A format
-syncs the file and its folder before it says that it is done.
+Calls are right where the file is synced before anything is read or written; where a sync stands between any write of a gate and a write of
+what lies behind a gate, and before anything is printed and at the end; and where they tell the story of the plain unit: between two syncs just
+the sectors that the plain disk is handed there, with their bytes, and between the same two just what is released there. A format syncs the
+file and its folder before it says that it is done.
 
     tests/hostile/lives_in_files.py [LIVES [SEED]]    1,000 lives, seed 2026
 """

@@ -22,6 +22,7 @@ from failed_syncs import BATCHES, is_kept, released_in
 SLOTS, LIVES = 8, 6  # so many lives first that each slot is used, and each block of the file has its place on the device
 BLOCK = 4096
 FIBMAP = 1
+NO_LIMIT = 98  # how record.c ends where the device can't be cut off
 LEAST = 5
 NAME = "failed syncs on ext4"
 
@@ -73,7 +74,10 @@ def first_byte_of(image):
     """Where the first of the file's blocks begins on the device."""
     with image.open("rb") as file:
         count = -(-image.stat().st_size // BLOCK)
-        places = [struct.unpack("I", fcntl.ioctl(file, FIBMAP, struct.pack("I", block)))[0] for block in range(count)]
+        try:
+            places = [struct.unpack("I", fcntl.ioctl(file, FIBMAP, struct.pack("I", block)))[0] for block in range(count)]
+        except OSError as error:
+            raise NotHere(f"the system doesn't tell where a file lies: {error.strerror}") from error
     return min(place for place in places if place) * BLOCK
 
 
@@ -83,6 +87,8 @@ def fails_at(number, loop, folder, record, failures):
     image, scenario = folder / "image", folder.parent / "scenario"
     limit = {"RECORD_FAILS_AT": str(number), "RECORD_LIMIT": f"{loop} {first_byte_of(image)}"}
     (status, text), calls = recorded_by(record, image, ["run", scenario, image], **limit)
+    if status == NO_LIMIT:
+        raise NotHere("the loop device can't be cut off")
     syncs = [kind for kind, _, _ in calls if kind in "sf"]
     failures.unless(status == (3 if "f" in syncs else 0), f"sync {number}: status {status}, {text}")
     released = released_in(text)

@@ -1,5 +1,6 @@
 """The words of `./lab`: `table`, `database`, `report`, `build`, `test`, `coverage`, `drive`, `campaign`, `compare`."""
 import argparse
+import hashlib
 import os
 import subprocess
 import sys
@@ -89,7 +90,7 @@ def add_suites(word: Callable[[str, str, str], argparse.ArgumentParser]) -> None
     build.add_argument("out", metavar="OUT.json", nargs="?", type=Path, help="the file; else standard output")
     add_force(build)
     test = word("test", "plays the test cases of a folder, and judges what they expect",
-                "Further words are pytest's: -k, -x, --junitxml=FILE and the others.")
+                "Further words are pytest's: -k, -x, --lf, --junitxml=FILE and the others.")
     test.add_argument("folder", metavar="FOLDER", type=Path, help="or a file of cases")
     test.add_argument("--section", action="append", default=[], help="only results about this section, or a part of it")
     test.add_argument("--feature", action="append", default=[], help="only cases of this feature")
@@ -97,6 +98,7 @@ def add_suites(word: Callable[[str, str, str], argparse.ArgumentParser]) -> None
     test.add_argument("--python", action="store_true", help="also run what the folder has for pytest: conftest.py, settings, "
                       "modules of tests. They are programs, and may do whatever you may")
     add_force(test)
+    test.add_argument("--keep", metavar="FOLDER", help="keep the image and the report of each case that failed in this new folder")
     told = word("coverage", "tells which sections and transitions the cases of a folder are about",
                 "1 where one that the product covers has no case, and no reason why.")
     told.add_argument("folder", metavar="FOLDER", type=Path)
@@ -196,6 +198,12 @@ def begun(folder: Path, words: list[str], plugins: list[object]) -> int:
         raise Failed(f"{folder}: pytest doesn't begin: {error}", REFUSED) from error
 
 
+def results_of(folder: Path) -> Path:
+    """Where pytest notes which tests of a folder failed, for `--lf`: in the user's cache, not in the folder itself."""
+    cache = os.environ.get("XDG_CACHE_HOME") or os.path.expanduser("~/.cache")
+    return Path(cache).absolute() / "gaknifur" / hashlib.sha256(os.fsencode(folder.resolve())).hexdigest()[:16]
+
+
 def run_tests(told: argparse.Namespace, progress: Progress) -> None:
     """The word `test`."""
     try:
@@ -213,10 +221,12 @@ def run_tests(told: argparse.Namespace, progress: Progress) -> None:
     files.check_all([out] if out else [])
     root = told.folder if told.folder.is_dir() else told.folder.parent
     selected = [f"--{name}={one}" for name in ("section", "feature") for one in getattr(told, name)]
+    selected += [f"--keep={told.keep}"] if told.keep else []
     with results_in_xml(out) as (words, plugins):
         status = begun(told.folder, [
-            "-q", "--no-header", "-p", "no:cacheprovider", "-p", "gaknifur.pytest_plugin", f"--rootdir={root}",
-            *([] if told.python else WITHOUT_PYTHON), *words, str(told.folder), *selected, *told.others], plugins)
+            "-q", "--no-header", "-p", "gaknifur.pytest_plugin", "-o", f"cache_dir={results_of(root)}", "-W",
+            "ignore::pytest.PytestCacheWarning", f"--rootdir={root}", *([] if told.python else WITHOUT_PYTHON), *words,
+            str(told.folder), *selected, *told.others], plugins)
     if status == pytest.ExitCode.NO_TESTS_COLLECTED:
         raise Failed(f"{told.folder}: there is no such test", REFUSED)
     if status == pytest.ExitCode.USAGE_ERROR:
@@ -239,13 +249,24 @@ WORDS = {"table": write_table, "database": write_database, "report": write_repor
          "coverage": tell_coverage, **drive_words.WORDS, **campaign_words.WORDS}
 
 
+def understood(given: Sequence[str]) -> argparse.Namespace:
+    """What the words ask. Options may stand before, between and behind the others; those that are pytest's are handed on."""
+    parser = words()
+    subjects = next(action for action in parser._actions if isinstance(action, argparse._SubParsersAction))
+    chosen = subjects.choices.get(given[0]) if given else None
+    if chosen is None:
+        return parser.parse_args(given)
+    told: argparse.Namespace
+    told, others = chosen.parse_known_intermixed_args(given[1:])
+    if others and given[0] != "test":
+        chosen.error(f"unrecognized arguments: {' '.join(others)}")
+    told.word, told.others = given[0], others
+    return told
+
+
 def main(given: Sequence[str] | None = None) -> int:
     """Does what the words ask, and answers the status."""
-    parser = words()
-    told, others = parser.parse_known_args(given)
-    if others and told.word != "test":
-        parser.error(f"unrecognized arguments: {' '.join(others)}")
-    told.others = others
+    told = understood(sys.argv[1:] if given is None else given)
     progress = Terminal()
 
     def do() -> int:

@@ -9,7 +9,6 @@ import hashlib
 import io
 import os
 import random
-import re
 import socket
 import sqlite3
 import tempfile
@@ -21,7 +20,7 @@ from dataclasses import dataclass
 from pathlib import Path
 from typing import Any
 
-from . import cases, coverage, files, playing, program, random_lives
+from . import cases, files, mode_rows, playing, program, random_lives
 from .program import DEVICE, REFUSED, Failed
 from .reading import Json, digest, read
 from .shown import shown
@@ -32,7 +31,6 @@ Take = Callable[[Row], None]
 COLUMNS = ("name", "job_sha256", "kind", "ended", "image_sha256", "events", "lives", "mode", "brake", "limit_m_per_h",
            "place_cm", "emergencies", "trips", "tests", "missed", "first_missed", "sound", "seconds", "worker")
 NOT_COMPARED = ("seconds", "worker")
-NAMED_FILE = re.compile(r"[\w.+/-]+\.(?:yaml|yml|json)")
 MOST_LOSSES = 3
 BATCH = 16
 COMMIT_SECONDS = 0.25
@@ -73,7 +71,7 @@ def of_folder(folder: Path, slots: int) -> Iterator[Job]:
     case_files = [path for path in paths if cases.is_case_file(path)]
     named: set[Path] = set()
     for path in case_files:
-        files = files_of(path)
+        files = cases.files_of(path)
         named.update(files)
         root = Path(os.path.commonpath([one.parent for one in files]))
         yield Job(shown(path.relative_to(folder).as_posix()), "case",
@@ -82,17 +80,6 @@ def of_folder(folder: Path, slots: int) -> Iterator[Job]:
         if path.suffix == ".json" and path.resolve() not in named:
             yield Job(shown(path.relative_to(folder).as_posix()), "scenario",
                       (("scenario.json", path.read_bytes()),), slots)
-
-
-def files_of(path: Path) -> list[Path]:
-    """A file and all files that it names, and that these name."""
-    found = [path.resolve()]
-    for one in found:
-        for name in NAMED_FILE.findall(one.read_text(encoding="utf-8", errors="replace")):
-            other = (one.parent / name).resolve()
-            if other.is_file() and other not in found:
-                found.append(other)
-    return found
 
 
 def at_random(count: int, seed: int, slots: int) -> Iterator[Job]:
@@ -168,7 +155,7 @@ def play_case(path: Path) -> Row:
         for expected in case.expected:
             tests += 1
             try:
-                playing.judge(expected, played, coverage.mode_table())
+                playing.judge(expected, played, mode_rows.mode_table())
             except playing.Missed as told:
                 missed, first = missed + 1, first or f"{case.name}, line {expected.at.line}: {told}"
     return {"image_sha256": None, "tests": tests, "missed": missed, "first_missed": first, "sound": int(not missed)} | told_of(records)

@@ -4,6 +4,7 @@ docs/TESTING_A_TRAIN.md has each word. A word that isn't there is a fault with i
 key told twice; nothing is left out in silence.
 """
 import re
+from collections import Counter
 from collections.abc import Callable, Iterable
 from dataclasses import dataclass, field
 from decimal import Decimal
@@ -11,7 +12,9 @@ from pathlib import Path
 from typing import Any
 
 from . import drives, scenarios
-from .located import Value, documents
+from .located import Value, documents, shortened
+from .mode_rows import mode_table, row_name
+from .program import Failed
 from .words import INDICATIONS, MODES
 
 KINDS = ("powerup", "telegram", "odometer", "clock", "driver")
@@ -32,8 +35,9 @@ EXPECTED = ("note", "sections", "rule", "at", "expect", "row", "from", "until", 
 CASE = ("test_case", "feature", "sections", "rule", "starting_conditions", "lives")
 MORE = ("slots", "expected", "include", "telegrams", "parts")
 END = "end"
-ROW = re.compile(r"([0-9]+)(?: from ([A-Z]{2}))?")
+ROW = re.compile(r"([0-9]{1,4})(?: from ([A-Z]{2}))?")
 MOST_SLOTS, USUAL_SLOTS = 4096, 64
+LEVELS = (0, 1)
 
 
 @dataclass(frozen=True)
@@ -129,7 +133,7 @@ class Case:
 def decimal_test(at: Value, name: str) -> Test:
     """A number, or one within limits."""
     if at.is_mapping():
-        told = {key: one.number() for key, one in at.members((), ("least", "most")).items()}
+        told = {key: told_number(one, name) for key, one in at.members((), ("least", "most")).items()}
         if not told:
             raise at.fault(f"least or most is wanted here, of {name}")
         least, most = told.get("least"), told.get("most")
@@ -140,8 +144,16 @@ def decimal_test(at: Value, name: str) -> Test:
                     text)
     if at.is_text() and at.text() == UNKNOWN and name not in ("event", "life", "block", "time_ms"):
         return Test(lambda found: found is None, UNKNOWN)
-    number = at.number()
+    number = told_number(at, name)
     return Test(lambda found: found is not None and found == number, str(number))
+
+
+def told_number(at: Value, name: str) -> Decimal:
+    """A number that a value of this name may have."""
+    number = at.number()
+    if name == "level" and number not in LEVELS:
+        raise at.fault(f"level is 0, 1 or {UNKNOWN}, and this is {at.told_by()}")
+    return number
 
 
 def word_test(at: Value, words: Iterable[str]) -> Test:
@@ -207,7 +219,13 @@ def row_of(at: Value) -> Row:
     found = ROW.fullmatch(at.text())
     if not found:
         raise at.fault("a row of the mode table is wanted here, as \"16\" or \"2 from OS\"")
-    return Row(int(found[1]), found[2])
+    row = Row(int(found[1]), found[2])
+    sources = mode_table().get(row.number, ([], ""))[0]
+    if not row.source and len(sources) > 1:
+        raise at.fault(f"row {row.number} leads from several modes, so one is wanted, as \"{row.number} from {sources[0]}\"")
+    if row_name(row.number, row.source, mode_table()) is None:
+        raise at.fault(f"{row.text} is no row of the mode table")
+    return row
 
 
 def expected_of(at: Value, sections: list[str], rule: str, marks: Iterable[str], is_driven: bool = False) -> Expected:
@@ -232,7 +250,7 @@ def sections_of(at: Value) -> list[str]:
     told = at.elements() if at.is_list() else [at]
     for one in told:
         if not SECTION.fullmatch(one.text()):
-            raise one.fault(f"\"{one.text()}\" is no section of SUBSET-026, as 3.8.1 or 7.4.2 packet 12")
+            raise one.fault(f"\"{shortened(one.text())}\" is no section of SUBSET-026, as 3.8.1 or 7.4.2 packet 12")
     if not told:
         raise at.fault("no section stands here")
     return [one.text() for one in told]
@@ -250,9 +268,7 @@ def life_of(at: Value, shared: scenarios.Shared) -> Life:
         return Life(at, scenarios.build(told, shared), None, ends, drives.drive_of(told["drive"]) if "drive" in told else None)
     if set(told) - {"scenario", "ends"}:
         raise at.fault("a life has steps, or a scenario of another file, and not both")
-    path = at.path.parent / told["scenario"].text()
-    if not path.exists():
-        raise told["scenario"].fault(f"there is no file {path}")
+    path = told["scenario"].file()
     if path.suffix in (".yaml", ".yml"):
         scenario, drive = drives.read(path)
         if drive and ends:
@@ -276,10 +292,10 @@ def case_of(at: Value) -> Case:
         raise told["lives"].fault("a case has at least one life")
     case = Case(at, told["test_case"].text(), told["feature"].text(), sections_of(told["sections"]), told["rule"].text(),
                 told["starting_conditions"].text(), told["slots"].integer(2, MOST_SLOTS) if "slots" in told else slots_of(lives), lives)
-    marks = [name for life in lives if life.scenario for name in life.scenario.marks]
-    for name in marks:
-        if marks.count(name) > 1:
-            raise told["lives"].fault(f"\"{name}\" marks more than one event")
+    marks = Counter(name for life in lives if life.scenario for name in life.scenario.marks)
+    for name, times in marks.items():
+        if times > 1:
+            raise told["lives"].fault(f"\"{shortened(name)}\" marks more than one event")
     for one in told["expected"].elements() if "expected" in told else []:
         case.expected.append(expected_of(one, case.sections, case.rule, marks, any(life.drive for life in lives)))
     if not case.expected and not any(life.ends for life in lives):
@@ -290,10 +306,28 @@ def case_of(at: Value) -> Case:
 def read(path: Path) -> list[Case]:
     """The cases of a file."""
     found = [case_of(document) for document in documents(path)]
-    names = [case.name for case in found]
+    names = Counter(case.name for case in found)
     for case in found:
-        if names.count(case.name) > 1:
-            raise case.at.fault(f"the test case \"{case.name}\" stands twice in this file")
+        if names[case.name] > 1:
+            raise case.at.fault(f"the test case \"{shortened(case.name)}\" stands twice in this file")
+    return found
+
+
+def files_of(path: Path) -> list[Path]:
+    """A file, and all files that it and these name as `include` or `scenario`, each once; one that is no YAML names none."""
+    found = [path.resolve()]
+    for one in found:
+        try:
+            told = documents(one) if one.suffix in (".yaml", ".yml") else []
+        except Failed:
+            continue
+        for name in (name for document in told for name in document.below(("include", "scenario"))):
+            try:
+                other = name.file().resolve()
+            except Failed:
+                continue
+            if other not in found:
+                found.append(other)
     return found
 
 

@@ -10,12 +10,11 @@ from dataclasses import dataclass, field
 from pathlib import Path
 
 from . import cases
-from .cases import Case, Row
+from .cases import Case
 from .located import document
-from .playing import Table
+from .mode_rows import Table, mode_table, page, row_name, table_rows, transitions
 from .program import DEVICE, REFUSED, Failed
 
-DOCS = Path(__file__).resolve().parents[2] / "docs"
 REASONS = "without_cases.yaml"
 
 
@@ -32,24 +31,6 @@ class Section:
     def is_left_out(self) -> bool:
         """Whether the product has nothing of it."""
         return self.here.startswith("left out") and "but for" not in self.here
-
-
-def page(name: str) -> str:
-    """A page of the documentation."""
-    try:
-        return (DOCS / name).read_text(encoding="utf-8")
-    except OSError as error:
-        raise Failed(f"{DOCS / name}: {error.strerror}", DEVICE) from error
-
-
-def table_rows(text: str, heading: str) -> list[list[str]]:
-    """The cells of the tables below a heading."""
-    _, found, behind = text.partition(f"\n## {heading}")
-    if not found:
-        raise Failed(f"docs: there is no heading \"{heading}\"", REFUSED)
-    lines = behind.split("\n## ", 1)[0].splitlines()
-    rows = [[cell.strip() for cell in line.strip().strip("|").split("|")] for line in lines if line.startswith("|")]
-    return [row for row in rows[2:] if not set(row[0]) <= set("-")]
 
 
 def span(first: str, last: str) -> list[str]:
@@ -91,28 +72,6 @@ def sections() -> list[Section]:
             for name in names_of(cell):
                 found.append(Section(f"{heading}: {name}" if name == "all others" else name, subject, here))
     return found
-
-
-def mode_table() -> Table:
-    """The rows of the mode table: the modes from which each leads, and where to."""
-    found: Table = {}
-    for number, sources, target, _ in table_rows(page("TABLES.md"), "Modes"):
-        found[int(number)] = sources.split(), target
-    return found
-
-
-def transitions(table: Table) -> list[str]:
-    """Each row with each mode from which it leads."""
-    return [f"{number} from {source}" for number, (sources, _) in table.items() for source in sources]
-
-
-def row_name(row: Row, table: Table) -> str | None:
-    """The transition of a row; None where there is none, or where a row of several modes tells no mode."""
-    if row.number not in table:
-        return None
-    sources, _ = table[row.number]
-    source = row.source or (sources[0] if len(sources) == 1 else "")
-    return f"{row.number} from {source}" if source in sources else None
 
 
 def files(folder: Path) -> list[Path]:
@@ -186,10 +145,8 @@ def fill(matrix: Matrix, found: Iterable[Case], table: Table) -> None:
                 section.cases.append(case.name)
         for expected in case.expected:
             if expected.row is not None:
-                row = row_name(expected.row, table)
-                if row is None:
-                    matrix.faults.append(f"{case.path}:{expected.at.line}: {expected.row.text} is no row of the mode table")
-                elif case.name not in matrix.transitions[row]:
+                row = row_name(expected.row.number, expected.row.source, table)
+                if row is not None and case.name not in matrix.transitions[row]:
                     matrix.transitions[row].append(case.name)
 
 

@@ -87,9 +87,9 @@ class Drive:
 def share(at: Value) -> Decimal:
     """A number of per cent, 50 to 150."""
     found = PERCENT.fullmatch(at.text().strip())
-    if not found or not 50 <= Decimal(found[1]) <= 150:
+    if not found or not 50 <= at.decimal(found[1]) <= 150:
         raise at.fault(f"a number from 50 to 150 with % is wanted here, and this is {at.told_by()}")
-    return Decimal(found[1]) / 100
+    return scenarios.EXACT.divide(at.decimal(found[1]), Decimal(100))
 
 
 def train_of(at: Value) -> Train:

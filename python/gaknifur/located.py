@@ -1,20 +1,25 @@
 """YAML whose values know where they stand: each fault is told with its file, line and column.
 
 Every scalar is a text as it was written, so `on`, `no` and `3.10` stay what they are; who asks for a number or a truth
-gets one or a fault. A key told twice is refused. Anchors and aliases of YAML work; merge keys and tags don't.
+gets one or a fault. A key told twice is refused. Anchors and aliases of YAML work; merge keys and tags don't. What a file
+may hold has bounds, so that each file is read in a bounded time, and each fault is one line.
 """
 import difflib
 import re
-from collections.abc import Iterable
+from collections.abc import Iterable, Iterator
 from dataclasses import dataclass
 from decimal import Decimal
 from pathlib import Path
+from typing import Any
 
 import yaml
 
 from .program import DEVICE, REFUSED, Failed
 
 NUMBER = re.compile(r"-?[0-9][0-9_]*(\.[0-9]+)?")
+MOST_BYTES, MOST_DEPTH, MOST_VALUES, MOST_DIGITS, MOST_SHOWN, MOST_SAID = 1 << 20, 64, 1 << 20, 28, 80, 4_000
+"""Of a file: its bytes, how deep lists and names stand in one another, how many values it has where each alias counts as what
+it stands for; the digits of a number; how much of a text a fault shows, and how long a fault is."""
 PLAIN_TAGS = {f"tag:yaml.org,2002:{name}" for name in
               ("str", "int", "float", "bool", "null", "timestamp", "map", "seq", "value", "merge", "binary")}
 
@@ -23,7 +28,17 @@ class BadFile(Failed):
     """What stands at a place of a file isn't what may stand there."""
 
     def __init__(self, path: Path, line: int, column: int, said: str) -> None:
-        super().__init__(f"{path}:{line}:{column}: {said}", REFUSED)
+        super().__init__(f"{path}:{line}:{column}: {on_a_line(said[:MOST_SAID])}", REFUSED)
+
+
+def on_a_line(said: str) -> str:
+    """A text without line breaks and other characters that aren't to be seen."""
+    return "".join(one if one.isprintable() else one.encode("unicode_escape").decode() for one in said)
+
+
+def shortened(text: str) -> str:
+    """A text as a fault shows it: a long one has its beginning alone."""
+    return text if len(text) <= MOST_SHOWN else f"{text[:MOST_SHOWN]}.. ({len(text):,} characters)"
 
 
 def guess(word: str, words: Iterable[str]) -> str:
@@ -64,7 +79,7 @@ class Value:
     def told_by(self) -> str:
         """What kind of value it is, for people."""
         if isinstance(self.node, yaml.ScalarNode):
-            return f"\"{self.node.value}\"" if self.node.value else "nothing"
+            return f"\"{shortened(self.node.value)}\"" if self.node.value else "nothing"
         return "a list" if self.is_list() else "names with values"
 
     def text(self) -> str:
@@ -78,6 +93,12 @@ class Value:
         text = self.node.value if isinstance(self.node, yaml.ScalarNode) else ""
         if not NUMBER.fullmatch(text):
             raise self.fault(f"a number is wanted here, and this is {self.told_by()}")
+        return self.decimal(text)
+
+    def decimal(self, text: str) -> Decimal:
+        """The number of some digits that stand here, which are no more than are reckoned with."""
+        if sum(one.isdigit() for one in text) > MOST_DIGITS:
+            raise self.fault(f"a number has at most {MOST_DIGITS} digits, and this is {self.told_by()}")
         return Decimal(text.replace("_", ""))
 
     def integer(self, least: int, most: int) -> int:
@@ -98,14 +119,42 @@ class Value:
         """One of some words."""
         text, words = self.text(), list(words)
         if text not in words:
-            raise self.fault(f"\"{text}\" can't stand here; {guess(text, words)}")
+            raise self.fault(f"\"{shortened(text)}\" can't stand here; {guess(text[:MOST_SHOWN], words)}")
         return text
+
+    def file(self) -> Path:
+        """The file that a text names, beside the one where it stands."""
+        text = self.text()
+        path = self.path.parent / text
+        try:
+            is_there = path.is_file()
+        except (OSError, ValueError) as error:
+            why = error.strerror if isinstance(error, OSError) else "a character of it can't be in a name"
+            raise self.fault(f"\"{shortened(text)}\" names no file: {why}") from None
+        if not is_there:
+            raise self.fault(f"there is no file {shortened(str(path))}")
+        return path
 
     def elements(self) -> list["Value"]:
         """The elements of a list."""
         if not isinstance(self.node, yaml.SequenceNode):
             raise self.fault(f"a list is wanted here, and this is {self.told_by()}")
         return [Value(self.path, node) for node in self.node.value]
+
+    def below(self, names: Iterable[str]) -> Iterator["Value"]:
+        """The texts that stand anywhere below some names, one of each node."""
+        left, seen = [(self.node, False)], set[tuple[int, bool]]()
+        while left:
+            node, is_named = left.pop()
+            if (id(node), is_named) in seen:
+                continue
+            seen.add((id(node), is_named))
+            if isinstance(node, yaml.ScalarNode) and is_named and node.value:
+                yield Value(self.path, node)
+            if isinstance(node, yaml.SequenceNode):
+                left += [(one, is_named) for one in node.value]
+            if isinstance(node, yaml.MappingNode):
+                left += [(value, key.value in names) for key, value in node.value if isinstance(key, yaml.ScalarNode)]
 
     def entries(self) -> dict[str, "Value"]:
         """Names with values."""
@@ -115,7 +164,7 @@ class Value:
         for key, value in self.node.value:
             name = Value(self.path, key).text()
             if name in found:
-                raise Value(self.path, key).fault(f"\"{name}\" stands twice, first in line {found[name].line}")
+                raise Value(self.path, key).fault(f"\"{shortened(name)}\" stands twice, first in line {found[name].line}")
             found[name] = Value(self.path, value)
         return found
 
@@ -124,54 +173,107 @@ class Value:
         found, needed, others = self.entries(), list(needed), list(others)
         assert isinstance(self.node, yaml.MappingNode)
         for key, _ in self.node.value:
-            if key.value not in needed and key.value not in others:
-                raise Value(self.path, key).fault(f"\"{key.value}\" can't stand here; {guess(key.value, {*needed, *others})}")
+            Value(self.path, key).one_of({*needed, *others})
         for name in needed:
             if name not in found:
                 raise self.fault(f"{name} is missing")
         return found
 
 
-def check_tags(path: Path, node: yaml.Node, seen: set[int]) -> None:
-    """Tags such as `!!python` have no meaning here."""
-    if id(node) in seen:
-        return
-    seen.add(id(node))
+class Loader(yaml.SafeLoader):  # type: ignore[misc]
+    """Makes nodes of YAML. What stands too deep, or holds itself, is refused where it stands."""
+
+    def __init__(self, text: str) -> None:
+        super().__init__(text)
+        self.around: list[yaml.Node | None] = []
+
+    def compose_node(self, parent: yaml.Node | None, index: Any) -> yaml.Node:
+        """The next node, within those around it."""
+        event = self.peek_event()
+        if len(self.around) > MOST_DEPTH:
+            raise yaml.MarkedYAMLError(problem=f"it is more than {MOST_DEPTH} deep", problem_mark=event.start_mark)
+        self.around.append(parent)
+        if isinstance(event, yaml.AliasEvent) and any(self.anchors.get(event.anchor) is node for node in self.around if node is not None):
+            raise yaml.MarkedYAMLError(problem=f"*{shortened(event.anchor)} holds itself", problem_mark=event.start_mark)
+        node = super().compose_node(parent, index)
+        self.around.pop()
+        return node
+
+
+def check(path: Path, node: yaml.Node, sizes: dict[int, int]) -> int:
+    """Refuses tags such as `!!python`, which have no meaning here, and texts that are none; answers how many values the node
+    has, each alias counted as what it stands for."""
+    if id(node) in sizes:
+        return sizes[id(node)]
+    value = Value(path, node)
     if node.tag not in PLAIN_TAGS:
-        raise Value(path, node).fault(f"the tag {node.tag} can't stand here")
+        raise value.fault(f"the tag {shortened(node.tag)} can't stand here")
+    inner: list[yaml.Node] = []
+    if isinstance(node, yaml.ScalarNode) and any("\ud800" <= one <= "\udfff" for one in node.value):
+        raise value.fault("half a character (a lone surrogate) can't stand here")
     if isinstance(node, yaml.SequenceNode):
-        for one in node.value:
-            check_tags(path, one, seen)
+        inner = node.value
     if isinstance(node, yaml.MappingNode):
-        for key, value in node.value:
-            check_tags(path, key, seen)
-            check_tags(path, value, seen)
+        inner = [one for pair in node.value for one in pair]
+    sizes[id(node)] = 1 + sum(check(path, one, sizes) for one in inner)
+    if sizes[id(node)] > MOST_VALUES:
+        raise value.fault(f"this has more than {MOST_VALUES:,} values, each alias counted as what it stands for")
+    return sizes[id(node)]
+
+
+def text_of(path: Path) -> str:
+    """The text of a file."""
+    try:
+        with path.open("rb") as file:
+            data = file.read(MOST_BYTES + 1)
+    except OSError as error:
+        raise Failed(f"{path}: {error.strerror}", DEVICE) from error
+    except ValueError as error:
+        raise Failed(f"{on_a_line(str(path))}: is no name of a file", DEVICE) from error
+    if len(data) > MOST_BYTES:
+        raise Failed(f"{path}: has more than {MOST_BYTES:,} bytes", REFUSED)
+    try:
+        return data.decode("utf-8")
+    except UnicodeDecodeError as error:
+        before = data[:error.start].decode("utf-8")
+        raise at_end_of(path, before, "this is no text in UTF-8") from error
+
+
+def at_end_of(path: Path, before: str, said: str) -> BadFile:
+    """The fault behind a text."""
+    return BadFile(path, before.count("\n") + 1, len(before) - before.rfind("\n"), said)
 
 
 def documents(path: Path) -> list[Value]:
     """The documents of a file, `---` between them."""
+    text = text_of(path)
+    nodes: list[yaml.Node] = []
+    loader = None
     try:
-        text = path.read_text(encoding="utf-8")
-    except OSError as error:
-        raise Failed(f"{path}: {error.strerror}", DEVICE) from error
-    except UnicodeDecodeError as error:
-        raise Failed(f"{path}: is no text in UTF-8", REFUSED) from error
-    try:
-        nodes = [node for node in yaml.compose_all(text, Loader=yaml.SafeLoader) if node is not None]
+        loader = Loader(text)
+        while loader.check_node():
+            nodes.append(loader.get_node())
     except yaml.MarkedYAMLError as error:
-        mark = error.problem_mark
+        mark = error.problem_mark or error.context_mark
         raise BadFile(path, mark.line + 1 if mark else 1, mark.column + 1 if mark else 1,
                       f"this is no YAML: {error.problem or error.context}") from error
-    except yaml.YAMLError as error:
-        raise Failed(f"{path}: this is no YAML: {' '.join(str(error).split())}", REFUSED) from error
+    except yaml.reader.ReaderError as error:
+        raise at_end_of(path, text[:error.position], f"this is no YAML: the character U+{ord(text[error.position]):04X} can't stand here") from error
+    except (yaml.YAMLError, ValueError, OverflowError) as error:  # of a number that is no character's, among others
+        mark = loader.get_mark() if loader else None
+        said = " ".join(str(error).split()) if isinstance(error, yaml.YAMLError) else "there is no such character"
+        raise BadFile(path, mark.line + 1 if mark else 1, mark.column + 1 if mark else 1, f"this is no YAML: {said}") from error
+    sizes: dict[int, int] = {}
     for node in nodes:
-        check_tags(path, node, set())
+        check(path, node, sizes)
     return [Value(path, node) for node in nodes]
 
 
 def document(path: Path) -> Value:
     """The one document of a file."""
     found = documents(path)
-    if len(found) != 1:
-        raise Failed(f"{path}: one document is wanted, and there are {len(found)}", REFUSED)
+    if not found:
+        raise BadFile(path, 1, 1, "one document is wanted, and there is none")
+    if len(found) > 1:
+        raise found[1].fault(f"one document is wanted, and there are {len(found)}")
     return found[0]

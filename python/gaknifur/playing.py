@@ -5,12 +5,14 @@ is whole, and a replay by the kernel agrees with all of it.
 """
 import re
 import tempfile
+from collections.abc import Callable
 from dataclasses import dataclass
 from pathlib import Path
 
 from . import closed_loop, program
 from .cases import DRIVEN, WITHIN, Case, Condition, Expected, Life, Row, derived, with_train
 from .driving import Driven
+from .mode_rows import Table
 from .program import REFUSED, Failed
 from .reading import Journal, Json, read
 
@@ -18,8 +20,8 @@ RELEASED = re.compile(r"event (\d+) mode (\w\w) level (\d|-) brake (\w+) limit (
 BITS = {"on_sight": 1, "shunting": 2, "level_0": 4, "trip": 8, "overridden": 16, "not_revalidated": 32, "overspeed": 64}
 
 
-Table = dict[int, tuple[list[str], str]]
-"""The rows of the mode table: from which modes each leads, and where to."""
+Keep = Callable[[bytes], None]
+"""What takes the image of a case."""
 
 
 class Missed(Exception):
@@ -75,8 +77,9 @@ def place_of(life: Life, ended: str) -> str:
     return ""
 
 
-def play(case: Case) -> Played:
-    """Plays the lives of a case in turn on one image, and reads what was recorded."""
+def play(case: Case, keep: Keep | None = None) -> Played:
+    """Plays the lives of a case in turn on one image, and reads what was recorded. The image is handed to `keep`, also where
+    the lives didn't end as told."""
     with tempfile.TemporaryDirectory(prefix="gaknifur-") as room:
         folder, image = Path(room), Path(room) / "image"
         status, printed = program.etcs("format", "--", str(image), str(case.slots))
@@ -84,10 +87,14 @@ def play(case: Case) -> Played:
             raise Failed(f"etcs format: {' '.join(printed)}", REFUSED)
         released: list[str] = []
         driven: list[Driven | None] = []
-        for life in case.lives:
-            driven.append(drive(life, image))
-            one = driven[-1]
-            released += one.lines() if one else run_life(case, life, image, folder)
+        try:
+            for life in case.lives:
+                driven.append(drive(life, image))
+                one = driven[-1]
+                released += one.lines() if one else run_life(case, life, image, folder)
+        finally:
+            if keep:
+                keep(image.read_bytes())
         journal = read(image, replay=True)
     check_image(journal)
     records = with_trains(with_speeds(journal.records), driven)

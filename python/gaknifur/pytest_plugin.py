@@ -1,16 +1,18 @@
 """pytest over test cases: each `case.yaml` and `*.case.yaml` is collected, and each expected result is a test of its own.
 
-`lab test FOLDER` is pytest with this plugin. A test is named by its sections, its case and its note. `--section` and
-`--feature` select; `-k`, `-x`, `--junitxml=FILE` and the others are pytest's own. In the JUnit XML each test has the
-properties `case`, `feature` and `sections`.
+`lab test FOLDER` is pytest with this plugin. A test stands below its case, and is named by its sections, its case and its
+note. `--section` and `--feature` select; `--keep FOLDER` keeps the image and the report of each case of which a test failed;
+`-k`, `-x`, `--lf`, `--junitxml=FILE` and the others are pytest's own. In the JUnit XML the class of a test is its case,
+behind its file, and each test has the properties `case`, `feature` and `sections`.
 """
+import re
 from collections.abc import Iterator
 from pathlib import Path
 from typing import Any
 
 import pytest
 
-from . import cases, coverage, playing
+from . import cases, mode_rows, playing
 from .program import Failed
 
 FIRST = "each life ends as told; the records are released, whole and replayed"
@@ -22,6 +24,20 @@ def pytest_addoption(parser: pytest.Parser) -> None:
     group.addoption("--section", action="append", default=[], metavar="SECTION",
                     help="only results that are about this section of SUBSET-026, or a part of it; may be told more than once")
     group.addoption("--feature", action="append", default=[], metavar="FEATURE", help="only cases of this feature")
+    group.addoption("--keep", metavar="FOLDER", help="keep the image and the report of each case that failed in this new folder")
+
+
+def pytest_configure(config: pytest.Config) -> None:
+    """Where cases are kept nothing may be there yet, so that nothing is written over."""
+    folder = folder_of(config)
+    if folder and folder.exists() and (not folder.is_dir() or any(folder.iterdir())):
+        raise pytest.UsageError(f"--keep {folder}: is there already, and isn't an empty folder")
+
+
+def folder_of(config: pytest.Config) -> Path | None:
+    """The folder where cases are kept that failed."""
+    told = config.getoption("--keep")
+    return config.invocation_params.dir / told if told else None
 
 
 def pytest_collect_file(file_path: Path, parent: pytest.Collector) -> "CaseFile | None":
@@ -32,33 +48,49 @@ def pytest_collect_file(file_path: Path, parent: pytest.Collector) -> "CaseFile 
 class CaseFile(pytest.File):
     """A file of test cases."""
 
-    def collect(self) -> Iterator[pytest.Item]:
-        """An item for each expected result, behind one that the case can be judged at all."""
+    def collect(self) -> Iterator[pytest.Collector]:
+        """The cases of the file."""
         try:
-            found, table = cases.read(self.path), coverage.mode_table()
+            found, table = cases.read(self.path), mode_rows.mode_table()
         except Failed as failed:
             raise self.CollectError(str(failed)) from None
         for case in found:
-            player = Player(case)
-            for expected in (None, *case.expected):
-                if expected and expected.row and coverage.row_name(expected.row, table) is None:
-                    raise self.CollectError(str(expected.at.fault(f"{expected.row.text} is no row of the mode table")))
-                yield Item.from_parent(self, name=name_of(case, expected), player=player, expected=expected, table=table)
+            yield CaseTests.from_parent(self, name=one_line(case.name), case=case, table=table)
+
+
+class CaseTests(pytest.Collector):
+    """A test case."""
+
+    def __init__(self, *, case: cases.Case, table: mode_rows.Table, **words: Any) -> None:
+        super().__init__(**words)
+        self.case, self.table = case, table
+
+    def collect(self) -> Iterator[pytest.Item]:
+        """An item for each expected result, behind one that the case can be judged at all."""
+        player = Player(self.case, folder_of(self.config))
+        for expected in (None, *self.case.expected):
+            yield Item.from_parent(self, name=name_of(self.case, expected), player=player, expected=expected, table=self.table)
+
+
+def one_line(text: str) -> str:
+    """A text without line breaks."""
+    return " ".join(text.split())
 
 
 def name_of(case: cases.Case, expected: cases.Expected | None) -> str:
     """How a test is named: by its sections, its case and its note."""
     sections = expected.sections if expected else case.sections
-    return f"[{', '.join(sections)}] {case.name}: {expected.note if expected else FIRST}"
+    return one_line(f"[{', '.join(sections)}] {case.name}: {expected.note if expected else FIRST}")
 
 
 class Player:
     """Plays a case once for all its tests."""
 
-    def __init__(self, case: cases.Case) -> None:
-        self.case = case
+    def __init__(self, case: cases.Case, folder: Path | None) -> None:
+        self.case, self.folder = case, folder
         self.played: playing.Played | None = None
         self.failed: Exception | None = None
+        self.image: bytes | None = None
 
     def play(self) -> playing.Played:
         """The records; the same failure each time where there are none to be judged."""
@@ -66,17 +98,48 @@ class Player:
             raise self.failed
         if self.played is None:
             try:
-                self.played = playing.play(self.case)
+                self.played = playing.play(self.case, self.take if self.folder else None)
             except (playing.Missed, Failed) as failed:
                 self.failed = failed
                 raise
         return self.played
 
+    def take(self, image: bytes) -> None:
+        """Takes the image that the case left."""
+        self.image = image
+
+    def keep(self) -> None:
+        """Keeps image and report in a folder of the case's own, once."""
+        if self.folder is None or self.image is None:
+            return
+        from . import report
+        from .reading import read
+
+        image, self.image = self.image, None
+        self.folder.mkdir(parents=True, exist_ok=True)
+        folder = new_folder(self.folder, self.case.name)
+        path = folder / "image"
+        path.write_bytes(image)
+        (folder / "report.html").write_text(report.page(read(path, replay=True, why=True)), encoding="utf-8", newline="\n")
+
+
+def new_folder(inside: Path, name: str) -> Path:
+    """Makes a folder by the name of a case."""
+    plain = re.sub(r"[^\w.-]+", "_", name).strip("._")[:60] or "case"
+    for number in range(1, 10_000):
+        folder = inside / (plain if number == 1 else f"{plain}.{number}")
+        try:
+            folder.mkdir()
+            return folder
+        except FileExistsError:
+            continue
+    raise FileExistsError(f"{inside / plain}")
+
 
 class Item(pytest.Item):
     """An expected result."""
 
-    def __init__(self, *, player: Player, expected: cases.Expected | None, table: playing.Table, **words: Any) -> None:
+    def __init__(self, *, player: Player, expected: cases.Expected | None, table: mode_rows.Table, **words: Any) -> None:
         super().__init__(**words)
         self.player, self.expected, self.table = player, expected, table
         case = player.case
@@ -86,9 +149,13 @@ class Item(pytest.Item):
 
     def runtest(self) -> None:
         """Judges it."""
-        played = self.player.play()
-        if self.expected:
-            playing.judge(self.expected, played, self.table)
+        try:
+            played = self.player.play()
+            if self.expected:
+                playing.judge(self.expected, played, self.table)
+        except (playing.Missed, Failed):
+            self.player.keep()
+            raise
 
     def repr_failure(self, excinfo: Any, style: Any = None) -> Any:
         """What was expected and found, and where it stands."""

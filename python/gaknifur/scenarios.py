@@ -5,13 +5,14 @@ them again. Each telegram that is told by its variables is compared with what `e
 """
 import json
 import re
+from bisect import bisect_right
 from dataclasses import dataclass, field
-from decimal import Decimal
+from decimal import Context, Decimal
 from pathlib import Path
 from typing import Any
 
 from . import files, program, telegrams
-from .located import Value, document
+from .located import MOST_DIGITS, Value, document, shortened
 
 COLD = {"unknown": 0, "moved": 1, "not_moved": 2}
 CONFIRMED = {"identity": 1, "running_number": 2, "train_data": 3, "level": 4}
@@ -32,8 +33,11 @@ UNITS: dict[str, dict[str, Decimal]] = {
     "deceleration": {"cm/s2": Decimal(1), "m/s2": Decimal(100)},
     "acceleration": {"cm/s2": Decimal(1), "m/s2": Decimal(100)},
 }
+EXACT = Context(prec=2 * MOST_DIGITS)
+"""Reckons with numbers of that many digits without rounding."""
 QUANTITY = re.compile(r"(-?[0-9][0-9_]*(?:\.[0-9]+)?)\s*([a-z][a-z0-9/]*)")
-DEPTH = 16
+DEPTH, MOST_STEPS = 16, 100_000
+"""How deep parts use one another, and files include one another; and how many steps a life has, each `use` and mark counted."""
 
 
 @dataclass
@@ -81,15 +85,16 @@ class Shared:
 
 def quantity(text: str, at: Value, kind: str, least: int, most: int) -> int:
     """A number with its unit, in the unit of the scenario."""
-    found, units = QUANTITY.fullmatch(text.strip()), UNITS[kind]
+    text = text.strip()
+    found, units = QUANTITY.fullmatch(text), UNITS[kind]
     if not found or found[2] not in units:
-        raise at.fault(f"{'an' if kind[0] in 'aeiou' else 'a'} {kind} is wanted here, a number and {' or '.join(units)}, and this is \"{text.strip()}\"")
-    number = Decimal(found[1].replace("_", "")) * units[found[2]]
+        raise at.fault(f"{'an' if kind[0] in 'aeiou' else 'a'} {kind} is wanted here, a number and {' or '.join(units)}, and this is \"{shortened(text)}\"")
+    number = EXACT.multiply(at.decimal(found[1]), units[found[2]])
     least_unit = next(iter(units))
     if number != int(number):
-        raise at.fault(f"\"{text.strip()}\" is no whole number of {least_unit}")
+        raise at.fault(f"\"{text}\" is no whole number of {least_unit}")
     if not least <= number <= most:
-        raise at.fault(f"\"{text.strip()}\" isn't within {least:,} and {most:,} {least_unit}")
+        raise at.fault(f"\"{text}\" isn't within {least:,} and {most:,} {least_unit}")
     return int(number)
 
 
@@ -98,24 +103,26 @@ def told_quantity(at: Value, kind: str, least: int, most: int) -> int:
     return quantity(at.text(), at, kind, least, most)
 
 
-def shared_of(members: dict[str, Value], path: Path, within: tuple[Path, ...] = ()) -> Shared:
-    """The telegrams and parts of a file, behind those that it includes."""
-    found = Shared()
+def shared_of(members: dict[str, Value], path: Path, within: tuple[Path, ...] = (), known: dict[Path, Shared] | None = None) -> Shared:
+    """The telegrams and parts of a file, behind those that it includes. `known` has those of files that were read already."""
+    found, read_before = Shared(), {} if known is None else known
     if "include" in members:
         for name in [members["include"]] if members["include"].is_text() else members["include"].elements():
-            other = (path.parent / name.text()).resolve()
+            other = name.file().resolve()
             if other in within or other == path.resolve():
                 raise name.fault(f"{name.text()} includes itself")
-            if not other.exists():
-                raise name.fault(f"there is no file {other}")
-            inner = shared_of(document(other).members((), SHARED), other, (*within, path.resolve()))
+            if len(within) == DEPTH:
+                raise name.fault(f"files include one another more than {DEPTH} deep")
+            if other not in read_before:
+                read_before[other] = shared_of(document(other).members((), SHARED), other, (*within, path.resolve()), read_before)
+            inner = read_before[other]
             found.telegrams |= inner.telegrams
             found.parts |= inner.parts
-    for kind, known in (("telegrams", found.telegrams), ("parts", found.parts)):
+    for kind, there in (("telegrams", found.telegrams), ("parts", found.parts)):
         for key, value in (members[kind].entries() if kind in members else {}).items():
-            if key in known:
-                raise value.fault(f"\"{key}\" is there already, from {known[key].path}:{known[key].line}")
-            known[key] = value
+            if key in there:
+                raise value.fault(f"\"{shortened(key)}\" is there already, from {there[key].path}:{there[key].line}")
+            there[key] = value
     return found
 
 
@@ -136,7 +143,7 @@ def digits_of(at: Value, shared: Shared) -> str:
         if is_hex(text):
             return checked_size(text.upper(), at)
         if "NID_BG" not in text:
-            raise at.fault(f"there is no telegram \"{text}\"; {', '.join(sorted(shared.telegrams)) or 'none is told'}")
+            raise at.fault(f"there is no telegram \"{shortened(text)}\"; {', '.join(sorted(shared.telegrams)) or 'none is told'}")
         return written(text, at, None)
     members = at.members(("fields",), ("refused",))
     refused = members["refused"].text() if "refused" in members else None
@@ -177,6 +184,11 @@ class Builder:
         self.shared = shared
         self.built = Scenario()
         self.balises: list[int] = []
+        self.places: list[int] = []
+        """The places of the balises, from the first to the last."""
+        self.digits: dict[int, str] = {}
+        """The digits of telegrams that were told before, by their places in the YAML."""
+        self.taken = 0
 
     def build(self, members: dict[str, Value]) -> Scenario:
         """The scenario of some members."""
@@ -184,6 +196,7 @@ class Builder:
             self.built.cold = COLD[members["cold"].one_of(COLD)]
         for group in members["groups"].elements() if "groups" in members else []:
             self.group(group)
+        self.places = sorted(self.balises)
         self.steps(members["steps"], 0)
         return self.built
 
@@ -215,6 +228,9 @@ class Builder:
 
     def step(self, word: str, value: Value, step: Value, depth: int) -> None:
         """One step."""
+        self.taken += 1
+        if self.taken > MOST_STEPS:
+            raise value.fault(f"a life has at most {MOST_STEPS:,} steps, with each use of a part and each mark")
         if word == "use":
             name = value.one_of(self.shared.parts)
             if depth == DEPTH:
@@ -227,7 +243,9 @@ class Builder:
         elif word == "flush":
             self.add({"flush": True}, step, 0)
         elif word == "telegram":
-            self.add({"telegram": digits_of(value, self.shared)}, step)
+            if id(value.node) not in self.digits:
+                self.digits[id(value.node)] = digits_of(value, self.shared)
+            self.add({"telegram": self.digits[id(value.node)]}, step)
         elif word == "clock":
             self.add({"clock": told_quantity(value, "time", 0, MOST_MOMENT)}, step)
         else:
@@ -243,7 +261,7 @@ class Builder:
         """Gives the event before it a name."""
         name = at.text()
         if name in self.built.marks:
-            raise at.fault(f"\"{name}\" marks line {self.built.marked[name].line} already")
+            raise at.fault(f"\"{shortened(name)}\" marks line {self.built.marked[name].line} already")
         self.built.marks[name] = self.built.events
         self.built.marked[name] = at
 
@@ -262,7 +280,7 @@ class Builder:
             self.built.front_cm += movement
             return 1
         here, end, events = self.built.front_cm, self.built.front_cm + movement, 0
-        for place in sorted(place for place in self.balises if here < place <= end):
+        for place in self.places[bisect_right(self.places, here):bisect_right(self.places, end)]:
             events += -(-(place - here) // LONGEST_CM) + 1
             here = place
         self.built.front_cm = end

@@ -12,7 +12,7 @@ import re
 from collections.abc import Sequence
 from dataclasses import dataclass, field
 
-from .located import guess
+from .located import guess, shortened
 
 Pairs = list[tuple[str, int]]
 
@@ -23,7 +23,7 @@ HEAD = ("Q_DIR", "L_PACKET", "Q_SCALE")
 USUAL = {"Q_DIR": 2, "Q_SCALE": 1, "V_LOA": 0, "T_LOA": 1023}
 WITHOUT_SCALE = (66,)
 END_MARK = 255
-MOST_BYTES = 104
+MOST_BYTES, MOST_TEXT = 104, 20_000
 
 WIDTHS = {
     1: "Q_UPDOWN Q_MEDIA Q_LINK Q_NEWCOUNTRY Q_LINKORIENTATION Q_SECTIONTIMER Q_ENDTIMER Q_DANGERPOINT Q_OVERLAP Q_GDIR "
@@ -195,8 +195,8 @@ def pairs_of(text: str) -> Pairs:
     """The names and numbers of a text."""
     found = []
     for one in filter(None, map(str.strip, text.split(","))):
-        if not re.fullmatch(r"[A-Z][A-Z_0-9]*\s+[0-9]+", one):
-            raise Wrong(f"\"{one}\" is no variable with a number")
+        if not re.fullmatch(r"[A-Z][A-Z_0-9]*\s+[0-9]{1,10}", one):
+            raise Wrong(f"\"{shortened(one)}\" is no variable with a number")
         name, number = one.split()
         width_of(name)
         found.append((name, int(number)))
@@ -239,6 +239,8 @@ def packet_line(packet: Pairs) -> str:
 
 def telegram(text: str) -> Telegram:
     """The telegram that a text tells."""
+    if len(text) > MOST_TEXT:
+        raise Wrong(f"a telegram is told in at most {MOST_TEXT:,} characters, and this has {len(text):,}")
     first, *rest = text.split(";")
     told = pairs_of(first)
     header: dict[str, int | None] = dict(HEADER)
@@ -253,7 +255,7 @@ def telegram(text: str) -> Telegram:
     packets = []
     for one in rest:
         number_text, _, body = one.strip().partition(":")
-        if not number_text.strip().isdigit() or int(number_text) > END_MARK:
-            raise Wrong(f"\"{one.strip()}\" begins with no number of a packet")
+        if not re.fullmatch("[0-9]{1,3}", number_text.strip()) or int(number_text) > END_MARK:
+            raise Wrong(f"\"{shortened(one.strip())}\" begins with no number of a packet")
         packets.append(packet_pairs(int(number_text), pairs_of(body)))
     return Telegram([(name, number or 0) for name, number in header.items()], packets)

@@ -1,6 +1,7 @@
 """Scenarios and test cases in YAML: what they come to, and what is said of their faults."""
 import json
 import tempfile
+import time
 import unittest
 from pathlib import Path
 from unittest.mock import patch
@@ -102,6 +103,100 @@ steps: [{use: both}, {drive: 150.5 m at 36.5 km/h}, {confirm: running_number}, f
             self.assertIn("was to be refused with 3 Spare", self.said(f"steps: [{{telegram: {{fields: '{RESTRICTION}', refused: 3 Spare}}}}]"))
 
 
+class Bounds(InFiles):
+    """What no file may come to: each is refused with one line, at its place, and soon."""
+
+    MOST_SECONDS = 20
+
+    def test_each_is_one_line(self) -> None:
+        ten = "\n".join(f"  p{n + 1}: [{', '.join([f'{{use: p{n}}}'] * 10)}]" for n in range(9))
+        laughs = "\n".join(f"a{n + 1}: &a{n + 1} [{', '.join([f'*a{n}'] * 10)}]" for n in range(9))
+        long = "1" * 300_000
+        begun = time.process_time()
+        for text, said in (
+                ("steps: " + "[" * 100_000, "1:72: this is no YAML: it is more than 64 deep"),
+                ("\n".join(" " * deep + "a:" for deep in range(1_000)), "65:65: this is no YAML: it is more than 64 deep"),
+                ("steps: &a [start, *a]", "1:19: this is no YAML: *a holds itself"),
+                ("x: &a\n  y: [*a]\nsteps: []", "2:7: this is no YAML: *a holds itself"),
+                (f"a0: &a0 [x]\n{laughs}\nsteps: [start]", "7:5: this has more than 1,048,576 values"),
+                (f"parts:\n  p0: [start]\n{ten}\nsteps: [{{use: p7}}]", "2:8: a life has at most 100,000 steps"),
+                (f"parts:\n  p0: []\n{ten}\nsteps: [{{use: p9}}]", "3:"),
+                (f"steps: [{{choose_level: {long}}}]", "1:24: a number has at most 28 digits, and this is \"1111"),
+                (f"steps: [{{clock: {long} s}}]", "1:17: a number has at most 28 digits"),
+                ("steps: [{drive: 1.0000000000000000000000000001 m at 3 km/h}]", "1:17: a number has at most 28 digits"),
+                ("steps: [{telegram: 'NID_BG " + "9" * 5_000 + "'}]", '1:20: "NID_BG 999'),
+                ("steps: [{telegram: 'NID_BG 2; ²: NID_TSR 1'}]", '1:20: "²: NID_TSR 1" begins with no number'),
+                ("steps: [{telegram: 'NID_BG 2; 3: " + "NID_C 1, " * 50_000 + "'}]", "1:20: a telegram is told in at most 20,000 characters"),
+                ('include: "a\\0b"\nsteps: []', "1:10: there is no file"), ("include: " + "a" * 5_000 + "\nsteps: []", '1:10: "aaaa'),
+                ("include: /dev/zero\nsteps: []", "1:10: there is no file /dev/zero"), ("include: .\nsteps: []", "1:10: there is no file"),
+                ("steps: [\n a\0]", "2:3: this is no YAML: the character U+0000 can't stand here"),
+                ('steps: ["\\ud800"]', "1:9: half a character (a lone surrogate) can't stand here"),
+                ('steps: ["\\UFFFFFFFF"]', "1:12: this is no YAML: there is no such character"),
+                ('steps: ["a\\nb\\u202e"]', '1:9: "a\\nb\\u202e" can\'t stand here'),
+                ("steps: [{" + "x" * 100_000 + "}]", '1:10: "xxxx'), ("", "1:1: one document is wanted"),
+                ("steps: []\n---\nsteps: []", "3:1: one document is wanted")):
+            told = self.said(text)
+            self.assertTrue(told.startswith(said), f"{text[:80]}\n{told[:300]}\n{said}")
+            self.assertEqual((len(told.splitlines()), len(told) < 500), (1, True), told[:300])
+        self.assertLess(time.process_time() - begun, self.MOST_SECONDS)
+
+    def test_steps_are_counted(self) -> None:
+        text = "parts:\n  p0: [start]\n  p1: [" + ", ".join(["{use: p0}"] * 1_000) + "]\nsteps: [" + ", ".join(["{use: p1}"] * 50) + "]"
+        self.assertIn("a life has at most 100,000 steps, with each use of a part and each mark", self.said(text))
+        self.assertEqual(len(scenarios.read(self.write(text.replace("steps: [{use: p1}, ", "steps: ["))).steps), 49_000)
+
+    def test_of_a_case(self) -> None:
+        self.assertIn("this is no YAML: *m holds itself", self.said_of("{note: x, never: {mode: &m [*m]}}"))
+        self.assertIn("there is no file", self.said(CASE.replace("{steps: [start, {mark: here}, flush]}", '{scenario: "a\\0.json"}'), True))
+
+    def test_a_file_that_is_too_large_or_no_text(self) -> None:
+        self.assertIn("has more than 1,048,576 bytes", self.said("#" * (1 << 20) + "\nsteps: []"))
+        self.path.write_bytes(b"steps: [\n \"\xff\"]")
+        with self.assertRaises(Failed) as found:
+            scenarios.read(self.path)
+        self.assertEqual(str(found.exception), f"{self.path}:2:3: this is no text in UTF-8")
+
+    def test_28_digits_are_exact(self) -> None:
+        told = scenarios.read(self.write("steps: [{clock: 1.000000000000000000000000000 s}, {clock: 0000000000000000000000000020 ms}]"))
+        self.assertEqual(told.steps, [{"clock": 1000}, {"clock": 20}])
+        # 1.666666666666666666666666667 * 60,000 is 100,000.00000000000000000000002
+        for text in ("1.000000000000000000000000001 s", "1.666666666666666666666666667 min"):
+            self.assertIn("is no whole number of ms", self.said(f"steps: [{{clock: {text}}}]"))
+
+    def test_a_chain_of_files(self) -> None:
+        folder = self.path.parent
+        for number in range(20):
+            (folder / f"{number}.yaml").write_text(f"include: {number + 1}.yaml")
+        (folder / "20.yaml").write_text("parts: {}")
+        self.assertIn("files include one another more than 16 deep", str(self.refused("include: 0.yaml\nsteps: []")))
+        for number in range(12):
+            (folder / f"{number}.yaml").write_text(f"include: [{', '.join([f'{number + 1}.yaml'] * 10)}]")
+        (folder / "12.yaml").write_text("parts: {p: [start]}")
+        self.assertEqual(scenarios.read(self.write("include: 0.yaml\nsteps: [{use: p}]")).steps, [{"driver": [6]}])
+
+    def refused(self, text: str) -> Failed:
+        with self.assertRaises(Failed) as found:
+            scenarios.read(self.write(text))
+        return found.exception
+
+
+class Named(InFiles):
+    """Which files a case file names."""
+
+    def test_by_its_words_alone(self) -> None:
+        folder = self.path.parent
+        for name in ("a part.yaml", "commented.yaml", "noted.json", "inner.yaml", "life.json", "other.yaml"):
+            (folder / name).write_text("include: [inner.yaml]\nparts: {}" if name == "a part.yaml" else "# commented.yaml\nparts: {}")
+        (folder / "life.json").write_text("{}")
+        self.write("# see commented.yaml\n" + CASE.replace("rule: c", "rule: as noted.json tells\ninclude: a part.yaml").replace(
+            "lives: [", "lives: [{scenario: life.json}, {scenario: missing.json}, ") + "  - {note: x, never: {mode: SF}}\n")
+        self.assertEqual([path.name for path in cases.files_of(self.path)][0], self.path.name)
+        self.assertEqual({path.name for path in cases.files_of(self.path)}, {self.path.name, "a part.yaml", "inner.yaml", "life.json"})
+
+    def test_a_file_that_is_no_yaml_names_none(self) -> None:
+        self.assertEqual(cases.files_of(self.write("include: [")), [self.path.resolve()])
+
+
 class Telegrams(unittest.TestCase):
     """Variables and bits. The digits are those of the examples and the program's rows."""
 
@@ -145,6 +240,11 @@ class Cases(InFiles):
                 ("{note: x, at: {mode: FS}, never: {mode: SF}}", "{note", "an expected result is one of"),
                 ("{note: x, after: {mode: FS}, expect: {mode: SF}}", "{note", "one of within_events, within_ms, within_cm is wanted"),
                 ("{at: {mode: FS}, expect: {mode: SF}}", "{at", "note is missing"),
+                ("{note: x, at: {mode: FS}, row: 99}", "99", "99 is no row of the mode table"),
+                ("{note: x, at: {mode: FS}, row: 16 from FS}", "16 from FS", "16 from FS is no row of the mode table"),
+                ("{note: x, at: {mode: FS}, row: 2}", "2}", 'row 2 leads from several modes, so one is wanted, as "2 from FS"'),
+                ("{note: x, never: {level: 2}}", "2}", 'level is 0, 1 or unknown, and this is "2"'),
+                ("{note: x, never: {level: {least: -1}}}", "-1", 'level is 0, 1 or unknown, and this is "-1"'),
                 ("{note: x, sections: [9.1], never: {mode: SF}}", "9.1", '"9.1" is no section of SUBSET-026')):
             told, place = self.said_of(expected), f"8:{5 + expected.index(where)}: "
             self.assertTrue(told.startswith(place + said), f"{expected}\n{told}\n{place}{said}")
@@ -223,12 +323,12 @@ class Coverage(InFiles):
         self.assertEqual(coverage.names_of("3.11, all others"), ["3.11 all others"])
 
     def test_what_is_missing(self) -> None:
-        self.write(CASE.replace("[3.10]", "[3.8.1, 3.99]") + "  - {note: x, at: {mode: FS}, row: 2}\n")
+        self.write(CASE.replace("[3.10]", "[3.8.1, 3.99]") + "  - {note: x, at: {mode: FS}, row: 2 from OS}\n")
         faults = "\n".join(coverage.matrix(self.path.parent).faults)
-        for said in ("3.99 is no section of docs/CONFORMANCE.md", "3.8.3 has no case, and no reason why", "16 from SB has no case",
-                     ":8: 2 is no row of the mode table"):
+        for said in ("3.99 is no section of docs/CONFORMANCE.md", "3.8.3 has no case, and no reason why", "16 from SB has no case"):
             self.assertIn(said, faults)
-        self.assertNotIn("3.8.1 has no case", faults)
+        for said in ("3.8.1 has no case", "2 from OS has no case"):
+            self.assertNotIn(said, faults)
 
     def test_a_page_that_is_a_document(self) -> None:
         self.assertTrue(document(self.write("a: 1")).is_mapping())

@@ -121,15 +121,16 @@ def faults(room, whole):
     folder = room / "cases"
     (folder / "inner").mkdir(parents=True)
     scenario = (TOP / "examples" / "trip" / "scenario.json").read_bytes()
-    (folder / "lives.json").write_bytes(scenario)
+    (folder / "its lives.json").write_bytes(scenario)
     (folder / "alone.json").write_bytes(scenario)
     (folder / "bad.json").write_bytes(b"{}")
-    case = ("test_case: {}\nfeature: Trip\nsections: [3.8.1]\nrule: the train trips\nstarting_conditions: level 1\n"
-            "lives: [{{scenario: ../lives.json}}]\nexpected:\n  - {{note: as the example tells it, at: {{mode: TR}}, expect: {{brake: {}}}}}\n")
+    # a file that a comment names is no file of the case
+    case = ("# alone.json, ../alone.json\ntest_case: {}\nfeature: Trip\nsections: [3.8.1]\nrule: the train trips\nstarting_conditions: level 1\n"
+            "lives: [{{scenario: ../its lives.json}}]\nexpected:\n  - {{note: as the example tells it, at: {{mode: TR}}, expect: {{brake: {}}}}}\n")
     (folder / "inner" / "good.case.yaml").write_text(case.format("good", "emergency"))
     (folder / "inner" / "wrong.case.yaml").write_text(case.format("wrong", "none"))
     out = room / "cases.db"
-    told = lab("campaign", folder, out, "--workers", "2")
+    told = lab("campaign", folder, "--workers", "2", out)
     with sqlite3.connect(out) as connection:
         found = {name: rest for name, *rest in connection.execute("SELECT name, kind, ended, tests, missed, sound FROM result")}
     wanted = {"inner/good.case.yaml": ["case", "carried out", 1, 0, 1], "inner/wrong.case.yaml": ["case", "carried out", 1, 1, 0],

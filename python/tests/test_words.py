@@ -1,0 +1,115 @@
+"""The words of `./lab`: in which order they may stand; and what pytest makes of a suite."""
+import contextlib
+import io
+import os
+import tempfile
+import unittest
+import xml.etree.ElementTree
+from pathlib import Path
+from typing import Any
+from unittest.mock import patch
+
+from gaknifur import __main__ as lab
+from gaknifur import playing
+from gaknifur.cases import Case
+from gaknifur.playing import Keep, Played, with_speeds
+
+from .samples import journal, record
+
+SUITE = """\
+test_case: {}
+feature: b
+sections: [3.10]
+rule: c
+starting_conditions: d
+lives: [{{steps: [start]}}]
+expected:
+  - {{note: comes, at: {{mode: SB}}, expect: {{mode: SB}}}}
+  - {{note: doesn't, at: {{mode: SB}}, expect: {{mode: FS}}}}
+"""
+
+
+class Order(unittest.TestCase):
+    """Options stand before, between and behind the other words."""
+
+    def test_of_options(self) -> None:
+        for given in ("campaign F --workers 1 O.db", "campaign --workers 1 F O.db", "campaign F O.db --workers 1"):
+            told = lab.understood(given.split())
+            self.assertEqual((told.folder, told.out, told.workers), (Path("F"), Path("O.db"), 1))
+        self.assertEqual(lab.understood("campaign --random 3 O.db".split()).folder, None)
+        told = lab.understood("table I --all O.csv".split())
+        self.assertEqual((told.image, told.out, told.other_blocks), (Path("I"), Path("O.csv"), True))
+        self.assertEqual(lab.understood("database A --all B O.db".split()).images, [Path("A"), Path("B")])
+        self.assertEqual(lab.understood("test F -k x --section 3.8 --lf".split()).others, ["-k", "x", "--lf"])
+
+    def test_wrong_words(self) -> None:
+        for given in ("campaign F O.db more", "table", "table I --al O.csv", "nothing I", "--all table I", ""):
+            with self.assertRaises(SystemExit) as ended, contextlib.redirect_stderr(io.StringIO()):
+                lab.understood(given.split())
+            self.assertEqual(ended.exception.code, 2, given)
+
+
+def plays(case: Case, keep: Keep | None = None) -> Played:
+    """Stands in for the programs: one life with its power-up alone."""
+    if keep:
+        keep(b"the image")
+    return Played(with_speeds([record(0, "powerup", mode="SB")]), {})
+
+
+class Suites(unittest.TestCase):
+    """`lab test` on a suite whose cases are played by a stand-in."""
+
+    def setUp(self) -> None:
+        folder = tempfile.TemporaryDirectory()
+        self.addCleanup(folder.cleanup)
+        self.room = Path(folder.name)
+        (self.room / "suite").mkdir()
+        for name in ("one", "two of a/kind"):
+            (self.room / "suite" / f"{name[:3]}.case.yaml").write_text(SUITE.format(name))
+        self.enterContext(patch.object(playing, "play", plays))
+        self.enterContext(patch.dict(os.environ, {"XDG_CACHE_HOME": str(self.room / "cache")}))
+
+    def lab(self, *words: str) -> tuple[int, str]:
+        """The status, and what was printed on both streams."""
+        told = io.StringIO()
+        with contextlib.redirect_stdout(told), contextlib.redirect_stderr(told):
+            status = lab.main(["test", str(self.room / "suite"), *words])
+        return status, told.getvalue()
+
+    def test_a_class_is_a_case(self) -> None:
+        out = self.room / "results.xml"
+        self.assertEqual(self.lab(f"--junitxml={out}")[0], 1)
+        found = [(one.get("classname"), one.get("name")) for one in xml.etree.ElementTree.parse(out).iter("testcase")]
+        self.assertEqual(len(found), 6)
+        self.assertEqual({name for name, _ in found}, {"one.case.yaml.one", "two.case.yaml.two of a/kind"})
+        self.assertIn(("one.case.yaml.one", "[3.10] one: doesn't"), found)
+
+    def test_the_last_failures(self) -> None:
+        self.assertIn("2 failed, 4 passed", self.lab()[1])
+        self.assertIn("2 failed, 4 deselected", self.lab("--lf")[1])
+        self.assertEqual(sorted(path.name for path in (self.room / "suite").iterdir()), ["one.case.yaml", "two.case.yaml"])
+
+    def test_image_and_report_are_kept(self) -> None:
+        kept = self.room / "kept"
+        with patch("gaknifur.reading.read", lambda path, **words: self.told(path)):
+            self.assertEqual(self.lab("--keep", str(kept))[0], 1)
+        self.assertEqual(sorted(str(path.relative_to(kept)) for path in kept.rglob("*")),
+                         ["one", "one/image", "one/report.html", "two_of_a_kind", "two_of_a_kind/image", "two_of_a_kind/report.html"])
+        self.assertEqual((kept / "one/image").read_bytes(), b"the image")
+        self.assertIn("<h1>Journal", (kept / "one/report.html").read_text())
+        status, told = self.lab("--keep", str(kept))
+        self.assertEqual((status, "is there already, and isn't an empty folder" in told), (2, True))
+
+    def told(self, path: Path) -> Any:
+        """The journal of the stand-in."""
+        self.assertEqual(path.read_bytes(), b"the image")
+        return journal(record(0, "powerup", mode="SB"))
+
+    def test_what_comes_is_not_kept(self) -> None:
+        kept = self.room / "kept"
+        self.assertEqual(self.lab("--keep", str(kept), "-k", "comes")[0], 0)
+        self.assertFalse(kept.exists())
+
+
+if __name__ == "__main__":
+    unittest.main()

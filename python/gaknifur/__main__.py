@@ -1,4 +1,4 @@
-"""The words of `./lab`: `table`, `database`, `report`, `build`, `test`, `coverage`, `drive`, `campaign`, `compare`."""
+"""The words of `./lab`: `table`, `database`, `report`, `check`, `build`, `test`, `coverage`, `drive`, `campaign`, `compare`."""
 import argparse
 import hashlib
 import os
@@ -8,7 +8,7 @@ from collections.abc import Callable, Sequence
 from pathlib import Path
 from typing import NoReturn
 
-from . import campaign_words, coverage, drive_words, files, scenarios
+from . import campaign_words, check_words, coverage, drive_words, files, scenarios
 from .last_net import caught, say
 from .program import DEVICE, NOT_WHOLE, REFUSED, WRONG_WORDS, Failed
 from .progress import Terminal
@@ -76,6 +76,7 @@ def words() -> argparse.ArgumentParser:
     page.add_argument("--life", metavar="N", type=int, help="this life alone")
     add_force(page)
     page.add_argument("--newest-first", action="store_true", help="the lives from the last one to the first")
+    check_words.add_words(word)
     add_suites(word)
     drive_words.add_words(word)
     campaign_words.add_words(word)
@@ -246,7 +247,8 @@ def tell_coverage(told: argparse.Namespace, progress: Progress) -> None:
 
 WORDS: dict[str, Callable[[argparse.Namespace, Progress], int | None]]
 WORDS = {"table": write_table, "database": write_database, "report": write_report, "build": write_scenario, "test": run_tests,
-         "coverage": tell_coverage, **drive_words.WORDS, **campaign_words.WORDS}
+         "coverage": tell_coverage, **check_words.WORDS, **drive_words.WORDS,
+         **campaign_words.WORDS}
 
 
 def understood(given: Sequence[str]) -> argparse.Namespace:

@@ -49,6 +49,30 @@ class Order(unittest.TestCase):
             self.assertEqual(ended.exception.code, 2, given)
 
 
+class Checks(unittest.TestCase):
+    """`lab check` by a stand-in of etcs_lab."""
+
+    def check(self, status: int, printed: str, said: str, *words: str) -> tuple[int, str, str]:
+        """Status, standard output and standard error."""
+        with tempfile.TemporaryDirectory() as room:
+            program, image = Path(room) / "etcs_lab", Path(room) / "image"
+            program.write_text(f"#!/bin/sh\nprintf '%s' \"{printed}\"\necho \"{said}\" 1>&2\nexit {status}\n" if said else
+                               f"#!/bin/sh\nprintf '%s' \"{printed}\"\nexit {status}\n")
+            program.chmod(0o755)
+            out, errors = io.StringIO(), io.StringIO()
+            with patch.dict(os.environ, {"GAKNIFUR_ETCS_LAB": str(program)}), contextlib.redirect_stdout(out), contextlib.redirect_stderr(errors):
+                return lab.main(["check", *words, str(image)]), out.getvalue(), errors.getvalue().replace(room, "ROOM")
+
+    def test_lines_and_status_are_handed_on(self) -> None:
+        self.assertEqual(self.check(0, "one\ntwo\n", ""), (0, "one\ntwo\n", ""))
+        self.assertEqual(self.check(4, "the image is not whole\n", ""), (4, "the image is not whole\n", ""))
+        self.assertTrue(self.check(0, "$*\n", "", "--json")[1].startswith("check --json -- /"))
+
+    def test_what_is_said(self) -> None:
+        self.assertEqual(self.check(3, "", "etcs_lab: ROOM/image: no such file")[0], 3)
+        self.assertIn("no such file", self.check(3, "", "etcs_lab: x: no such file")[2])
+
+
 def plays(case: Case, keep: Keep | None = None) -> Played:
     """Stands in for the programs: one life with its power-up alone."""
     if keep:

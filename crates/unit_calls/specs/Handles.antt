@@ -77,13 +77,13 @@ pub record IsPrepared (before after : Relayed) (told : Result ⊤ PrepareError) 
   -- a refusal holds nothing more back
   pub held : OnErr told (after.outputs ≡ before.outputs)
   -- behind each number of requests each image represents the durable events, or all accepted ones
-  pub any_moment : OnOk told (Turns before.moored after.moored (λ it next. (durable accepted : List Event) →
-      IsOpen it.unit.journal (account_of durable) (mirror_state it.mirror) → IsAhead durable accepted it.unit.life →
-      AtEachMoment (mirror_state it.mirror) (mirror_state next.mirror) (TellsEither it.mirror.sectors durable accepted)))
+  pub any_moment : OnOk told (Turns before.moored after.moored (λ it next. (whole_from : ℕ) (durable accepted : List Event) →
+      IsOpen it.unit.journal (account_of whole_from durable) (mirror_state it.mirror) → IsAhead durable accepted it.unit.life →
+      AtEachMoment (mirror_state it.mirror) (mirror_state next.mirror) (TellsEither whole_from it.mirror.sectors durable accepted)))
   -- behind all of them all accepted ones
-  pub flushed : OnOk told (Turns before.moored after.moored (λ it next. (durable accepted : List Event) →
-      IsOpen it.unit.journal (account_of durable) (mirror_state it.mirror) → IsAhead durable accepted it.unit.life →
-      IsOpen next.unit.journal (account_of accepted) (mirror_state next.mirror) × IsAhead accepted accepted next.unit.life))
+  pub flushed : OnOk told (Turns before.moored after.moored (λ it next. (whole_from : ℕ) (durable accepted : List Event) →
+      IsOpen it.unit.journal (account_of whole_from durable) (mirror_state it.mirror) → IsAhead durable accepted it.unit.life →
+      IsOpen next.unit.journal (account_of whole_from accepted) (mirror_state next.mirror) × IsAhead accepted accepted next.unit.life))
 
 abbrev pub Prepares : Opened → Opened → Status → Type 0
 Prepares before after status = (told : Result ⊤ PrepareError) × (status ≡ of_prepare told)
@@ -151,10 +151,10 @@ pub record IsPoweredUp (image : List ℕ) (cold : Cold) (told : Result Relayed O
   -- where it is opened no refusal had one
   pub no_cause : OnOk told (HasNoCause (length image / 512) (contents_of (mirror_state (mirror_of image))))
   -- behind each number of requests each image is one that a power-up may leave of these bytes
-  pub up : (durable accepted : List Event) → IsReady durable accepted (mirror_state (mirror_of image)) →
+  pub up : (whole_from : ℕ) (durable accepted : List Event) → IsReady whole_from durable accepted (mirror_state (mirror_of image)) →
       IfOk told (λ u. IfSome u.moored (λ it. (found : List Event) × (power_up_word : Cold)
-      × Opens durable accepted found cold power_up_word (mirror_state (mirror_of image)) (mirror_state it.mirror)
-      × IsOpen it.unit.journal (account_of (PowerUp power_up_word ∷ found)) (mirror_state it.mirror)
+      × Opens whole_from durable accepted found cold power_up_word (mirror_state (mirror_of image)) (mirror_state it.mirror)
+      × IsOpen it.unit.journal (account_of whole_from (PowerUp power_up_word ∷ found)) (mirror_state it.mirror)
       × IsAhead (PowerUp power_up_word ∷ found) (PowerUp power_up_word ∷ found) it.unit.life))
 
 -- the unit is in the handle, or there was no memory for it there; a refusal leaves none

@@ -28,12 +28,12 @@ use Rattle.why_lines.proofs.Releasing.{begun, nothing_durable}
 -- ---- an empty image
 
 module _ (disk : Recording) (empty : IsEmpty disk) where
-  abbrev its_rest : IsAtRest 2 0 (account_of []) (memory_state disk)
-  its_rest = empty.rest (account_of []) refl
+  abbrev its_rest : IsAtRest 2 0 (account_of 0 []) (memory_state disk)
+  its_rest = empty.rest (account_of 0 []) (refl, refl)
 
   -- it is ready for a first life
-  pub ready : IsReady [] [] (memory_state disk)
-  ready = record { more = []; begins = refl; each = λ c image. inl (at_rest 2 0 (account_of []) (memory_state disk) its_rest c image) }
+  pub ready : IsReady 0 [] [] (memory_state disk)
+  ready = record { more = []; begins = refl; each = λ c image. inl (at_rest 2 0 (account_of 0 []) (memory_state disk) its_rest c image) }
 
   no_newest : IsNewest 2 (valid_at 2 (contents_of (memory_state disk))) 0
   no_newest = record { each = λ slot valid below at. (its_rest.ring.each slot valid below at).at_most; found = inl refl }
@@ -46,7 +46,7 @@ module _ (disk : Recording) (empty : IsEmpty disk) where
   first_number number (slots, greatest, size, newest, is) =
       let slots_are : slots ≡ 2 = same_slots (memory_state disk).sectors slots 2 size its_rest.formatted.size in
       let N : ℕ → Type 0 = λ s. IsNewest s (valid_at s (contents_of (memory_state disk))) greatest in
-      let none : greatest ≡ 0 = same_newest 2 (valid_at 2 (contents_of (memory_state disk))) 0 greatest (account_of []) (omega arith) its_rest.ring (subst N slots_are newest) in
+      let none : greatest ≡ 0 = same_newest 2 (valid_at 2 (contents_of (memory_state disk))) 0 greatest (account_of 0 []) (omega arith) its_rest.ring (subst N slots_are newest) in
       omega (arith, is, none)
 
   -- no cause but the device keeps it from being opened

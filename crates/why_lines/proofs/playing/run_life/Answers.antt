@@ -17,12 +17,12 @@ returns-clause-released c =
     let life = c.args.life.now in
     let disk = c.in_ok-disk.disk in
     let empty = c.in_ok-disk.ensures in
-    let it = c.live-disk.ensures.life [] [] refl (ready disk empty) in
+    let it = c.live-disk.ensures.life 0 [] [] refl (ready disk empty) in
     let none : it.0 ≡ [] = ⊎_elim (λ (e : it.0 ≡ []). e) (λ (e : it.0 ≡ []). e) it.2.found_is in
     let out : c.live-disk.new.out.items ≡ it.2.released = it.2.out_is ∙ ap (λ (l : List Release). l ++ it.2.released) c.new-released.ensures.items in
     let word = word_or_nothing disk empty life.cold it.1 it.2.released _ it.2.word_is in
     let all = releases life.cold it.1 it.0 c.as_slice-steps.result.now c.live-disk.result.1
-    (OnlyOpens [] [] it.0 it.1 (memory_state disk) (memory_state c.live-disk.result.0))
+    (OnlyOpens 0 [] [] it.0 it.1 (memory_state disk) (memory_state c.live-disk.result.0))
     it.2.steps_taken it.2.durable_at_end it.2.accepted_at_end it.2.released c.live-disk.new.out.items none out word it.3 in
     subst (λ (s : Option LiveError). pairs_of (durable_by (begun life.cold) (carried_out life.steps.items s)) ≡ pairs_of (begun life.cold) ++ c.live-disk.new.out.items)
     (sym c.err-stopped.ensures.value)

@@ -16,7 +16,7 @@ class Results:
     def __init__(self, out: files.Out, made: Path) -> None:
         self.out, self.made = out, made
 
-    @pytest.hookimpl(trylast=True)
+    @pytest.hookimpl(trylast=True)  # type: ignore[misc]
     def pytest_sessionfinish(self, session: pytest.Session) -> None:
         """The tests are done, and pytest has written the file."""
         if self.made.exists():

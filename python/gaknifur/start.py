@@ -19,8 +19,13 @@ def begin() -> int:
         return MISSING
     sys.path.insert(0, str(Path(__file__).resolve().parents[1]))
     from gaknifur.last_net import caught, hold_streams
+
+    def do() -> int:
+        from gaknifur.__main__ import main
+        return main()
+
     hold_streams()
-    return caught(lambda: __import__("gaknifur.__main__", fromlist=["main"]).main())
+    return caught(do)
 
 
 if __name__ == "__main__":

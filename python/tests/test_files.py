@@ -17,7 +17,7 @@ from gaknifur.driving import Driven
 from gaknifur.files import Out
 from gaknifur.program import DEVICE, REFUSED, Failed
 from gaknifur.scenarios import Scenario
-from gaknifur.unit import Medium
+from gaknifur.unit import Medium, MemoryMedium
 
 from .samples import journal, record
 
@@ -172,7 +172,8 @@ class Words(Room):
                           ["build", str(yaml), out], ["campaign", "--random", "1", out],
                           ["campaign", "--random", "1", "--csv", out, str(self.room / "new.db")]):
                 (self.room / "folder").mkdir(exist_ok=True)
-                for force in ([], ["--force"] if words[0] != "database" else []):
+                forces: list[list[str]] = [[], ["--force"] if words[0] != "database" else []]
+                for force in forces:
                     said = io.StringIO()
                     with contextlib.redirect_stderr(said), patch("gaknifur.campaign.settings_of", dict):
                         self.assertEqual(main([*words, *force]), REFUSED, words)
@@ -227,8 +228,17 @@ class Images(Room):
         image = self.file("image", IMAGE * 3)
         told: list[object] = []
         write, sync = os.pwrite, os.fsync
-        with patch("os.pwrite", lambda *given: told.append((given[2], len(given[1]))) or write(*given)), \
-                patch("os.fsync", lambda number: told.append("sync") or sync(number)), patch.object(drive_words, "on_medium", self.on_medium):
+
+        def noted_write(number: int, data: bytes, at: int) -> int:
+            told.append((at, len(data)))
+            return write(number, data, at)
+
+        def noted_sync(number: int) -> None:
+            told.append("sync")
+            sync(number)
+
+        with patch("os.pwrite", noted_write), patch("os.fsync", noted_sync), \
+                patch.object(drive_words, "on_medium", self.on_medium):
             drive_words.on_file(image, self.scenario, self.drive)
         self.assertEqual([one for one in told if one != "sync"], [(1024, 512), (512, 512)])
         self.assertEqual(told[-4:], [(1024, 512), "sync", (512, 512), "sync"])
@@ -257,7 +267,7 @@ class Images(Room):
 
     def test_the_unit_s_library_is_looked_for_first(self) -> None:
         with patch.object(closed_loop, "library", side_effect=OSError("none")), self.assertRaisesRegex(Failed, "no library"):
-            closed_loop.on_medium(closed_loop.MemoryMedium(IMAGE), self.scenario, self.drive)
+            closed_loop.on_medium(MemoryMedium(IMAGE), self.scenario, self.drive)
 
 
 def add_one(path: Path, number: int) -> None:

@@ -125,6 +125,10 @@ def examine(path: Path) -> Json:
     return told[0]
 
 
+UNTABLED = ("misplaced", "damaged")
+"""Sources whose records aren't taken: an event may stand twice there, and of a damaged block the life isn't known."""
+
+
 def tell_events(journal: Journal, other_blocks: bool, progress: Progress) -> None:
     """Takes what `etcs_lab events` tells."""
     extent = journal.examination["journal"] or {}
@@ -134,6 +138,8 @@ def tell_events(journal: Journal, other_blocks: bool, progress: Progress) -> Non
 
     def step(told: Json) -> None:
         nonlocal ended
+        if told.get("source") in UNTABLED:
+            return
         if "event" in told:
             journal.records.append(told)
             if len(journal.records) % 1000 == 0:

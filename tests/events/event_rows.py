@@ -13,17 +13,19 @@ from pathlib import Path
 
 sys.path.insert(0, str(Path(__file__).resolve().parents[1] / "plain"))
 
-from images import MARKUP, cut_images, example_images, random_images, worked_images  # noqa: E402
+from images import MARKUP, blocks, cut_images, damaged_images, example_images, random_images, slots_of, worked_images  # noqa: E402
 from told import Refused, told  # noqa: E402
 
 RINGS, SEED = 300, 41
-LEAST_LINES, LEAST_IMAGES = 19_000, 700
+LEAST_LINES, LEAST_IMAGES = 45_000, 2_800
+SOURCES = {"journal", "behind_gap", "replaced", "unwritten", "misplaced", "damaged"}
 # Each image is told with and without the other blocks; of the damaged forms of an image each so many.
 EACH = 5
 
 
 def all_images(rings, seed):
     yield from worked_images()
+    yield from damaged_images()
     yield from cut_images()
     yield from random_images(rings, seed)
     for name, image, damaged in example_images():
@@ -83,7 +85,7 @@ class Count:
         kinds = {value for key, value in self.seen if key == "source"}
         actions = {value for key, value in self.seen if key == "action"}
         print(f"events: {self.lines} lines of {self.images} listings compared field by field, {self.differ} differ")
-        few = self.lines < LEAST_LINES or self.images < LEAST_IMAGES or len(kinds) < 4 or len(actions) < 11
+        few = self.lines < LEAST_LINES or self.images < LEAST_IMAGES or kinds != SOURCES or len(actions) < 11
         if few:
             print(f"too little was tried: sources {sorted(kinds)}, {len(actions)} actions")
         return 1 if few or self.differ else 0
@@ -96,9 +98,29 @@ def as_read(value):
     return (type(value).__name__, value)
 
 
+def by_hand_rows(run):
+    """By hand: a block in slot 1 of two, whose third record has a mode that is none, and the same block, whole, in slot 0. Slot 1 begins behind
+    seven sectors of 512 bytes, its records two sectors further on, with 256 bytes each."""
+    whole = blocks.data_of(blocks.block(3, 1, 8, 1, [blocks.entry(k, ("clock", k), moment=k) for k in range(8)]))
+    data = bytearray(whole)
+    data[2 * 512 + 2 * 256 + 1] = 5
+    image = slots_of([(1, bytes(data)), (0, whole)], 2)
+    copies = [("misplaced", 1, 1_536 + 256 * k, k, 1) for k in range(8)]
+    others = [("damaged", 1, 4_608 + 256 * k, k, None) for k in range(8) if k != 2]
+    wrong = 0
+    for all_blocks, wanted in ((True, [*copies, "unreadable", *others]), (False, ["unreadable"])):
+        status, out = run(image, all_blocks)
+        told = [json.loads(line) for line in out.splitlines()][1:-1]
+        found = [(one["source"], one["block"], one["byte"], one["event"], one["life"]) if "event" in one else next(iter(one)) for one in told]
+        if (found, status) != (wanted, 4):
+            print(f"by hand:\n  told   {found}\n  wanted {wanted}")
+            wrong += 1
+    print(f"events: 2 listings by hand of a damaged and a misplaced block, {wrong} differ")
+    return wrong
+
+
 def markup_row(run):
     """The bytes of the line itself, with quotes and backslashes before them."""
-    from images import blocks, slots_of
     wrong = 0
     for text in MARKUP:
         b = blocks.block(3, 1, 1, 1, [blocks.entry(0, ("driver", b"\1" + text))])
@@ -138,7 +160,7 @@ def main(words):
         for name, image in all_images(rings, seed):
             for all_blocks in (False, True):
                 count.compare(f"{name}, {'all' if all_blocks else 'journal'}", *run(image, all_blocks), image, all_blocks)
-        wrong = markup_row(run)
+        wrong = markup_row(run) + by_hand_rows(run)
     return 1 if count.end() or wrong else 0
 
 

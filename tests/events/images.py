@@ -18,7 +18,7 @@ MARKUP = (b'<b>"\\', b"\"", b"\\", b"\\u0041", b"</script>", b"a\\\\\"b", b"{\"e
 
 
 def slots_of(numbers_and_data, slots, first=None):
-    """An image of slots, each closed and empty but for these."""
+    """An image of slots, each closed and empty but for these, which stand where these numbers belong."""
     parts = {number % slots: data for number, data in numbers_and_data}
     return (first or first_sector(slots)) + b"".join(parts.get(slot, bytes(6 * SECTOR)) for slot in range(slots))
 
@@ -126,13 +126,15 @@ def block(numbers, known, form, number, events, lives):
 
 
 def ring(numbers, known):
-    """A ring of pseudo-random blocks in mixed formats: some slots are closed, damaged or hold an older block."""
+    """A ring of pseudo-random blocks in mixed formats: some slots are closed, damaged, without a sector, or hold an older block or that of
+    another slot."""
     slots, first = 2 + numbers.below(9), 1 + numbers.below(30)
     newest, parts, events, lives = first + numbers.below(slots + 1), [], 16 * (first - 1), numbers.below(5)
     for number in range(first, newest + 1):
         b = block(numbers, known, 1 + numbers.below(3), number, max(events, number - 1), lives)
         events, lives = b["events"], lives + sum(r["event"][0] == "powerup" for r in b["records"])
-        data, how = blocks.data_of({**b, "lives": lives}), numbers.below(12)
+        data, how = blocks.data_of({**b, "lives": lives}), numbers.below(14)
+        place = number
         if how == 0:
             data = bytes(SECTOR) + data[SECTOR:]
         elif how == 1:
@@ -142,7 +144,12 @@ def ring(numbers, known):
             data = bytes([numbers.below(2)]) + data[1:SECTOR] + data[SECTOR:]
         elif how == 3 and number > slots:
             continue
-        parts.append((number, data))
+        elif how == 4:
+            place = numbers.below(slots)
+        elif how == 5:
+            at = SECTOR * numbers.below(6)
+            data = data[:at] + bytes(SECTOR) + data[at + SECTOR:]
+        parts.append((place, data))
     return slots_of(parts, slots)
 
 
@@ -182,6 +189,34 @@ def cut_images():
     image = slots_of(parts, 5)
     for sectors in range(len(image) // SECTOR + 9):
         yield f"{sectors} sectors of {len(image) // SECTOR}", image.ljust(sectors * SECTOR, b"\1")[:sectors * SECTOR]
+
+
+EIGHT = [("powerup", 0), ("clock", 5), ("odometer", 100, 3_600), ("telegram", b"\x90" * 104), ("driver", b"\6"), ("odometer", -7, 0), ("clock", 9),
+         ("driver", b"\1A")]
+
+
+def damaged_images():
+    """A ring of three blocks of each format, of which the second, or the newest, has an altered byte in each field of its head and of its
+    records, or is without a sector; also behind a closed gate, and in a slot of another number."""
+    for form in (1, 2, 3):
+        told = [("powerup", 0) if kind == "powerup" else (kind, *values) for kind, *values in EIGHT]
+        three = [(n, blocks.block(form, n, 8 * n, n, [blocks.entry(8 * n - 8 + k, one, moment=k) for k, one in enumerate(told)])) for n in (1, 2, 3)]
+        whole = [(n, blocks.data_of(b)) for n, b in three]
+        width = 128 if form == 1 else 256
+        places = [SECTOR + at for at in (0, 8, 15, 16, 28, 30, 71, 100, 198, 511)]
+        places += [2 * SECTOR + width * k + at for k in range(8) for at in (0, 3, 6, 8, 15, 23, width - 1)]
+        for n in (2, 3):
+            data = dict(whole)[n]
+            changed = [data[:at] + bytes([data[at] ^ 0x81]) + data[at + 1:] for at in places]
+            changed += [data[:SECTOR * k] + bytes(SECTOR) + data[SECTOR * (k + 1):] for k in range(6)]
+            for k, other in enumerate([data, *changed]):
+                name = f"format {form}, block {n} altered {k}"
+                if n == 2 or k % 3 == 0:
+                    yield name, slots_of([*whole, (n, other)], 4)
+                if k % 3 == n - 2:
+                    yield f"{name} behind a closed gate", slots_of([*whole, (n, bytes(SECTOR) + other[SECTOR:])], 4)
+                if k % 3 == n - 1:
+                    yield f"{name} in slot 0", slots_of([*whole, (4, other)], 4)
 
 
 def worked_images():

@@ -60,7 +60,7 @@ WHERE (mode_before, level_before, brake_before, speed_before_m_per_h, next_event
 def plain_records(image, all_blocks):
     """The records as dictionaries, and the numbers of blocks that can't be read."""
     lines, _ = told(image, all_blocks)
-    lines = [dict(line) for line in lines[1:-1]]
+    lines = [line for line in map(dict, lines[1:-1]) if line.get("source") not in ("misplaced", "damaged")]
     return [line for line in lines if "event" in line], [dict(line["unreadable"])["block"] for line in lines if "unreadable" in line]
 
 

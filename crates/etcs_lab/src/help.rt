@@ -8,7 +8,7 @@ carries, how one is written, and what is wrong in a scenario.
   etcs_lab examine [--json] IMAGE    reads every slot, and tells what each holds, which blocks and events are lost,
                                      what contradicts, and what a power-up of this image would do
   etcs_lab events [--all] IMAGE      tells each record of the journal as a JSON object on a line, the oldest first;
-                                     with --all also those of other readable blocks, each with its source
+                                     with --all also those of other blocks and of damaged ones, each with its source
   etcs_lab replay [--json] IMAGE     runs each life through the kernel again, and tells whether the journal is what
                                      this kernel answers, or the first record that differs
   etcs_lab check [--json] IMAGE      prints what examine and replay print, and a last line: whether the image is whole,
@@ -16,7 +16,7 @@ carries, how one is written, and what is wrong in a scenario.
   etcs_lab why [--json] IMAGE [EVENT]
                                      tells of each event at which brake, limit or a cause is another one than before,
                                      or of this one, which causes of its brake hold, since which event, how each ends,
-                                     and what decides its limit
+                                     and what decides its limit; and which events can't be replayed, and why
   etcs_lab decode [--json] HEX       tells what the digits of a telegram carry, as etcs decode does, or as JSON
   etcs_lab telegram FILE             writes the digits of the telegram that a file tells in that JSON; - is standard
                                      input; packet, bits and each L_PACKET may be left out

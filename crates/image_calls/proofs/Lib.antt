@@ -1,4 +1,5 @@
 pub mod Checked
+pub mod Places
 pub mod Reading
 pub mod Refusing
 pub mod Walked

@@ -1,6 +1,6 @@
 -- What is told of national values (this project's profile). Speeds are metres per hour, distances centimetres, times
 -- milliseconds.
-use Rattle.std.specs.Prelude.{◌≡◌, ℕ, ◌-◌, ◌^◌, ◌<◌, List, length, get_or, Option, Some, None}
+use Rattle.std.specs.Prelude.{◌≡◌, ℕ, ◌-◌, ◌^◌, List, ◌++◌, length, replicate, Option, Some, None}
 use Rattle.national.specs.Values.{ValuesFor}
 use Rattle.national.specs.declared.values.Values.{Values}
 use Rattle.image_calls.specs.declared.national_items.EtcsNational.{EtcsNational}
@@ -10,9 +10,9 @@ abbrev pub open_told : Option ℕ → ℕ
 open_told None = 2 ^ 32 - 1
 open_told (Some n) = n
 
--- the countries are in the first places
+-- the countries are in the first of 32 places, in their order, and zeros behind them
 abbrev pub AreCountries : List ℕ → List ℕ → Type 0
-AreCountries countries told = (length told ≡ 32) × ((k : ℕ) → k < length countries → get_or told k 0 ≡ get_or countries k 0)
+AreCountries countries told = told ≡ countries ++ replicate (32 - length countries) 0
 
 -- as C sees them
 abbrev pub national_told : Values → ℕ → List ℕ → EtcsNational

@@ -60,7 +60,7 @@ fn distance_told(distance: Option<StaffResponsibleDistance>) -> u32
     }
 }
 
-// The countries, in the first places.
+// The countries, in the first places, and zeros behind them.
 fn countries_told(countries: &[Country]) -> [u16; 32]
     requires { length countries.now ≤ 32 }
     ensures { AreCountries countries.now result }

@@ -1,5 +1,5 @@
-use Rattle.std.proofs.Common.{◌≡◌, ℕ, ◌<◌, length, get_or}
+use Rattle.std.proofs.Common.{◌≡◌, ℕ, ◌++◌, take, drop, replicate}
 use Rattle.image_calls.proofs.national_items.countries_told.Given as goal
 
 abbrev pub invariant-loop-i : goal.invariant-loop-i
-invariant-loop-i l = (length l.all ≡ 32) × ((k : ℕ) → k < l.i → get_or l.all k 0 ≡ get_or l.countries k 0)
+invariant-loop-i l = l.all ≡ take l.i l.countries ++ drop l.i (replicate 32 0)

@@ -42,9 +42,27 @@ static void null_pointers(medium *on) {
     is("format, no bytes", etcs_unit_format_request(4, 0, &request, NULL, 512), wanted);
 }
 
+/* That a call that was refused wrote nothing where it would have put its answer. */
+static void untouched(const char *what) {
+    uint8_t other[ETCS_UNIT_REQUEST_BYTES];
+    memset(other, 0xAA, sizeof other);
+    is(what, (uint64_t)memcmp(outputs, other, sizeof outputs) | (uint64_t)memcmp(&count, other, sizeof count) |
+       (uint64_t)memcmp(&request, other, sizeof request) | (uint64_t)memcmp(&state, other, sizeof state) |
+       (uint64_t)memcmp(bytes, other, sizeof bytes), 0);
+}
+
+static void touch(void) {
+    memset(outputs, 0xAA, sizeof outputs);
+    memset(&count, 0xAA, sizeof count);
+    memset(&request, 0xAA, sizeof request);
+    memset(&state, 0xAA, sizeof state);
+    memset(bytes, 0xAA, sizeof bytes);
+}
+
 /* Each call on a unit that isn't open, also with a number that is out of range. */
 static void not_open(etcs_unit *unit) {
     const uint32_t wanted = ETCS_UNIT_NOT_OPEN;
+    touch();
     is("telegram, not open", etcs_unit_telegram(unit, telegram, 8), wanted);
     is("telegram of no byte, not open", etcs_unit_telegram(unit, telegram, 0), wanted);
     is("odometer, not open", etcs_unit_odometer(unit, 0, 0), wanted);
@@ -62,6 +80,7 @@ static void not_open(etcs_unit *unit) {
     is("release, not open", etcs_unit_release(unit, outputs, ETCS_UNIT_OUTPUTS, &count), wanted);
     is("state, not open", etcs_unit_state(unit, &state), wanted);
     is("close, not open", etcs_unit_close(unit), wanted);
+    untouched("a call on a unit that isn't open writes nothing");
 }
 
 /* The version into each room, also one that is too small. */
@@ -177,22 +196,6 @@ static void limits(medium *on) {
     free(many);
 }
 
-/* That a call that was refused wrote nothing where it would have put its answer. */
-static void untouched(const char *what) {
-    uint8_t other[ETCS_UNIT_REQUEST_BYTES];
-    memset(other, 0xAA, sizeof other);
-    is(what, (uint64_t)memcmp(outputs, other, sizeof outputs) | (uint64_t)memcmp(&request, other, sizeof request) |
-       (uint64_t)memcmp(&state, other, sizeof state) | (uint64_t)memcmp(bytes, other, sizeof bytes) | (uint64_t)memcmp(&count, other, sizeof count), 0);
-}
-
-static void touch(void) {
-    memset(outputs, 0xAA, sizeof outputs);
-    memset(&request, 0xAA, sizeof request);
-    memset(&state, 0xAA, sizeof state);
-    memset(bytes, 0xAA, sizeof bytes);
-    memset(&count, 0xAA, sizeof count);
-}
-
 static void relaying(medium *on) {
     etcs_unit unit = {0};
     is("open", etcs_unit_open(&unit, on->bytes, on->len, 0), ETCS_UNIT_OK);
@@ -213,11 +216,14 @@ static void relaying(medium *on) {
     touch();
     is("prepare before the power-up is done", etcs_unit_prepare(&unit), ETCS_UNIT_REQUESTS_OWED);
     is("release before the power-up is done", etcs_unit_release(&unit, outputs, 8, &count), ETCS_UNIT_REQUESTS_OWED);
+    is("and again", etcs_unit_release(&unit, outputs, 8, &count), ETCS_UNIT_REQUESTS_OWED);
     is("room for 7", etcs_unit_release(&unit, outputs, 7, &count), ETCS_UNIT_NO_ROOM);
     is("room for none", etcs_unit_release(&unit, outputs, 0, &count), ETCS_UNIT_NO_ROOM);
     is("behind the list", etcs_unit_request(&unit, requests, &request, bytes, sizeof bytes), ETCS_UNIT_NO_SUCH_REQUEST);
     is("far behind the list", etcs_unit_request(&unit, UINT32_MAX, &request, bytes, sizeof bytes), ETCS_UNIT_NO_SUCH_REQUEST);
     untouched("a refusal writes nothing");
+    is("state", etcs_unit_state(&unit, &state), ETCS_UNIT_OK);
+    is("a refusal does no request", state.done, 0);
     for (uint32_t i = 0; i < requests; i++) {
         touch();
         const uint32_t status = etcs_unit_request(&unit, i, &request, bytes, 511);

@@ -1,4 +1,10 @@
+pub mod Beside
+pub mod Carrying
 pub mod Emptying
+pub mod Floating
 pub mod Handling
 pub mod HeldValues
+pub mod Histories
+pub mod Parts
+pub mod Releasing
 pub mod Values

@@ -1,30 +1,35 @@
 -- What the calls do to what a handle holds (this project's profile): None where no unit is open. `told` is what the
 -- call of `RelayedUnit` answered, the status its number.
-use Rattle.std.specs.Prelude.{◌≡◌, ◌↔◌, ◌⊎◌, ℕ, ◌/◌, ◌<◌, ◌≤◌, ◌==◌, ◌∷◌, ◌||◌, Bool, true, false, if◌then◌else◌, List, [], length, Option, Some, None, IfSome, Result, Ok, Err, IsOk, IfOk, IfErr, OnOk, OnErr, MatchOption, ⊤}
-use Rattle.disk.specs.State.{contents_of, AtEachMoment}
+use Rattle.std.specs.Prelude.{◌≡◌, ◌↔◌, ◌⊎◌, ℕ, ◌/◌, ◌<◌, ◌≤◌, ◌==◌, ◌∷◌, ◌||◌, nat_lt, Bool, true, false, if◌then◌else◌, List, [], length, Option, Some, None, IsSome, IfSome, Result, Ok, Err, IsOk, IfOk, IfErr, OnOk, OnErr, MatchOption, MatchResult, ⊤}
+use Rattle.disk.specs.State.{contents_of, IsSynced, AtEachMoment}
 use Rattle.events.specs.Limits.{most_pending}
 use Rattle.events.specs.declared.input.Event.{Event}
 use Rattle.events.specs.declared.input.Event.TheVariants.{PowerUp, Input as an_input}
 use Rattle.events.specs.declared.input.Input.{Input}
+use Rattle.events.specs.declared.step.Step.TheVariants.{Accept, Flush}
 use Rattle.image_calls.specs.Answers.{this_abi}
-use Rattle.journal.specs.Journals.{IsOpen}
+use Rattle.journal.specs.Journals.{IsOpen, IsWritten}
+use Rattle.kernel.specs.Lives.{kept_by}
 use Rattle.mirror_disk.specs.Mirror.{mirror_of, mirror_state}
 use Rattle.mode_table.specs.declared.statuses.Cold.{Cold}
-use Rattle.onboard.specs.Answers.{is_device, refusal_of}
+use Rattle.onboard.specs.Answers.{is_device, refusal_of, HasRoom}
 use Rattle.onboard.specs.Events.{account_of, IsAhead}
 use Rattle.onboard.specs.Lives.{IsReady, Opens, IsOpenRefusal, HasNoCause, TellsEither}
 use Rattle.onboard.specs.Releases.{nothing_released}
+use Rattle.onboard.specs.Stops.{progress_of, go_on}
+use Rattle.onboard.specs.Written.{HasNewest}
 use Rattle.onboard.specs.declared.errors.AcceptError.{AcceptError}
 use Rattle.onboard.specs.declared.errors.AcceptError.TheVariants as an_accept
 use Rattle.onboard.specs.declared.errors.OpenError.{OpenError}
 use Rattle.onboard.specs.declared.errors.OpenError.TheVariants as an_open
 use Rattle.relayed_unit.specs.LifeNow.{TellsLife}
-use Rattle.relayed_unit.specs.Relayed.{Relayed, Turns, requests_of, release_refusal, prepare_refusal, prepare_failed}
+use Rattle.relayed_unit.specs.Relayed.{Relayed, Turns, list_of, requests_of, release_refusal, prepare_refusal, prepare_failed}
 use Rattle.relayed_unit.specs.declared.errors.PrepareError.{PrepareError}
 use Rattle.relayed_unit.specs.declared.life_now.LifeNow.{LifeNow}
-use Rattle.unit_calls.specs.Outputs.{told_of, AreHanded}
+use Rattle.ring.specs.Account.{Account}
+use Rattle.unit_calls.specs.Outputs.{told_of, last_of, AreHanded}
 use Rattle.unit_calls.specs.Requests.{Where}
-use Rattle.unit_calls.specs.Statuses.{status_number, is_done, of_open, of_accept, of_prepare, of_release}
+use Rattle.unit_calls.specs.Statuses.{status_number, of_open, of_accept, of_prepare, of_release}
 use Rattle.unit_calls.specs.Words.{word_by}
 use Rattle.unit_calls.specs.declared.outputs.EtcsOutput.{EtcsOutput}
 use Rattle.unit_calls.specs.declared.outputs.EtcsState.{EtcsState}
@@ -40,6 +45,13 @@ OnHandle None (Some after) status So = ⊥
 OnHandle (Some before) None status So = ⊥
 OnHandle (Some before) (Some after) status So = So before after status
 
+-- the same of a call that writes into places of the caller: where no unit is open they stay as they were
+abbrev pub OnHandleInto : Type 0 → Option Opened → Option Opened → Status → (Opened → Opened → Status → Type 0) → Type 0
+OnHandleInto AsTheyWere None None status So = (status ≡ a_status.NotOpen) × AsTheyWere
+OnHandleInto AsTheyWere None (Some after) status So = ⊥
+OnHandleInto AsTheyWere (Some before) None status So = ⊥
+OnHandleInto AsTheyWere (Some before) (Some after) status So = So before after status
+
 -- the number is that of a status of which this holds
 abbrev pub IsTold : ℕ → (Status → Type 0) → Type 0
 IsTold number So = (status : Status) × (number ≡ status_number status) × So status
@@ -50,10 +62,17 @@ pub record Accepts (input : Input) (before after : Relayed) (told : Result ⊤ A
   pub exact : IfSome before.moored (λ it. MatchOption
       (refusal_of (before.failed || it.unit.journal.failed) (length it.unit.life.records) it.unit.life.moment input)
       (IfErr told (λ e. e ≡ an_accept.NoMemory)) (λ e. told ≡ Err e))
+  -- memory is never refused where there is room for what the input adds
+  pub quiet : IfSome before.moored (λ it.
+      refusal_of (before.failed || it.unit.journal.failed) (length it.unit.life.records) it.unit.life.moment input ≡ None →
+      HasRoom it.unit.life.state input → IsOk told)
   -- a refusal changes nothing
-  pub refused : OnErr told (Turns before.moored after.moored (λ it next. next.unit.life ≡ it.unit.life))
+  pub refused : OnErr told (after ≡ before)
   -- the copy of the medium is as it was
   pub copy : Turns before.moored after.moored (λ it next. (next.mirror ≡ it.mirror) × (next.unit.journal ≡ it.unit.journal))
+  -- what the next refusal goes by has gone on by this input
+  pub gone_on : OnOk told (Turns before.moored after.moored (λ it next.
+      progress_of next.unit.journal next.unit.life ≡ go_on (progress_of it.unit.journal it.unit.life) (Accept input)))
   -- the event is then pending, behind all that were accepted
   pub accepted : OnOk told (Turns before.moored after.moored (λ it next. (durable accepted : List Event) →
       IsAhead durable accepted it.unit.life → IsAhead durable (an_input input ∷ accepted) next.unit.life))
@@ -74,13 +93,35 @@ pub record IsPrepared (before after : Relayed) (told : Result ⊤ PrepareError) 
   pub failed : after.failed ≡ (before.failed || prepare_failed told)
   -- what is held back is what was pending, all of it
   pub pending : OnOk told (IfSome before.moored (λ it. after.outputs ≡ it.unit.life.pairs))
-  -- a refusal holds nothing more back
-  pub held : OnErr told (after.outputs ≡ before.outputs)
+  -- none of the requests is done yet
+  pub begun : OnOk told (after.done ≡ 0)
+  -- a refusal holds nothing more back, and what was said of the requests stays
+  pub held : OnErr told ((after.outputs ≡ before.outputs) × (after.done ≡ before.done))
+  -- and it leaves the unit and the copy of the medium as they were
+  pub undone : OnErr told (after.moored ≡ before.moored)
+  -- where nothing was pending there is no request
+  pub nothing : OnOk told (Turns before.moored after.moored (λ it next.
+      length it.unit.life.records ≡ 0 → next.mirror ≡ it.mirror))
+  -- the medium has as many sectors as before
+  pub sectors : OnOk told (Turns before.moored after.moored (λ it next. next.mirror.sectors ≡ it.mirror.sectors))
+  -- what the next refusal goes by has gone on by this flush
+  pub gone_on : OnOk told (Turns before.moored after.moored (λ it next.
+      progress_of next.unit.journal next.unit.life ≡ go_on (progress_of it.unit.journal it.unit.life) Flush))
   -- behind each number of requests each image represents the durable events, or all accepted ones
   pub any_moment : OnOk told (Turns before.moored after.moored (λ it next. (whole_from : ℕ) (durable accepted : List Event) →
       IsOpen it.unit.journal (account_of whole_from durable) (mirror_state it.mirror) → IsAhead durable accepted it.unit.life →
       AtEachMoment (mirror_state it.mirror) (mirror_state next.mirror) (TellsEither whole_from it.mirror.sectors durable accepted)))
-  -- behind all of them all accepted ones
+  -- behind all of them the newest slot has its gate, and behind it the block of exactly what was pending
+  pub written : OnOk told (Turns before.moored after.moored (λ it next. (durable accepted : List Event) →
+      IsAhead durable accepted it.unit.life → 0 < length it.unit.life.records →
+      IsWritten next.unit.journal.slots next.unit.journal.newest it.unit.life.records (kept_by accepted)
+      (contents_of (mirror_state next.mirror))))
+  -- which is the block of the greatest number
+  pub last : OnOk told (Turns before.moored after.moored (λ it next. (whole_from : ℕ) (durable accepted : List Event) →
+      IsOpen it.unit.journal (account_of whole_from durable) (mirror_state it.mirror) → IsAhead durable accepted it.unit.life →
+      0 < length it.unit.life.records → HasNewest next.mirror.sectors it.unit.life.records accepted
+      (contents_of (mirror_state next.mirror))))
+  -- and each image represents all accepted ones
   pub flushed : OnOk told (Turns before.moored after.moored (λ it next. (whole_from : ℕ) (durable accepted : List Event) →
       IsOpen it.unit.journal (account_of whole_from durable) (mirror_state it.mirror) → IsAhead durable accepted it.unit.life →
       IsOpen next.unit.journal (account_of whole_from accepted) (mirror_state next.mirror) × IsAhead accepted accepted next.unit.life))
@@ -105,19 +146,49 @@ Fails before after status = (status ≡ a_status.Done) × (after.unit.failed ≡
     × (after.unit.outputs ≡ before.unit.outputs) × (after.unit.moored ≡ before.unit.moored)
     × (after.unit.done ≡ before.unit.done) × (after.last ≡ before.last)
 
--- what is held back is released into the first of the caller's places, all of it, and counted
-pub record Releases (places handed : List EtcsOutput) (count : ℕ) (before after : Opened) (status : Status) : Type 0 where
-  -- with fewer than eight places
-  pub small : length places < most_pending → (status ≡ a_status.NoRoom) × (after ≡ before)
-  -- each refusal comes exactly for its cause
-  pub exact : most_pending ≤ length places →
-      MatchOption (release_refusal before.unit) (status ≡ a_status.Done) (λ e. status ≡ of_release e)
-  -- the outputs, the oldest first
-  pub outputs : status ≡ a_status.Done → AreHanded before.unit.outputs places handed
-  -- how many they are
-  pub counted : count ≡ (if is_done status then length before.unit.outputs else 0)
-  -- a refusal writes none, and holds back what was held back
-  pub refused : is_done status ≡ false → (handed ≡ places) × (after.unit.outputs ≡ before.unit.outputs)
+-- what `RelayedUnit::release` promises where it releases
+pub record IsReleased (before after : Relayed) : Type 0 where
+  -- nothing is held back any more, no request is left, and so none is done
+  pub emptied : (after.outputs ≡ []) × (after.done ≡ 0) × (list_of after.moored ≡ [])
+  -- the medium failed no more than before
+  pub failed : after.failed ≡ before.failed
+  -- the unit is as it was: nothing was taken, and nothing was put on the copy
+  pub unit : Turns before.moored after.moored (λ it next. next.unit ≡ it.unit)
+  -- the medium has as many sectors as before
+  pub sectors : Turns before.moored after.moored (λ it next. next.mirror.sectors ≡ it.mirror.sectors)
+  -- no sector of the medium is open; the copy holds what it held, and the journal stands over it as before
+  pub stands : Turns before.moored after.moored (λ it next. IsSynced (mirror_state it.mirror)
+      × IsSynced (mirror_state next.mirror)
+      × ((s : ℕ) → contents_of (mirror_state next.mirror) s ≡ contents_of (mirror_state it.mirror) s)
+      × ((told : Account) → IsOpen it.unit.journal told (mirror_state it.mirror) →
+      IsOpen next.unit.journal told (mirror_state next.mirror)))
+
+-- The caller's places for outputs and for their count, before a release and behind it, and its status.
+pub record Handing : Type 0 where
+  pub places : List EtcsOutput
+  pub handed : List EtcsOutput
+  pub counted : ℕ
+  pub count : ℕ
+  pub status : Status
+
+-- the release is refused so: nothing is written, and nothing changes
+abbrev pub HandsNothing : Status → Opened → Opened → Handing → Type 0
+HandsNothing status before after h =
+    (h.status ≡ status) × (h.handed ≡ h.places) × (h.count ≡ h.counted) × (after ≡ before)
+
+-- all that was held back is in the first of the caller's places, the oldest first, and counted
+pub record HandsAll (before after : Opened) (h : Handing) : Type 0 where
+  pub done : h.status ≡ a_status.Done
+  pub outputs : AreHanded before.unit.outputs h.places h.handed
+  pub counted : h.count ≡ length before.unit.outputs
+  -- the last output that was released, also before this call
+  pub last : after.last ≡ last_of before.unit.outputs before.last
+  pub released : IsReleased before.unit after.unit
+
+-- a release: NoRoom with fewer than eight places; else each refusal comes exactly for its cause
+abbrev pub Releases : Opened → Opened → Handing → Type 0
+Releases before after h = Where (nat_lt (length h.places) most_pending) (HandsNothing a_status.NoRoom before after h)
+    (MatchOption (release_refusal before.unit) (HandsAll before after h) (λ e. HandsNothing (of_release e) before after h))
 
 -- how far a unit is, as C sees it, where this is known of its life
 abbrev pub state_of : Opened → LifeNow → EtcsState
@@ -143,6 +214,13 @@ TellsState opened state = (life : LifeNow) × IfSome opened.unit.moored (λ it. 
 pub record IsPoweredUp (image : List ℕ) (cold : Cold) (told : Result Relayed OpenError) : Type 0 where
   -- nothing is held back, and nothing is done
   pub fresh : IfOk told (λ u. (u.outputs ≡ []) × (u.done ≡ 0) × (u.failed ≡ false))
+  -- there is a unit
+  pub there : IfOk told (λ u. IsSome u.moored)
+  -- nothing is pending, there is no moment yet, and no flush failed
+  pub fresh_unit : IfOk told (λ u. IfSome u.moored (λ it. (it.unit.life.records ≡ []) × (it.unit.life.pairs ≡ [])
+      × (it.unit.life.moment ≡ 0) × (it.unit.journal.failed ≡ false)))
+  -- the copy has the whole sectors of the bytes
+  pub sectors : IfOk told (λ u. IfSome u.moored (λ it. it.mirror.sectors ≡ length image / 512))
   -- each refusal but NoMemory has its cause
   pub refused : IfErr told (λ e. (e ≡ an_open.NoMemory)
       ⊎ IsOpenRefusal (length image / 512) (contents_of (mirror_state (mirror_of image))) e)
@@ -150,6 +228,10 @@ pub record IsPoweredUp (image : List ℕ) (cold : Cold) (told : Result Relayed O
   pub room : IfErr told (λ e. is_device e ≡ false)
   -- where it is opened no refusal had one
   pub no_cause : OnOk told (HasNoCause (length image / 512) (contents_of (mirror_state (mirror_of image))))
+  -- where a refusal has one, and there is a sector, it comes, unless memory was refused
+  pub exact : 0 < length image / 512 → (e : OpenError) →
+      IsOpenRefusal (length image / 512) (contents_of (mirror_state (mirror_of image))) e →
+      (e ≡ an_open.DeviceFault) ⊎ MatchResult told (λ it. ⊥) (λ back. (back ≡ e) ⊎ (back ≡ an_open.NoMemory))
   -- behind each number of requests each image is one that a power-up may leave of these bytes
   pub up : (whole_from : ℕ) (durable accepted : List Event) → IsReady whole_from durable accepted (mirror_state (mirror_of image)) →
       IfOk told (λ u. IfSome u.moored (λ it. (found : List Event) × (power_up_word : Cold)

@@ -1,7 +1,9 @@
 pub mod Formatting
 pub mod Handles
 pub mod Held
+pub mod Histories
 pub mod Inputs
+pub mod Mediums
 pub mod Outputs
 pub mod Owned
 pub mod Requests

@@ -1,12 +1,12 @@
 -- Outputs, as C gets them (this project's profile). Limits are in metres per hour.
-use Rattle.std.specs.Prelude.{◌≡◌, ℕ, ◌<◌, List, length, get_or, Option, Some, None}
+use Rattle.std.specs.Prelude.{◌≡◌, ℕ, ◌-◌, List, ◌++◌, length, drop, map, slice_get, Option, Some, None, unwrap_or}
 use Rattle.events.specs.declared.output.Brake.{Brake as Braking}
 use Rattle.events.specs.declared.output.Brake.TheVariants as a_brake
 use Rattle.events.specs.Indications.{number_of as indications_number}
 use Rattle.mode_table.specs.declared.level.TrainLevel.{TrainLevel}
 use Rattle.mode_table.specs.declared.level.TrainLevel.TheVariants.{Level0, Level1}
 use Rattle.mode_table.specs.Modes.{number_of as mode_number}
-use Rattle.onboard.specs.Releases.{Release, nothing_released}
+use Rattle.onboard.specs.Releases.{Release}
 use Rattle.unit_calls.specs.declared.outputs.EtcsOutput.{EtcsOutput}
 
 -- 255 where none is valid
@@ -31,7 +31,10 @@ told_of released = record {
   indications = indications_number released.output.indications;
 }
 
--- what was released is in the first of the caller's places, in its order, and the places stay as many
+-- what was released is in the first of the caller's places, in its order, and the places behind it stay as they were
 abbrev pub AreHanded : List Release → List EtcsOutput → List EtcsOutput → Type 0
-AreHanded released places handed = (length handed ≡ length places) × ((k : ℕ) → k < length released
-    → get_or handed k (told_of nothing_released) ≡ told_of (get_or released k nothing_released))
+AreHanded released places handed = handed ≡ map told_of released ++ drop (length released) places
+
+-- the last of these outputs, or the one before them where there is none
+abbrev pub last_of : List Release → Release → Release
+last_of released before = unwrap_or (slice_get released (length released - 1)) before

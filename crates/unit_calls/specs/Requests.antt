@@ -1,8 +1,9 @@
 -- What C is told of a request (this project's profile). Requests are counted from the first of the list.
 use Rattle.std.specs.Prelude.{◌≡◌, ℕ, ◌+◌, ◌*◌, ◌<◌, ◌≤◌, nat_lt, Bool, true, false, List, [], ◌∷◌, ◌++◌, length, take, drop, Option, Some, None}
+use Rattle.disk.specs.Record.{IsWithin}
 use Rattle.disk.specs.declared.record.Call.{Call}
 use Rattle.disk.specs.declared.record.Call.TheVariants.{Quiet, Synced, Written, Torn}
-use Rattle.relayed_unit.specs.Relayed.{list_of, written_of}
+use Rattle.relayed_unit.specs.Relayed.{list_of, written_of, sectors_in}
 use Rattle.unit_calls.specs.declared.handle.Opened.{Opened}
 use Rattle.unit_calls.specs.declared.status.Status.{Status}
 use Rattle.unit_calls.specs.declared.status.Status.TheVariants as a_status
@@ -49,7 +50,12 @@ IsToldAs written (Some Synced) t = Syncs t
 IsToldAs written (Some (Written span)) t = Writes span.first span.sectors (take (512 * span.sectors) (drop span.from written)) t
 IsToldAs written (Some (Torn span)) t = Syncs t
 
+-- a request is of sectors that the medium has, and the bytes that it writes are there
+abbrev pub IsWhole : Opened → Option Call → Type 0
+IsWhole opened found = (request : Call) → found ≡ Some request
+    → IsWithin (sectors_in opened.unit.moored) (length (written_of opened.unit.moored)) request
+
 -- a request of the unit's list is told
 abbrev pub TellsRequest : ℕ → Opened → Telling → Type 0
-TellsRequest index opened t = (found : Option Call) × IsAt index (list_of opened.unit.moored) found
+TellsRequest index opened t = (found : Option Call) × IsAt index (list_of opened.unit.moored) found × IsWhole opened found
     × IsToldAs (written_of opened.unit.moored) found t

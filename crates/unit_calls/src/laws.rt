@@ -1,8 +1,15 @@
 //! Laws of the calls.
 ghost use Rattle.unit_calls.specs.Formatting.{FormatEmpties};
+ghost use Rattle.unit_calls.specs.Histories.{HandedOutIsOnMedium};
 
 /// A law: behind all requests of a format, carried out in their order, a medium is an empty journal, as
 /// `journal::format` leaves it.
 pub fn format_empties()
     ensures { FormatEmpties }
+{}
+
+/// A law: whatever is called, in whatever order, and wherever power is lost, the caller's medium has all events whose
+/// outputs he was handed, as long as he carries out the requests that he says to be done.
+pub fn handed_out_is_on_medium()
+    ensures { HandedOutIsOnMedium }
 {}

@@ -22,7 +22,7 @@ pub use events_in::{
 pub use formatting::format_request_call;
 pub use handle::{EtcsUnit, Opened};
 pub use inputs::EtcsTrainData;
-pub use laws::format_empties;
+pub use laws::{format_empties, handed_out_is_on_medium};
 pub use opening::{close_call, open_call};
 pub use outputs::{EtcsOutput, EtcsState};
 pub use relaying::{done_call, fail_call, prepare_call, release_call, request_call, state_call};

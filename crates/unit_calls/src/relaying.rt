@@ -1,6 +1,7 @@
 //! From inputs to outputs: preparing, requests, releasing.
 ghost use Rattle.std.specs.Prelude.{◌≡◌};
-ghost use Rattle.unit_calls.specs.Handles.{OnHandle, IsTold, Prepares, Says, Fails, Releases, TellsState};
+ghost use Rattle.unit_calls.specs.Handles.{OnHandle, OnHandleInto, IsTold, Prepares, Says, Fails, Releases, TellsState};
+ghost use Rattle.unit_calls.specs.Outputs.{last_of};
 ghost use Rattle.unit_calls.specs.declared.status.Status.TheVariants.{Done};
 ghost use Rattle.unit_calls.specs.Requests.{TellsRequest};
 
@@ -63,8 +64,8 @@ pub fn request_call(
     request: &mut EtcsRequest,
     bytes: &mut [u8],
 ) -> u32
-    ensures { IsTold result (λ status. OnHandle unit.old.raw.value unit.new.raw.value status
-        (λ before after told. (after ≡ before) × TellsRequest index before
+    ensures { IsTold result (λ status. OnHandleInto ((request.new ≡ request.old) × (bytes.new ≡ bytes.old))
+        unit.old.raw.value unit.new.raw.value status (λ before after told. (after ≡ before) × TellsRequest index before
         (record { request = request.old; told = request.new; room = bytes.old; bytes = bytes.new; status = told }))) }
 {
     let Some(opened) = taken(alloc, unit) else {
@@ -119,7 +120,9 @@ pub fn fail_call(alloc: Global, unit: &mut EtcsUnit) -> u32
 }
 
 // The last output, or the one before.
-fn last_of(released: &[Released], before: Released) -> Released {
+fn last_of(released: &[Released], before: Released) -> Released
+    ensures { result ≡ last_of released.now before }
+{
     match released.last() {
         Some(last) => *last,
         None => before,
@@ -128,9 +131,9 @@ fn last_of(released: &[Released], before: Released) -> Released {
 
 // Releases what was held back into room for eight.
 fn release(opened: &mut Opened, outputs: &mut [EtcsOutput], count: &mut u32) -> Status
-    ensures { Releases outputs.old outputs.new count.new opened.old opened.new result }
+    ensures { Releases opened.old opened.new
+        (record { places = outputs.old; handed = outputs.new; counted = count.old; count = count.new; status = result }) }
 {
-    *count = 0;
     if outputs.len() < MOST_PENDING {
         return Status::NoRoom;
     }
@@ -145,17 +148,17 @@ fn release(opened: &mut Opened, outputs: &mut [EtcsOutput], count: &mut u32) -> 
     }
 }
 
-/// Releases what was held back, all of it, into room for eight.
+/// Releases what was held back, all of it, into room for eight; a refusal writes nothing.
 pub fn release_call(
     alloc: Global,
     unit: &mut EtcsUnit,
     outputs: &mut [EtcsOutput],
     count: &mut u32,
 ) -> u32
-    ensures { IsTold result (λ status. OnHandle unit.old.raw.value unit.new.raw.value status
-        (Releases outputs.old outputs.new count.new)) }
+    ensures { IsTold result (λ status. OnHandleInto ((outputs.new ≡ outputs.old) × (count.new ≡ count.old))
+        unit.old.raw.value unit.new.raw.value status (λ before after told. Releases before after
+        (record { places = outputs.old; handed = outputs.new; counted = count.old; count = count.new; status = told }))) }
 {
-    *count = 0;
     let Some(mut opened) = taken(alloc, unit) else {
         return Status::NotOpen.number();
     };
@@ -192,7 +195,7 @@ fn tell_state(opened: &Opened, state: &mut EtcsState) -> Status
 
 /// Tells how far the unit is.
 pub fn state_call(alloc: Global, unit: &mut EtcsUnit, state: &mut EtcsState) -> u32
-    ensures { IsTold result (λ status. OnHandle unit.old.raw.value unit.new.raw.value status
+    ensures { IsTold result (λ status. OnHandleInto (state.new ≡ state.old) unit.old.raw.value unit.new.raw.value status
         (λ before after told. (after ≡ before) × (told ≡ Done) × TellsState before state.new)) }
 {
     let Some(opened) = taken(alloc, unit) else {

@@ -1,0 +1,176 @@
+-- A unit that is open beside its caller's medium, call by call.
+use Rattle.std.proofs.Common.{◌≡◌, ◌⊎◌, inl, ⊎_elim, ℕ, ◌+◌, ◌<◌, ◌≤◌, List, [], ◌∷◌, ◌++◌, length, map, refl, sym, ◌∙◌, ap, subst, arith}
+use Rattle.std.proofs.lemmas.List.{append-nil, map-append}
+use Rattle.disk.specs.State.{Platter, contents_of, IsImage, IsSynced, AtEachMoment}
+use Rattle.disk.specs.declared.record.Call.{Call}
+use Rattle.events.specs.declared.input.Event.{Event}
+use Rattle.journal.specs.JournalState.{JournalState}
+use Rattle.journal.specs.Journals.{IsOpen}
+use Rattle.mirror_disk.specs.Mirror.{Mirroring, mirror_state}
+use Rattle.onboard.specs.Events.{pairs_of, account_of, IsAhead}
+use Rattle.onboard.specs.Lives.{Tells, TellsEither}
+use Rattle.onboard.specs.Releases.{Release}
+use Rattle.onboard.specs.UnitState.{LifeState}
+use Rattle.onboard.proofs.Stepping.{rest_tells}
+use Rattle.unit_calls.specs.Histories.{IsPartOf, outputs_of, HasAll, AreOnMedium}
+use Rattle.unit_calls.specs.Outputs.{told_of}
+use Rattle.unit_calls.specs.declared.outputs.EtcsOutput.{EtcsOutput}
+use Rattle.unit_calls.proofs.Carrying.{IsThere, image_there}
+use Rattle.unit_calls.proofs.Parts.{part_both, part_front}
+
+-- The medium at a number of requests of the list.
+abbrev pub moment_of : Mirroring → ℕ → Platter
+moment_of mirror k = (mirror_state mirror).at k
+
+-- What is so between two calls: of what was handed out, what is held back, the list, and how far it was carried out.
+pub record Floats (whole_from sectors : ℕ) (handed : List EtcsOutput) (medium : Platter) (carried : ℕ) (mirror : Mirroring) (journal : JournalState) (life : LifeState) (outputs : List Release) (done : ℕ) : Type 0 where
+  pub size : mirror.sectors ≡ whole_from sectors
+  -- what the medium has where the list begins, what it has where the list ends, and what was accepted
+  pub settled : List Event
+  pub durable : List Event
+  pub accepted : List Event
+  pub more : List Event
+  pub begins : durable ≡ more ++ settled
+  pub opened : IsOpen journal (account_of whole_from durable) (mirror_state mirror)
+  pub ahead : IsAhead durable accepted life
+  pub given : IsPartOf handed (outputs_of settled)
+  pub held : IsPartOf (handed ++ map told_of outputs) (outputs_of durable)
+  pub moments : (k : ℕ) → k ≤ length mirror.requests → (image : ℕ → List ℕ) → IsImage (moment_of mirror k) image → TellsEither whole_from sectors settled durable image
+  pub there : IsThere medium (moment_of mirror carried)
+  pub within : carried ≤ length mirror.requests
+  pub said : done ≤ carried
+
+-- the medium has what was handed out
+pub on_medium : (whole_from sectors : ℕ) (handed : List EtcsOutput) (medium : Platter) (carried : ℕ) (mirror : Mirroring) (journal : JournalState) (life : LifeState) (outputs : List Release) (done : ℕ)
+    → Floats whole_from sectors handed medium carried mirror journal life outputs done → AreOnMedium whole_from sectors handed medium
+on_medium whole_from sectors handed medium carried mirror journal life outputs done it = record {
+  durable = it.settled;
+  outputs = it.given;
+  each = λ image is. ⊎_elim
+      (λ (tells : Tells whole_from sectors it.settled image). let so : HasAll whole_from sectors it.settled image = (it.settled, [], refl, tells) in so)
+      (λ (tells : Tells whole_from sectors it.durable image). let so : HasAll whole_from sectors it.settled image = (it.durable, it.more, it.begins, tells) in so)
+      (it.moments carried it.within image (image_there medium (moment_of mirror carried) image it.there is));
+}
+
+module _ (whole_from sectors : ℕ) (handed : List EtcsOutput) (medium : Platter) (carried : ℕ) (mirror : Mirroring) (journal : JournalState) (life : LifeState) (outputs : List Release) (done : ℕ)
+    (it : Floats whole_from sectors handed medium carried mirror journal life outputs done) where
+  -- an input was accepted
+  pub accepts : (accepted : List Event) (next : LifeState) → IsAhead it.durable accepted next → Floats whole_from sectors handed medium carried mirror journal next outputs done
+  accepts accepted next ahead = record {
+    size = it.size;
+    settled = it.settled;
+    durable = it.durable;
+    accepted = accepted;
+    more = it.more;
+    begins = it.begins;
+    opened = it.opened;
+    ahead = ahead;
+    given = it.given;
+    held = it.held;
+    moments = it.moments;
+    there = it.there;
+    within = it.within;
+    said = it.said;
+  }
+
+  -- so many requests are said to be done
+  pub says : (count : ℕ) → count ≤ carried → Floats whole_from sectors handed medium carried mirror journal life outputs count
+  says count most = record {
+    size = it.size;
+    settled = it.settled;
+    durable = it.durable;
+    accepted = it.accepted;
+    more = it.more;
+    begins = it.begins;
+    opened = it.opened;
+    ahead = it.ahead;
+    given = it.given;
+    held = it.held;
+    moments = it.moments;
+    there = it.there;
+    within = it.within;
+    said = most;
+  }
+
+  -- the next request is carried out
+  pub carries : (after : Platter) → carried < length mirror.requests → IsThere after (moment_of mirror (carried + 1)) → Floats whole_from sectors handed after (carried + 1) mirror journal life outputs done
+  carries after less there = let said = it.said in record {
+    size = it.size;
+    settled = it.settled;
+    durable = it.durable;
+    accepted = it.accepted;
+    more = it.more;
+    begins = it.begins;
+    opened = it.opened;
+    ahead = it.ahead;
+    given = it.given;
+    held = it.held;
+    moments = it.moments;
+    there = there;
+    within = omega (arith, less);
+    said = omega (arith, said);
+  }
+
+  -- a flush is prepared, where no request is left
+  pub prepares : length mirror.requests ≡ 0 → (next : Mirroring) (journal' : JournalState) (life' : LifeState) → next.sectors ≡ mirror.sectors
+      → AtEachMoment (mirror_state mirror) (mirror_state next) (TellsEither whole_from mirror.sectors it.durable it.accepted)
+      → IsOpen journal' (account_of whole_from it.accepted) (mirror_state next) → IsAhead it.accepted it.accepted life'
+      → Floats whole_from sectors handed medium carried next journal' life' life.pairs 0
+  prepares none next journal' life' same each opened ahead =
+      let within = it.within in
+      let T : ℕ → (ℕ → List ℕ) → Type 0 = λ n image. TellsEither whole_from n it.durable it.accepted image in
+      let M : Platter → Type 0 = λ p. IsThere medium p in
+      let O : List EtcsOutput → Type 0 = λ l. IsPartOf (handed ++ map told_of life.pairs) l in
+      let front : IsPartOf handed (outputs_of it.durable) = part_front handed (map told_of outputs) (outputs_of it.durable) it.held in record {
+        size = same ∙ it.size;
+        settled = it.durable;
+        durable = it.accepted;
+        accepted = it.accepted;
+        more = it.ahead.more;
+        begins = it.ahead.accepted_is;
+        opened = opened;
+        ahead = ahead;
+        given = front;
+        held = subst O (sym (ap (λ (l : List Release). map told_of l) it.ahead.pairs_are ∙ map-append told_of (pairs_of it.durable) life.pairs))
+            (part_both handed (outputs_of it.durable) (map told_of life.pairs) front);
+        moments = λ k most image is. subst (λ (n : ℕ). T n image) it.size (each.each k (omega (arith, none)) most image is);
+        there = subst M (sym (each.kept carried within)) it.there;
+        within = omega (arith, within, none);
+        said = omega arith;
+      }
+
+  -- what is held back is handed out, and the list is empty
+  pub releases : length mirror.requests ≤ done → (next : Mirroring) → next.requests ≡ [] → next.sectors ≡ mirror.sectors → IsSynced (mirror_state mirror)
+      → IsSynced (mirror_state next) → ((s : ℕ) → contents_of (mirror_state next) s ≡ contents_of (mirror_state mirror) s)
+      → IsOpen journal (account_of whole_from it.durable) (mirror_state next) → Floats whole_from sectors (handed ++ map told_of outputs) medium 0 next journal life [] 0
+  releases all next none same closed shut contents opened =
+      let within = it.within in
+      let said = it.said in
+      let end : carried ≡ length mirror.requests = omega (arith, within, said, all) in
+      let clock : length next.requests ≡ 0 = ap (λ (l : List Call). length l) none in
+      let C : ℕ → Type 0 = λ k. IsThere medium (moment_of mirror k) in
+      let N : ℕ → Type 0 = λ k. IsThere medium (moment_of next k) in
+      let T : ℕ → (ℕ → List ℕ) → Type 0 = λ n image. Tells whole_from n it.durable image in
+      let last : IsThere medium (moment_of mirror (length mirror.requests)) = subst C end it.there in
+      let now : IsThere medium (moment_of next (length next.requests)) = record {
+        contents = λ s. last.contents s ∙ sym (contents s);
+        closed = λ s shut_there. last.closed s (closed s);
+      } in record {
+        size = same ∙ it.size;
+        settled = it.durable;
+        durable = it.durable;
+        accepted = it.accepted;
+        more = [];
+        begins = refl;
+        opened = opened;
+        ahead = it.ahead;
+        given = it.held;
+        held = (let P : List EtcsOutput → Type 0 = λ l. IsPartOf l (outputs_of it.durable) in subst P (sym (append-nil (handed ++ map told_of outputs))) it.held);
+        moments = λ k most image is.
+            let at : k ≡ length next.requests = omega (arith, most, clock) in
+            let I : ℕ → Type 0 = λ n. IsImage (moment_of next n) image in
+            inl (subst (λ (n : ℕ). T n image) (same ∙ it.size) (rest_tells whole_from journal it.durable (mirror_state next) opened image (subst I at is)));
+        there = subst N clock now;
+        within = omega arith;
+        said = omega arith;
+      }

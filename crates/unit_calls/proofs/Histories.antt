@@ -1,0 +1,263 @@
+-- What stays so, whatever happens.
+use Rattle.std.proofs.Common.{◌≡◌, ◌⊎◌, inl, inr, ℕ, ◌+◌, ◌≤◌, List, [], ◌∷◌, ◌++◌, length, map, take, Option, Some, None, Result, Ok, Err, refl, sym, ◌∙◌, ap, subst, arith}
+use Rattle.std.specs.Prelude.{◌==◌, ◌/◌, IsSome, MatchOption}
+use Rattle.std.proofs.lemmas.Bool.{false≢true}
+use Rattle.std.proofs.lemmas.List.{append-nil}
+use Rattle.disk.specs.State.{State, Platter, contents_of, IsImage}
+use Rattle.disk.specs.Record.{IsWithin}
+use Rattle.disk.specs.declared.record.Call.{Call}
+use Rattle.events.specs.declared.input.Event.{Event}
+use Rattle.events.specs.declared.input.Event.TheVariants.{PowerUp}
+use Rattle.events.specs.declared.input.Input.{Input}
+use Rattle.image_calls.specs.Answers.{this_abi}
+use Rattle.journal.specs.Journals.{IsOpen}
+use Rattle.mirror_disk.specs.Mirror.{mirror_of, mirror_state}
+use Rattle.mode_table.specs.declared.statuses.Cold.{Cold}
+use Rattle.onboard.specs.Events.{account_of, IsAhead}
+use Rattle.onboard.specs.Lives.{Tells, TellsEither, IsReady, Opens, IsOfOpening}
+use Rattle.onboard.specs.Releases.{Release}
+use Rattle.onboard.specs.declared.errors.OpenError.{OpenError}
+use Rattle.onboard.proofs.WholeLives.{ready_after}
+use Rattle.relayed_unit.specs.Relayed.{Relayed, list_of, written_of, sectors_in}
+use Rattle.relayed_unit.specs.declared.moored.Moored.{Moored}
+use Rattle.unit_calls.specs.Handles.{OnHandle, OnHandleInto, Takes, Prepares, Says, Fails, Handing, Releases, IsPoweredUp, IsLeft, PowersUp, OpensFrom}
+use Rattle.unit_calls.specs.Histories.{Scene, Happening, Opening, Taking, Preparing, Carrying, Saying, Failing, Releasing, Asking, Closing, Cutting, Happens, AllHappen, IsPartOf, outputs_of, HasAll, AreOnMedium, HandedOutIsOnMedium}
+use Rattle.unit_calls.specs.Mediums.{at_rest, carried_out, IsReadFrom}
+use Rattle.unit_calls.specs.Outputs.{told_of}
+use Rattle.unit_calls.specs.Requests.{Where, Telling, IsAt, IsToldAs, TellsRequest}
+use Rattle.unit_calls.specs.Statuses.{is_done}
+use Rattle.unit_calls.specs.Words.{word_by}
+use Rattle.unit_calls.specs.declared.handle.Opened.{Opened}
+use Rattle.unit_calls.specs.declared.outputs.EtcsOutput.{EtcsOutput}
+use Rattle.unit_calls.specs.declared.status.Status.{Status}
+use Rattle.unit_calls.specs.declared.status.Status.TheVariants as a_status
+use Rattle.unit_calls.proofs.Carrying.{IsThere, carried_there}
+use Rattle.unit_calls.proofs.Floating.{moment_of, Floats, on_medium, accepts, carries}
+use Rattle.unit_calls.proofs.Parts.{part_longer}
+use Rattle.unit_calls.proofs.Beside.{at_some, IsUnder, Kept, takes_on, prepares_on, says_on, fails_on, where_false, either_way, releases_on}
+
+-- ---- a power-up
+
+module _ (whole_from sectors : ℕ) (handed : List EtcsOutput) (medium : Platter) (image : List ℕ) (cold : Cold) (read : IsReadFrom sectors image medium) (on : AreOnMedium whole_from sectors handed medium) where
+  abbrev copy : State
+  copy = mirror_state (mirror_of image)
+
+  -- what the medium holds is one list
+  held_list : HasAll whole_from sectors on.durable medium.contents
+  held_list = on.each medium.contents (record { shut = λ s shut. refl; whole = λ s. refl })
+
+  ready : IsReady whole_from held_list.0 held_list.0 copy
+  ready =
+      let same : medium.contents ≡ contents_of copy = λ i. λ s. read.contents s i in
+      let C : (ℕ → List ℕ) → Type 0 = λ c. Tells whole_from sectors held_list.0 c in
+      ready_after whole_from sectors held_list.0 copy read.size (λ s. refl) (subst C same held_list.3)
+
+  abbrev IsUp : Moored → Type 0
+  IsUp it = (found : List Event) × (power_up_word : Cold) × Opens whole_from held_list.0 held_list.0 found cold power_up_word copy (mirror_state it.mirror)
+      × IsOpen it.unit.journal (account_of whole_from (PowerUp power_up_word ∷ found)) (mirror_state it.mirror)
+      × IsAhead (PowerUp power_up_word ∷ found) (PowerUp power_up_word ∷ found) it.unit.life
+
+  found_all : (found : List Event) → (found ≡ held_list.0) ⊎ (found ≡ held_list.0) → found ≡ held_list.0
+  found_all found (inl is) = is
+  found_all found (inr is) = is
+
+  of_opening : (found : List Event) (word : Cold) (c : ℕ → List ℕ) → found ≡ held_list.0 → IsOfOpening whole_from sectors held_list.0 held_list.0 found word c
+      → TellsEither whole_from sectors found (PowerUp word ∷ found) c
+  of_opening found word c is (inl (inl tells)) = let T : List Event → Type 0 = λ l. Tells whole_from sectors l c in inl (subst T (sym is) tells)
+  of_opening found word c is (inl (inr tells)) = let T : List Event → Type 0 = λ l. Tells whole_from sectors l c in inl (subst T (sym is) tells)
+  of_opening found word c is (inr tells) = inr tells
+
+  floats_up : (it : Moored) (outputs : List Release) (done carried : ℕ) → it.mirror.sectors ≡ length image / 512 → outputs ≡ [] → done ≡ 0 → carried ≡ 0 → IsUp it
+      → Floats whole_from sectors handed medium carried it.mirror it.unit.journal it.unit.life outputs done
+  floats_up it outputs done carried size none undone begins (found, word, opens, standing, ahead) =
+      let is : found ≡ held_list.0 = found_all found opens.found_is in
+      let each = opens.at_each_moment in
+      let P : ℕ → (ℕ → List ℕ) → Type 0 = λ n c. IsOfOpening whole_from n held_list.0 held_list.0 found word c in
+      let back : held_list.0 ≡ found = sym is in
+      let G : List Event → Type 0 = λ l. IsPartOf handed (outputs_of l) in
+      let given : IsPartOf handed (outputs_of found) = subst G back (part_longer handed on.durable held_list.0 held_list.1 held_list.2 on.outputs) in
+      let H : List Release → Type 0 = λ o. IsPartOf (handed ++ map told_of o) (outputs_of (PowerUp word ∷ found)) in
+      let N : List EtcsOutput → Type 0 = λ l. IsPartOf l (outputs_of (PowerUp word ∷ found)) in
+      let T : Platter → Type 0 = λ p. IsThere medium p in
+      let C : ℕ → Type 0 = λ k. IsThere medium (moment_of it.mirror k) in
+      let first : IsThere medium (copy.at 0) = record { contents = read.contents; closed = λ s shut. read.synced s } in record {
+        size = size ∙ read.size;
+        settled = found;
+        durable = PowerUp word ∷ found;
+        accepted = PowerUp word ∷ found;
+        more = PowerUp word ∷ [];
+        begins = refl;
+        opened = standing;
+        ahead = ahead;
+        given = given;
+        held = subst H (sym none) (subst N (sym (append-nil handed)) (part_longer handed found (PowerUp word ∷ found) (PowerUp word ∷ []) refl given));
+        moments = λ k most c image_is. of_opening found word c is (subst (λ (n : ℕ). P n c) read.size (each.each k (omega arith) most c image_is));
+        there = subst C (sym begins) (subst T (sym (each.kept 0 (omega arith))) first);
+        within = omega (arith, begins);
+        said = omega (arith, undone);
+      }
+
+  under_up : (u : Relayed) (carried : ℕ) → carried ≡ 0 → (let told : Result Relayed OpenError = Ok u in IsPoweredUp image cold told) → (m : Option Moored) → u.moored ≡ m → IsUnder whole_from sectors handed medium carried u
+  under_up u carried begins its None is = absurd (false≢true (let B : Option Moored → Type 0 = λ o. IsSome o in subst B is its.there))
+  under_up u carried begins its (Some it) is = (
+    it,
+    is,
+    floats_up it u.outputs u.done carried (at_some (λ m. m.mirror.sectors ≡ length image / 512) it u.moored is its.sectors) its.fresh.0 its.fresh.1 begins
+        (at_some IsUp it u.moored is (its.up whole_from held_list.0 held_list.0 ready)),
+  )
+
+  left_on : (told : Result Relayed OpenError) (after : Option Opened) (carried : ℕ) (status : Status) → carried ≡ 0 → IsPoweredUp image cold told → IsLeft told after status
+      → Kept whole_from sectors after handed medium carried
+  left_on (Ok u) None carried status begins its left = on
+  left_on (Ok u) (Some opened) carried status begins its left =
+      let U : Relayed → Type 0 = λ v. IsUnder whole_from sectors handed medium carried v in
+      subst U (sym left.1) (under_up u carried begins its u.moored refl)
+  left_on (Err e) None carried status begins its left = on
+  left_on (Err e) (Some opened) carried status begins its left = absurd left
+
+module _ (whole_from sectors : ℕ) (handed : List EtcsOutput) (medium : Platter) (image : List ℕ) (read : IsReadFrom sectors image medium) (on : AreOnMedium whole_from sectors handed medium) where
+  closed_on : (after : Option Opened) (carried : ℕ) → after ≡ None → Kept whole_from sectors after handed medium carried
+  closed_on after carried is = let K : Option Opened → Type 0 = λ o. Kept whole_from sectors o handed medium carried in subst K (sym is) on
+
+  powers_on : (cold : Option Cold) (after : Option Opened) (carried : ℕ) (status : Status) → carried ≡ 0 → PowersUp image cold after status → Kept whole_from sectors after handed medium carried
+  powers_on None after carried status begins its = closed_on after carried its.1
+  powers_on (Some cold) after carried status begins (told, up, left) = left_on whole_from sectors handed medium image cold read on told after carried status begins up left
+
+-- ---- whatever happens
+
+module _ (whole_from sectors : ℕ) (handed : List EtcsOutput) (medium : Platter) (carried : ℕ) where
+  abbrev KeptBy : Option Opened → Type 0
+  KeptBy handle = Kept whole_from sectors handle handed medium carried
+
+  on_handle : (So : Opened → Opened → Status → Type 0)
+      → ((was is : Opened) (status : Status) → So was is status → IsUnder whole_from sectors handed medium carried was.unit → IsUnder whole_from sectors handed medium carried is.unit)
+      → (old new : Option Opened) (status : Status) → OnHandle old new status So → KeptBy old → KeptBy new
+  on_handle So on None None status its kept = kept
+  on_handle So on None (Some after) status its kept = absurd its
+  on_handle So on (Some before) None status its kept = absurd its
+  on_handle So on (Some before) (Some after) status its kept = on before after status its kept
+
+  input_on : (input : Option Input) (was is : Opened) (status : Status) → Takes input was is status → IsUnder whole_from sectors handed medium carried was.unit → IsUnder whole_from sectors handed medium carried is.unit
+  input_on None was is status its under = let U : Opened → Type 0 = λ o. IsUnder whole_from sectors handed medium carried o.unit in subst U (sym its.1) under
+  input_on (Some input) was is status (told, answer, accepts, last) under = takes_on whole_from sectors handed medium carried input was.unit is.unit told accepts under
+
+  medium_of : (handle : Option Opened) → KeptBy handle → AreOnMedium whole_from sectors handed medium
+  medium_of None kept = kept
+  medium_of (Some opened) (it, there, floats) = on_medium whole_from sectors handed medium carried it.mirror it.unit.journal it.unit.life opened.unit.outputs opened.unit.done floats
+
+-- what is left where power is lost
+left_over : (whole_from sectors : ℕ) (handed : List EtcsOutput) (medium : Platter) (image : ℕ → List ℕ) → IsImage medium image → AreOnMedium whole_from sectors handed medium → AreOnMedium whole_from sectors handed (at_rest image)
+left_over whole_from sectors handed medium image is on = record {
+  durable = on.durable;
+  outputs = on.outputs;
+  each = λ c image_is.
+      let same : image ≡ c = λ i. λ s. sym (image_is.shut s refl) i in
+      let H : (ℕ → List ℕ) → Type 0 = λ e. HasAll whole_from sectors on.durable e in
+      subst H same (on.each image is);
+}
+
+abbrev KeptIn : ℕ → Scene → Type 0
+KeptIn whole_from sectors scene = Kept whole_from sectors scene.handle scene.handed scene.medium scene.carried
+
+-- the rest of the scene as it was
+as_it_was : (whole_from sectors : ℕ) (handle : Option Opened) (handed handed' : List EtcsOutput) (medium medium' : Platter) (carried carried' : ℕ) → medium' ≡ medium → carried' ≡ carried → handed' ≡ handed
+    → Kept whole_from sectors handle handed medium carried → Kept whole_from sectors handle handed' medium' carried'
+as_it_was whole_from sectors handle handed handed' medium medium' carried carried' same_medium same_carried same_handed kept =
+    let M : Platter → Type 0 = λ m. Kept whole_from sectors handle handed' m carried' in
+    let C : ℕ → Type 0 = λ n. Kept whole_from sectors handle handed' medium n in
+    let H : List EtcsOutput → Type 0 = λ l. Kept whole_from sectors handle l medium carried in
+    subst M (sym same_medium) (subst C (sym same_carried) (subst H (sym same_handed) kept))
+
+released_in : (whole_from sectors : ℕ) (handed handed' : List EtcsOutput) (medium : Platter) (carried carried' : ℕ) (h : Handing) (old new : Option Opened)
+    → OnHandleInto (Unit {0}) old new h.status (λ was is told. Releases was is h)
+    → Where (is_done h.status) ((handed' ≡ handed ++ take h.count h.handed) × (carried' ≡ 0)) ((handed' ≡ handed) × (carried' ≡ carried))
+    → Kept whole_from sectors old handed medium carried → Kept whole_from sectors new handed' medium carried'
+released_in whole_from sectors handed handed' medium carried carried' h None None its out kept =
+    let so = where_false (is_done h.status) ((handed' ≡ handed ++ take h.count h.handed) × (carried' ≡ 0)) ((handed' ≡ handed) × (carried' ≡ carried)) (ap is_done its.0) out in
+    let H : List EtcsOutput → Type 0 = λ l. AreOnMedium whole_from sectors l medium in
+    subst H (sym so.0) kept
+released_in whole_from sectors handed handed' medium carried carried' h None (Some after) its out kept = absurd its
+released_in whole_from sectors handed handed' medium carried carried' h (Some before) None its out kept = absurd its
+released_in whole_from sectors handed handed' medium carried carried' h (Some before) (Some after) its out kept = releases_on whole_from sectors handed handed' medium carried carried' before after h out kept its
+
+opened_in : (whole_from sectors : ℕ) (handed : List EtcsOutput) (medium : Platter) (carried carried' : ℕ) (image : List ℕ) (cold abi : ℕ) (old new : Option Opened) (status : Status)
+    → OpensFrom image cold abi old new status → (old ≡ None → IsReadFrom sectors image medium) → MatchOption old (carried' ≡ 0) (λ opened. carried' ≡ carried)
+    → Kept whole_from sectors old handed medium carried → Kept whole_from sectors new handed medium carried'
+opened_in whole_from sectors handed medium carried carried' image cold abi None new status its read begins kept = either_way (abi == this_abi) (PowersUp image (word_by cold) new status) ((status ≡ a_status.OtherAbi) × (new ≡ None)) (Kept whole_from sectors new handed medium carried')
+    (λ up. powers_on whole_from sectors handed medium image (read refl) kept (word_by cold) new carried' status begins up)
+    (λ other. closed_on whole_from sectors handed medium image (read refl) kept new carried' other.1)
+    its
+opened_in whole_from sectors handed medium carried carried' image cold abi (Some before) new status its read begins kept =
+    let K : Option Opened → Type 0 = λ o. Kept whole_from sectors o handed medium carried' in
+    let C : ℕ → Type 0 = λ n. IsUnder whole_from sectors handed medium n before.unit in
+    subst K (sym its.1) (subst C (sym begins) kept)
+
+carried_in : (whole_from sectors : ℕ) (handed : List EtcsOutput) (medium : Platter) (carried : ℕ) (opened : Opened) (t : Telling) → TellsRequest carried opened t → t.status ≡ a_status.Done
+    → IsUnder whole_from sectors handed medium carried opened.unit → IsUnder whole_from sectors handed (carried_out t.told t.bytes medium) (carried + 1) opened.unit
+carried_in whole_from sectors handed medium carried opened t (found, at, whole, told) done (it, there, floats) =
+    let A : List Call → Type 0 = λ l. IsAt carried l found in
+    let W : List ℕ → Type 0 = λ w. IsToldAs w found t in
+    let so = carried_there it.mirror.sectors it.mirror.start it.mirror.written it.mirror.requests carried t done medium floats.there found
+    (subst A (ap list_of there) at)
+    (λ request is. subst (λ (m : Option Moored). IsWithin (sectors_in m) (length (written_of m)) request) there (whole request is))
+    (subst W (ap written_of there) told) in (
+      it,
+      there,
+      carries whole_from sectors handed medium carried it.mirror it.unit.journal it.unit.life opened.unit.outputs opened.unit.done floats (carried_out t.told t.bytes medium) so.0 so.1,
+    )
+
+said_in : (whole_from sectors : ℕ) (handed : List EtcsOutput) (medium : Platter) (carried count : ℕ) (old new : Option Opened) (status : Status)
+    → OnHandle old new status (Says count) → (status ≡ a_status.Done → count ≤ carried) → Kept whole_from sectors old handed medium carried → Kept whole_from sectors new handed medium carried
+said_in whole_from sectors handed medium carried count None None status its most kept = kept
+said_in whole_from sectors handed medium carried count None (Some after) status its most kept = absurd its
+said_in whole_from sectors handed medium carried count (Some before) None status its most kept = absurd its
+said_in whole_from sectors handed medium carried count (Some before) (Some after) status its most kept = says_on whole_from sectors handed medium carried count before after status its most kept
+
+step : (whole_from sectors : ℕ) (one : Happening) (before after : Scene) → KeptIn whole_from sectors before → Happens sectors one before after → KeptIn whole_from sectors after
+step whole_from sectors (Opening image cold abi) before after kept (status, opens, read, medium, handed, begins) =
+    as_it_was whole_from sectors after.handle before.handed after.handed before.medium after.medium after.carried after.carried medium refl handed
+    (opened_in whole_from sectors before.handed before.medium before.carried after.carried image cold abi before.handle after.handle status opens read begins kept)
+step whole_from sectors (Taking input) before after kept (status, its, quiet) =
+    as_it_was whole_from sectors after.handle before.handed after.handed before.medium after.medium before.carried after.carried quiet.0 quiet.1 quiet.2
+    (on_handle whole_from sectors before.handed before.medium before.carried (Takes input) (input_on whole_from sectors before.handed before.medium before.carried input) before.handle after.handle status its kept)
+step whole_from sectors Preparing before after kept (status, its, quiet) =
+    as_it_was whole_from sectors after.handle before.handed after.handed before.medium after.medium before.carried after.carried quiet.0 quiet.1 quiet.2
+    (on_handle whole_from sectors before.handed before.medium before.carried Prepares (λ was is status its under. prepares_on whole_from sectors before.handed before.medium before.carried was.unit is.unit its.0 its.2 under)
+    before.handle after.handle status its kept)
+step whole_from sectors (Carrying t) before after kept (opened, was_open, told, done, handle, medium, carried, handed) =
+    let B : Option Opened → Type 0 = λ o. Kept whole_from sectors o before.handed before.medium before.carried in
+    let under : IsUnder whole_from sectors before.handed before.medium before.carried opened.unit = subst B was_open kept in
+    let K : Option Opened → Type 0 = λ o. Kept whole_from sectors o after.handed after.medium after.carried in
+    subst K (sym (handle ∙ was_open))
+    (as_it_was whole_from sectors (Some opened) before.handed after.handed (carried_out t.told t.bytes before.medium) after.medium (before.carried + 1) after.carried medium carried handed
+    (carried_in whole_from sectors before.handed before.medium before.carried opened t told done under))
+step whole_from sectors (Saying count) before after kept (status, its, most, quiet) =
+    as_it_was whole_from sectors after.handle before.handed after.handed before.medium after.medium before.carried after.carried quiet.0 quiet.1 quiet.2
+    (said_in whole_from sectors before.handed before.medium before.carried count before.handle after.handle status its most kept)
+step whole_from sectors Failing before after kept (status, its, quiet) =
+    as_it_was whole_from sectors after.handle before.handed after.handed before.medium after.medium before.carried after.carried quiet.0 quiet.1 quiet.2
+    (on_handle whole_from sectors before.handed before.medium before.carried Fails (fails_on whole_from sectors before.handed before.medium before.carried) before.handle after.handle status its kept)
+step whole_from sectors (Releasing h) before after kept (its, medium, out) =
+    as_it_was whole_from sectors after.handle after.handed after.handed before.medium after.medium after.carried after.carried medium refl refl
+    (released_in whole_from sectors before.handed after.handed before.medium before.carried after.carried h before.handle after.handle its out kept)
+step whole_from sectors Asking before after kept (same, quiet) =
+    let K : Option Opened → Type 0 = λ o. Kept whole_from sectors o before.handed before.medium before.carried in
+    as_it_was whole_from sectors after.handle before.handed after.handed before.medium after.medium before.carried after.carried quiet.0 quiet.1 quiet.2 (subst K (sym same) kept)
+step whole_from sectors Closing before after kept (none, quiet) =
+    let K : Option Opened → Type 0 = λ o. Kept whole_from sectors o before.handed before.medium before.carried in
+    as_it_was whole_from sectors after.handle before.handed after.handed before.medium after.medium before.carried after.carried quiet.0 quiet.1 quiet.2
+    (subst K (sym none) (medium_of whole_from sectors before.handed before.medium before.carried before.handle kept))
+step whole_from sectors (Cutting image) before after kept (is, none, medium, handed) =
+    let K : Option Opened → Type 0 = λ o. Kept whole_from sectors o after.handed after.medium after.carried in
+    subst K (sym none)
+    (as_it_was whole_from sectors None before.handed after.handed (at_rest image) after.medium after.carried after.carried medium refl handed
+    (left_over whole_from sectors before.handed before.medium image is (medium_of whole_from sectors before.handed before.medium before.carried before.handle kept)))
+
+all_steps : (whole_from sectors : ℕ) (history : List Happening) (first last : Scene) → KeptIn whole_from sectors first → AllHappen sectors history first last → KeptIn whole_from sectors last
+all_steps whole_from sectors [] first last kept same = let K : Scene → Type 0 = λ s. KeptIn whole_from sectors s in subst K (sym same) kept
+all_steps whole_from sectors (one ∷ more) first last kept (next, happens, rest) = all_steps whole_from sectors more next last (step whole_from sectors one first next kept happens) rest
+
+pub handed_out_is_on_medium : HandedOutIsOnMedium
+handed_out_is_on_medium whole_from sectors history first last none on all =
+    let K : Option Opened → Type 0 = λ o. Kept whole_from sectors o first.handed first.medium first.carried in
+    medium_of whole_from sectors last.handed last.medium last.carried last.handle (all_steps whole_from sectors history first last (subst K (sym none) on) all)

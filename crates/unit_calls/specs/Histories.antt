@@ -1,0 +1,134 @@
+-- What was handed out to a caller, and what his medium holds of it, whatever he calls and whenever power is lost (this
+-- project's profile). Lists of events have the newest first; lists of outputs, of releases and of what happens have the
+-- oldest first.
+
+-- Taken for granted: each call meets its contract (`OnHandle`, `Takes`, `Prepares`, ..), which is proved; and what the
+-- head of `include/etcs_unit.h` says that the caller owes. He hands in what he read from his medium, carries out the
+-- requests in their order, as they are told, says of none that it is done before it is, and nothing else writes there.
+use Rattle.std.specs.Prelude.{◌≡◌, ◌⊎◌, ℕ, ◌+◌, ◌≤◌, List, [], ◌∷◌, ◌++◌, map, take, Option, Some, None, MatchOption}
+use Rattle.disk.specs.State.{Platter, IsImage}
+use Rattle.events.specs.declared.input.Event.{Event}
+use Rattle.events.specs.declared.input.Input.{Input}
+use Rattle.onboard.specs.Events.{pairs_of}
+use Rattle.onboard.specs.Lives.{Tells}
+use Rattle.unit_calls.specs.Handles.{OnHandle, OnHandleInto, Takes, Prepares, Says, Fails, Handing, Releases, OpensFrom}
+use Rattle.unit_calls.specs.Mediums.{at_rest, carried_out, IsReadFrom}
+use Rattle.unit_calls.specs.Outputs.{told_of}
+use Rattle.unit_calls.specs.Requests.{Where, Telling, TellsRequest}
+use Rattle.unit_calls.specs.Statuses.{is_done}
+use Rattle.unit_calls.specs.declared.handle.Opened.{Opened}
+use Rattle.unit_calls.specs.declared.outputs.EtcsOutput.{EtcsOutput}
+use Rattle.unit_calls.specs.declared.status.Status.{Status}
+use Rattle.unit_calls.specs.declared.status.Status.TheVariants as a_status
+
+-- How it stands between two calls.
+pub record Scene : Type 0 where
+  -- what the handle holds
+  pub handle : Option Opened
+  -- the caller's medium
+  pub medium : Platter
+  -- how many requests of the list he has carried out
+  pub carried : ℕ
+  -- all outputs that he was ever handed
+  pub handed : List EtcsOutput
+
+-- What may happen next.
+pub data Happening : Type 0 where
+  -- `etcs_unit_open` with these bytes, word and number of the interface
+  Opening : List ℕ → ℕ → ℕ → Happening
+  -- a call that takes an input; None stands for numbers outside their limits
+  Taking : Option Input → Happening
+  -- `etcs_unit_prepare`
+  Preparing : Happening
+  -- the next request is carried out, as `etcs_unit_request` told it
+  Carrying : Telling → Happening
+  -- `etcs_unit_done` with this count
+  Saying : ℕ → Happening
+  -- `etcs_unit_fail`
+  Failing : Happening
+  -- `etcs_unit_release` into these places
+  Releasing : Handing → Happening
+  -- `etcs_unit_request`, `etcs_unit_state`, and the calls that need no unit
+  Asking : Happening
+  -- `etcs_unit_close`
+  Closing : Happening
+  -- power is lost, and the medium holds this
+  Cutting : (ℕ → List ℕ) → Happening
+
+-- the call left the medium alone, and handed out nothing
+abbrev pub IsQuiet : Scene → Scene → Type 0
+IsQuiet before after = (after.medium ≡ before.medium) × (after.carried ≡ before.carried) × (after.handed ≡ before.handed)
+
+-- A unit that is opened begins with a list of which nothing is carried out.
+abbrev pub BeginsAnew : Scene → Scene → Type 0
+BeginsAnew before after = MatchOption before.handle (after.carried ≡ 0) (λ opened. after.carried ≡ before.carried)
+
+-- what a release hands out is behind what was handed out before, and nothing of the next list is carried out
+abbrev pub IsHandedOut : Handing → Scene → Scene → Type 0
+IsHandedOut h before after = Where (is_done h.status)
+    ((after.handed ≡ before.handed ++ take h.count h.handed) × (after.carried ≡ 0))
+    ((after.handed ≡ before.handed) × (after.carried ≡ before.carried))
+
+-- it happened to a caller whose medium has so many sectors
+abbrev pub Happens : ℕ → Happening → Scene → Scene → Type 0
+Happens sectors (Opening image cold abi) before after =
+    (status : Status) × OpensFrom image cold abi before.handle after.handle status
+    × (before.handle ≡ None → IsReadFrom sectors image before.medium)
+    × (after.medium ≡ before.medium) × (after.handed ≡ before.handed) × BeginsAnew before after
+Happens sectors (Taking input) before after =
+    (status : Status) × OnHandle before.handle after.handle status (Takes input) × IsQuiet before after
+Happens sectors Preparing before after =
+    (status : Status) × OnHandle before.handle after.handle status Prepares × IsQuiet before after
+Happens sectors (Carrying t) before after =
+    (opened : Opened) × (before.handle ≡ Some opened) × TellsRequest before.carried opened t × (t.status ≡ a_status.Done)
+    × (after.handle ≡ before.handle) × (after.medium ≡ carried_out t.told t.bytes before.medium)
+    × (after.carried ≡ before.carried + 1) × (after.handed ≡ before.handed)
+Happens sectors (Saying count) before after =
+    (status : Status) × OnHandle before.handle after.handle status (Says count)
+    × (status ≡ a_status.Done → count ≤ before.carried) × IsQuiet before after
+Happens sectors Failing before after =
+    (status : Status) × OnHandle before.handle after.handle status Fails × IsQuiet before after
+Happens sectors (Releasing h) before after =
+    OnHandleInto (Unit {0}) before.handle after.handle h.status (λ was is told. Releases was is h)
+    × (after.medium ≡ before.medium) × IsHandedOut h before after
+Happens sectors Asking before after = (after.handle ≡ before.handle) × IsQuiet before after
+Happens sectors Closing before after = (after.handle ≡ None) × IsQuiet before after
+Happens sectors (Cutting image) before after =
+    IsImage before.medium image × (after.handle ≡ None) × (after.medium ≡ at_rest image) × (after.handed ≡ before.handed)
+
+-- these happened, one after the other
+abbrev pub AllHappen : ℕ → List Happening → Scene → Scene → Type 0
+AllHappen sectors [] first last = last ≡ first
+AllHappen sectors (one ∷ more) first last = (next : Scene) × Happens sectors one first next × AllHappen sectors more next last
+
+-- ---- what stays so
+
+-- the first list is a part of the second: its elements stand there in the same order, each at a place of its own
+abbrev pub IsPartOf : {X : Type 0} → List X → List X → Type 0
+IsPartOf [] ys = Unit {0}
+IsPartOf (x ∷ xs) [] = ⊥
+IsPartOf (x ∷ xs) (y ∷ ys) = ((x ≡ y) × IsPartOf xs ys) ⊎ IsPartOf (x ∷ xs) ys
+
+-- the outputs of these events, as C gets them
+abbrev pub outputs_of : List Event → List EtcsOutput
+outputs_of events = map told_of (pairs_of events)
+
+-- the image represents a list of events of which these are the beginning, by blocks that are whole from this number on
+abbrev pub HasAll : ℕ → ℕ → List Event → (ℕ → List ℕ) → Type 0
+HasAll whole_from sectors events image = (all : List Event) × (more : List Event) × (all ≡ more ++ events) × Tells whole_from sectors all image
+
+-- All of these outputs, which were handed out, are on the medium.
+pub record AreOnMedium (whole_from sectors : ℕ) (handed : List EtcsOutput) (medium : Platter) : Type 0 where
+  -- events whose outputs were handed out are among these
+  pub durable : List Event
+  -- in their order, each once
+  pub outputs : IsPartOf handed (outputs_of durable)
+  -- and whatever a loss of power may leave of the medium has these events
+  pub each : (image : ℕ → List ℕ) → IsImage medium image → HasAll whole_from sectors durable image
+
+-- Whatever is called, in whatever order, and wherever power is lost: all that was handed out is on the medium, at its
+-- place in the list of events, and every later loss of power leaves it there.
+abbrev pub HandedOutIsOnMedium : Type 0
+HandedOutIsOnMedium = (whole_from sectors : ℕ) (history : List Happening) (first last : Scene) → first.handle ≡ None
+    → AreOnMedium whole_from sectors first.handed first.medium → AllHappen sectors history first last
+    → AreOnMedium whole_from sectors last.handed last.medium

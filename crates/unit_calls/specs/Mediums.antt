@@ -1,0 +1,34 @@
+-- What a caller does with his medium (this project's profile). Sectors have 512 bytes and are numbered from 0.
+use Rattle.std.specs.Prelude.{◌≡◌, ℕ, ◌-◌, ◌/◌, ◌==◌, ◌&&◌, nat_le, nat_lt, Bool, true, false, if◌then◌else◌, List, length}
+use Rattle.disk.specs.State.{Platter, IsImage, contents_of, sector_of}
+use Rattle.mirror_disk.specs.Mirror.{mirror_of, mirror_state}
+use Rattle.unit_calls.specs.declared.words.EtcsRequest.{EtcsRequest}
+
+-- whether a write, as it is told, is of sector s
+abbrev pub is_of : EtcsRequest → ℕ → Bool
+is_of told s = nat_le told.sector s && nat_lt (s - told.sector) told.sectors
+
+-- the medium behind a write: its sectors have these bytes, and stay open until a sync
+abbrev pub written_on : EtcsRequest → List ℕ → Platter → Platter
+written_on told bytes medium = record {
+  contents = λ s. if is_of told s then sector_of bytes (s - told.sector) else medium.contents s;
+  is_open = λ s. if is_of told s then true else medium.is_open s;
+}
+
+-- the medium where no sector is open, with these contents
+abbrev pub at_rest : (ℕ → List ℕ) → Platter
+at_rest contents = record { contents = contents; is_open = λ s. false }
+
+-- the medium behind a request, as it is told: a write, or a sync
+abbrev pub carried_out : EtcsRequest → List ℕ → Platter → Platter
+carried_out told bytes medium = if told.kind == 1 then written_on told bytes medium else at_rest medium.contents
+
+-- The bytes are what was read from a medium of so many sectors, of which none is open: power was lost since the last
+-- write, or it was synced.
+pub record IsReadFrom (sectors : ℕ) (image : List ℕ) (medium : Platter) : Type 0 where
+  -- all its sectors were read
+  pub size : length image / 512 ≡ sectors
+  -- each as it is
+  pub contents : (s : ℕ) → medium.contents s ≡ contents_of (mirror_state (mirror_of image)) s
+  -- and none is open
+  pub synced : (s : ℕ) → medium.is_open s ≡ false

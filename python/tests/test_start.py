@@ -9,7 +9,7 @@ from collections.abc import Mapping
 from pathlib import Path
 from unittest.mock import patch
 
-from gaknifur import last_net
+from gaknifur import campaign, last_net
 from gaknifur.shown import shown
 
 TOP = Path(__file__).resolve().parents[2]
@@ -123,6 +123,13 @@ class Folders(Room):
         self.assertNotEqual((self.work / "out.xml").read_text(), first)  # its moment is another one
         self.assertEqual(sorted(path.name for path in self.work.iterdir()), ["a.case.yaml", "notes.xml", "out.xml"])
 
+    def test_results_whose_name_is_taken_meanwhile(self) -> None:
+        (self.work / "a.case.yaml").write_text(CASE)
+        (self.work / "conftest.py").write_text("open('out.xml', 'x').write('my own notes')\n")
+        status, _, said = self.lab("test", ".", "--junitxml=out.xml", "--python")
+        self.assertEqual((status, said), (1, "lab: out.xml: is there, and is not results in XML that lab made; nothing writes over it\n"))
+        self.assertEqual((self.work / "out.xml").read_text(), "my own notes")
+
 
 class Nets(Room):
     """Whatever goes wrong."""
@@ -161,9 +168,19 @@ class Nets(Room):
                                      ("2>&-", 0, ""), ("<&- >&- 2>&-", 3, "")):
             done = subprocess.run(["sh", "-c", f'"$0" build a.yaml {closes}', TOP / "lab"], cwd=self.work, capture_output=True, text=True)
             self.assertEqual((done.returncode, done.stderr), (status, said), closes)
+        # no file takes the number of a stream that is closed
+        opened = ("import os, sys; sys.path.insert(0, sys.argv[1]); from gaknifur import last_net; last_net.hold_streams(); "
+                  "sys.exit(os.open(os.devnull, os.O_RDONLY))")
+        words = [sys.executable, opened, str(TOP / "python")]
+        self.assertEqual(subprocess.call(["sh", "-c", 'exec "$0" -I -c "$1" "$2" <&- >&- 2>&-', *words]), 3)
         # what is made goes into its file alone, though the numbers of the streams are free
         status = subprocess.call(["sh", "-c", '"$0" build a.yaml out.json <&- >&- 2>&-', TOP / "lab"], cwd=self.work)
         self.assertEqual((status, (self.work / "out.json").read_text()), (0, self.lab("build", "a.yaml")[1]))
+
+    def test_a_full_device_of_words_that_print(self) -> None:
+        campaign.Table(self.work / "a.db", {}).close()
+        done = subprocess.run(["sh", "-c", '"$0" compare a.db a.db >/dev/full', TOP / "lab"], cwd=self.work, capture_output=True, text=True)
+        self.assertEqual((done.returncode, done.stderr), (3, "lab: No space left on device\n"))
 
 
 class Names(Room):

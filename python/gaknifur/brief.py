@@ -10,13 +10,15 @@ from . import causes, tables
 from .reading import Journal, Json
 
 MOST_TRIPS = 12
+LAST = ("event", "life", "mode", "level", "brake", "place_cm", "time_ms", "speed_kmh")
+"""What is told of the last record."""
 OVERWRITTEN = "before_oldest_block"
 """Why a life isn't replayed whose beginning was written over, as a ring does: nothing is lost by that."""
 
 
 def faults(journal: Journal) -> list[str]:
-    """What of a journal isn't whole or differs from what the kernel answers; nothing where `etcs_lab examine` and `etcs_lab
-    replay` both have nothing to tell."""
+    """What of a journal isn't whole or differs from what the kernel answers; nothing where `etcs_lab examine` and
+    `etcs_lab replay` both have nothing to tell."""
     found = []
     if journal.refusal is not None:
         found.append(f"no event can be told: {journal.refusal}")
@@ -68,10 +70,12 @@ def newest(journal: Journal) -> Newest | None:
     slot = next((slot for slot in journal.slots if slot["state"] == "block" and slot.get("block") == number), None)
     if number is None or slot is None:
         return None
-    behind = next((other for other in journal.slots if other["state"] == "unwritten" and other.get("block") == number + 1), None)
-    records = [record for record in journal.records if record["block"] == number and record.get("source", "journal") == "journal"]
-    return Newest(number, slot["first_event"], slot["last_event"], behind is not None and behind.get("life") == slot.get("life"),
-                  [record["kind"] for record in records] == ["powerup"], behind)
+    unwritten = (other for other in journal.slots if other["state"] == "unwritten")
+    behind = next((other for other in unwritten if other.get("block") == number + 1), None)
+    is_released = behind is not None and behind.get("life") == slot.get("life")
+    kinds = [record["kind"] for record in journal.records
+             if record["block"] == number and record.get("source", "journal") == "journal"]
+    return Newest(number, slot["first_event"], slot["last_event"], is_released, kinds == ["powerup"], behind)
 
 
 @dataclass
@@ -106,16 +110,16 @@ def trip_row(table: pd.DataFrame, row: Any) -> Json:
 
 
 def brief(journal: Journal, table: pd.DataFrame, found: pd.DataFrame) -> Brief:
-    """What stands at the top of the page of a journal with these records and interventions, of which rows are numbers in the
-    journal's list of records."""
+    """What stands at the top of the page of a journal with these records and interventions, of which rows are numbers in
+    the journal's list of records."""
     last = None
     if len(table):
         row = table.index[-1]
-        last = {name: table[name].at[row] for name in ("event", "life", "mode", "level", "brake", "place_cm", "time_ms", "speed_kmh")}
-        last["row"] = row
+        last = {name: table[name].at[row] for name in LAST} | {"row": row}
     braked = found[found["kind"] != "powerup"]
     intervention = braked.iloc[-1].to_dict() | {"row": braked["first_row"].iat[-1]} if len(braked) else None
     entered = tables.trips(table).index[::-1]
     of_life = table[table["life"] == last["life"]] if last else table
-    return Brief(faults(journal), last, int(of_life["event"].iat[0]) if len(of_life) else None, intervention,
-                 [trip_row(table, row) for row in entered[:MOST_TRIPS]], max(len(entered) - MOST_TRIPS, 0), newest(journal))
+    trips = [trip_row(table, row) for row in entered[:MOST_TRIPS]]
+    return Brief(faults(journal), last, int(of_life["event"].iat[0]) if len(of_life) else None, intervention, trips,
+                 len(entered) - len(trips), newest(journal))

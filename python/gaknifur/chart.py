@@ -239,16 +239,16 @@ def described(table: pd.DataFrame) -> str:
 
 
 def svg_of(figure: Figure, prefix: str, title: str, description: str) -> str:
-    """The text of a figure, its ids set apart but for the anchors of events. It is one picture with a title and a description:
-    its links, which the table of events has too, are no stops of the keyboard."""
+    """The text of a figure, its ids set apart but for the anchors of events. It is one picture with a title and a
+    description: its links, which the table of events has too, are no stops of the keyboard."""
     text = io.StringIO()
     figure.savefig(text, format="svg", metadata={"Date": None, "Creator": None})
     svg = text.getvalue()
     svg = re.sub(r'(\bid="|url\(#|xlink:href="#)(?![pr]\d+")', rf"\g<1>{prefix}-", svg[svg.index("<svg"):])
     svg = MARK.sub(r'<a tabindex="-1" xlink:href="#r\2">\1</a>', svg)
     head, _, body = svg.partition(">")
-    return (f'{head} role="img" aria-labelledby="{prefix}-title {prefix}-desc"><title id="{prefix}-title">{html.escape(title)}</title>'
-            f'<desc id="{prefix}-desc">{html.escape(description)}</desc>{body}')
+    return (f'{head} role="img" aria-labelledby="{prefix}-title {prefix}-desc">'
+            f'<title id="{prefix}-title">{html.escape(title)}</title><desc id="{prefix}-desc">{html.escape(description)}</desc>{body}')
 
 
 def draw(table: pd.DataFrame, picture: Picture) -> str:

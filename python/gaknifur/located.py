@@ -193,7 +193,8 @@ class Loader(yaml.SafeLoader):  # type: ignore[misc]
         if len(self.around) > MOST_DEPTH:
             raise yaml.MarkedYAMLError(problem=f"it is more than {MOST_DEPTH} deep", problem_mark=event.start_mark)
         self.around.append(parent)
-        if isinstance(event, yaml.AliasEvent) and any(self.anchors.get(event.anchor) is node for node in self.around if node is not None):
+        meant = self.anchors.get(event.anchor) if isinstance(event, yaml.AliasEvent) else None
+        if meant is not None and any(meant is node for node in self.around):
             raise yaml.MarkedYAMLError(problem=f"*{shortened(event.anchor)} holds itself", problem_mark=event.start_mark)
         node = super().compose_node(parent, index)
         self.around.pop()
@@ -201,8 +202,8 @@ class Loader(yaml.SafeLoader):  # type: ignore[misc]
 
 
 def check(path: Path, node: yaml.Node, sizes: dict[int, int]) -> int:
-    """Refuses tags such as `!!python`, which have no meaning here, and texts that are none; answers how many values the node
-    has, each alias counted as what it stands for."""
+    """Refuses tags such as `!!python`, which have no meaning here, and texts that are none; answers how many values the
+    node has, each alias counted as what it stands for."""
     if id(node) in sizes:
         return sizes[id(node)]
     value = Value(path, node)
@@ -244,6 +245,11 @@ def at_end_of(path: Path, before: str, said: str) -> BadFile:
     return BadFile(path, before.count("\n") + 1, len(before) - before.rfind("\n"), said)
 
 
+def at_mark(path: Path, mark: Any, said: object) -> BadFile:
+    """What is no YAML, at a mark of its reader."""
+    return BadFile(path, mark.line + 1 if mark else 1, mark.column + 1 if mark else 1, f"this is no YAML: {said}")
+
+
 def documents(path: Path) -> list[Value]:
     """The documents of a file, `---` between them."""
     text = text_of(path)
@@ -254,15 +260,13 @@ def documents(path: Path) -> list[Value]:
         while loader.check_node():
             nodes.append(loader.get_node())
     except yaml.MarkedYAMLError as error:
-        mark = error.problem_mark or error.context_mark
-        raise BadFile(path, mark.line + 1 if mark else 1, mark.column + 1 if mark else 1,
-                      f"this is no YAML: {error.problem or error.context}") from error
+        raise at_mark(path, error.problem_mark or error.context_mark, error.problem or error.context) from error
     except yaml.reader.ReaderError as error:
-        raise at_end_of(path, text[:error.position], f"this is no YAML: the character U+{ord(text[error.position]):04X} can't stand here") from error
+        said = f"this is no YAML: the character U+{ord(text[error.position]):04X} can't stand here"
+        raise at_end_of(path, text[:error.position], said) from error
     except (yaml.YAMLError, ValueError, OverflowError) as error:  # of a number that is no character's, among others
-        mark = loader.get_mark() if loader else None
         said = " ".join(str(error).split()) if isinstance(error, yaml.YAMLError) else "there is no such character"
-        raise BadFile(path, mark.line + 1 if mark else 1, mark.column + 1 if mark else 1, f"this is no YAML: {said}") from error
+        raise at_mark(path, loader.get_mark() if loader else None, said) from error
     sizes: dict[int, int] = {}
     for node in nodes:
         check(path, node, sizes)

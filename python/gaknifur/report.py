@@ -156,7 +156,8 @@ def environment() -> jinja2.Environment:
 
 def is_usual(one: Any) -> bool:
     """Whether an intervention is that of each power-up, which lasts until the driver has revalidated."""
-    return bool(one["kind"] == "powerup" and one["causes"] and all(held.cause == "not_revalidated" for held in one["causes"]))
+    causes_held = {held.cause for held in one["causes"]}
+    return bool(one["kind"] == "powerup" and causes_held == {"not_revalidated"})
 
 
 def in_order(rows: pd.DataFrame, is_newest_first: bool) -> pd.DataFrame:
@@ -180,8 +181,9 @@ def led_to(told: pd.DataFrame) -> set[int]:
                     for cause in one["causes"] for number in (cause.since, cause.last, cause.gone) if number is not None}
 
 
-def pictures_of(table: pd.DataFrame, drawn: list[Life], chosen: pd.DataFrame, rows: set[int], progress: Progress) -> tuple[list[str], set[int]]:
-    """Draws the lives, and the pictures of some interventions; answers these, and which rows have an anchor in a picture."""
+def pictures_of(table: pd.DataFrame, drawn: list[Life], chosen: pd.DataFrame, rows: set[int],
+                progress: Progress) -> tuple[list[str], set[int]]:
+    """Draws the lives, and pictures of some interventions; answers these, and which rows have an anchor in a picture."""
     anchors, pictures, whole = set[int](), list[str](), len(drawn) + len(chosen)
     for number, life in enumerate(drawn):
         progress("charts", number, whole)
@@ -202,7 +204,8 @@ def page(journal: Journal, extent: Extent = Extent(), progress: Progress = silen
     told = found.head(MOST_TOLD)
     chosen = in_order(farthest(found), is_newest_first) if len(table) > SHORT else found.head(0)
     told = told.assign(limit_text=[limit_text(table, row) for row in told["first_row"]])
-    linked = {int(row) for row in chosen["first_row"]} | led_to(told) | at_top.rows | {top["row"] for top in (fastest, over) if top}
+    linked = {int(row) for row in chosen["first_row"]} | {top["row"] for top in (fastest, over) if top}
+    linked |= led_to(told) | at_top.rows
     shown = in_order(listed(table, linked), is_newest_first)
     lives = [Life(int(life), part) for life, part in table.groupby("life", sort=True)]
     drawn = [life for life in lives if len(life.table) > 1][-MOST_LIVES:]

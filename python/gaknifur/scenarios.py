@@ -37,7 +37,7 @@ EXACT = Context(prec=2 * MOST_DIGITS)
 """Reckons with numbers of that many digits without rounding."""
 QUANTITY = re.compile(r"(-?[0-9][0-9_]*(?:\.[0-9]+)?)\s*([a-z][a-z0-9/]*)")
 DEPTH, MOST_STEPS = 16, 100_000
-"""How deep parts use one another, and files include one another; and how many steps a life has, each `use` and mark counted."""
+"""How deep parts use one another, and files include one another; how many steps a life has, with each `use` and mark."""
 
 
 @dataclass
@@ -88,7 +88,8 @@ def quantity(text: str, at: Value, kind: str, least: int, most: int) -> int:
     text = text.strip()
     found, units = QUANTITY.fullmatch(text), UNITS[kind]
     if not found or found[2] not in units:
-        raise at.fault(f"{'an' if kind[0] in 'aeiou' else 'a'} {kind} is wanted here, a number and {' or '.join(units)}, and this is \"{shortened(text)}\"")
+        raise at.fault(f"{'an' if kind[0] in 'aeiou' else 'a'} {kind} is wanted here, a number and {' or '.join(units)}, "
+                       f"and this is \"{shortened(text)}\"")
     number = EXACT.multiply(at.decimal(found[1]), units[found[2]])
     least_unit = next(iter(units))
     if number != int(number):
@@ -103,8 +104,9 @@ def told_quantity(at: Value, kind: str, least: int, most: int) -> int:
     return quantity(at.text(), at, kind, least, most)
 
 
-def shared_of(members: dict[str, Value], path: Path, within: tuple[Path, ...] = (), known: dict[Path, Shared] | None = None) -> Shared:
-    """The telegrams and parts of a file, behind those that it includes. `known` has those of files that were read already."""
+def shared_of(members: dict[str, Value], path: Path, within: tuple[Path, ...] = (),
+              known: dict[Path, Shared] | None = None) -> Shared:
+    """The telegrams and parts of a file, behind those that it includes; `known` has those of files that were read before."""
     found, read_before = Shared(), {} if known is None else known
     if "include" in members:
         for name in [members["include"]] if members["include"].is_text() else members["include"].elements():
@@ -114,7 +116,8 @@ def shared_of(members: dict[str, Value], path: Path, within: tuple[Path, ...] = 
             if len(within) == DEPTH:
                 raise name.fault(f"files include one another more than {DEPTH} deep")
             if other not in read_before:
-                read_before[other] = shared_of(document(other).members((), SHARED), other, (*within, path.resolve()), read_before)
+                told = document(other).members((), SHARED)
+                read_before[other] = shared_of(told, other, (*within, path.resolve()), read_before)
             inner = read_before[other]
             found.telegrams |= inner.telegrams
             found.parts |= inner.parts

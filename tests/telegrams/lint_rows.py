@@ -4,6 +4,7 @@
     tests/telegrams/lint_rows.py ETCS PROGRAM [WORD..]    by the program etcs, and by this one with these words before its own
 """
 import json
+import re
 import subprocess
 import sys
 import tempfile
@@ -19,61 +20,23 @@ import driver
 import program as plain_program
 from items import Kept
 from life import Life
-from named import written
+from lint_faults import AGAIN, FAULTS, GOOD, GROUP, SCENARIO, SKIPPED, SPARE, STEP, TRIED, Key, group, scenario, shape
 from random_inputs import Made, cut_text
 from random_lists import Numbers
 
 RANDOM, SEED, LEAST_FAULTS, LEAST_ACTIONS, LEAST_POSITIONS = 300, 2026, 100, 100, 20
-GOOD = written("NID_BG 2, N_TOTAL 2; 65: NID_TSR 7, D_TSR 100, L_TSR 50, Q_FRONT 1, V_TSR 4").upper()
-SKIPPED = written("NID_BG 2; 44: ; 136: ").upper()
-SPARE = written("NID_BG 2, M_DUP 3").upper()
-
-
-def scenario(groups=(), steps=(), **more):
-    return {"groups": list(groups), "steps": list(steps)} | more
-
-
-def group(at=100, spacing=10, balises=(GOOD,)):
-    return {"at": at, "spacing": spacing, "balises": list(balises)}
-
-
-# A scenario, and its faults: place, number, name.
-SHAPE, RANGE, HEX = (2, "Shape"), (3, "OutOfRange"), (4, "BadHex")
-FAULTS = [
-    ([], [("", SHAPE), ("/groups", SHAPE), ("/steps", SHAPE)]),
-    (scenario(more=1), [("", SHAPE)]),
-    ({"groups": []}, [("/steps", SHAPE)]),
-    (scenario(cold="moved"), [("/cold", SHAPE)]),
-    (scenario(cold=3), [("/cold", RANGE)]),
-    ({"groups": 1, "steps": []}, [("/groups", SHAPE)]),
-    (scenario([group(at=0)]), [("/groups/0/at", RANGE)]),
-    (scenario([group(), group(at="1")]), [("/groups/1/at", SHAPE)]),
-    (scenario([group(spacing=1201)]), [("/groups/0/spacing", RANGE)]),
-    (scenario([group(balises=[GOOD, "900"])]), [("/groups/0/balises/1", HEX)]),
-    (scenario([group(balises=[""])]), [("/groups/0/balises/0", RANGE)]),
-    (scenario([group(balises=[GOOD] * 9)]), [("/groups/0", SHAPE)]),
-    (scenario([{"at": 1}]), [("/groups/0", SHAPE)]),
-    (scenario(steps=[{"flush": True}, {"drive": [1]}]), [("/steps/1/drive", SHAPE)]),
-    (scenario(steps=[{"drive": [1_000_001, 0]}]), [("/steps/0/drive", RANGE)]),
-    (scenario(steps=[{"telegram": "zz"}]), [("/steps/0/telegram", HEX)]),
-    (scenario(steps=[{"clock": -1}]), [("/steps/0/clock", RANGE)]),
-    (scenario(steps=[{"driver": [12]}]), [("/steps/0/driver", SHAPE)]),
-    (scenario(steps=[{"flush": False}]), [("/steps/0/flush", SHAPE)]),
-    (scenario(steps=[{"dirve": [1, 1]}]), [("/steps/0", SHAPE)]),
-    (scenario([group(at=0), group(balises=["0"])], [{"clock": "1"}, {"drive": [1, 600_001]}], cold=9),
-     [("/cold", RANGE), ("/groups/0/at", RANGE), ("/groups/1/balises/0", HEX), ("/steps/0/clock", SHAPE), ("/steps/1/drive", RANGE)]),
-]
 
 # A text, the place of its first fault, and line and column there: counted by hand. A tab is one column, and so is each byte.
 POSITIONS = [
     ('{"groups": [],\n "steps": [{"flush": 1}]}', "/steps/0/flush", 2, 22),
     ('{"groups": [], "steps": [], "steps": 7}', "/steps", 1, 38),
     ('{"groups": [{"at": "\\"steps\\"", "spacing": 1, "balises": []}], "steps": []}', "/groups/0/at", 1, 20),
-    ('{"groups": [{"at": 1, "steps": {"flush": [1, {"steps": 2}]}}], "steps": [[{"flush": true}]]}', "/groups/0", 1, 13),
+    ('{"groups": [{"at": 1, "steps": {"flush": [1, {"steps": 2}]}}], "steps": [[{"flush": true}]]}', "/groups/0/steps", 1, 23),
     ('{\r\n\t"groups": [],\r\n\t"steps":\t5}', "/steps", 3, 11),
     ('{"groups": [], "steps": [{"flush": true}, [2, "\u00e4"], {"driver": [12]}]}', "/steps/1", 1, 43),
-    # A name that is written with an escape isn't found.
-    ('{"groups": [], "step\\u0073": 7}', "/steps"),
+    # A name that is written with an escape is the same; one that isn't there is told where its object begins.
+    ('{"groups": [], "step\\u0073": 7}', "/steps", 1, 30),
+    ('\n {"groups": []}', "/steps", 2, 2),
 ]
 REFUSED = "the kernel refuses the telegram: 3 Spare"
 READY = [{"driver": action} for action in ([1, "IC 704"], [4, 1], [3, 20_000, 160_000, 70, 0, 15])]
@@ -112,35 +75,69 @@ ADVICE = [
 
 
 def position_in(text, pointer):
-    """Line and column at which the value begins, by YAML's reader; None where there is none. Of members of one name the last one counts."""
+    """Line and column at which the value begins, by YAML's reader; of a Key its name, of a member that isn't there its object. Of members of
+    one name the last one counts."""
     node = yaml.compose(text, Loader=yaml.CSafeLoader if hasattr(yaml, "CSafeLoader") else yaml.SafeLoader)
     for part in pointer.split("/")[1:]:
+        part = part.replace("~1", "/").replace("~0", "~")
+        pair = None
         if isinstance(node, yaml.MappingNode):
-            node = next((value for key, value in reversed(node.value) if key.value == part), None)
+            pair = next((pair for pair in reversed(node.value) if pair[0].value == part), None)
         elif isinstance(node, yaml.SequenceNode) and part.isdigit() and int(part) < len(node.value):
-            node = node.value[int(part)]
-        else:
-            node = None
-        if node is None:
-            return None
-    return node.start_mark.line + 1, node.start_mark.column + 1
+            pair = (node.value[int(part)],) * 2
+        if pair is None:
+            break
+        name, node = pair
+    mark = name.start_mark if isinstance(pointer, Key) else node.start_mark
+    return mark.line + 1, mark.column + 1
+
+
+# The names that each object may have, by what is told to be wanted of it.
+NAMES = {SCENARIO: (), GROUP: ("at", "spacing", "balises"), STEP: ()}
+
+
+def as_told(pointer, wanted):
+    """A pointer that the program told: of a member that isn't wanted a Key."""
+    depth, last = pointer.count("/"), pointer.split("/")[-1]
+    is_key = wanted in NAMES and depth == {SCENARIO: 1, GROUP: 3, STEP: 3}[wanted] and last not in NAMES[wanted]
+    return Key(pointer) if is_key else pointer
+
+
+def in_people(place):
+    """A pointer as it stands within a JSON string, a line's end by its code."""
+    return json.dumps(place)[1:-1].replace("\\n", "\\u000a") or "scenario"
 
 
 def people(found, text):
     lines = []
     for place, what in found:
-        at = None if isinstance(what, str) else position_in(text, place)
-        lines.append(f"{place or 'scenario'}: {what if isinstance(what, str) else 'refused %d %s' % what}{' at line %d, column %d' % at if at else ''}\n")
+        line, column = position_in(text, place)
+        told = what if isinstance(what, str) else "refused %d %s" % what[:2]
+        wanted = "" if isinstance(what, str) else f"; wanted: {what[2]}"
+        lines.append(f"{in_people(place)}: {told} at line {line}, column {column}{wanted}\n")
     return "".join(lines)
 
 
 def objects(found, text):
     told = []
     for place, what in found:
-        at = None if isinstance(what, str) else position_in(text, place)
-        told.append({"pointer": place} | ({"advice": what} if isinstance(what, str) else {"fault": what[0], "name": what[1]})
-                    | ({"line": at[0], "column": at[1]} if at else {}))
+        line, column = position_in(text, place)
+        part = {"advice": what} if isinstance(what, str) else {"fault": what[0], "name": what[1], "wanted": what[2]}
+        told.append({"pointer": place} | part | {"line": line, "column": column})
     return told
+
+
+def again_people(faults, names):
+    lines = [f"{in_people(place)}: refused {what[0]} {what[1]} at line {at[0]}, column {at[1]}; wanted: {what[2]}\n" for place, what, at in faults]
+    lines += [f"{in_people(place)}: told again at line {at[0]}, column {at[1]}, first at line {first[0]}, column {first[1]}; the last one counts\n"
+              for place, at, first in names]
+    return "".join(lines)
+
+
+def again_objects(faults, names):
+    told = [{"pointer": place, "fault": what[0], "name": what[1], "wanted": what[2], "line": at[0], "column": at[1]} for place, what, at in faults]
+    return told + [{"pointer": place, "repeated": True, "first_line": first[0], "first_column": first[1], "line": at[0], "column": at[1]}
+                   for place, at, first in names]
 
 
 def loaded(text):
@@ -238,9 +235,32 @@ class Compared:
         if first["name"] != "NotJson":
             self.positions += 1
             for line in map(json.loads, printed.splitlines()):
-                told = (line["line"], line["column"]) if "line" in line else None
-                self.same(f"where {line['pointer']} is in {text}", told, position_in(text, line["pointer"]))
+                told = line["line"], line["column"]
+                if "wanted" in line:
+                    self.same(f"where {line['pointer']} is in {text}", told, position_in(text, as_told(line["pointer"], line["wanted"])))
         return True
+
+
+    def again(self, text, faults, names):
+        """Names that come again, in both forms; `etcs run` takes the text where it has no fault."""
+        file = self.room / "again.json"
+        file.write_text(text)
+        status = 4 if faults or names else 0
+        self.same(f"lint {text}", self.run(["lint", str(file)]), (again_people(faults, names), "", status))
+        printed, said, ended = self.run(["lint", "--json", str(file)])
+        self.same(f"lint --json {text}", ([loaded(line) for line in printed.splitlines()], said, ended), (again_objects(faults, names), "", status))
+        done = subprocess.run([self.etcs, "run", str(file), str(self.room / "none")], capture_output=True, text=True, stdin=subprocess.DEVNULL)
+        self.same(f"run {text}", done.stdout, "refused %d %s\n" % faults[0][1][:2] if faults else "device\n")
+
+    def limit(self, wanted, place, made):
+        """The limits that a text tells are those of the program: no fault at them, and one behind them."""
+        least, most = re.findall(r"(-?\d+) to (\d+)", wanted)[place]
+        file = self.room / "limit.json"
+        for number, has_fault in ((int(least), False), (int(most), False), (int(least) - 1, True), (int(most) + 1, True)):
+            file.write_text(json.dumps(made(number)))
+            printed = self.run(["lint", "--json", str(file)])[0]
+            faults = [line["wanted"] for line in map(json.loads, printed.splitlines()) if "fault" in line]
+            self.same(f"{wanted}: {number}", faults, [wanted] if has_fault else [])
 
 
 def main(words):
@@ -251,14 +271,19 @@ def main(words):
             compared.lint(told, found)
         file = compared.room / "none.json"
         file.write_text('{\n  "groups": groups\n}\n')
-        compared.same("no JSON", compared.run(["lint", str(file)]), ("scenario: refused 1 NotJson at line 2, column 13\n", "", 4))
+        compared.same("no JSON", compared.run(["lint", str(file)]), ("scenario: refused 1 NotJson at line 2, column 13; wanted: JSON (RFC 8259)\n", "", 4))
         compared.same("no JSON, as JSON", compared.run(["lint", "--json", str(file)]),
-                      ('{"pointer":"","fault":1,"name":"NotJson","line":2,"column":13}\n', "", 4))
+                      ('{"pointer":"","fault":1,"name":"NotJson","wanted":"JSON (RFC 8259)","line":2,"column":13}\n', "", 4))
         for text, pointer, *at in POSITIONS:
             file.write_text(text, newline="")
             printed = compared.run(["lint", "--json", str(file)])[0]
-            wanted = {"pointer": pointer, "fault": 2, "name": "Shape"} | dict(zip(("line", "column"), at))
-            compared.same(f"where {pointer} is in {text}", json.loads(printed.splitlines()[0]), wanted)
+            told = json.loads(printed.splitlines()[0])
+            wanted = {"pointer": pointer, "fault": 2, "name": "Shape", "wanted": told["wanted"]} | dict(zip(("line", "column"), at))
+            compared.same(f"where {pointer} is in {text}", told, wanted)
+        for text, told, names in AGAIN:
+            compared.again(text, told, names)
+        for wanted, place, made in TRIED:
+            compared.limit(wanted, place, made)
         compared.same("no file", compared.run(["lint", str(compared.room / "nothing")])[::2], ("", 3))
         for more in ([], [str(file), "x"], ["--jso", str(file)]):
             compared.same(f"words {more}", compared.run(["lint", *more])[::2], ("", 2))
@@ -271,7 +296,7 @@ def main(words):
             actions += sum("accept" in what for _, what in found)
             compared.lint(told, found)
             faults += compared.changed(cut_text(json.dumps(told), numbers))
-    print(f"lint: {len(FAULTS) + len(ADVICE) + len(POSITIONS)} by hand, {RANDOM} random ones, {faults} with a fault, {compared.positions} of these in JSON, "
+    print(f"lint: {len(FAULTS) + len(ADVICE) + len(POSITIONS) + len(AGAIN)} by hand, {len(TRIED)} limits, {RANDOM} random ones, {faults} with a fault, {compared.positions} of these in JSON, "
           f"{actions} actions that aren't accepted, {compared.count} comparisons, {compared.differ} differ")
     is_enough = faults >= LEAST_FAULTS and actions >= LEAST_ACTIONS and compared.positions >= LEAST_POSITIONS
     return 0 if compared.differ == 0 and is_enough else 1

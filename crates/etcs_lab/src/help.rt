@@ -21,9 +21,10 @@ carries, how one is written, and what is wrong in a scenario.
   etcs_lab telegram FILE             writes the digits of the telegram that a file tells in that JSON; - is standard
                                      input; packet, bits and each L_PACKET may be left out
   etcs_lab telegram --schema         prints the JSON Schema of a telegram
-  etcs_lab lint [--json] SCENARIO    tells each fault of a scenario at its place, the first being that of etcs run; of
-                                     a scenario with none, telegrams that are refused, packets that are skipped, and
-                                     balises that no drive reaches
+  etcs_lab lint [--json] SCENARIO    tells each fault of a scenario at its place with what is wanted there, the first
+                                     being that of etcs run; names that come twice in one object; and of a scenario
+                                     with no fault, telegrams that are refused, packets that are skipped, balises that
+                                     no drive reaches, and actions that aren't accepted
   etcs_lab run SCENARIO              plays a scenario on an empty image in memory, and tells each output that is
                                      released as a JSON object on a line, with the step of the scenario that it comes
                                      from, the causes of its brake and what decides its limit

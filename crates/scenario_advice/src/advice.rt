@@ -1,8 +1,8 @@
 //! What is probably not meant in a scenario that is accepted.
 
-use crate::places::Place;
 use command_line::mode_word;
 use hex::FromHexError;
+use json_places::{Outline, Place, Spot};
 use mode_table::Mode;
 use packets::Packet;
 use serde_json::Value;
@@ -103,19 +103,34 @@ fn farthest(steps: &[Value]) -> i64 {
     farthest
 }
 
+// Where the items of a list stand that is a member of this object.
+fn spots_of(
+    alloc: Global,
+    outline: &Outline,
+    object: Spot,
+    key: &str,
+) -> Result<Vec<Spot>, FromHexError> {
+    match outline.member(object, key) {
+        Some(list) => outline
+            .held_by(alloc, list)
+            .map_err(|_| FromHexError::OutOfMemory),
+        None => Ok(Vec::new(alloc)),
+    }
+}
+
+// Tells of the telegrams of a group, which stands here.
 fn of_group(
     alloc: Global,
-    place: usize,
+    outline: &Outline,
+    here: Spot,
     group: &Value,
     farthest: i64,
     found: &mut Vec<LocatedAdvice>,
 ) -> Result<(), FromHexError> {
-    let Some(balises) = group.get("balises").and_then(Value::as_array) else {
-        return Ok(());
-    };
+    let spots = spots_of(alloc, outline, here, "balises")?;
     let mut at = whole(group, "at");
-    for (i, balise) in balises.as_slice().iter().enumerate() {
-        let place = Place::Balise(place, i);
+    for (i, balise) in items(group, "balises").iter().enumerate() {
+        let place = Place::Value(spots.get(i).copied().unwrap_or(here));
         of_telegram(alloc, balise, place, found)?;
         if at > farthest {
             let advice = Advice::NotReached;
@@ -133,22 +148,30 @@ fn items<'a>(value: &'a Value, key: &str) -> &'a [Value] {
     }
 }
 
-// Tells of the telegrams of the steps, and of the actions that aren't accepted.
+// The place of the member of a step.
+fn in_step(outline: &Outline, step: Spot, key: &str) -> Place {
+    Place::Value(outline.member(step, key).unwrap_or(step))
+}
+
+// Tells of the telegrams of the steps, which stand here, and of the actions that aren't accepted.
 fn of_steps(
     alloc: Global,
-    steps: &[Value],
+    outline: &Outline,
+    scenario: &Value,
     refusals: &[Option<Mode>],
     found: &mut Vec<LocatedAdvice>,
 ) -> Result<(), FromHexError> {
+    let spots = spots_of(alloc, outline, outline.whole(), "steps")?;
     let mut actions = 0usize;
-    for (i, step) in steps.iter().enumerate() {
+    for (i, step) in items(scenario, "steps").iter().enumerate() {
+        let here = spots.get(i).copied().unwrap_or(outline.whole());
         if let Some(digits) = step.get("telegram") {
-            of_telegram(alloc, digits, Place::InStep(i, "telegram"), found)?;
+            of_telegram(alloc, digits, in_step(outline, here, "telegram"), found)?;
         }
         if step.get("driver").is_some() {
             if let Some(Some(mode)) = refusals.get(actions).copied() {
                 let advice = Advice::NotAccepted(mode);
-                let place = Place::InStep(i, "driver");
+                let place = in_step(outline, here, "driver");
                 push(found, LocatedAdvice { advice, place })?;
             }
             actions = actions.saturating_add(1);
@@ -157,19 +180,21 @@ fn of_steps(
     Ok(())
 }
 
-/// What is probably not meant in a scenario, in its order; `refusals` are those of its actions. The error is that
-/// memory was refused.
+/// What is probably not meant in a scenario, in its order; `refusals` are those of its actions, the outline is that of
+/// its text. The error is that memory was refused.
 pub(crate) fn advice_on(
     alloc: Global,
+    outline: &Outline,
     scenario: &Value,
     refusals: &[Option<Mode>],
 ) -> Result<Vec<LocatedAdvice>, FromHexError> {
     let mut found = Vec::new(alloc);
-    let steps = items(scenario, "steps");
-    let farthest = farthest(steps);
+    let spots = spots_of(alloc, outline, outline.whole(), "groups")?;
+    let farthest = farthest(items(scenario, "steps"));
     for (i, group) in items(scenario, "groups").iter().enumerate() {
-        of_group(alloc, i, group, farthest, &mut found)?;
+        let here = spots.get(i).copied().unwrap_or(outline.whole());
+        of_group(alloc, outline, here, group, farthest, &mut found)?;
     }
-    of_steps(alloc, steps, refusals, &mut found)?;
+    of_steps(alloc, outline, scenario, refusals, &mut found)?;
     Ok(found)
 }

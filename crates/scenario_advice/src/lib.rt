@@ -6,10 +6,7 @@ mod accepting;
 mod advice;
 mod lines;
 mod locating;
-mod places;
-mod positions;
+mod wanted;
 
 pub use lines::{Form, LintError, lint};
 pub use locating::{Faults, LocatedFault, faults_of};
-pub use places::Place;
-pub use positions::Position;

@@ -10,7 +10,7 @@ from the pages too. Both forms are compared: lines as they stand, JSON as a valu
 import fcntl
 import json
 import os
-import random
+import socket
 import subprocess
 import sys
 import tempfile
@@ -20,230 +20,13 @@ from pathlib import Path
 
 HERE = Path(__file__).resolve().parent
 sys.path[:0] = [str(HERE), str(HERE.parent / "plain")]
-from blocks import block, data_of, entry, full, gate, head, record, with_  # noqa: E402
+from blocks import block, data_of, entry  # noqa: E402
 from examined import examined, text_of  # noqa: E402
+from image_cases import GROUPS, SECTOR, SLOT, all_cases, blocks_of, first_sector, image_of, patched, ring  # noqa: E402
 
-SECTOR = 512
-SLOT = 6 * SECTOR
-LEAST = 9_900
+LEAST = 10_300
 NOBODY = 65_534
-NO_END = 2**32 - 1
 
-
-# ---- writing images
-
-def first_sector(slots, version=2):
-    return (b"ETCSJRU1" + version.to_bytes(4, "big") + slots.to_bytes(4, "big")).ljust(SECTOR, b"\0")
-
-
-def image_of(slots, held, version=2):
-    """An image of so many slots, with the bytes of some of them."""
-    image = bytearray(first_sector(slots, version) + bytes(SLOT * slots))
-    for slot, data in held.items():
-        image[SECTOR + SLOT * slot:SECTOR + SLOT * (slot + 1)] = data
-    return bytes(image)
-
-
-def blocks_of(last, form=3, per=2, life=4):
-    """The blocks of a journal from 1 to a last number: a power-up every so many blocks, else so many clock events in each."""
-    told, event, lives, moment = {}, 0, 0, 0
-    for number in range(1, last + 1):
-        up = number % life == 1
-        lives, moment = (lives + 1, 0) if up else (lives, moment)
-        records = []
-        for _ in range(1 if up else per):
-            moment += 0 if up else 250
-            what = ("powerup", number % 3 if form == 3 else 0) if up else ("clock", moment)
-            records.append(entry(event, what, moment=moment, mode=6, estimate=event, uncertainty=500 + event))
-            event += 1
-        told[number] = block(form, number, event, lives, records)
-    return told
-
-
-def ring(slots, told, skip=()):
-    """The last blocks in their slots."""
-    newest = max(told)
-    return {n % slots: data_of(told[n]) for n in told if n > newest - slots and n not in skip}
-
-
-def patched(data, at, value):
-    return data[:at] + value + data[at + len(value):]
-
-
-# ---- the cases: a name and an image
-
-def shut(data):
-    return bytes(SECTOR) + data[SECTOR:]
-
-
-def states():
-    """Each state of a slot, alone and beside others."""
-    told = blocks_of(11)
-    good = ring(6, told)
-    yield "whole", image_of(6, good)
-    yield "never turned", image_of(16, ring(16, told))
-    yield "empty", image_of(4, {})
-    yield "of version 1", image_of(6, good, 1)
-    for number in range(6, 12):
-        slot, data = number % 6, good[number % 6]
-        changes = {"gate of another": gate(number + 6) + data[SECTOR:], "gate torn": patched(gate(number), 3, b"\xff") + data[SECTOR:],
-                   "gate of one byte": b"\1".ljust(SECTOR, b"\0") + data[SECTOR:], "closed": shut(data), "zeros": bytes(SLOT),
-                   "unreadable": patched(data, 3 * SECTOR - 1, b"\1"), "foreign": patched(data, SECTOR, b"ETCSHED4"),
-                   "number 0": patched(data, SECTOR + 8, bytes(8)), "number beyond": patched(data, SECTOR + 8, (2**40 + 1).to_bytes(8, "big")),
-                   "other number": patched(data, SECTOR + 8, (number + 1).to_bytes(8, "big")), "remains": shut(patched(data, SECTOR, b"\0")),
-                   "one byte": bytes(SLOT - 1) + b"\1", "open gate alone": gate(number) + bytes(5 * SECTOR),
-                   "gate and noise": gate(number) + bytes(range(256)) * 10, "older": data_of(told[number - 5]),
-                   "a turn older": data_of(block(3, number - 6, number - 3, 1, [entry(number - 4, ("clock", 5), moment=5)])) if number > 6 else bytes(SLOT)}
-        for name, changed in changes.items():
-            yield f"block {number} {name}", image_of(6, {**good, slot: changed})
-    unwritten = shut(data_of(blocks_of(12)[12]))
-    yield "the next block unwritten", image_of(6, {**good, 0: unwritten})
-    yield "the next block unwritten elsewhere", image_of(6, {**good, 3: unwritten})
-    yield "all closed", image_of(6, {slot: shut(data) for slot, data in good.items()})
-    yield "all foreign", image_of(6, {slot: gate(1) + b"\7" * 2560 for slot in range(6)})
-    yield "all misplaced", image_of(6, {slot: good[(slot + 1) % 6] for slot in range(6)})
-    yield "copies in each slot", image_of(6, {slot: good[3] for slot in range(6)})
-    yield "the greatest number", image_of(2, {0: data_of(block(3, 2**40, 2**41, 2**32 - 1, [entry(2**41 - 1, ("clock", 1), moment=1)]))})
-    for number in (1, 2, 7):
-        yield f"block {number} unwritten in an empty ring", image_of(4, {number % 4: shut(data_of(block(3, number, number, 1, [entry(number - 1, ("powerup", 0))])))})
-
-
-def formats():
-    """Formats side by side, each alone, and what is kept."""
-    for form in (1, 2, 3):
-        told = blocks_of(9, form)
-        yield f"format {form}", image_of(5, ring(5, told))
-        yield f"format {form} full", image_of(4, {1: data_of(full(form, number=1, events=7) if form < 3 else full(form))})
-        yield f"format {form} kept", image_of(5, {0: data_of(with_(full(form), identity=b'A"\\z ~', running=99_999_999, trip=0))})
-        yield f"format {form} nothing kept", image_of(5, {0: data_of(with_(full(form), identity=None, running=None, train=None, level=(0, 0), position=(0, 0, 0, 0)))})
-        yield f"format {form} level 0", image_of(5, {0: data_of(with_(full(form), level=(2, 0), position=(2, 1_023, 16_383, -(2**41))))})
-        values = [1_000, 2_000, 3_000, 4_000, 5_000, 600, 7_000, 8_000, 900, 10_000, 1_100]
-        yield f"format {form} values", image_of(5, {0: data_of(with_(full(form), values=values, countries=[]))})
-        yield f"format {form} values without end", image_of(5, {0: data_of(with_(full(form), v_override_time=NO_END, countries=list(range(992, 1_024))))})
-        yield f"format {form} any distance", image_of(5, {0: data_of(with_(full(form), v_override_time=0, v_staff_responsible_distance=32_766_000, countries=[0]))})
-    mixed = {n: b for form in (1, 2, 3) for n, b in blocks_of(9, form).items() if n % 3 == form - 1}
-    yield "formats side by side", image_of(5, ring(5, mixed))
-    for size in (8, 16):
-        records = [entry(40 + k, ("clock", 10 * k), moment=10 * k) for k in range(size)]
-        yield f"{size} records", image_of(4, {1: data_of(block(1, 5, 40 + size, 3, records))})
-
-
-def lost():
-    """Blocks that are lost, at each place and several at once; and neighbours that contradict."""
-    told = blocks_of(23)
-    for slots in (5, 8, 24):
-        newest = range(max(1, 24 - slots), 24)
-        for number in newest:
-            yield f"{slots} slots without {number}", image_of(slots, ring(slots, told, (number,)))
-        for seed in range(12):
-            gone = random.Random(seed).sample(newest, 3)
-            yield f"{slots} slots without {gone}", image_of(slots, ring(slots, told, gone))
-        yield f"{slots} slots with the newest alone", image_of(slots, ring(slots, told, newest[:-1]))
-    good = {n: told[n] for n in range(12, 24)}
-    for number in range(13, 24):
-        b = told[number]
-        more = len(b["records"])
-        moved = [{**r, "number": r["number"] + 1} for r in b["records"]]
-        fewer = [{**r, "number": r["number"] - 1} for r in b["records"]]
-        for name, changed in (("events on", {**b, "events": b["events"] + 1, "records": moved}),
-                              ("events back", {**b, "events": b["events"] - 1, "records": fewer}),
-                              ("lives back", {**b, "lives": b["lives"] - 1 if number % 4 == 1 else 0}), ("lives on", {**b, "lives": b["lives"] + 7}),
-                              ("a moment back", {**b, "records": [{**r, "moment": max(0, r["moment"] - 300)} for r in b["records"]]}),
-                              ("a moment back within", {**b, "records": [{**r, "moment": 100 * (more - k)} for k, r in enumerate(b["records"])]})):
-            yield f"block {number}, {name}", image_of(12, {n % 12: data_of(changed if n == number else c) for n, c in good.items()})
-        yield f"events back behind a gap at {number}", image_of(12, {n % 12: data_of({**c, "events": c["events"] - 3, "records": [{**r, "number": r["number"] - 3} for r in c["records"]]} if n > number else c)
-                                                                     for n, c in good.items() if n != number})
-
-
-def cuts():
-    """What a cut leaves within a commit: the gate being closed, each choice of the sectors behind it, the gate being opened."""
-    for slots, newest in ((4, 2), (4, 7)):
-        told = blocks_of(newest + 1)
-        before = ring(slots, {n: told[n] for n in range(1, newest + 1)})
-        slot = (newest + 1) % slots
-        old, new = before.get(slot, bytes(SLOT)), data_of(told[newest + 1])
-        for torn in (bytes(SECTOR), b"\0" * 8 + old[8:SECTOR], old[:8] + bytes(504), bytes(511) + b"\7"):
-            yield f"{slots} slots at {newest}, the gate closed as {torn[:16].hex()}", image_of(slots, {**before, slot: torn + old[SECTOR:]})
-        for choice in range(32):
-            body = b"".join((new if choice >> k & 1 else old)[SECTOR * (k + 1):SECTOR * (k + 2)] for k in range(5))
-            yield f"{slots} slots at {newest}, sectors {choice:05b} written", image_of(slots, {**before, slot: bytes(SECTOR) + body})
-        for k in range(1, 17):
-            torn = new[:k].ljust(SECTOR, b"\0")
-            yield f"{slots} slots at {newest}, {k} bytes of the gate", image_of(slots, {**before, slot: torn + new[SECTOR:]})
-        yield f"{slots} slots at {newest}, done", image_of(slots, {**before, slot: new})
-
-
-ACTIONS = [b"\1A", b"\2" + (5).to_bytes(4, "big"), b"\3" + bytes.fromhex("00004e20000271000046000a05"), b"\4\1", b"\5\3", b"\6", b"\x0a\4"]
-
-
-def before(form):
-    """The blocks of a ring of five slots before the one of full, so that nothing is found where that is as it was written."""
-    counts = {1: 2, 2: 2, 3: 1, 4: 1}
-    events = 0
-    for number, count in counts.items():
-        records = [entry(events + k, ("clock", 0)) for k in range(count)]
-        events += count
-        yield number, data_of(block(form, number, events, 3, records))
-
-
-def altered():
-    """Each field of head and record at other values, most of them beyond its limits, and each byte that is to be zero."""
-    for form in (1, 2, 3):
-        others = dict(before(form))
-        events = [("clock", 1_000), ("odometer", -500, 9_000), ("telegram", b"\x90\x01\x02"), ("powerup", 1)] + [("driver", a) for a in ACTIONS]
-        for event in events:
-            b = full(form, event)
-            data = data_of(b)
-            at, places = SECTOR, []
-            for name, offset, width in head(b).offsets():
-                places.append((at + offset, width))
-            at += SECTOR
-            for name, offset, width in record(b["records"][0], form).offsets():
-                places.append((at + offset, width))
-            places += [(at + (128 if form == 1 else 256), 1), (SLOT - 1, 1), (at + 48, 1), (at + 49, 4), (at + 24, 1)]
-            head_too = event[0] == "clock"
-            for place, width in places:
-                if not head_too and place < 2 * SECTOR:
-                    continue
-                for value in (b"\xff" * width, b"\0" * width, (b"\0" * (width - 1)) + b"\1"):
-                    changed = patched(data, place, value[:SLOT - place])
-                    if changed != data:
-                        yield f"format {form} {event[0]} byte {place} as {value[:8].hex()}", image_of(5, {**others, 0: changed})
-
-
-def sizes():
-    """Files of other sizes than the image's."""
-    good = image_of(6, ring(6, blocks_of(11)))
-    for size in (0, 1, 511, 512, 513, 1_024, 3_583, 3_584, 4_096, 6_656, 6_657, 12_800, len(good) - 3_072, len(good) - 512, len(good) - 1):
-        yield f"cut off at {size}", good[:size]
-    for more in (1, 511, 512, 3_071, 3_072, 10_000):
-        yield f"with {more} bytes more", good + bytes(more)
-        yield f"with {more} bytes of noise more", good + b"\xa5" * more
-    for at in (0, 7, 8, 11, 12, 15, 16, 511):
-        yield f"first sector byte {at}", patched(good, at, b"\xff")
-    for slots in (0, 1, 2, 5, 7, 1_048_576, 1_048_577):
-        yield f"told {slots} slots", first_sector(slots) + good[SECTOR:]
-    for version in (0, 1, 3):
-        yield f"version {version}", first_sector(6, version) + good[SECTOR:]
-
-
-def noise():
-    """Single bytes altered anywhere, by chance."""
-    good = image_of(4, ring(4, blocks_of(6)))
-    for seed in range(150):
-        chance = random.Random(seed)
-        yield f"noise {seed}", patched(good, chance.randrange(len(good)), bytes([chance.randrange(256)]))
-
-
-GROUPS = (states, formats, lost, cuts, altered, sizes, noise)
-
-
-def all_cases():
-    for cases in GROUPS:
-        yield from cases()
-
-
-# ---- running
 
 class Compared:
     def __init__(self):
@@ -258,27 +41,31 @@ class Compared:
 
 
 def run(program, words, **how):
-    done = subprocess.run([program, *words], capture_output=True, stdin=subprocess.DEVNULL, **how)
+    try:
+        done = subprocess.run([program, *words], capture_output=True, stdin=subprocess.DEVNULL, timeout=20, **how)
+    except subprocess.TimeoutExpired:
+        return "", "", "no end"
     return done.stdout.decode(), done.stderr.decode(), done.returncode
 
 
 def compare_images(program, room, compared):
     for cases in GROUPS:
         found = {0: 0, 1: 0, 4: 0}
-        for name, image in cases():
-            found[compare_image(program, room / "image", name, image, compared)] += 1
+        for name, image, *slots in cases():
+            found[compare_image(program, room / "image", name, image, slots[0] if slots else None, compared)] += 1
         print(f"{cases.__name__}: {sum(found.values())} images, of which {found[4]} are not whole, {found[1]} are refused, and of {found[0]} nothing is found")
 
 
-def compare_image(program, path, name, image, compared):
+def compare_image(program, path, name, image, slots, compared):
     """Compares both forms, and answers the status that is wanted."""
     path.write_bytes(image)
-    text, status = text_of(image)
-    printed, said, got = run(program, ["examine", str(path)])
+    text, status = text_of(image, slots)
+    words = [] if slots is None else ["--slots", str(slots)]
+    printed, said, got = run(program, ["examine", *words, str(path)])
     compared.same(name, (printed, got), (text, status))
     compared.same(name + ", standard error", bool(said), status == 1)
-    printed, said, got = run(program, ["examine", "--json", str(path)])
-    compared.same(name + ", json", (loaded(printed), got, printed.count("\n")), (examined(image)[0], status, 1))
+    printed, said, got = run(program, ["examine", "--json", *words, str(path)])
+    compared.same(name + ", json", (loaded(printed), got, printed.count("\n")), (examined(image, slots)[0], status, 1))
     compared.same(name + ", untouched", path.read_bytes() == image, True)
     return status
 
@@ -302,15 +89,14 @@ def compare_words(program, room, compared):
         ["--", "examine", str(good)], ["--json", "examine", str(good)], ["examine", "--json", "--json", str(good)], ["examine", "--json=1", str(good)],
         ["examine", "--help"], ["examine", "-j", str(good)], ["examine", "--all", str(good)], ["events", "--json", str(good)], ["why", str(good), "x"],
         ["why", str(good), "-1"], ["why", str(good), "8", "9"], ["check"], ["check", str(good), "x"], ["check", "--all", str(good)], ["telegram"], ["telegram", "--schema", str(good)], ["decode"], ["lint", str(good), "x"],
-        ["--help", "--help"], ["--help", "look"], ["--help", "--", "x"],
+        ["--help", "--help"], ["--help", "look"], ["--help", "--", "x"], ["--slots", "6"], ["--slots", "6", "--help"], ["--help", "--slots", "6"],
+        ["examine", "--slots", "6"], ["examine", str(good), "--slots"], ["examine", "--slots", "6", "--slots", "6", str(good)], ["lint", "--slots", "6", str(good)],
+        ["decode", "--slots", "6", "90"], ["run", str(good), "--slots", "6"], ["examine", "--", "--slots", "6", str(good)],
+        *(["examine", "--slots", slots, str(good)] for slots in ("", "1", "1048577", "-6", "6.0", "x", "4294967302")),
     )
     for words in wrong:
         printed, said, status = run(program, words)
         compared.same(f"words {words}", (printed, said.count("\n"), status), ("", 1, 2))
-    for path in ("none", str(room)):
-        for word in ("examine", "check"):
-            printed, said, status = run(program, [word, path])
-            compared.same(f"{word} of file {path}", (printed, said.count("\n"), path in said, status), ("", 1, True, 3))
     printed, said, status = run(program, ["--help"])
     compared.same("help", ("examine" in printed, "digest" in printed.split("\n\n")[-1], "copy" in printed.split("\n\n")[-1], said, status), (True, True, True, "", 0))
     compared.same("help, and the end of the options", run(program, ["--help", "--"]), (printed, "", 0))
@@ -320,6 +106,8 @@ def compare_words(program, room, compared):
     compared.same("behind --", run(program, ["examine", "--", "-odd"], cwd=room)[2], 3)
     (room / "-odd").write_bytes(image)
     compared.same("behind -- a file", run(program, ["examine", "--", "-odd"], cwd=room)[::2], (text, 0))
+    for words in (["examine", "--slots", "6", str(good)], ["--slots", "6", "examine", str(good)], ["examine", str(good), "--slots", "6", "--"]):
+        compared.same(f"words {words}", run(program, words)[::2], (text, 0))
     good.chmod(0o444)
     room.chmod(0o755)
     nobody = {"user": NOBODY} if os.geteuid() == 0 else {}
@@ -338,6 +126,76 @@ def compare_words(program, room, compared):
         done = subprocess.run(["sh", "-c", f'"$0" {word} "$1" >/dev/full', program, str(good)], capture_output=True)
         compared.same(f"{word} on a full device", done.returncode, 1)
     compared.same("the file after all", good.read_bytes() == image, True)
+
+
+STREAM = "is a FIFO, a socket or a character device, and no image"
+
+
+def compare_files(program, etcs, room, compared):
+    """What is no file to read: each has its sentence, at once; `etcs` has its one word."""
+    os.mkfifo(room / "fifo")
+    with socket.socket(socket.AF_UNIX) as bound:
+        bound.bind(str(room / "socket"))
+    good, secret = room / "good", room / "secret"
+    good.write_bytes(image_of(6, ring(6, blocks_of(11))))
+    secret.write_bytes(good.read_bytes())
+    secret.chmod(0)
+    room.chmod(0o755)
+    nobody = {"user": NOBODY} if os.geteuid() == 0 else {}
+    kinds = [("none", "there is no such file"), (str(good / "in"), "there is no such file"), (str(room), "is a folder"), (str(room / "fifo"), STREAM),
+             (str(room / "socket"), STREAM), ("/dev/zero", STREAM), ("/dev/null", STREAM), (str(secret), "there is no right to read it")]
+    for word in ("examine", "events", "replay", "check", "why"):
+        for path, sentence in kinds:
+            compared.same(f"{word} {path}", run(program, [word, path], **nobody), ("", f"etcs_lab: {path}: {sentence}\n", 3))
+        with open(good, "rb") as held:
+            fcntl.flock(held, fcntl.LOCK_EX)
+            compared.same(f"{word} of a locked file", run(program, [word, str(good)]), ("", f"etcs_lab: {good}: another program writes it\n", 3))
+    scenario = HERE.parents[1] / "examples/trip/scenario.json"
+    for path in ("fifo", "socket"):
+        for words in (["journal"], ["run", str(scenario)], ["format"]) if etcs else ():
+            words = [*words, str(room / path), *(["16"] if words == ["format"] else [])]
+            compared.same(f"etcs {words}", run(etcs, words), ("device\n", "", 3))
+    compared.same("the FIFO after all", (room / "fifo").is_fifo(), True)
+
+
+def compare_given(program, etcs, room, compared):
+    """Of an image whose first sector is damaged, all words tell with its slots what they tell of the image as it was."""
+    image, damaged = room / "lives", room / "damaged"
+    for words in (["format", str(image), "16"], *(["run", str(HERE.parents[1] / f"examples/{name}.json"), str(image)] for name in ("power_cut/scenario", "power_cut/restart"))):
+        subprocess.run([etcs, *words], check=True, stdout=subprocess.DEVNULL)
+    damaged.write_bytes(patched(image.read_bytes(), 2, b"X"))
+    for words in (["events"], ["events", "--all"], ["replay"], ["replay", "--json"], ["why"], ["why", "--json"]):
+        whole = run(program, [*words, str(image)])
+        compared.same(f"{words} without slots", run(program, [*words, str(damaged)])[::2], ("", 1))
+        compared.same(f"{words} with slots", (run(program, [*words, "--slots", "16", str(damaged)]), whole[2], len(whole[0]) > 40), (whole, 0, True))
+    compared.same("the damaged image after all", damaged.read_bytes(), patched(image.read_bytes(), 2, b"X"))
+
+
+def compare_swapped(program, room, compared):
+    """Another image takes the name of the one that is examined, as soon as it is opened: digest and slots are of one file."""
+    hook, first, second = room / "swap.so", room / "swapped", room / "other"
+    subprocess.run(["gcc", "-shared", "-fPIC", "-o", hook, str(HERE / "swap.c")], check=True)
+    images = [image_of(6, ring(6, blocks_of(number))) for number in (11, 9)]
+    first.write_bytes(images[0])
+    second.write_bytes(images[1])
+    environment = {**os.environ, "LD_PRELOAD": str(hook), "SWAP_NAME": str(first), "SWAP_FOR": str(second)}
+    printed = run(program, ["examine", str(first)], env=environment)[::2]
+    compared.same("an image whose name another one takes", printed, text_of(images[0]))
+    compared.same("the other one took its name", (first.read_bytes() == images[1], second.exists()), (True, False))
+
+
+def compare_huge(program, room, compared):
+    """A terabyte of holes is refused at once, and said to be no image before it is read."""
+    path = room / "huge"
+    with open(path, "wb") as out:
+        out.truncate(2**40)
+    seconds, _, status, printed = timed([program, "examine", str(path)])
+    compared.same("a terabyte of holes", (printed.splitlines()[:3], status, seconds < 10),
+                  (["image bytes 1099511627776 sectors 2147483648 slots ? whole 0 bytes behind 1099511627264", "sha256 not taken",
+                    "first sector unreadable field mark at byte 0 size of ? slots"], 1, True))
+    report = loaded(run(program, ["examine", "--json", str(path)])[0])
+    compared.same("a terabyte of holes, json", (report["image"]["sha256"], report["image"]["bytes"]), (None, 2**40))
+    path.unlink()
 
 
 def watch_memory(process, seen):
@@ -424,11 +282,11 @@ def compare_long_life(program, etcs, room, compared):
 
 def lay_cases(folder):
     """Cases for rt try --cases."""
-    for k, (name, image) in enumerate(all_cases()):
+    for k, (name, image, slots) in enumerate(all_cases()):
         path = folder / f"{k:05}"
         path.write_bytes(image)
-        (folder / f"{k:05}.args").write_text("examine\n{}\n")
-        (folder / f"{k:05}.stdout").write_text(text_of(image)[0])
+        (folder / f"{k:05}.args").write_text("examine\n{}\n" if slots is None else f"examine\n--slots\n{slots}\n{{}}\n")
+        (folder / f"{k:05}.stdout").write_text(text_of(image, slots)[0])
 
 
 def main(words):
@@ -440,6 +298,11 @@ def main(words):
     with tempfile.TemporaryDirectory() as room:
         compare_images(program, Path(room), compared)
         compare_words(program, Path(room), compared)
+        compare_files(program, others[0] if others else None, Path(room), compared)
+        compare_swapped(program, Path(room), compared)
+        compare_huge(program, Path(room), compared)
+        if others:
+            compare_given(program, others[0], Path(room), compared)
         compare_big(program, others[0] if others else None, Path(room), compared)
     print(f"{compared.count} comparisons, {compared.differ} differ")
     return 0 if compared.differ == 0 and compared.count >= LEAST else 1

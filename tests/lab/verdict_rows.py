@@ -15,7 +15,7 @@ from pathlib import Path
 HERE = Path(__file__).resolve().parent
 sys.path[:0] = [str(HERE), str(HERE.parent / "plain")]
 from examined import examined, text_of  # noqa: E402
-from image_rows import sizes, states  # noqa: E402
+from image_cases import sizes, states  # noqa: E402
 from replay import replayed  # noqa: E402
 from replay_rows import altered, damaged, examples, formats  # noqa: E402
 

@@ -1,10 +1,9 @@
 //! The command `check`.
 
 use crate::examined::verdict_of;
-use crate::images::opened;
+use crate::images::{Image, Named, opened_whole};
 use crate::replayed::stopped;
-use crate::status::{Status, fail, unwritten};
-use file_disk::{FileDisk, ReadOnlyFile};
+use crate::status::{Status, unwritten};
 use lab_lines::{Form, Verdict};
 use replay_lines::{Outcome, ReplayError, replay};
 use std::fs::File;
@@ -59,19 +58,18 @@ impl Checked {
 }
 
 // Examines an opened image, and then replays its journal.
-fn check<R: Files<File = File> + AllocGlobal + Eprint, W: Write>(
+fn check<R: AllocGlobal + Eprint, W: Write>(
     rt: &R,
-    disk: &mut FileDisk<ReadOnlyFile>,
-    path: &str,
+    image: &mut Image,
     form: Form,
     out: &mut W,
 ) -> Result<Checked, Status> {
-    let verdict = verdict_of(rt, disk, path, form, out)?;
-    let outcome = match replay(rt.alloc(), disk, form, out) {
+    let verdict = verdict_of(rt, image, form, out)?;
+    let outcome = match replay(rt.alloc(), &mut image.disk, form, out) {
         Ok(outcome) => Some(outcome),
         // The examination tells which.
         Err(ReplayError::NotFormatted | ReplayError::Damaged) => None,
-        Err(error) => return Err(stopped(rt, path, error)),
+        Err(error) => return Err(stopped(rt, image.path, error)),
     };
     Ok(Checked { verdict, outcome })
 }
@@ -79,20 +77,20 @@ fn check<R: Files<File = File> + AllocGlobal + Eprint, W: Write>(
 /// Examines an image and replays its journal, tells both in one line, and answers the status.
 pub(crate) fn checked<R: Files<File = File> + AllocGlobal + Eprint, W: Write>(
     rt: &R,
-    path: &str,
+    image: Named,
     form: Form,
     out: &mut W,
 ) -> Status {
-    let mut disk = match opened(rt, path) {
-        Ok(disk) => disk,
+    let mut image = match opened_whole(rt, image) {
+        Ok(image) => image,
         Err(status) => return status,
     };
-    let found = match check(rt, &mut disk, path, form, out) {
+    let found = match check(rt, &mut image, form, out) {
         Ok(found) => found,
         Err(status) => return status,
     };
     match out.write_all(found.last_line(form).as_bytes()) {
         Ok(()) => found.status(),
-        Err(_) => unwritten(rt, path),
+        Err(_) => unwritten(rt, image.path),
     }
 }

@@ -1,31 +1,48 @@
-//! The size of a file and its SHA-256.
+//! The size of a file, its first sector and its SHA-256.
 
+use crate::images::Named;
+use crate::status::{Status, fail};
+use blocks::read_first_sector;
+use disk::DiskFault;
+use file_disk::{RawFile, read_all};
 use lab_lines::FileFacts;
 use sha2::{Digest, Sha256};
-use std::io;
-use std::io::{ErrorKind, Read};
 
-/// How many bytes a reader gives up to its end, and their digest. The error is that of a read.
-pub(crate) fn facts_of<R: Read>(file: &mut R) -> io::Result<FileFacts> {
+// The bytes of an image of the most slots, and of a part of a sector behind them.
+const MOST_BYTES: u64 = 512 * (1 + 6 * 1_048_576) + 511;
+
+// The first 512 bytes of a file; None where it has fewer.
+fn first_of<F: RawFile>(file: &F) -> Result<Option<[u8; 512]>, DiskFault> {
+    if file.length()? < 512 {
+        return Ok(None);
+    }
+    let mut sector = [0u8; 512];
+    read_all(file, 0, &mut sector)?;
+    Ok(Some(sector))
+}
+
+// Whether a file that begins so can be read as an image.
+fn is_readable(first: &Option<[u8; 512]>, image: Named) -> bool {
+    match first {
+        Some(sector) => image.slots.is_some() || read_first_sector(sector).is_some(),
+        None => false,
+    }
+}
+
+// How many bytes a file gives up to its end, and their digest.
+fn taken<F: RawFile>(file: &F) -> Result<(u64, [u8; 64]), DiskFault> {
     let mut hasher = Sha256::new();
     let mut buffer = [0u8; 16_384];
     let mut bytes = 0u64;
     for _ in 0..u64::MAX {
-        let count = match file.read(&mut buffer) {
-            Ok(count) => count,
-            Err(error) if error.kind() == ErrorKind::Interrupted => continue,
-            Err(error) => return Err(error),
-        };
+        let count = file.read_at(bytes, &mut buffer)?;
         if count == 0 {
             break;
         }
         hasher.update(&buffer[..count]);
         bytes = bytes.saturating_add(count as u64);
     }
-    Ok(FileFacts {
-        bytes,
-        digest: digits_of(&hasher.finalize()),
-    })
+    Ok((bytes, digits_of(&hasher.finalize())))
 }
 
 // The digits of a digest.
@@ -35,4 +52,32 @@ fn digits_of(digest: &[u8; 32]) -> [u8; 64] {
         Ok(()) => digits,
         Err(_) => [b'?'; 64],
     }
+}
+
+/// What is told of a file as a whole. That it isn't formatted, where no number of slots is given, is said before all of
+/// it is read; and of such a file that has more bytes than any image no digest is taken. The error is that of a read.
+pub(crate) fn facts_of<R: Eprint, F: RawFile>(
+    rt: &R,
+    file: &F,
+    image: Named,
+) -> Result<FileFacts, DiskFault> {
+    let first = first_of(file)?;
+    let is_formatted = is_readable(&first, image);
+    if !is_formatted {
+        fail(rt, "is not a formatted image", image.path, Status::Refused);
+    }
+    let length = file.length()?;
+    if !is_formatted && length > MOST_BYTES {
+        return Ok(FileFacts {
+            bytes: length,
+            digest: None,
+            first,
+        });
+    }
+    let (bytes, digest) = taken(file)?;
+    Ok(FileFacts {
+        bytes,
+        digest: Some(digest),
+        first,
+    })
 }

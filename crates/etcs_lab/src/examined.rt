@@ -1,56 +1,38 @@
 //! The command `examine`.
 
-use crate::digest::facts_of;
-use crate::images::opened;
-use crate::status::{Status, fail, unwritten};
-use file_disk::{FileDisk, ReadOnlyFile};
-use lab_lines::{ExamineError, FileFacts, Form, Verdict, examine};
+use crate::images::{Image, Named, opened_whole, unread};
+use crate::status::{Status, unwritten};
+use lab_lines::{ExamineError, Form, Verdict, examine};
 use std::fs::File;
-use std::io;
 use std::io::Write;
 use std::rt::Files;
 
-// The size and the digest of a file.
-fn facts_in<R: Files<File = File>>(rt: &R, path: &str) -> io::Result<FileFacts> {
-    let mut file = File::open(rt, path)?;
-    facts_of(&mut file)
-}
-
-/// Examines an opened image, and answers what it is found to be; else says why that isn't known. Of one that isn't
-/// formatted it says so too.
-pub(crate) fn verdict_of<R: Files<File = File> + Eprint, W: Write>(
+/// Examines an open image, and answers what it is found to be; else says why that isn't known.
+pub(crate) fn verdict_of<R: Eprint, W: Write>(
     rt: &R,
-    disk: &mut FileDisk<ReadOnlyFile>,
-    path: &str,
+    image: &mut Image,
     form: Form,
     out: &mut W,
 ) -> Result<Verdict, Status> {
-    let Ok(file) = facts_in(rt, path) else {
-        return Err(fail(rt, "can't be read", path, Status::Device));
-    };
-    match examine(disk, &file, form, out) {
-        Ok(Verdict::Refused) => {
-            fail(rt, "is not a formatted image", path, Status::Refused);
-            Ok(Verdict::Refused)
-        }
+    match examine(&mut image.disk, &image.file, form, out) {
         Ok(verdict) => Ok(verdict),
-        Err(ExamineError::Device) => Err(fail(rt, "can't be read", path, Status::Device)),
-        Err(ExamineError::Write) => Err(unwritten(rt, path)),
+        Err(ExamineError::Device) => Err(unread(rt, image.path)),
+        Err(ExamineError::Write) => Err(unwritten(rt, image.path)),
     }
 }
 
 /// Examines an image, and answers the status.
 pub(crate) fn examined<R: Files<File = File> + Eprint, W: Write>(
     rt: &R,
-    path: &str,
+    image: Named,
     form: Form,
     out: &mut W,
 ) -> Status {
-    let mut disk = match opened(rt, path) {
-        Ok(disk) => disk,
+    let mut image = match opened_whole(rt, image) {
+        Ok(image) => image,
         Err(status) => return status,
     };
-    match verdict_of(rt, &mut disk, path, form, out) {
+    match verdict_of(rt, &mut image, form, out) {
         Ok(Verdict::Whole) => Status::Whole,
         Ok(Verdict::Refused) => Status::Refused,
         Ok(Verdict::NotWhole) => Status::Damaged,

@@ -30,13 +30,16 @@ carries, how one is written, and what is wrong in a scenario.
                                      from, the causes of its brake and what decides its limit
   etcs_lab --help                    prints this
 
+  examine, events, replay, check and why take --slots N too: they read the image as one of N slots, whatever its first
+  sector tells
+
   0 all is whole   1 refused: not formatted, damaged first sector, no telegram, no scenario or one that stops; or
   nothing can be written   2 wrong words   3 a file or the device   4 something is lost, damaged, contradicts or
   differs, or lint has something to tell; all that can be read was told
 
 examine, replay, check, why and lint print lines, or with --json JSON: examine one object, the others one a line. Errors
 go to standard error. Behind -- a word may begin with -.
-The image is opened for reading alone, and may be a file that can't be written.
+The image is opened for reading alone, and may be a file that can't be written. It is a file or a block device.
 
 Take a digest of the image before anything reads it, and work on a copy. The journal has no checksum and no
 signature: what is told here shows damage, and not that nobody altered the image.

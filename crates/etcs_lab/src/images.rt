@@ -1,21 +1,88 @@
 //! The image that a command reads.
 
+use crate::digest::facts_of;
 use crate::status::{Status, fail};
-use file_disk::{FileDisk, ReadOnlyFile};
+use file_disk::{FileDisk, ReadError, ReadOnlyFile};
+use given_slots::GivenSlots;
+use lab_lines::FileFacts;
 use std::fs::File;
 use std::rt::Files;
+
+/// An image as the words name it.
+#[derive(Clone, Copy)]
+pub(crate) struct Named<'a> {
+    /// The file.
+    pub(crate) path: &'a str,
+    /// How many slots it is read to have, whatever its first sector tells.
+    pub(crate) slots: Option<u32>,
+}
+
+/// The disk of an image.
+pub(crate) type ImageDisk = GivenSlots<FileDisk<ReadOnlyFile>>;
+
+// What is said of a file that can't be opened.
+fn sentence(error: ReadError) -> &'static str {
+    match error {
+        ReadError::Missing => "there is no such file",
+        ReadError::Denied => "there is no right to read it",
+        ReadError::Folder => "is a folder",
+        ReadError::Stream => "is a FIFO, a socket or a character device, and no image",
+        ReadError::Locked => "another program writes it",
+        ReadError::Failed => "can't be opened",
+    }
+}
+
+// Opens the file of an image for reading alone; else says why not.
+fn file_of<R: Files<File = File> + Eprint>(rt: &R, path: &str) -> Result<ReadOnlyFile, Status> {
+    ReadOnlyFile::open(rt, path).map_err(|error| fail(rt, sentence(error), path, Status::Device))
+}
+
+// The disk over a file; else says that it can't be read.
+fn disk_over<R: Eprint>(rt: &R, file: ReadOnlyFile, image: Named) -> Result<ImageDisk, Status> {
+    match FileDisk::over(file) {
+        Ok(disk) => Ok(GivenSlots::over(disk, image.slots)),
+        Err(_) => Err(unread(rt, image.path)),
+    }
+}
+
+/// Says that an image can't be read.
+pub(crate) fn unread<R: Eprint>(rt: &R, path: &str) -> Status {
+    fail(rt, "can't be read", path, Status::Device)
+}
 
 /// Opens an image for reading alone; else says why not.
 pub(crate) fn opened<R: Files<File = File> + Eprint>(
     rt: &R,
-    path: &str,
-) -> Result<FileDisk<ReadOnlyFile>, Status> {
-    FileDisk::open_to_read(rt, path).map_err(|_| {
-        fail(
-            rt,
-            "can't be opened, or another program writes it",
-            path,
-            Status::Device,
-        )
+    image: Named,
+) -> Result<ImageDisk, Status> {
+    disk_over(rt, file_of(rt, image.path)?, image)
+}
+
+/// An open image, with what is told of its file as a whole.
+#[derive(Drop)]
+pub(crate) struct Image<'a> {
+    /// The file.
+    pub(crate) path: &'a str,
+    /// What is told of it.
+    pub(crate) file: FileFacts,
+    /// The disk over it.
+    pub(crate) disk: ImageDisk,
+}
+
+/// Opens an image for reading alone, and takes the size and the digest of the same open file; else says why not. Where it
+/// isn't formatted, it says so too.
+pub(crate) fn opened_whole<'a, R: Files<File = File> + Eprint>(
+    rt: &R,
+    image: Named<'a>,
+) -> Result<Image<'a>, Status> {
+    let open = file_of(rt, image.path)?;
+    let Ok(file) = facts_of(rt, &open, image) else {
+        return Err(unread(rt, image.path));
+    };
+    let disk = disk_over(rt, open, image)?;
+    Ok(Image {
+        path: image.path,
+        file,
+        disk,
     })
 }

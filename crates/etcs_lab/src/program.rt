@@ -16,13 +16,14 @@ use std::io::Write;
 use std::rt::Files;
 use telegram_objects::SCHEMA;
 
-/// Does what the words behind the program's name ask, and answers the status.
+/// Does what the words behind the program's name ask, beside this number of slots, and answers the status.
 pub(crate) fn answer<R: Files<File = File> + Input + AllocGlobal + Eprint, W: Write>(
     rt: &R,
     words: &[String],
+    slots: Option<u32>,
     out: &mut W,
 ) -> Status {
-    match understood(words) {
+    match understood(words, slots) {
         Some(Asked::Help) => text_told(rt, HELP, "--help", out),
         Some(Asked::Examine(image, form)) => examined(rt, image, form, out),
         Some(Asked::Events(image, all)) => events_told(rt, image, all, out),

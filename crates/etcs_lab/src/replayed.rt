@@ -1,6 +1,6 @@
 //! The command `replay`.
 
-use crate::images::opened;
+use crate::images::{Named, opened};
 use crate::status::{Status, fail, unwritten};
 use replay_lines::{Form, Outcome, ReplayError, replay};
 use std::fs::File;
@@ -25,17 +25,17 @@ pub(crate) fn stopped<R: Eprint>(rt: &R, path: &str, error: ReplayError) -> Stat
 /// Replays the journal of an image, which is opened for reading alone, and answers the status.
 pub(crate) fn replayed<R: Files<File = File> + AllocGlobal + Eprint, W: Write>(
     rt: &R,
-    path: &str,
+    image: Named,
     form: Form,
     out: &mut W,
 ) -> Status {
-    let mut disk = match opened(rt, path) {
+    let mut disk = match opened(rt, image) {
         Ok(disk) => disk,
         Err(status) => return status,
     };
     match replay(rt.alloc(), &mut disk, form, out) {
         Ok(Outcome::Whole) => Status::Whole,
         Ok(Outcome::Differs) => Status::Damaged,
-        Err(error) => stopped(rt, path, error),
+        Err(error) => stopped(rt, image.path, error),
     }
 }

@@ -2,6 +2,7 @@
 
 use crate::program::answer;
 use crate::status::{Status, usage};
+use crate::words::slots_taken;
 use command_line::{take_standard_streams, words_of};
 use std::fs::File;
 use std::io;
@@ -17,13 +18,16 @@ pub(crate) fn run<R: Env + Files<File = File> + Input + Print + Eprint + AllocGl
     if take_standard_streams(rt).is_err() {
         return Status::Device as u8;
     }
-    let Ok(words) = words_of(rt) else {
+    let Ok(mut words) = words_of(rt) else {
+        return usage(rt) as u8;
+    };
+    let Some(slots) = slots_taken(&mut words) else {
         return usage(rt) as u8;
     };
     let Ok(mut out) = BufWriter::new(rt.alloc(), io::writer(rt)) else {
         return Status::Refused as u8;
     };
-    let status = answer(rt, words.as_slice(), &mut out);
+    let status = answer(rt, words.as_slice(), slots, &mut out);
     match out.flush() {
         Ok(()) => status as u8,
         Err(_) => Status::Refused as u8,

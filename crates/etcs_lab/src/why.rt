@@ -1,6 +1,6 @@
 //! The command `why`.
 
-use crate::images::opened;
+use crate::images::{Named, opened};
 use crate::status::{Status, fail, unwritten};
 use std::fs::File;
 use std::io::Write;
@@ -25,12 +25,12 @@ fn stopped<R: Eprint>(rt: &R, path: &str, error: WhyError) -> Status {
 /// Tells why the brakes were commanded in an image, which is opened for reading alone, and answers the status.
 pub(crate) fn why_told<R: Files<File = File> + AllocGlobal + Eprint, W: Write>(
     rt: &R,
-    path: &str,
+    image: Named,
     only: Option<u64>,
     form: Form,
     out: &mut W,
 ) -> Status {
-    let mut disk = match opened(rt, path) {
+    let mut disk = match opened(rt, image) {
         Ok(disk) => disk,
         Err(status) => return status,
     };
@@ -38,11 +38,11 @@ pub(crate) fn why_told<R: Files<File = File> + AllocGlobal + Eprint, W: Write>(
         Ok(walked) if only.is_some() && walked.lines == 0 => fail(
             rt,
             "has no such event whose life can be replayed",
-            path,
+            image.path,
             Status::Damaged,
         ),
         Ok(walked) if only.is_none() && !walked.is_whole => Status::Damaged,
         Ok(_) => Status::Whole,
-        Err(error) => stopped(rt, path, error),
+        Err(error) => stopped(rt, image.path, error),
     }
 }

@@ -3,6 +3,7 @@ ghost use Rattle.std.specs.Prelude.{◌≡◌, ◌+◌, ◌*◌, ◌/◌, ◌%�
 ghost use Rattle.disk.specs.State.{contents_of, IsSynced, HoldsZeros};
 ghost use Rattle.file_disk.specs.Files.{bytes_of, disk_over, whole_disk};
 
+use crate::readonly::opened_to_read;
 use crate::syncing::sync_folder;
 use crate::whole::{read_all, write_all};
 use crate::{RawFile, ReadOnlyFile};
@@ -81,15 +82,18 @@ impl FileDisk<ReadOnlyFile> {
     /// Opens the file for reading alone; its sectors are its whole 512-byte parts. The disk answers DiskFault to each
     /// write, and nothing that is called of it writes to the file.
     ///
-    /// The file is locked for handles that read until the disk is dropped. DiskFault where it can't be opened or
-    /// locked, where another handle holds the lock to write, and where it is a folder.
+    /// The file is locked for handles that read until the disk is dropped. DiskFault where `ReadOnlyFile::open` answers
+    /// an error.
     pub fn open_to_read<R: Files<File = File>>(
         rt: &R,
         path: &str,
     ) -> Result<FileDisk<ReadOnlyFile>, DiskFault>
         ensures faults { IfOk result (λ disk. (⟦<FileDisk<ReadOnlyFile> as Disk>⟧.state disk).faults ≡ 0) }
     {
-        FileDisk::over(ReadOnlyFile::open(rt, path)?)
+        match ReadOnlyFile::open(rt, path) {
+            Ok(file) => FileDisk::over(file),
+            Err(_) => Err(DiskFault),
+        }
     }
 }
 
@@ -103,7 +107,7 @@ fn open_file<R: Files<File = File>>(rt: &R, path: &str) -> Result<File, DiskFaul
     };
     match error.kind() {
         ErrorKind::PermissionDenied | ErrorKind::ReadOnlyFilesystem => {
-            File::open(rt, path).map_err(|_| DiskFault)
+            opened_to_read(rt, path).map_err(|_| DiskFault)
         }
         _ => Err(DiskFault),
     }

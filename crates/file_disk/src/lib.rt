@@ -10,4 +10,5 @@ mod whole;
 
 pub use filedisk::FileDisk;
 pub use raw::RawFile;
-pub use readonly::ReadOnlyFile;
+pub use readonly::{ReadError, ReadOnlyFile};
+pub use whole::read_all;

@@ -1,5 +1,6 @@
 pub mod EndLines
 pub mod Examinations
+pub mod FirstLines
 pub mod ImageLines
 pub mod JournalLines
 pub mod KeptLines

@@ -24,6 +24,8 @@ format_number Three = 3
 
 abbrev pub field_text : FieldName → List ℕ
 field_text a_field.Mark = codes "mark"
+field_text a_field.Version = codes "version"
+field_text a_field.SlotCount = codes "number of slots"
 field_text a_field.BlockNumber = codes "number of the block"
 field_text a_field.Events = codes "events"
 field_text a_field.Lives = codes "lives"

@@ -5,6 +5,7 @@
 mod blocks_between;
 mod examining;
 mod file_facts;
+mod first_lines;
 mod image_lines;
 mod journal_lines;
 mod kept_lines;

@@ -38,6 +38,8 @@ pub(crate) fn field_word(field: FieldName) -> &'static str
 {
     match field {
         FieldName::Mark => "mark",
+        FieldName::Version => "version",
+        FieldName::SlotCount => "number of slots",
         FieldName::BlockNumber => "number of the block",
         FieldName::Events => "events",
         FieldName::Lives => "lives",

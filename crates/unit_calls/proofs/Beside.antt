@@ -66,11 +66,11 @@ module _ (whole_from sectors : ℕ) (handed : List EtcsOutput) (medium : Platter
       subst M (sym same_m) (subst J (sym same_j) (subst L (sym same_l) (subst O (sym same_o) (subst D (sym same_d) it))))
 
 -- a unit beside the medium
-abbrev pub IsUnder : ℕ → List EtcsOutput → Platter → ℕ → Relayed → Type 0
+abbrev pub IsUnder : ℕ → ℕ → List EtcsOutput → Platter → ℕ → Relayed → Type 0
 IsUnder whole_from sectors handed medium carried unit = (it : Moored) × (unit.moored ≡ Some it)
     × Floats whole_from sectors handed medium carried it.mirror it.unit.journal it.unit.life unit.outputs unit.done
 
-abbrev pub Kept : ℕ → Option Opened → List EtcsOutput → Platter → ℕ → Type 0
+abbrev pub Kept : ℕ → ℕ → Option Opened → List EtcsOutput → Platter → ℕ → Type 0
 Kept whole_from sectors None handed medium carried = AreOnMedium whole_from sectors handed medium
 Kept whole_from sectors (Some opened) handed medium carried = IsUnder whole_from sectors handed medium carried opened.unit
 

@@ -24,7 +24,7 @@ moment_of mirror k = (mirror_state mirror).at k
 
 -- What is so between two calls: of what was handed out, what is held back, the list, and how far it was carried out.
 pub record Floats (whole_from sectors : ℕ) (handed : List EtcsOutput) (medium : Platter) (carried : ℕ) (mirror : Mirroring) (journal : JournalState) (life : LifeState) (outputs : List Release) (done : ℕ) : Type 0 where
-  pub size : mirror.sectors ≡ whole_from sectors
+  pub size : mirror.sectors ≡ sectors
   -- what the medium has where the list begins, what it has where the list ends, and what was accepted
   pub settled : List Event
   pub durable : List Event

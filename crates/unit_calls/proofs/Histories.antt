@@ -156,7 +156,7 @@ left_over whole_from sectors handed medium image is on = record {
       subst H same (on.each image is);
 }
 
-abbrev KeptIn : ℕ → Scene → Type 0
+abbrev KeptIn : ℕ → ℕ → Scene → Type 0
 KeptIn whole_from sectors scene = Kept whole_from sectors scene.handle scene.handed scene.medium scene.carried
 
 -- the rest of the scene as it was

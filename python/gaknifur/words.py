@@ -95,7 +95,8 @@ def lost_text(lost: Json) -> str:
     return f"{run(lost['first_block'], lost['last_block'], 'block')}, with {run(lost['first_event'], lost['last_event'], 'event')}"
 
 
-CONTRADICTIONS = {"events": "its events don't follow those of the block before", "lives": "its lives go back",
+CONTRADICTIONS = {"events": "its events don't follow those of the block before",
+                  "lives": "its lives don't follow those of the block before, or can't be",
                   "moment": "a moment goes back within a life"}
 
 

@@ -1,6 +1,6 @@
 //! The command `lint`.
 
-use crate::status::{Status, fail, unwritten};
+use crate::status::{Status, no_memory, unread_for, unwritten};
 use scenario_advice::{Form, LintError, lint};
 use simulator::Scenario;
 use std::fs;
@@ -15,19 +15,15 @@ pub(crate) fn linted<R: Files<File = File> + AllocGlobal + Eprint, W: Write>(
     json: bool,
     out: &mut W,
 ) -> Status {
-    let Ok(bytes) = fs::read(rt, path) else {
-        return fail(rt, "can't be read", path, Status::Device);
+    let bytes = match fs::read(rt, path) {
+        Ok(bytes) => bytes,
+        Err(error) => return unread_for(rt, path, &error),
     };
     let form = if json { Form::Json } else { Form::People };
     match lint(rt.alloc(), &Scenario { bytes }, form, out) {
         Ok(true) => Status::Whole,
         Ok(false) => Status::Damaged,
-        Err(LintError::NoMemory) => fail(
-            rt,
-            "can't be judged: memory is refused",
-            path,
-            Status::Refused,
-        ),
+        Err(LintError::NoMemory) => no_memory(rt, path),
         Err(LintError::Write) => unwritten(rt, path),
     }
 }

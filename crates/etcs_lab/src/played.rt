@@ -1,6 +1,7 @@
 //! The command `run`.
 
-use crate::status::{Status, fail, unwritten};
+use crate::status::{Status, no_memory, unread_for, unwritten};
+use onboard::AcceptError;
 use simulator::{Scenario, ScenarioFault, ends_of, events_of};
 use std::alloc::Global;
 use std::fs;
@@ -23,6 +24,16 @@ fn refused<R: Eprint>(rt: &R, path: &str, fault: ScenarioFault) -> Status {
     Status::Refused
 }
 
+// Whether a life stopped since memory was refused.
+fn is_memory(error: &LiveError) -> bool {
+    matches!(
+        error,
+        LiveError::Open(OpenError::NoMemory)
+            | LiveError::Accept(_, AcceptError::NoMemory)
+            | LiveError::NoMemory(_)
+    )
+}
+
 fn status_of(stopped: Option<LiveError>) -> Status {
     match stopped {
         None => Status::Whole,
@@ -39,21 +50,19 @@ pub(crate) fn played<R: Files<File = File> + AllocGlobal + Eprint, W: Write>(
     path: &str,
     out: &mut W,
 ) -> Status {
-    let Ok(bytes) = fs::read(rt, path) else {
-        return fail(rt, "can't be read", path, Status::Device);
+    let bytes = match fs::read(rt, path) {
+        Ok(bytes) => bytes,
+        Err(error) => return unread_for(rt, path, &error),
     };
     let life = match life_of(rt.alloc(), &Scenario { bytes }) {
         Ok(life) => life,
+        Err(ScenarioFault::NoMemory) => return no_memory(rt, path),
         Err(fault) => return refused(rt, path, fault),
     };
     match play(rt.alloc(), &life, out) {
+        Ok(Some(error)) if is_memory(&error) => no_memory(rt, path),
         Ok(stopped) => status_of(stopped),
         Err(PlayError::Write) => unwritten(rt, path),
-        Err(PlayError::NoMemory) => fail(
-            rt,
-            "can't be played: memory is refused",
-            path,
-            Status::Refused,
-        ),
+        Err(PlayError::NoMemory) => no_memory(rt, path),
     }
 }

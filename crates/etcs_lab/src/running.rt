@@ -1,13 +1,33 @@
 //! The program over the words and the streams of its process.
 
 use crate::program::answer;
-use crate::status::{Status, usage};
+use crate::status::{Status, no_memory, unwritten, usage};
 use crate::words::slots_taken;
 use command_line::{take_standard_streams, words_of};
 use std::fs::File;
 use std::io;
-use std::io::{BufWriter, Write};
+use std::io::{BufWriter, ErrorKind, Write};
 use std::rt::{Env, Files};
+
+// Does what the words ask over a buffer before standard output, and says where it can't be written.
+fn run_into<R: Env + Files<File = File> + Input + Eprint + AllocGlobal, W: Write>(
+    rt: &R,
+    out: &mut W,
+) -> Status {
+    let mut words = match words_of(rt) {
+        Ok(words) => words,
+        Err(error) if error.kind() == ErrorKind::OutOfMemory => return no_memory(rt, "words"),
+        Err(_) => return usage(rt),
+    };
+    let Some(slots) = slots_taken(&mut words) else {
+        return usage(rt);
+    };
+    let status = answer(rt, words.as_slice(), slots, out);
+    match (status, out.flush()) {
+        (Status::Unwritten, _) | (_, Ok(())) => status,
+        (_, Err(_)) => unwritten(rt, "standard output"),
+    }
+}
 
 /// Does what the words of the process behind the program's name ask, over standard output, and answers the exit status.
 /// Before it opens a file it takes the standard streams that are closed. Where it can't, it writes nothing, and opens
@@ -16,20 +36,10 @@ pub(crate) fn run<R: Env + Files<File = File> + Input + Print + Eprint + AllocGl
     rt: &R,
 ) -> u8 {
     if take_standard_streams(rt).is_err() {
-        return Status::Device as u8;
+        return Status::Device.code();
     }
-    let Ok(mut words) = words_of(rt) else {
-        return usage(rt) as u8;
-    };
-    let Some(slots) = slots_taken(&mut words) else {
-        return usage(rt) as u8;
-    };
-    let Ok(mut out) = BufWriter::new(rt.alloc(), io::writer(rt)) else {
-        return Status::Refused as u8;
-    };
-    let status = answer(rt, words.as_slice(), slots, &mut out);
-    match out.flush() {
-        Ok(()) => status as u8,
-        Err(_) => Status::Refused as u8,
+    match BufWriter::new(rt.alloc(), io::writer(rt)) {
+        Ok(mut out) => run_into(rt, &mut out).code(),
+        Err(_) => no_memory(rt, "standard output").code(),
     }
 }

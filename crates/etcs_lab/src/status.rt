@@ -1,6 +1,7 @@
 //! How the program ends, and what it says on standard error.
 
-use std::io::Write;
+use std::io;
+use std::io::{ErrorKind, Write};
 
 /// How the program ends; its number is the exit status of the process (this project's profile).
 #[derive(Clone, Copy)]
@@ -15,6 +16,18 @@ pub(crate) enum Status {
     Device = 3,
     /// Something is lost, damaged or contradicts, or there is something to tell.
     Damaged = 4,
+    /// Nothing could be written, which was said; the process ends as where something is refused.
+    Unwritten = 5,
+}
+
+impl Status {
+    /// The exit status of the process.
+    pub(crate) fn code(self) -> u8 {
+        match self {
+            Status::Unwritten => Status::Refused as u8,
+            _ => self as u8,
+        }
+    }
 }
 
 /// Says on standard error what failed.
@@ -29,8 +42,26 @@ pub(crate) fn unwritten<R: Eprint>(rt: &R, path: &str) -> Status {
         rt,
         "can't be told: nothing can be written",
         path,
+        Status::Unwritten,
+    )
+}
+
+/// Says that memory is refused.
+pub(crate) fn no_memory<R: Eprint>(rt: &R, path: &str) -> Status {
+    fail(
+        rt,
+        "can't be told: memory is refused",
+        path,
         Status::Refused,
     )
+}
+
+/// Says that a file can't be read, or that memory for it is refused.
+pub(crate) fn unread_for<R: Eprint>(rt: &R, path: &str, error: &io::Error) -> Status {
+    match error.kind() {
+        ErrorKind::OutOfMemory => no_memory(rt, path),
+        _ => fail(rt, "can't be read", path, Status::Device),
+    }
 }
 
 /// Writes a text that a word asks for.

@@ -1,6 +1,6 @@
 //! The commands `telegram` and `decode`.
 
-use crate::status::{Status, fail, unwritten};
+use crate::status::{Status, no_memory, unread_for, unwritten};
 use decoding::decode_text;
 use hex::FromHexError;
 use std::alloc::Global;
@@ -8,7 +8,7 @@ use std::fs::File;
 use std::io::{Read, Write};
 use std::rt::Files;
 use std::{fs, io};
-use telegram_objects::{ObjectFault, bytes_of_text, write_answer};
+use telegram_objects::{ObjectFault, Reason, bytes_of_text, write_answer};
 
 // The bytes of a file, or of standard input.
 fn bytes_in<R: Files<File = File> + Input + AllocGlobal>(
@@ -32,6 +32,9 @@ fn write_hex<W: Write>(bytes: &[u8], out: &mut W) -> io::Result<()> {
 
 // Says at which place a telegram has a fault.
 fn refused<R: Eprint>(rt: &R, path: &str, fault: &ObjectFault) -> Status {
+    if let Reason::NoMemory = fault.reason {
+        return no_memory(rt, path);
+    }
     let _ = eprintln!(rt; "etcs_lab: {path}: {fault}");
     Status::Refused
 }
@@ -42,8 +45,9 @@ pub(crate) fn telegram_told<R: Files<File = File> + Input + AllocGlobal + Eprint
     path: &str,
     out: &mut W,
 ) -> Status {
-    let Ok(text) = bytes_in(rt, path) else {
-        return fail(rt, "can't be read", path, Status::Device);
+    let text = match bytes_in(rt, path) {
+        Ok(text) => text,
+        Err(error) => return unread_for(rt, path, &error),
     };
     let bytes = match bytes_of_text(rt.alloc(), text.as_slice()) {
         Ok(bytes) => bytes,

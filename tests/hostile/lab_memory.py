@@ -1,0 +1,61 @@
+#!/usr/bin/env python3
+"""Refuses the requests for memory of the program etcs_lab, each in turn, over all its words. A refused run either does all as the undisturbed
+one does, or says so: by one line on standard error (`decode` by its answer), with status 1, and what it printed before is what the
+undisturbed run prints first, but for the last line of `run`, which says why the life stopped. At least each word with a file asks for memory, so a series in which nothing is refused fails.
+
+    tests/hostile/lab_memory.py
+"""
+import re
+import sys
+from pathlib import Path
+
+from built import Failures, built, room
+from lab_words import all_words, lab_ran, laid
+
+SAYS = re.compile(r"etcs_lab: [^\n]+: memory is refused\n")
+STOPPED = re.compile(r'\{"end":"stopped","step":(null|[0-9]+),"number":(4|12),"name":"NoMemory"\}\n$')
+ANSWERS = ("refused memory\n", '{"refused":{"name":"memory"}}\n')
+MOST, LEAST = 100_000, 300
+
+
+def says_so(words, found, undisturbed):
+    """Whether a run says that memory was refused, behind no other line than the undisturbed run's."""
+    status, printed, said = found
+    if words[0] == "decode" and (status, printed in ANSWERS, said) == (1, True, ""):
+        return True
+    if words[0] == "run":
+        printed = STOPPED.sub("", printed)
+    return status == 1 and bool(SAYS.fullmatch(said)) and undisturbed[1].startswith(printed) and printed[-1:] in ("", "\n")
+
+
+def series(words, stdin, said, refuse, failures):
+    """Every refusal of one run."""
+    undisturbed = lab_ran(words, stdin)
+    failures.unless("memory is refused" not in undisturbed[2], f"{words}: the undisturbed run says {undisturbed[2]!r}")
+    count = 0
+    for at in range(1, MOST):
+        said.unlink(missing_ok=True)
+        found = lab_ran(words, stdin, preload=refuse, REFUSE_AT=str(at), REFUSE_SAYS=str(said))
+        if not said.exists():
+            failures.unless(found == undisturbed, f"{words}: with all memory {found[0]} {found[2]!r}")
+            break
+        count += 1
+        failures.unless(found == undisturbed or says_so(words, found, undisturbed), f"{words}, request {at}: {found[0]} {found[1][-80:]!r} {found[2]!r}")
+    failures.unless(count, f"{words}: no request was refused")
+    return count
+
+
+def main():
+    failures, counts = Failures(), []
+    with room() as name:
+        folder = Path(name)
+        refuse, files = built("refuse"), laid(folder)
+        for words in all_words(files):
+            stdin = str(files["telegram"]) if words[-1] == "-" else None
+            counts.append(series(words, stdin, folder / "said", refuse, failures))
+    failures.unless(sum(counts) >= LEAST, f"only {sum(counts)} requests were refused")
+    return failures.end(f"memory refused to etcs_lab: {sum(counts)} requests in {len(counts)} runs")
+
+
+if __name__ == "__main__":
+    sys.exit(main())

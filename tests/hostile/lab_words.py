@@ -1,0 +1,57 @@
+"""Every word of the program etcs_lab on small inputs, as the tests of this folder run it. `ETCS_LAB` names another program than the one
+that the gate leaves behind."""
+import json
+import os
+import subprocess
+
+from built import AUTHORITY, FULL_SUPERVISION, RESTRICTION, STAFF_RESPONSIBLE, TOP, formatted, ran
+
+LAB = os.environ.get("ETCS_LAB") or str(TOP / "crates/etcs_lab/out/etcs_lab")
+HEADER = {"Q_UPDOWN": 1, "M_VERSION": 16, "Q_MEDIA": 0, "N_PIG": 0, "N_TOTAL": 0, "M_DUP": 0, "M_MCOUNT": 255, "NID_C": 1, "NID_BG": 2, "Q_LINK": 1}
+TELEGRAM = {"header": HEADER, "packets": [{"fields": [["NID_PACKET", 66], ["Q_DIR", 2], ["NID_TSR", 8]]}]}
+ADVISED = {"groups": [{"at": 500_000, "spacing": 1, "balises": [RESTRICTION]}], "steps": [{"driver": [6]}]}
+FAULTY = {"groups": [{"at": 0, "spacing": 1, "balises": [RESTRICTION]}, {}], "steps": [{"dirve": [1, 1]}, {"clock": -1}], "more": 1}
+NAMES_TWICE = '{"groups": [], "steps": [{"flush": true, "flush": true}], "steps": []}'
+
+
+def laid(folder):
+    """The files that the words are given: two images, one of them altered, scenarios and telegrams. By a name each."""
+    files = {name: folder / name for name in ("image", "altered", "telegram", "twice", "no_telegram", "good", "advised", "faulty", "names")}
+    formatted(files["image"], 4)
+    files["good"].write_text(json.dumps(STAFF_RESPONSIBLE))
+    for told in (STAFF_RESPONSIBLE, FULL_SUPERVISION):
+        (folder / "scenario").write_text(json.dumps(told))
+        ran(["run", folder / "scenario", files["image"]])
+    data = bytearray(files["image"].read_bytes())
+    data[512 + 512 + 700] ^= 1
+    files["altered"].write_bytes(data)
+    files["telegram"].write_text(json.dumps(TELEGRAM))
+    files["twice"].write_text(json.dumps(TELEGRAM).replace('"NID_C"', '"NID_C": 1, "NID_C"'))
+    files["no_telegram"].write_text(json.dumps(TELEGRAM | {"bits": 1}))
+    files["advised"].write_text(json.dumps(ADVISED))
+    files["faulty"].write_text(json.dumps(FAULTY))
+    files["names"].write_text(NAMES_TWICE)
+    return files
+
+
+def all_words(files):
+    """Each command with each of its options, on each of its files."""
+    rows = [["--help"], ["telegram", "--schema"], ["telegram", "-"], ["decode", AUTHORITY], ["decode", "--json", AUTHORITY], ["decode", "9"], ["decode", "--json", "90"]]
+    for image in ("image", "altered"):
+        rows += [[word, *option, files[image]] for word, option in (
+            ("examine", []), ("examine", ["--json"]), ("events", []), ("events", ["--all"]), ("replay", []), ("replay", ["--json"]), ("why", []), ("why", ["--json"]))]
+    rows += [["why", files["image"], "3"], ["why", "--json", files["image"], "3"]]
+    rows += [["telegram", files[name]] for name in ("telegram", "twice", "no_telegram")]
+    for name in ("good", "advised", "faulty", "names"):
+        rows += [["lint", files[name]], ["lint", "--json", files[name]], ["run", files[name]]]
+    return [list(map(str, row)) for row in rows]
+
+
+def lab_ran(words, stdin=None, stdout=subprocess.PIPE, preload=None, **environment):
+    """Status, printed and said of a run."""
+    env = dict(os.environ, **environment)
+    if preload:
+        env["LD_PRELOAD"] = preload
+    with open(stdin or os.devnull, "rb") as given:
+        done = subprocess.run([LAB, *words], stdin=given, stdout=stdout, stderr=subprocess.PIPE, env=env, timeout=60)
+    return done.returncode, (done.stdout or b"").decode(), done.stderr.decode()

@@ -34,8 +34,8 @@ carries, how one is written, and what is wrong in a scenario.
   sector tells
 
   0 all is whole   1 refused: not formatted, damaged first sector, no telegram, no scenario or one that stops; or
-  nothing can be written   2 wrong words   3 a file or the device   4 something is lost, damaged, contradicts or
-  differs, or lint has something to tell; all that can be read was told
+  memory is refused or nothing can be written, which is said   2 wrong words   3 a file or the device
+  4 something is lost, damaged, contradicts or differs, or lint has something to tell; all that can be read was told
 
 examine, replay, check, why and lint print lines, or with --json JSON: examine one object, the others one a line. Errors
 go to standard error. Behind -- a word may begin with -.

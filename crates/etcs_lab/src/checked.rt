@@ -12,12 +12,12 @@ use std::rt::Files;
 
 // What a check came to: what the image is found to be, and what the replay came to; None where nothing was replayed.
 #[derive(Clone, Copy)]
-struct Checked {
+struct Findings {
     verdict: Verdict,
     outcome: Option<Outcome>,
 }
 
-impl Checked {
+impl Findings {
     // The last line, for people and as JSON.
     fn last_line(self, form: Form) -> &'static str {
         let (people, json) = match (self.verdict, self.outcome) {
@@ -63,7 +63,7 @@ fn check<R: AllocGlobal + Eprint, W: Write>(
     image: &mut Image,
     form: Form,
     out: &mut W,
-) -> Result<Checked, Status> {
+) -> Result<Findings, Status> {
     let verdict = verdict_of(rt, image, form, out)?;
     let outcome = match replay(rt.alloc(), &mut image.disk, form, out) {
         Ok(outcome) => Some(outcome),
@@ -71,7 +71,7 @@ fn check<R: AllocGlobal + Eprint, W: Write>(
         Err(ReplayError::NotFormatted | ReplayError::Damaged) => None,
         Err(error) => return Err(stopped(rt, image.path, error)),
     };
-    Ok(Checked { verdict, outcome })
+    Ok(Findings { verdict, outcome })
 }
 
 /// Examines an image and replays its journal, tells both in one line, and answers the status.

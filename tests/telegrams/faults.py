@@ -93,11 +93,22 @@ CHANGES = [
 ]
 
 
+# Texts in which a name comes again: line and column of it and of the first one, counted by hand. The value is the good one or none.
+AGAIN = [
+    ("a name told twice", json.dumps(GOOD).replace('"Q_LINK": 1', '"Q_LINK": 1, "Q_LINK": 1'), "line 1, column 152, first at line 1, column 139 (/header/Q_LINK)"),
+    ("a name told twice, with an escape", '{\n "bits": 1,\n "header": {},\n\t"b\\u0069ts": 2}', "line 4, column 2, first at line 2, column 2 (/bits)"),
+    ("a name told twice that is of no telegram", '{"header": {"a": [{"b/c": 1, "d": 2, "b/c": 1}]}}', "line 1, column 38, first at line 1, column 20 (/header/a/0/b~1c)"),
+    ("the first of two", '{"a": 1, "a": 2, "b": 1, "b": 2}', "line 1, column 10, first at line 1, column 2 (/a)"),
+]
+
+
 def rows():
     """A name, a text, the message, and the status."""
     yield "no JSON", '{\n  "header": header\n}\n', "telegram: no JSON value, at line 2, column 13", 1
     yield "no UTF-8", b'{"header": "\xff"}', "telegram: no JSON value, at line 1, column 13", 1
     yield "a list", "[]", f"telegram: {KEYS}", 1
+    for name, text, wanted in AGAIN:
+        yield name, text, f"telegram: a name is told again at {wanted}", 1
     for name, value, wanted in CHANGES:
         yield name, json.dumps(value), wanted, 1
 

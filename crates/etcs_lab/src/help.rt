@@ -19,7 +19,7 @@ carries, how one is written, and what is wrong in a scenario.
                                      and what decides its limit; and which events can't be replayed, and why
   etcs_lab decode [--json] HEX       tells what the digits of a telegram carry, as etcs decode does, or as JSON
   etcs_lab telegram FILE             writes the digits of the telegram that a file tells in that JSON; - is standard
-                                     input; packet, bits and each L_PACKET may be left out
+                                     input; packet, bits and each L_PACKET may be left out, no name comes twice
   etcs_lab telegram --schema         prints the JSON Schema of a telegram
   etcs_lab lint [--json] SCENARIO    tells each fault of a scenario at its place with what is wanted there, the first
                                      being that of etcs run; names that come twice in one object; and of a scenario

@@ -2,6 +2,7 @@ pub mod Adding
 pub mod Chains
 pub mod Jsons
 pub mod Laid
+pub mod NoRepeats
 pub mod Plains
 pub mod Puts
 pub mod Shapes
@@ -12,3 +13,4 @@ mod LinesTell
 mod PieceTexts
 mod PlainNames
 mod ReadAgain
+mod UniqueNames

@@ -11,6 +11,7 @@ use Rattle.packets.specs.declared.packet.Packet.TheVariants as packets
 use Rattle.serde_json.specs.Data.{unsigned, Data, number, array, object, Items, item, Members, no_members, member, depth, items_depth, members_depth}
 use Rattle.serde_json.specs.Read.{max_depth}
 use Rattle.serde_json.specs.View.{items_of}
+use Rattle.serde_json.specs.Written.{outline}
 use Rattle.telegram.specs.Sequences.{length_of_all}
 use Rattle.telegram.specs.Telegrams.{header, Carries}
 use Rattle.telegram.specs.declared.header.Header.{Header}
@@ -24,8 +25,9 @@ use Rattle.telegram_objects.proofs.Chains.{other_short}
 use Rattle.telegram_objects.proofs.HexDigits.{digits_in_utf8}
 use Rattle.telegram_objects.proofs.PlainNames.{plain_name}
 use Rattle.telegram_objects.proofs.Puts.{packets_short}
-use Rattle.telegram_objects.proofs.ReadAgain.{stored, items_stored, IsWritable, AreWritable, MembersAreWritable, line_in_utf8, line_read}
+use Rattle.telegram_objects.proofs.ReadAgain.{stored, items_stored, IsWritable, AreWritable, MembersAreWritable, line_in_utf8, line_read, line_document}
 use Rattle.telegram_objects.proofs.Shapes.{shape}
+use Rattle.telegram_objects.proofs.UniqueNames.{telegram_unique}
 
 -- ---- it tells the telegram
 
@@ -182,5 +184,8 @@ depth-telegram t = omega (arith, depth-members_of (header_fields t.header), dept
 
 pub line_tells : (bytes : List ℕ) (t : Telegram) → Carries bytes t → AreSmall (header_fields t.header) → HaveSmallFields t.packets.items → TellsText (line_of t) t
 line_tells bytes t carried head small =
-    let writable = writable_telegram t head small (packets_short t bytes carried) in
-    (line_in_utf8 (telegram_object t) writable, (stored (telegram_object t), line_read (telegram_object t) writable (depth-telegram t), tells_telegram t))
+    let writable = writable_telegram t head small (packets_short t bytes carried) in (
+      line_in_utf8 (telegram_object t) writable,
+      (outline (telegram_object t), line_document (telegram_object t) writable (depth-telegram t), telegram_unique t),
+      (stored (telegram_object t), line_read (telegram_object t) writable (depth-telegram t), tells_telegram t),
+    )

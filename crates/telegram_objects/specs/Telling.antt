@@ -6,6 +6,7 @@ use Rattle.std.specs.List.{AllByRecursion}
 use Rattle.bits.specs.Bits.{bits_of}
 use Rattle.bits.specs.Names.{name_text}
 use Rattle.hex.specs.Hex.{decode_of}
+use Rattle.json_places.specs.Names.{HasUniqueNames}
 use Rattle.packets.specs.Packets.{number_of}
 use Rattle.packets.specs.declared.packet.Packet.{Packet}
 use Rattle.packets.specs.declared.packet.Packet.TheVariants as packets
@@ -108,9 +109,9 @@ pub record TellsTelegram (d : Data) (t : Telegram) : Type 0 where
   pub header : TellsHeader head t.header
   pub packets : TellPackets items t.packets.items
 
--- The text tells the telegram: it is in UTF-8, and the value that it is tells it.
+-- The text tells the telegram: it is in UTF-8, no object of it has a name twice, and the value that it is tells it.
 abbrev pub TellsText : List ℕ → Telegram → Type 0
-TellsText text t = IsUtf8 text × ((d : Data) × (read text ≡ Some d) × TellsTelegram d t)
+TellsText text t = IsUtf8 text × HasUniqueNames text × ((d : Data) × (read text ≡ Some d) × TellsTelegram d t)
 
 -- The bytes are these bits, with zero bits behind them up to the next whole byte.
 abbrev pub ArePadded : List Bool → List ℕ → Type 0

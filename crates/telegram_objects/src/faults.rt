@@ -1,5 +1,6 @@
 //! Why an object tells no telegram, and at which place.
 
+use crate::repeated::RepeatedName;
 use arrayvec::ArrayVec;
 use std::fmt;
 use std::fmt::{Formatter, Write};
@@ -130,6 +131,8 @@ impl fmt::Display for Ranges {
 pub enum Reason {
     /// The bytes are no JSON value: line and column where that was seen.
     NotJson(usize, usize),
+    /// A name comes again in an object of the text.
+    Repeated(RepeatedName),
     /// This has to stand there.
     Wants(&'static str),
     /// The variable of this name has to stand there.
@@ -150,6 +153,7 @@ impl fmt::Display for Reason {
             Reason::NotJson(line, column) => {
                 write!(f, "no JSON value, at line {line}, column {column}")
             }
+            Reason::Repeated(name) => write!(f, "{name}"),
             Reason::Wants(what) => write!(f, "{what} wanted"),
             Reason::WantsVariable(name) => write!(f, "{name} wanted"),
             Reason::TooMany => write!(f, "no variable is wanted here"),

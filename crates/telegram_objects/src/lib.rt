@@ -11,6 +11,7 @@ mod matching;
 mod packets_told;
 mod putting;
 mod refusing;
+mod repeated;
 mod schema;
 mod spelling;
 mod text;
@@ -19,6 +20,7 @@ mod widths;
 
 pub use bodies::TelegramBytes;
 pub use faults::{ObjectFault, Place, Ranges, Reason};
+pub use repeated::RepeatedName;
 pub use schema::SCHEMA;
 pub use spelling::{bytes_of, bytes_of_text};
 pub use text::write_answer;

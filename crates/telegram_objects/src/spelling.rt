@@ -1,5 +1,6 @@
 //! From an object to the bytes of the telegram that it tells.
-ghost use Rattle.std.specs.Prelude.{◌≢◌, ◌↔◌, ◌≤◌, ℕ, List, length, IsTrue, IsOk, IfOk, IfErr, IfSome, IsSomeAnd};
+ghost use Rattle.std.specs.Prelude.{◌≡◌, ◌≢◌, ◌↔◌, ◌≤◌, ℕ, List, length, IsTrue, IsOk, IfOk, IfErr, IfSome, IsSomeAnd, IsUtf8};
+ghost use Rattle.json_places.specs.Names.{HasUniqueNames};
 ghost use Rattle.serde_json.specs.View.{view};
 ghost use Rattle.telegram.specs.Telegrams.{Carries};
 ghost use Rattle.telegram.specs.declared.message.Telegram.{Telegram};
@@ -10,8 +11,10 @@ use crate::faults::{ObjectFault, Place, Reason};
 use crate::matching::tells;
 use crate::putting::put_telegram;
 use crate::refusing::fault_of;
+use crate::repeated::fault_of_names;
 use arrayvec::ArrayVec;
 use bits::BitWriter;
+use json_places::{RepeatsError, has_repeats};
 use packets::TELEGRAM_BYTES;
 use serde_json::Value;
 use std::alloc::Global;
@@ -71,19 +74,46 @@ pub fn bytes_of(object: &Value) -> Result<TelegramBytes, ObjectFault>
     }
 }
 
+fn no_memory() -> ObjectFault
+    ensures { result.reason ≡ Reason.NoMemory }
+{
+    ObjectFault {
+        place: Place::Whole,
+        reason: Reason::NoMemory,
+    }
+}
+
+// The bytes of the telegram that an object tells whose text this is.
+#[tactic(auto, using(crate::proofs::NoRepeats::unique_alone, crate::proofs::NoRepeats::unique_is_json))]
+fn bytes_of_unique(
+    alloc: Global,
+    text: &[u8],
+    object: &Value,
+) -> Result<TelegramBytes, ObjectFault>
+    ensures unique { IsOk result → HasUniqueNames text.now }
+    ensures told { IfOk result (λ bytes. (t : Telegram) × Carries bytes.items t × TellsTelegram (view object.now) t) }
+    ensures each { IsUtf8 text.now → HasUniqueNames text.now → (t : Telegram) (bytes : List ℕ) (it : Carries bytes t) → TellsTelegram (view object.now) t → IfOk result (λ told. Carries told.items t × ArePadded it.front told.items) }
+    ensures refused { IsUtf8 text.now → HasUniqueNames text.now → IfErr result (λ fault. fault.reason ≢ Reason.NoMemory → (t : Telegram) (bytes : List ℕ) → Carries bytes t → TellsTelegram (view object.now) t → ⊥) }
+{
+    match has_repeats(alloc, text) {
+        Ok(false) => bytes_of(object),
+        Ok(true) => Err(fault_of_names(alloc, text)),
+        Err(RepeatsError::NotJson) => Err(fault_of(object)),
+        Err(RepeatsError::NoMemory) => Err(no_memory()),
+    }
+}
+
 /// The bytes of the telegram that the text of an object tells. They are its bits, up to and with the end mark, whatever
-/// stood behind the end mark in the bytes that it was written of.
+/// stood behind the end mark in the bytes that it was written of. A text in which a name comes twice in one object
+/// tells none.
 pub fn bytes_of_text(alloc: Global, text: &[u8]) -> Result<TelegramBytes, ObjectFault>
     ensures told { IfOk result (λ bytes. (t : Telegram) × Carries bytes.items t × TellsText text.now t) }
     ensures each { (t : Telegram) (bytes : List ℕ) (it : Carries bytes t) → TellsText text.now t → IfOk result (λ told. Carries told.items t × ArePadded it.front told.items) }
     ensures refused { IfErr result (λ fault. fault.reason ≢ Reason.NoMemory → (t : Telegram) (bytes : List ℕ) → Carries bytes t → TellsText text.now t → ⊥) }
 {
     match Value::from_slice(alloc, text) {
-        Ok(object) => bytes_of(&object),
-        Err(error) if error.is_memory() => Err(ObjectFault {
-            place: Place::Whole,
-            reason: Reason::NoMemory,
-        }),
+        Ok(object) => bytes_of_unique(alloc, text, &object),
+        Err(error) if error.is_memory() => Err(no_memory()),
         Err(error) => {
             let place = Reason::NotJson(error.line(), error.column());
             Err(ObjectFault::new(Place::Whole, place))

@@ -5,7 +5,7 @@ use Rattle.std.proofs.lemmas.Bool.{and_parts}
 use Rattle.std.proofs.lemmas.List.Elements.{All-nil, All-cons}
 use Rattle.std.proofs.lemmas.List.Kept.{AllPairs-cons}
 use Rattle.std.proofs.lemmas.Slice.Eq.{bytes_eq-Decides}
-use Rattle.json.specs.Strict.{AreDistinct, HasUniqueKeys, ItemsHaveUniqueKeys, MembersHaveUniqueKeys}
+use Rattle.json.specs.Strict.{keys, AreDistinct, HasUniqueKeys, ItemsHaveUniqueKeys, MembersHaveUniqueKeys}
 use Rattle.packets.specs.Packets.{number_of}
 use Rattle.packets.specs.declared.packet.Packet.{Packet}
 use Rattle.packets.specs.declared.packet.Packet.TheVariants as packets
@@ -63,7 +63,7 @@ pairs_flat (f ∷ fields) = ((tt, (tt, tt)), pairs_flat fields)
 
 header_unique : (h : Header) → HasUniqueKeys (outline (object (members_of (header_fields h))))
 unfolding header differs distinct
-header_unique h = (are_distinct _ refl, members_flat (header_fields h))
+header_unique h = (are_distinct (keys (members_outline (members_of (header_fields h)))) refl, members_flat (header_fields h))
 
 -- a packet with these members behind its fields
 abbrev with_behind : Packet → Members → Data
@@ -71,7 +71,7 @@ with_behind p ms = object (member (codes "packet") (number (unsigned (number_of 
 
 bare_unique : (p : Packet) → members_behind p ≡ no_members → HasUniqueKeys (outline (packet_object p))
 unfolding differs distinct
-bare_unique p none = subst (λ (ms : Members). HasUniqueKeys (outline (with_behind p ms))) (sym none) (are_distinct _ refl, (tt, (pairs_flat (packet_fields p), tt)))
+bare_unique p none = subst (λ (ms : Members). HasUniqueKeys (outline (with_behind p ms))) (sym none) (are_distinct (codes "packet" ∷ codes "fields" ∷ []) refl, (tt, (pairs_flat (packet_fields p), tt)))
 
 packet_unique : (p : Packet) → HasUniqueKeys (outline (packet_object p))
 unfolding differs distinct
@@ -84,7 +84,7 @@ packet_unique (packets.LevelTransition p) = bare_unique (packets.LevelTransition
 packet_unique (packets.SpeedRestriction p) = bare_unique (packets.SpeedRestriction p) refl
 packet_unique (packets.RestrictionRevocation p) = bare_unique (packets.RestrictionRevocation p) refl
 packet_unique (packets.ModeProfile p) = bare_unique (packets.ModeProfile p) refl
-packet_unique (packets.Other p) = (are_distinct _ refl, (tt, (pairs_flat (packet_fields (packets.Other p)), (tt, (tt, tt)))))
+packet_unique (packets.Other p) = (are_distinct (codes "packet" ∷ codes "fields" ∷ codes "skipped_bits" ∷ codes "body" ∷ []) refl, (tt, (pairs_flat (packet_fields (packets.Other p)), (tt, (tt, tt)))))
 
 packets_unique : (ps : List Packet) → ItemsHaveUniqueKeys (items_outline (items_of (map packet_object ps)))
 packets_unique [] = tt
@@ -92,4 +92,4 @@ packets_unique (p ∷ ps) = (packet_unique p, packets_unique ps)
 
 pub telegram_unique : (t : Telegram) → HasUniqueKeys (outline (telegram_object t))
 unfolding differs distinct
-telegram_unique t = (are_distinct _ refl, (header_unique t.header, (packets_unique t.packets.items, (tt, tt))))
+telegram_unique t = (are_distinct (codes "header" ∷ codes "packets" ∷ codes "bits" ∷ []) refl, (header_unique t.header, (packets_unique t.packets.items, (tt, tt))))

@@ -85,11 +85,7 @@ fn no_memory() -> ObjectFault
 
 // The bytes of the telegram that an object tells whose text this is.
 #[tactic(auto, using(crate::proofs::NoRepeats::unique_alone, crate::proofs::NoRepeats::unique_is_json))]
-fn bytes_of_unique(
-    alloc: Global,
-    text: &[u8],
-    object: &Value,
-) -> Result<TelegramBytes, ObjectFault>
+fn bytes_of_unique(alloc: Global, text: &[u8], object: &Value) -> Result<TelegramBytes, ObjectFault>
     ensures unique { IsOk result → HasUniqueNames text.now }
     ensures told { IfOk result (λ bytes. (t : Telegram) × Carries bytes.items t × TellsTelegram (view object.now) t) }
     ensures each { IsUtf8 text.now → HasUniqueNames text.now → (t : Telegram) (bytes : List ℕ) (it : Carries bytes t) → TellsTelegram (view object.now) t → IfOk result (λ told. Carries told.items t × ArePadded it.front told.items) }

@@ -1,4 +1,7 @@
 //! The image that a command reads.
+ghost use Rattle.std.specs.Prelude.{◌≤◌};
+ghost use Rattle.std.specs.Option.{ForSome};
+ghost use Rattle.blocks.specs.FirstSector.{least_slots, most_slots};
 
 use crate::digest::facts_of;
 use crate::status::{Status, fail};
@@ -37,10 +40,20 @@ fn file_of<R: Files<File = File> + Eprint>(rt: &R, path: &str) -> Result<ReadOnl
     ReadOnlyFile::open(rt, path).map_err(|error| fail(rt, sentence(error), path, Status::Device))
 }
 
+// The number of slots, where an image may have so many. The words have no other.
+fn within_limits(slots: Option<u32>) -> Option<u32>
+    ensures { ForSome result (λ n. (least_slots ≤ n) × (n ≤ most_slots)) }
+{
+    match slots {
+        Some(number) if 2 <= number && number <= 1_048_576 => Some(number),
+        _ => None,
+    }
+}
+
 // The disk over a file; else says that it can't be read.
 fn disk_over<R: Eprint>(rt: &R, file: ReadOnlyFile, image: Named) -> Result<ImageDisk, Status> {
     match FileDisk::over(file) {
-        Ok(disk) => Ok(GivenSlots::over(disk, image.slots)),
+        Ok(disk) => Ok(GivenSlots::over(disk, within_limits(image.slots))),
         Err(_) => Err(unread(rt, image.path)),
     }
 }

@@ -276,6 +276,7 @@ def main(given: Sequence[str] | None = None) -> int:
             return WORDS[told.word](told, progress) or 0
         except Failed as failed:
             progress.end()
+            sys.stdout.flush()
             say(str(failed))
             return failed.status
         finally:

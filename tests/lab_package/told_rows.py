@@ -307,7 +307,7 @@ def plain_trips(path):
     said = io.StringIO()
     with contextlib.redirect_stdout(said):
         plain_why(["--json", str(path)])
-    lines = map(json.loads, said.getvalue().splitlines())
+    lines = [line for line in map(json.loads, said.getvalue().splitlines()) if "event" in line]
     return {line["event"]: (line["trip_cause"], line["trip_cause_event"]) for line in lines}
 
 

@@ -85,7 +85,7 @@ def requests_of(calls):
 
 
 def behind_settling(calls):
-    """The calls of a life behind the two that settle its file, which are no requests of the unit."""
+    """The calls of a life from C behind the two that settle its file, which are no requests of the unit."""
     if [kind for kind, _, _ in calls[:2]] != ["s", "d"]:
         raise SystemExit(f"the file isn't synced, and its pages dropped, at first: {calls[:2]}")
     return calls[2:]
@@ -135,14 +135,13 @@ class Pair:
         self.other.write_bytes(before)
         found = recorded(self.record, self.other, words, text)
         self.failures.unless(found[:2] == (status, printed), f"{name}: from C {found[0]} {found[1][:400]}, wanted {status} {printed[:400]}")
-        self.failures.unless(requests_of(found[2]) == requests_of(calls), f"{name}: from C the file is handed other calls")
+        self.failures.unless(requests_of(behind_settling(found[2])) == requests_of(calls), f"{name}: from C the file is handed other calls")
         self.same(name)
         self.calls += len(requests_of(calls))
         self.lines += printed.count("\n")
 
     def cut(self, name, before, calls, words, text, numbers):
         """The life stops between two requests."""
-        calls = behind_settling(calls)
         count = numbers.randrange(len(requests_of(calls)))
         self.other.write_bytes(before)
         status, printed, _ = recorded(self.record, self.other, [*words, count], text)

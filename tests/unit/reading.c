@@ -161,7 +161,7 @@ static medium lived(void) {
     static const etcs_train_data train = {20000, 160000, 70, 1000, 15};
     etcs_unit_output outputs[ETCS_UNIT_OUTPUTS];
     etcs_unit unit = {0};
-    uint32_t count;
+    uint32_t count = 0;
     medium on = formatted(SLOTS);
     is("power-up", powered_up(&on, &unit, ETCS_COLD_MOVED), ETCS_UNIT_OK);
     is("clock", etcs_unit_clock(&unit, 258), ETCS_UNIT_OK);

@@ -9,7 +9,6 @@
   those of the plain causes (tests/plain/why.py), and they are not known just where the plain replay doesn't agree.
 - Whatever text an image holds stands escaped on the page.
 """
-import contextlib
 import csv
 import html.parser
 import io
@@ -31,7 +30,7 @@ from gaknifur import causes, database, program, reading, report, tables  # noqa:
 from gaknifur.program import Run  # noqa: E402
 from replay import replayed  # noqa: E402
 from replay_rows import damaged, examples, formats, random_lives  # noqa: E402
-from why import WORDS, main as plain_why  # noqa: E402
+from why import WORDS, told_of, walk_of  # noqa: E402
 from why_rows import more_lives  # noqa: E402
 from images import MARKUP, blocks, random_images, slots_of  # noqa: E402
 from told import SIGNS, Refused, told  # noqa: E402
@@ -238,12 +237,13 @@ def plain_reasons(image):
     return found
 
 
-def plain_causes(path, event=None):
-    """Of each event that the plain program tells its causes, and the events since which they hold."""
-    said = io.StringIO()
-    with contextlib.redirect_stdout(said):
-        plain_why(["--json", str(path), *([] if event is None else [str(event)])])
-    lines = [line for line in map(json.loads, said.getvalue().splitlines()) if "event" in line]
+def plain_lines(walk, event=None):
+    """What the plain program tells of each event that it has a line of, or of one event."""
+    return [line for line in map(json.loads, told_of(walk, True, event)[1].splitlines()) if "event" in line]
+
+
+def plain_causes(lines):
+    """Of each event the causes that such lines tell, and the events since which they hold."""
     return {line["event"]: {word: line[word] for word, *_ in WORDS.values() if line[word] is not None} for line in lines}
 
 
@@ -269,16 +269,17 @@ def causes_agree(room):
         except Refused:
             continue
         journal = reading.read(path, replay=True, why=True)
-        reasons, lines = plain_reasons(image), plain_causes(path)
+        walk = walk_of(image)
+        reasons, lines = plain_reasons(image), plain_lines(walk)
         table = tables.frame(journal)
         count.compare(f"{name}, reasons", dict(table.loc[table["causes_not_known"].notna(), ["event", "causes_not_known"]].values), reasons)
         got = {event: held for event, held in zip(table["event"], table["held"]) if held is not None}
         # each change is told, and the last event of each command; those and some others are asked of the plain program
         ends = {last for _, last in wanted_runs(records, lambda record, _: record["brake"] != "none")} - set(reasons)
-        count.compare(f"{name}, events that are told", (lines.keys() - set(reasons)) | ends <= set(got), True)
-        found = dict(lines)
+        found = plain_causes(lines)
+        count.compare(f"{name}, events that are told", (found.keys() - set(reasons)) | ends <= set(got), True)
         for event in ends | {event for event in got if event % EACH == 0}:
-            found |= plain_causes(path, event)
+            found |= plain_causes(plain_lines(walk, event))
         count.compare(f"{name}, causes", {event: got.get(event) for event in found if event not in reasons},
                       {event: held for event, held in found.items() if event not in reasons})
         runs = tables.interventions(table)
@@ -289,7 +290,7 @@ def causes_agree(room):
         if database.add(connection, journal, table):
             in_database(count, name, connection, journal, got, wanted)
         tripped |= words_agree(count, name, path)
-        trips_agree(count, name, path, table, reasons)
+        trips_agree(count, name, lines, table, reasons)
         known += sum(reason is None for _, _, reason in wanted)
         unknown += sum(reason is not None for _, _, reason in wanted)
         met |= {cause for _, held, _ in wanted for cause, _ in held}
@@ -302,20 +303,11 @@ def causes_agree(room):
     return 1 if count.differ or few else 0
 
 
-def plain_trips(path):
-    """Of each event that the plain program tells the trip that is owed: its cause, and the event by which it was entered."""
-    said = io.StringIO()
-    with contextlib.redirect_stdout(said):
-        plain_why(["--json", str(path)])
-    lines = [line for line in map(json.loads, said.getvalue().splitlines()) if "event" in line]
-    return {line["event"]: (line["trip_cause"], line["trip_cause_event"]) for line in lines}
-
-
-def trips_agree(count, name, path, table, reasons):
-    """The trips of the table are those of the plain program."""
+def trips_agree(count, name, lines, table, reasons):
+    """The trips of the table, their causes and the events by which they were entered, are those that the plain program's lines tell."""
     told = {event: (cause, None if at is pd.NA else int(at))
             for event, cause, at in zip(table["event"], table["trip_cause"], table["trip_cause_event"])}
-    wanted = {event: trip for event, trip in plain_trips(path).items() if event not in reasons}
+    wanted = {line["event"]: (line["trip_cause"], line["trip_cause_event"]) for line in lines if line["event"] not in reasons}
     count.compare(f"{name}, trips", {event: told.get(event) for event in wanted}, wanted)
 
 

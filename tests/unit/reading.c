@@ -139,8 +139,10 @@ static void limits(const medium *on) {
 
 /* A journal that no call left. */
 static void cursors(const medium *on) {
-    const etcs_journal odd[] = {{0, 0, 0}, {1, (UINT64_C(1) << 40) + 1, 0}, {1, UINT64_MAX, 0}, {UINT64_MAX, UINT64_MAX, 0}, {3, 2, 0}, {UINT64_MAX, 2, 7}, {1, 2, 1}, {1, 2, UINT64_MAX}};
-    const uint32_t wanted[] = {ETCS_UNIT_NOT_OPEN, ETCS_UNIT_OUT_OF_RANGE, ETCS_UNIT_OUT_OF_RANGE, ETCS_UNIT_OUT_OF_RANGE, ETCS_UNIT_END, ETCS_UNIT_END, ETCS_UNIT_NO_SUCH_RECORD, ETCS_UNIT_NO_SUCH_RECORD};
+    const etcs_journal odd[] = {{0, 0, 0}, {1, (UINT64_C(1) << 40) + 1, 0}, {1, UINT64_MAX, 0}, {UINT64_MAX, UINT64_MAX, 0}, {3, 2, 0}, {UINT64_MAX, 2, 7}, {1, 2, 1}, {1, 2, UINT64_MAX},
+                                {1, UINT64_C(1) << 40, 0}, {2, SLOTS + 2, 0}};
+    const uint32_t wanted[] = {ETCS_UNIT_NOT_OPEN, ETCS_UNIT_OUT_OF_RANGE, ETCS_UNIT_OUT_OF_RANGE, ETCS_UNIT_OUT_OF_RANGE, ETCS_UNIT_END, ETCS_UNIT_END, ETCS_UNIT_NO_SUCH_RECORD, ETCS_UNIT_NO_SUCH_RECORD,
+                               ETCS_UNIT_OUT_OF_RANGE, ETCS_UNIT_OUT_OF_RANGE};
     for (unsigned i = 0; i < sizeof wanted / sizeof wanted[0]; i++) {
         touch();
         journal = odd[i];
@@ -154,6 +156,11 @@ static void cursors(const medium *on) {
         memset(&journal, 0xAA, sizeof journal);
         untouched("and nothing is told");
     }
+    const etcs_journal most = {2, SLOTS + 1, 0};
+    journal = most;
+    is("as many blocks as slots", etcs_journal_next(on->bytes, on->len, &journal, &record), ETCS_UNIT_OK);
+    journal = most;
+    is("as many blocks as slots, replayed", etcs_image_replay(on->bytes, on->len, &journal, &replay), ETCS_UNIT_OK);
 }
 
 /* A life of a power-up and five events, by hand: block 1 has the power-up, block 2 the others. */

@@ -189,7 +189,9 @@ def compare_huge(program, room, compared):
     path = room / "huge"
     with open(path, "wb") as out:
         out.truncate(2**40)
-    seconds, _, status, printed = timed([program, "examine", str(path)])
+    before = time.monotonic()
+    printed, _, status = run(program, ["examine", str(path)])
+    seconds = time.monotonic() - before
     compared.same("a terabyte of holes", (printed.splitlines()[:3], status, seconds < 10),
                   (["image bytes 1099511627776 sectors 2147483648 slots ? whole 0 bytes behind 1099511627264", "sha256 not taken",
                     "first sector unreadable field mark at byte 0 size of ? slots"], 1, True))

@@ -69,7 +69,7 @@ impl AnnouncedLevel {
     }
 
     /// Whether an announcement of level 0 is left.
-    pub fn is_left(&self) -> bool
+    pub fn remains(&self) -> bool
         ensures { result ≡ is_level_0_announced self.now }
     {
         match self.announced {

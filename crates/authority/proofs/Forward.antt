@@ -68,7 +68,7 @@ same_authority (Passed train ∷ later) entries k = same_authority later entries
 same_authority (Cleared ∷ later) entries k = absurd k
 
 abbrev end_at : Fact → List AuthorityEntry → ℤ
-end_at fact entries = (end_now fact (now_of entries) (sights entries)).end
+end_at fact entries = (end_now fact (now_of entries) (sights entries)).place
 
 no_farther : (fact : Fact) (later entries : List AuthorityEntry) → KeepsAuthority later → IsInOrder (later ++ entries) → end_at fact (later ++ entries) ≤ℤ end_at fact entries
 no_farther fact [] entries k o = omega (arith, ints)
@@ -90,17 +90,17 @@ no_farther fact (Passed train ∷ later) entries k o =
     omega (arith, ints, rest, step)
 no_farther fact (Cleared ∷ later) entries k o = absurd k
 
-of_sooner : (o p : Option Fact) (old new : End) (before after : Fact → End) → p ≡ o → ((fact : Fact) → (after fact).end ≤ℤ (before fact).end) →
-    option_map before o ≡ Some old → option_map after p ≡ Some new → new.end ≤ℤ old.end
+of_sooner : (o p : Option Fact) (old new : End) (before after : Fact → End) → p ≡ o → ((fact : Fact) → (after fact).place ≤ℤ (before fact).place) →
+    option_map before o ≡ Some old → option_map after p ≡ Some new → new.place ≤ℤ old.place
 of_sooner None p old new before after s h e f = absurd (cc)
 of_sooner (Some fact) p old new before after s h e f =
     let a : before fact ≡ old = cc in
     let g : option_map after (Some fact) ≡ Some new = ap (option_map after) (sym s) ∙ f in
     let b : after fact ≡ new = cc in
-    subst (λ (x : End). new.end ≤ℤ x.end) a (subst (λ (x : End). x.end ≤ℤ (before fact).end) b (h fact))
+    subst (λ (x : End). new.place ≤ℤ x.place) a (subst (λ (x : End). x.place ≤ℤ (before fact).place) b (h fact))
 
 pub never_forward : (later entries : List AuthorityEntry) (old new : End) → KeepsAuthority later → IsInOrder (later ++ entries) →
-    end_of entries ≡ Some old → end_of (later ++ entries) ≡ Some new → new.end ≤ℤ old.end
+    end_of entries ≡ Some old → end_of (later ++ entries) ≡ Some new → new.place ≤ℤ old.place
 never_forward later entries old new k o e f =
     of_sooner (accepted entries) (accepted (later ++ entries)) old new
     (λ fact. end_now fact (now_of entries) (sights entries)) (λ fact. end_now fact (now_of (later ++ entries)) (sights (later ++ entries)))

@@ -19,16 +19,16 @@ module _ (fact : Fact) (now : ℕ) (seen : List Sight) where
   abbrev late : Bool
   late = end_timer_has_run_out (told_end fact) fact.packet.scale now seen fact.packet.end_timer
 
-  end_is : (end_now fact now seen).end ≡ first_or test (timed_sections fact) (last_place fact late)
+  end_is : (end_now fact now seen).place ≡ first_or test (timed_sections fact) (last_place fact late)
   end_is = by_place fact now seen (taken_back fact now seen) ∙ place_is fact test late
 
   last_may : (b : Bool) → late ≡ b → (place : ℤ) → place ≡ last_place fact b → MayBeEnd fact now seen place
   last_may true e place is = inr (inl (e, is))
   last_may false e place is = inl is
 
-  may_be : MayBeEnd fact now seen (end_now fact now seen).end
+  may_be : MayBeEnd fact now seen (end_now fact now seen).place
   may_be = elim (first_is test (last_place fact late) (timed_sections fact)) [
-    | inl e ↦ last_may late refl (end_now fact now seen).end (end_is ∙ e)
+    | inl e ↦ last_may late refl (end_now fact now seen).place (end_is ∙ e)
     | inr w ↦ inr (inr (w.0, w.1, (run_out_so fact.moment now seen w.0).0 w.2, end_is ∙ w.3))
   ]
 
@@ -49,18 +49,18 @@ module _ (fact : Fact) (now : ℕ) (seen : List Sight) where
     ]
   ]
 
-  pub nearest_now : (place : ℤ) → MayBeEnd fact now seen place → (end_now fact now seen).end ≤ℤ place
+  pub nearest_now : (place : ℤ) → MayBeEnd fact now seen place → (end_now fact now seen).place ≤ℤ place
   nearest_now place m = rw end_is (nearest_of place m)
 
 nearest_some : (o : Option Fact) (fact : Fact) (now : ℕ) (seen : List Sight) (end : End) → o ≡ Some fact → option_map (λ fact. end_now fact now seen) o ≡ Some end →
-    MayBeEnd fact now seen end.end × ((place : ℤ) → MayBeEnd fact now seen place → end.end ≤ℤ place)
+    MayBeEnd fact now seen end.place × ((place : ℤ) → MayBeEnd fact now seen place → end.place ≤ℤ place)
 nearest_some o fact now seen end is e =
     let same : end_now fact now seen ≡ end = (let k : option_map (λ (f : Fact). end_now f now seen) (Some fact) ≡ Some end = ap (option_map (λ (f : Fact). end_now f now seen)) (sym is) ∙ e in cc) in (
-      subst (λ (x : End). MayBeEnd fact now seen x.end) same (may_be fact now seen),
-      λ place m. subst (λ (x : End). x.end ≤ℤ place) same (nearest_now fact now seen place m),
+      subst (λ (x : End). MayBeEnd fact now seen x.place) same (may_be fact now seen),
+      λ place m. subst (λ (x : End). x.place ≤ℤ place) same (nearest_now fact now seen place m),
     )
 
 pub nearest : (entries : List AuthorityEntry) (fact : Fact) (end : End) → accepted entries ≡ Some fact → end_of entries ≡ Some end →
-    MayBeEnd fact (now_of entries) (sights entries) end.end
-    × ((place : ℤ) → MayBeEnd fact (now_of entries) (sights entries) place → end.end ≤ℤ place)
+    MayBeEnd fact (now_of entries) (sights entries) end.place
+    × ((place : ℤ) → MayBeEnd fact (now_of entries) (sights entries) place → end.place ≤ℤ place)
 nearest entries fact end is e = nearest_some (accepted entries) fact (now_of entries) (sights entries) end is e

@@ -40,14 +40,14 @@ place_sooner fact test more late later h k =
     (first_sooner test more fact.place (last_place fact late) (last_place fact later) (timed_sections fact) h (last_sooner fact late later k)
     (sections_along fact (last_place fact late) (last_behind fact late)))
 
-pub by_place : (fact : Fact) (now : ℕ) (seen : List Sight) (taken : Option ℤ) → (end_by fact now seen taken).end ≡ unwrap_or taken (told_end fact)
+pub by_place : (fact : Fact) (now : ℕ) (seen : List Sight) (taken : Option ℤ) → (end_by fact now seen taken).place ≡ unwrap_or taken (told_end fact)
 by_place fact now seen None = refl
 by_place fact now seen (Some place) = refl
 
 pub now_sooner : (fact : Fact) (now later : ℕ) (seen more : List Sight) →
     ((s : TimedSection) → section_has_run_out fact.moment now seen s ≡ true → section_has_run_out fact.moment later more s ≡ true) →
     (end_timer_has_run_out (told_end fact) fact.packet.scale now seen fact.packet.end_timer ≡ true → end_timer_has_run_out (told_end fact) fact.packet.scale later more fact.packet.end_timer ≡ true) →
-    (end_now fact later more).end ≤ℤ (end_now fact now seen).end
+    (end_now fact later more).place ≤ℤ (end_now fact now seen).place
 now_sooner fact now later seen more h k =
     rw (by_place fact now seen (taken_back fact now seen), by_place fact later more (taken_back fact later more))
     (place_sooner fact (section_has_run_out fact.moment now seen) (section_has_run_out fact.moment later more) _ _ h k)

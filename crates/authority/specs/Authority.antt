@@ -108,7 +108,7 @@ supervised fact now seen =
 -- the end of the last section; while a speed is allowed there, there is no release speed
 abbrev pub end_with : ℤ → ℕ → Point → End
 end_with end speed point =
-    record { end = end; speed = speed; location = point.location; release = if speed == 0 then point.release else no_release }
+    record { place = end; speed = speed; location = point.location; release = if speed == 0 then point.release else no_release }
 
 -- the end now: that of the last section, or taken back
 abbrev pub end_by : Fact → ℕ → List Sight → Option ℤ → End

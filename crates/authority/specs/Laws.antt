@@ -55,8 +55,8 @@ MayBeEnd fact now seen place =
 abbrev pub EndIsTheNearest : Type 0
 EndIsTheNearest =
     (entries : List AuthorityEntry) (fact : Fact) (end : End) → accepted entries ≡ Some fact → end_of entries ≡ Some end →
-    MayBeEnd fact (now_of entries) (sights entries) end.end
-    × ((place : ℤ) → MayBeEnd fact (now_of entries) (sights entries) place → end.end ≤ℤ place)
+    MayBeEnd fact (now_of entries) (sights entries) end.place
+    × ((place : ℤ) → MayBeEnd fact (now_of entries) (sights entries) place → end.place ≤ℤ place)
 
 -- among these entries no authority is accepted or deleted
 abbrev pub KeepsAuthority : List AuthorityEntry → Type 0
@@ -70,7 +70,7 @@ KeepsAuthority (Cleared ∷ entries) = ⊥
 abbrev pub EndNeverMovesForward : Type 0
 EndNeverMovesForward =
     (later entries : List AuthorityEntry) (old new : End) → KeepsAuthority later → IsInOrder (later ++ entries) →
-    end_of entries ≡ Some old → end_of (later ++ entries) ≡ Some new → new.end ≤ℤ old.end
+    end_of entries ≡ Some old → end_of (later ++ entries) ≡ Some new → new.place ≤ℤ old.place
 
 -- nothing before an acceptance matters
 abbrev pub AcceptanceForgets : Type 0

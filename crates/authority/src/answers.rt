@@ -39,7 +39,7 @@ impl Release {
 #[derive(Clone, Copy)]
 pub struct End {
     /// The end of authority, in centimetres.
-    pub end: Cm,
+    pub place: Cm,
     /// The speed allowed there, in metres per hour: V_LOA while it is in force, else 0.
     pub speed: Mph,
     /// The supervised location, in centimetres: the end of the overlap, else the danger point, else the end.

@@ -119,7 +119,7 @@ impl Stored {
         match self.taken_back(now) {
             None => self.end_as_told(now),
             Some(place) => End {
-                end: place,
+                place,
                 speed: Mph::new(0).unwrap(),
                 location: place,
                 release: Release::none(),
@@ -150,7 +150,7 @@ impl Stored {
         let speed = self.speed_at_end(now);
         let point = self.supervised(now);
         End {
-            end: self.end,
+            place: self.end,
             speed,
             location: point.location,
             release: if speed.get() == 0 {

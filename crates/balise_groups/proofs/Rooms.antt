@@ -11,7 +11,7 @@ use Rattle.balise_groups.specs.declared.message.Closed.{Closed}
 use Rattle.balise_groups.specs.declared.reading.Reading.{Reading}
 use Rattle.balise_groups.specs.Telling.{infill, before_infill, told_by}
 use Rattle.balise_groups.specs.Closing.{is_at, is_read, is_whole, telegrams_at, telegrams_below, cause_of, closed_as, close_of}
-use Rattle.balise_groups.specs.Groups.{KnownGroups, with_reading, close_if_whole, goes_on, is_left, taken_by, ended_by}
+use Rattle.balise_groups.specs.Groups.{KnownGroups, with_reading, close_if_whole, goes_on, is_behind, taken_by, ended_by}
 use Rattle.balise_groups.specs.Rooms.{packets_at, packets_in, packets_of_closed}
 
 shorter : (ps : List Packet) → length (before_infill ps) ≤ length ps
@@ -151,4 +151,4 @@ pub ended_room : (path : ℕ) (known : KnownGroups) → packets_of_closed (ended
 ended_room path known =
     let k = closed_room known.readings in
     let cases : (b : Bool) → packets_of_closed (cond b (close_of known.readings) None) ≤ packets_in known.readings = elim [ true ↦ k | false ↦ omega arith ] in
-    cases (is_left path known.current)
+    cases (is_behind path known.current)

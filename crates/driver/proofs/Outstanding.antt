@@ -6,7 +6,7 @@ use Rattle.driver.specs.declared.action.Action.TheVariants.{Acknowledge}
 use Rattle.driver.specs.declared.action.Acknowledged.TheVariants as acknowledge
 use Rattle.driver.specs.declared.occasion.Occasion.{Occasion}
 use Rattle.driver.specs.Entries.{DriverEntry, after_all, is_deed, did}
-use Rattle.driver.specs.Entries.DriverEntry.{Did, CameIn, Turned}
+use Rattle.driver.specs.Entries.DriverEntry.{Did, LevelEntered, ModeEntered}
 use Rattle.driver.specs.Known.{trip_after}
 use Rattle.driver.specs.Laws.{IsOutstanding, OutstandingSo, acknowledges_trip}
 use Rattle.mode_table.specs.declared.mode.Mode.{Mode}
@@ -19,7 +19,7 @@ by_action : (action : Action) (occasion : Occasion) (before : Bool) → trip_aft
 by_action (Acknowledge acknowledge.Trip) occasion before h = absurd (let no : false ≡ true = h in cc)
 by_action action occasion before h = (refl, h)
 
-by_mode : (mode : Mode) (before : Bool) → trip_after (Turned mode) before ≡ true → (mode ≡ Trip) ⊎ (before ≡ true)
+by_mode : (mode : Mode) (before : Bool) → trip_after (ModeEntered mode) before ≡ true → (mode ≡ Trip) ⊎ (before ≡ true)
 by_mode Trip before h = inl refl
 by_mode mode before h = inr h
 
@@ -28,7 +28,7 @@ past_action : (action : Action) (occasion : Occasion) (before : Bool) → acknow
 past_action (Acknowledge acknowledge.Trip) occasion before n h = absurd (let no : true ≡ false = n in cc)
 past_action action occasion before n h = h
 
-past_mode : (mode : Mode) (before : Bool) → before ≡ true → trip_after (Turned mode) before ≡ true
+past_mode : (mode : Mode) (before : Bool) → before ≡ true → trip_after (ModeEntered mode) before ≡ true
 past_mode Trip before h = refl
 past_mode mode before h = h
 
@@ -49,11 +49,11 @@ outstanding kept [] h = inr (h, refl)
 outstanding kept (Did action occasion ∷ entries) h =
     let parts = by_action action occasion (after_all trip_after kept entries) h in
     behind kept (Did action occasion) entries parts.0 (outstanding kept entries parts.1)
-outstanding kept (CameIn level ∷ entries) h = behind kept (CameIn level) entries refl (outstanding kept entries h)
-outstanding kept (Turned mode ∷ entries) h =
+outstanding kept (LevelEntered level ∷ entries) h = behind kept (LevelEntered level) entries refl (outstanding kept entries h)
+outstanding kept (ModeEntered mode ∷ entries) h =
     elim (by_mode mode (after_all trip_after kept entries) h) [
-      | inl trip ↦ inl (record { later = []; earlier = entries; in_turn = ap (λ (m : Mode). Turned m ∷ entries) trip; not_since = refl })
-      | inr before ↦ behind kept (Turned mode) entries refl (outstanding kept entries before)
+      | inl trip ↦ inl (record { later = []; earlier = entries; in_turn = ap (λ (m : Mode). ModeEntered m ∷ entries) trip; not_since = refl })
+      | inr before ↦ behind kept (ModeEntered mode) entries refl (outstanding kept entries before)
     ]
 
 still : (kept : Bool) (later rest : List DriverEntry) → after_all trip_after kept rest ≡ true → did acknowledges_trip later ≡ false →
@@ -62,11 +62,11 @@ still kept [] rest h n = h
 still kept (Did action occasion ∷ later) rest h n =
     let parts = or_parts (acknowledges_trip action) (did acknowledges_trip later) n in
     past_action action occasion (after_all trip_after kept (later ++ rest)) parts.0 (still kept later rest h parts.1)
-still kept (CameIn level ∷ later) rest h n = still kept later rest h n
-still kept (Turned mode ∷ later) rest h n = past_mode mode (after_all trip_after kept (later ++ rest)) (still kept later rest h n)
+still kept (LevelEntered level ∷ later) rest h n = still kept later rest h n
+still kept (ModeEntered mode ∷ later) rest h n = past_mode mode (after_all trip_after kept (later ++ rest)) (still kept later rest h n)
 
 was_so : (kept : Bool) (entries : List DriverEntry) → IsOutstanding kept entries → after_all trip_after kept entries ≡ true
-was_so kept entries (inl tripped) = rw tripped.in_turn (still kept tripped.later (Turned Trip ∷ tripped.earlier) refl tripped.not_since)
+was_so kept entries (inl tripped) = rw tripped.in_turn (still kept tripped.later (ModeEntered Trip ∷ tripped.earlier) refl tripped.not_since)
 was_so kept entries (inr was) =
     subst (λ (es : List DriverEntry). after_all trip_after kept es ≡ true) (append-nil entries) (still kept entries [] was.0 was.1)
 

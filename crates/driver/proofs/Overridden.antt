@@ -6,7 +6,7 @@ use Rattle.std.proofs.lemmas.Bool.{or_parts}
 use Rattle.driver.specs.declared.action.Action.TheVariants.{Override}
 use Rattle.driver.specs.declared.occasion.Occasion.{Occasion}
 use Rattle.driver.specs.Entries.{DriverEntry, after_all}
-use Rattle.driver.specs.Entries.DriverEntry.{Did, Turned}
+use Rattle.driver.specs.Entries.DriverEntry.{Did, ModeEntered}
 use Rattle.driver.specs.Known.{override_after}
 use Rattle.driver.specs.LastGiven.{ends_override, WasOverridden, OverriddenSo}
 use Rattle.mode_table.specs.declared.mode.Mode.TheVariants.{StaffResponsible}
@@ -16,15 +16,15 @@ use Rattle.mode_table.specs.declared.mode.Mode.TheVariants.{StaffResponsible}
 by_override : (entry : DriverEntry) (before : Option Occasion) (occasion : Occasion) → override_after entry before ≡ Some occasion →
     (entry ≡ Did Override occasion) ⊎ ((ends_override entry ≡ false) × (before ≡ Some occasion))
 by_override (Did Override other) before occasion h = inl (let same : other ≡ occasion = cc in ap (λ (o : Occasion). Did Override o) same)
-by_override (Turned StaffResponsible) before occasion h = inr (refl, h)
-by_override (Turned mode) before occasion h = absurd (cc)
+by_override (ModeEntered StaffResponsible) before occasion h = inr (refl, h)
+by_override (ModeEntered mode) before occasion h = absurd (cc)
 by_override entry before occasion h = inr (refl, h)
 
 past_override : (entry : DriverEntry) (before : Option Occasion) (occasion : Occasion) → ends_override entry ≡ false → before ≡ Some occasion →
     override_after entry before ≡ Some occasion
 past_override (Did Override other) before occasion e h = absurd (let no : true ≡ false = e in cc)
-past_override (Turned StaffResponsible) before occasion e h = h
-past_override (Turned mode) before occasion e h = absurd (let no : true ≡ false = e in cc)
+past_override (ModeEntered StaffResponsible) before occasion e h = h
+past_override (ModeEntered mode) before occasion e h = absurd (let no : true ≡ false = e in cc)
 past_override entry before occasion e h = h
 
 -- ---- all entries

@@ -11,7 +11,7 @@ use Rattle.driver.specs.declared.revalidation.Revalidation.{Revalidation}
 use Rattle.driver.specs.Data.{met_by, is_valid}
 use Rattle.driver.specs.Limits.{Train}
 use Rattle.driver.specs.Entries.{DriverEntry, after_all}
-use Rattle.driver.specs.Entries.DriverEntry.{Did, Turned}
+use Rattle.driver.specs.Entries.DriverEntry.{Did, ModeEntered}
 use Rattle.driver.specs.Revalidating.{revalidation_of}
 use Rattle.driver.specs.Telling.{datum_after, identity_told, running_number_told, train_data_told, level_told}
 use Rattle.mode_table.specs.declared.level.TrainLevel.{TrainLevel}
@@ -26,7 +26,7 @@ use Rattle.mode_table.specs.Statuses.{status_on, power_up_status}
 
 abbrev pub trip_after : DriverEntry → Bool → Bool
 trip_after (Did (Acknowledge acknowledge.Trip) occasion) before = false
-trip_after (Turned Trip) before = true
+trip_after (ModeEntered Trip) before = true
 trip_after entry before = before
 
 -- ---- the override: the newest one, until a mode deletes it
@@ -37,7 +37,7 @@ unless_deleted fate before = before
 
 abbrev pub override_after : DriverEntry → Option Occasion → Option Occasion
 override_after (Did Override occasion) before = Some occasion
-override_after (Turned mode) before = unless_deleted (status_on item.Override mode) before
+override_after (ModeEntered mode) before = unless_deleted (status_on item.Override mode) before
 override_after entry before = before
 
 -- ---- what is known

@@ -7,7 +7,7 @@ use Rattle.driver.specs.declared.datum.Datum.{Datum}
 use Rattle.driver.specs.declared.occasion.Occasion.{Occasion}
 use Rattle.driver.specs.Data.{is_valid, is_known, value_of}
 use Rattle.driver.specs.Entries.{DriverEntry, after_all}
-use Rattle.driver.specs.Entries.DriverEntry.{Did, Turned}
+use Rattle.driver.specs.Entries.DriverEntry.{Did, ModeEntered}
 use Rattle.driver.specs.Known.{override_after}
 use Rattle.driver.specs.Telling.{ItemTold, datum_after, gives, confirms, ends}
 use Rattle.driver.specs.Telling.ItemTold.{Gives}
@@ -79,7 +79,7 @@ is_deleted fate = false
 -- another override, or a mode that deletes it
 abbrev pub ends_override : DriverEntry → Bool
 ends_override (Did Override occasion) = true
-ends_override (Turned mode) = is_deleted (status_on item.Override mode)
+ends_override (ModeEntered mode) = is_deleted (status_on item.Override mode)
 ends_override entry = false
 
 -- an override was accepted on this occasion, and nothing has ended it since

@@ -8,7 +8,7 @@ use Rattle.driver.specs.declared.datum.Datum.TheVariants.{Valid}
 use Rattle.driver.specs.Data.{confirmed, met_by}
 use Rattle.driver.specs.Limits.{Train}
 use Rattle.driver.specs.Entries.{DriverEntry, after_all}
-use Rattle.driver.specs.Entries.DriverEntry.{Did, CameIn, Turned}
+use Rattle.driver.specs.Entries.DriverEntry.{Did, LevelEntered, ModeEntered}
 use Rattle.mode_table.specs.declared.level.TrainLevel.{TrainLevel}
 use Rattle.mode_table.specs.declared.statuses.Item.TheVariants as item
 use Rattle.mode_table.specs.declared.statuses.Fate.{Fate}
@@ -25,27 +25,27 @@ pub data ItemTold (A : Type 0) : Type 0 where
 abbrev pub identity_told : DriverEntry → ItemTold (List ℕ)
 identity_told (Did (EnterIdentity identity) occasion) = Gives identity
 identity_told (Did (Confirm confirm.Identity) occasion) = Confirms
-identity_told (Turned mode) = Leaves (status_on item.Identity mode)
+identity_told (ModeEntered mode) = Leaves (status_on item.Identity mode)
 identity_told entry = Nothing
 
 abbrev pub running_number_told : DriverEntry → ItemTold ℕ
 running_number_told (Did (EnterRunningNumber number) occasion) = Gives number
 running_number_told (Did (Confirm confirm.RunningNumber) occasion) = Confirms
-running_number_told (Turned mode) = Leaves (status_on item.RunningNumber mode)
+running_number_told (ModeEntered mode) = Leaves (status_on item.RunningNumber mode)
 running_number_told entry = Nothing
 
 abbrev pub train_data_told : DriverEntry → ItemTold Train
 train_data_told (Did (EnterTrainData train) occasion) = Gives train
 train_data_told (Did (Confirm confirm.TrainData) occasion) = Confirms
-train_data_told (Turned mode) = Leaves (status_on item.TrainData mode)
+train_data_told (ModeEntered mode) = Leaves (status_on item.TrainData mode)
 train_data_told entry = Nothing
 
 -- a level is given by the driver's choice, and where an announced one comes into force
 abbrev pub level_told : DriverEntry → ItemTold TrainLevel
 level_told (Did (ChooseLevel level) occasion) = Gives level
 level_told (Did (Confirm confirm.Level) occasion) = Confirms
-level_told (CameIn level) = Gives level
-level_told (Turned mode) = Leaves (status_on item.Level mode)
+level_told (LevelEntered level) = Gives level
+level_told (ModeEntered mode) = Leaves (status_on item.Level mode)
 level_told entry = Nothing
 
 -- ---- what that makes of a datum

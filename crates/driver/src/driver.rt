@@ -5,7 +5,7 @@ ghost use Rattle.driver.specs.Revalidating.{is_whole};
 ghost use Rattle.driver.specs.Entries.{DriverEntry};
 ghost use Rattle.driver.specs.Known.{known, kept_by};
 ghost use Rattle.driver.specs.declared.kept.Kept.{Kept as KeptData};
-ghost use Rattle.driver.specs.Entries.DriverEntry.{Did, CameIn, Turned};
+ghost use Rattle.driver.specs.Entries.DriverEntry.{Did, LevelEntered, ModeEntered};
 
 mod accepting;
 
@@ -114,7 +114,7 @@ impl Driver {
     /// An announced level comes into force.
     pub fn come_in(&mut self, level: TrainLevel)
         ensures { (kept : KeptData) → (entries : List DriverEntry) → self.old ≡ known kept entries
-            → self.new ≡ known kept (CameIn level ∷ entries) }
+            → self.new ≡ known kept (LevelEntered level ∷ entries) }
     {
         self.level = Datum::Valid(level);
     }
@@ -123,7 +123,7 @@ impl Driver {
     /// makes a trip outstanding.
     pub fn turn(&mut self, mode: Mode)
         ensures { (kept : KeptData) → (entries : List DriverEntry) → self.old ≡ known kept entries
-            → self.new ≡ known kept (Turned mode ∷ entries) }
+            → self.new ≡ known kept (ModeEntered mode ∷ entries) }
     {
         self.identity = self.identity.met_by(status_on(Item::Identity, mode));
         self.running_number = self

@@ -7,21 +7,8 @@ use Rattle.kernel.specs.declared.causes.BrakeCause.TheVariants as cause
 use Rattle.kernel.specs.declared.causes.BrakeCauses.{BrakeCauses}
 use Rattle.events.specs.declared.output.Brake.{Brake}
 use Rattle.events.specs.declared.output.Brake.TheVariants as brake
-use Rattle.kernel.proofs.Marking.{from_1, from_2, from_3, from_4, from_5, from_6, from_7, from_8, from_9}
-use Rattle.kernel.specs.Brake.{where_so}
+use Rattle.kernel.proofs.Marking.{mark, all, any_picked}
 use Rattle.kernel.specs.Causes.{command_of, is_emergency, is_service, marked}
-
--- ---- a test on a list of which a cause was marked, or not
-
-pub passed_over : (test : BrakeCause → Bool) (holds : Bool) (why : BrakeCause) (later : List BrakeCause) → test why ≡ false →
-    list_any test (where_so holds why later) ≡ list_any test later
-passed_over test true why later e = λ i. e i || list_any test later
-passed_over test false why later e = refl
-
-pub met : (test : BrakeCause → Bool) (holds : Bool) (why : BrakeCause) (later : List BrakeCause) → test why ≡ true →
-    list_any test (where_so holds why later) ≡ (holds || list_any test later)
-met test true why later e = λ i. e i || list_any test later
-met test false why later e = refl
 
 -- ---- what is commanded where a cause for the emergency brake is there, or else one for the service brake
 
@@ -84,19 +71,6 @@ for_emergency why = is_emergency (command_of why)
 abbrev pub for_service : BrakeCause → Bool
 for_service why = is_service (command_of why)
 
--- a mark more of a cause for the emergency brake, or for the service brake
-mark_emergency : (holds found : Bool) (why : BrakeCause) (later : List BrakeCause) → for_emergency why ≡ true →
-    list_any for_emergency later ≡ found → list_any for_emergency (where_so holds why later) ≡ (holds || found)
-mark_emergency holds found why later e h = met for_emergency holds why later e ∙ ap (λ b. holds || b) h
-
-mark_service : (holds found : Bool) (why : BrakeCause) (later : List BrakeCause) → for_service why ≡ true →
-    list_any for_service later ≡ found → list_any for_service (where_so holds why later) ≡ (holds || found)
-mark_service holds found why later e h = met for_service holds why later e ∙ ap (λ b. holds || b) h
-
-pass : (test : BrakeCause → Bool) (holds found : Bool) (why : BrakeCause) (later : List BrakeCause) → test why ≡ false →
-    list_any test later ≡ found → list_any test (where_so holds why later) ≡ found
-pass test holds found why later e h = passed_over test holds why later e ∙ h
-
 module _ (m : BrakeCauses) where
   abbrev any_emergency : Bool
   any_emergency = m.not_revalidated || (m.in_trip || (m.in_system_failure || (m.owes_trip || (m.far_too_fast || (m.rolled_too_far || false)))))
@@ -105,28 +79,10 @@ module _ (m : BrakeCauses) where
   any_service = m.asked_for_service || (m.too_fast || (m.must_stand || (m.owes_too_long || false)))
 
   emergencies : list_any for_emergency (marked m) ≡ any_emergency
-  emergencies =
-      mark_emergency m.not_revalidated (m.in_trip || (m.in_system_failure || (m.owes_trip || (m.far_too_fast ||
-      (m.rolled_too_far || false))))) cause.NotRevalidated (from_1 m) refl (mark_emergency m.in_trip
-      (m.in_system_failure || (m.owes_trip || (m.far_too_fast || (m.rolled_too_far || false)))) cause.InTrip (from_2 m)
-      refl (mark_emergency m.in_system_failure (m.owes_trip || (m.far_too_fast || (m.rolled_too_far || false)))
-      cause.InSystemFailure (from_3 m) refl (mark_emergency m.owes_trip (m.far_too_fast || (m.rolled_too_far || false))
-      cause.OwesTrip (from_4 m) refl (mark_emergency m.far_too_fast (m.rolled_too_far || false) cause.FarTooFast (from_5 m)
-      refl (mark_emergency m.rolled_too_far false cause.RolledTooFar (from_6 m) refl (pass for_emergency
-      m.asked_for_service false cause.AskedForService (from_7 m) refl (pass for_emergency m.too_fast false cause.TooFast
-      (from_8 m) refl (pass for_emergency m.must_stand false cause.MustStand (from_9 m) refl (pass for_emergency
-      m.owes_too_long false cause.OwesTooLong [] refl refl)))))))))
+  emergencies = any_picked for_emergency (mark m) all
 
   services : list_any for_service (marked m) ≡ any_service
-  services =
-      pass for_service m.not_revalidated any_service cause.NotRevalidated (from_1 m) refl (pass for_service m.in_trip
-      any_service cause.InTrip (from_2 m) refl (pass for_service m.in_system_failure any_service cause.InSystemFailure
-      (from_3 m) refl (pass for_service m.owes_trip any_service cause.OwesTrip (from_4 m) refl (pass for_service
-      m.far_too_fast any_service cause.FarTooFast (from_5 m) refl (pass for_service m.rolled_too_far any_service
-      cause.RolledTooFar (from_6 m) refl (mark_service m.asked_for_service (m.too_fast || (m.must_stand ||
-      (m.owes_too_long || false))) cause.AskedForService (from_7 m) refl (mark_service m.too_fast (m.must_stand ||
-      (m.owes_too_long || false)) cause.TooFast (from_8 m) refl (mark_service m.must_stand (m.owes_too_long || false)
-      cause.MustStand (from_9 m) refl (mark_service m.owes_too_long false cause.OwesTooLong [] refl refl)))))))))
+  services = any_picked for_service (mark m) all
 
   -- the brake of the first mark that is set
   abbrev first_service : Brake

@@ -1,8 +1,8 @@
 -- When the brakes are commanded, and why: a table, of which the first row counts that holds, and each row that holds is
--- a cause (SUBSET-026; the rows, their order and their margins: this project's profile). Speeds are metres per hour, distances centimetres, moments
--- milliseconds; lists have the newest first. Told elsewhere, and taken for granted here: the limit that an event
--- answered (`limit`, in speed_supervision), the speed of the last reading (`speed_of`; 0 before the first one), and
--- when an acknowledgement has been owed too long (`brakes`, in areas).
+-- a cause (SUBSET-026; the rows, their order and their margins: this project's profile). Speeds are metres per hour,
+-- distances centimetres, moments milliseconds; lists have the newest first. Told elsewhere, and taken for granted here:
+-- the limit that an event answered (`limit`, in speed_supervision), the speed of the last reading (`speed_of`; 0 before
+-- the first one), and when an acknowledgement has been owed too long (`brakes`, in areas).
 use Rattle.std.specs.Prelude.{ℕ, ◌+◌, ◌==◌, nat_lt, ℤ, pos, int_lt, Bool, false, not, ◌&&◌, ◌||◌, if◌then◌else◌, Option, List, [], ◌∷◌, sum_by}
 use Rattle.std.specs.Int.RustNames.{unsigned_abs}
 use Rattle.std.specs.List.{list_any}
@@ -24,25 +24,25 @@ use Rattle.mode_control.specs.History.{tracks, mode_of, on_sight_of, shunting_of
 use Rattle.mode_control.specs.Life.{Life, driver_of}
 use Rattle.mode_control.specs.Sentences.{values_of}
 
--- ---- a moment: an event, and the life as it left it
+-- ---- snapshots: an event, and the life as it left it
 
-pub record Moment : Type 0 where
+pub record Snapshot : Type 0 where
   pub event : SupervisionEntry
   pub life : Life
 
 -- those of a life, from these events of it back
-abbrev pub moments_back : Life → List SupervisionEntry → List Moment
-moments_back life [] = []
-moments_back life (event ∷ earlier) =
-    record { event = event; life = record life { entries = event ∷ earlier } } ∷ moments_back life earlier
+abbrev pub snapshots_back : Life → List SupervisionEntry → List Snapshot
+snapshots_back life [] = []
+snapshots_back life (event ∷ earlier) =
+    record { event = event; life = record life { entries = event ∷ earlier } } ∷ snapshots_back life earlier
 
-abbrev pub moments : Life → List Moment
-moments life = moments_back life life.entries
+abbrev pub snapshots : Life → List Snapshot
+snapshots life = snapshots_back life life.entries
 
 -- those since the last one that ends a window, that one included; where none does, all since the power-up
-abbrev pub since : (Moment → Bool) → List Moment → List Moment
+abbrev pub since : (Snapshot → Bool) → List Snapshot → List Snapshot
 since ends [] = []
-since ends (moment ∷ earlier) = moment ∷ (if ends moment then [] else since ends earlier)
+since ends (snapshot ∷ earlier) = snapshot ∷ (if ends snapshot then [] else since ends earlier)
 
 -- ---- what ends a window
 
@@ -50,16 +50,16 @@ since ends (moment ∷ earlier) = moment ∷ (if ends moment then [] else since 
 abbrev pub stands : Option Reading → Bool
 stands reading = option_map_or (λ r. r.speed == 0) reading false
 
-abbrev pub train_stood : Moment → Bool
-train_stood moment = stands moment.event.track.begun.reading
+abbrev pub train_stood : Snapshot → Bool
+train_stood snapshot = stands snapshot.event.track.begun.reading
 
 -- the speed was above the limit that the event answered by more than this
-abbrev pub is_above_limit_by : ℕ → Moment → Bool
-is_above_limit_by margin moment = nat_lt (limit moment.life + margin) (speed_of (tracks moment.life.entries))
+abbrev pub is_above_limit_by : ℕ → Snapshot → Bool
+is_above_limit_by margin snapshot = nat_lt (limit snapshot.life + margin) (speed_of (tracks snapshot.life.entries))
 
 -- it was at or below that limit
-abbrev pub was_within_limit : Moment → Bool
-was_within_limit moment = not (is_above_limit_by 0 moment)
+abbrev pub was_within_limit : Snapshot → Bool
+was_within_limit snapshot = not (is_above_limit_by 0 snapshot)
 
 -- ---- why the emergency brake is commanded
 
@@ -86,7 +86,7 @@ backward_at event = backward_by event.track.used.happened.overrun event.track.be
 
 -- backward movements since the train stood, with no forward ones taken off
 abbrev pub rolled_backward : Life → ℕ
-rolled_backward life = sum_by (λ moment. backward_at moment.event) (since train_stood (moments life))
+rolled_backward life = sum_by (λ snapshot. backward_at snapshot.event) (since train_stood (snapshots life))
 
 -- they are more than the national value that is in force now
 abbrev pub has_rolled_too_far : Life → Bool
@@ -95,8 +95,8 @@ has_rolled_too_far life = nat_lt (values_of life).roll (rolled_backward life)
 -- ---- why the service brake is commanded
 
 -- linking or a balise group asked for it
-abbrev pub asked_for_service : Moment → Bool
-asked_for_service moment = moment.event.track.used.happened.asked.service
+abbrev pub asked_for_service : Snapshot → Bool
+asked_for_service snapshot = snapshot.event.track.used.happened.asked.service
 
 -- it moves in Stand By or in Post Trip
 abbrev pub must_stand : Life → Bool
@@ -121,10 +121,10 @@ abbrev pub while_so : Brake → BrakeCause → (Life → Bool) → Row
 while_so command why is_so = record { brake = command; cause = why; holds = is_so }
 
 -- from an event after which something was so, until one that ends it; where both are at one event it begins
-abbrev pub has_begun : (Moment → Bool) → (Moment → Bool) → Life → Bool
-has_begun begins ends life = list_any begins (since ends (moments life))
+abbrev pub has_begun : (Snapshot → Bool) → (Snapshot → Bool) → Life → Bool
+has_begun begins ends life = list_any begins (since ends (snapshots life))
 
-abbrev pub from_until : Brake → BrakeCause → (Moment → Bool) → (Moment → Bool) → Row
+abbrev pub from_until : Brake → BrakeCause → (Snapshot → Bool) → (Snapshot → Bool) → Row
 from_until command why begins ends = record { brake = command; cause = why; holds = has_begun begins ends }
 
 abbrev pub rows : List Row

@@ -132,12 +132,12 @@ module _ (journey : Journey) (speed : ℕ) where
       ((omega (arith, ints, covered.0), covered.1), covered.2, refl)
 
   unknown_is : (end : Option End) (place : ℤ) (target : Target) → unknown_target end place ≡ Some target →
-      (target.place ≡ place) × (target.speed ≡ 0) × IsSomeAnd end (λ e. target.place <ℤ e.end)
+      (target.place ≡ place) × (target.speed ≡ 0) × IsSomeAnd end (λ e. target.place <ℤ e.place)
   unknown_is None place target h = absurd (let no : None ≡ Some target = h in cc)
   unknown_is (Some end) place target h =
       let stop : Target = record { place = place; speed = 0 } in
-      let given = given_where (int_lt place end.end) stop target h in
-      subst (λ (t : Target). (t.place ≡ place) × (t.speed ≡ 0) × (t.place <ℤ end.end)) given.1
+      let given = given_where (int_lt place end.place) stop target h in
+      subst (λ (t : Target). (t.place ≡ place) × (t.speed ≡ 0) × (t.place <ℤ end.place)) given.1
       (refl, refl, grind (arith, ints, given.0))
 
   by_value : (value : Option CategorySpeeds) (place : ℤ) (target : Target) → static_target journey.bounds place value ≡ Some target →

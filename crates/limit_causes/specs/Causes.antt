@@ -10,7 +10,7 @@ use Rattle.track_picture.specs.History.{restrictions_of, gradients_of}
 use Rattle.mode_control.specs.Conditions.{is_overridden}
 use Rattle.mode_control.specs.History.{tracks, mode_of}
 use Rattle.mode_control.specs.Life.{Life, driver_of}
-use Rattle.mode_control.specs.Sentences.{values_of, standing_in}
+use Rattle.mode_control.specs.Sentences.{values_of, span_of}
 use Rattle.speed_supervision.specs.Limit.{bounds_of, along}
 use Rattle.limit_causes.specs.declared.cause.LimitCause.{LimitCause}
 use Rattle.limit_causes.specs.declared.cause.LimitCause.TheVariants as cause
@@ -24,7 +24,7 @@ use Rattle.limit_causes.specs.Supervised.{IsCause}
 -- a train in its life
 abbrev pub journey_of : Life → Train → Journey
 journey_of life train = record {
-  front = (standing_in life).max_front;
+  front = (span_of life).max_front;
   bounds = bounds_of life train;
   track = along life;
   gradient = (gradients_of (tracks life.entries)).value;
@@ -43,7 +43,7 @@ IsMaximum limit (Invalid train) = ⊥
 abbrev pub IsOwnCause : Life → ℕ → LimitCause → Type 0
 IsOwnCause life limit (cause.Speed (speed.OverTrain over.Maximum)) = IsMaximum limit (driver_of life).train_data
 IsOwnCause life limit (cause.Speed (speed.OverTrain (over.Restriction restriction))) =
-    IsRestrictionOver (restrictions_of (tracks life.entries)) (standing_in life) limit restriction
+    IsRestrictionOver (restrictions_of (tracks life.entries)) (span_of life) limit restriction
 IsOwnCause life limit other = ⊥
 
 abbrev pub IsResponsibleCause : Life → ℕ → LimitCause → Type 0
@@ -60,7 +60,7 @@ IsUnfittedCause life limit other = IsOwnCause life limit other
 
 abbrev pub IsTrainCause : Life → ℕ → Train → LimitCause → Type 0
 IsTrainCause life limit train (cause.Speed decides) =
-    IsCause (standing_in life) (journey_of life train) (values_of life).release limit decides
+    IsCause (span_of life) (journey_of life train) (values_of life).release limit decides
 IsTrainCause life limit train other = ⊥
 
 abbrev pub IsPermittedCause : Life → ℕ → LimitCause → Datum Train → Type 0

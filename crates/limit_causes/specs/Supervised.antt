@@ -11,7 +11,7 @@ use Rattle.speed_profile.specs.Limit.{limit_on}
 use Rattle.limit_causes.specs.declared.cause.SpeedCause.{SpeedCause}
 use Rattle.limit_causes.specs.declared.cause.TargetAhead.{TargetAhead}
 use Rattle.limit_causes.specs.declared.cause.SpeedCause.TheVariants as cause
-use Rattle.speed_supervision.specs.Limit.{release_speed, released_by}
+use Rattle.speed_supervision.specs.Limit.{the_end, release_speed, released_by}
 use Rattle.limit_causes.specs.Over.{IsOver}
 use Rattle.limit_causes.specs.Targets.{Journey, IsTarget, fits_on}
 
@@ -28,10 +28,6 @@ permitted_to train journey last =
 abbrev pub permitted_on : Span → Journey → ℕ → ℕ
 permitted_on train journey national = released_by (permitted_to train journey) journey.bounds.end national
 
--- the end of authority as a target
-abbrev pub at_end : End → Target
-at_end end = record { place = end.end; speed = end.speed }
-
 -- a target alone gives a speed: the train can brake for it from that speed, and from no greater one up to a limit; 0
 -- where it can from none
 abbrev pub IsDeciding : Journey → ℕ → ℕ → TargetAhead → Type 0
@@ -41,7 +37,7 @@ IsDeciding journey limit speed ahead =
 -- .. as a release speed does, where the end of authority alone would give less
 abbrev pub IsReleasing : Span → Journey → ℕ → ℕ → Release → End → Type 0
 IsReleasing train journey national speed release end =
-    (end.release ≡ release) × (release_speed release national ≡ speed) × (permitted_to train journey (Some (at_end end)) < speed)
+    (end.release ≡ release) × (release_speed release national ≡ speed) × (permitted_to train journey (Some (the_end end)) < speed)
 
 -- what is named alone gives a speed: it limits the train to it where it is, or it is a target ahead, or a release speed
 abbrev pub IsCause : Span → Journey → ℕ → ℕ → SpeedCause → Type 0

@@ -45,7 +45,7 @@ IsOfKind journey target kind.StaticSpeed =
     × IsSomeAnd (journey.track.static target.place) (λ speeds. target.speed ≡ speed_of speeds journey.bounds.category)
 IsOfKind journey target kind.UnknownSpeed =
     IsAhead journey target.place × (journey.track.static target.place ≡ None) × (target.speed ≡ 0)
-    × IsSomeAnd journey.bounds.end (λ end. target.place <ℤ end.end)
+    × IsSomeAnd journey.bounds.end (λ end. target.place <ℤ end.place)
 IsOfKind journey target (kind.Restriction restriction) =
     IsAhead journey target.place × Contains journey.track.restrictions.restrictions restriction
     × (covers journey.track.restrictions.mark target.place restriction ≡ true) × (target.speed ≡ restriction.speed)
@@ -53,7 +53,7 @@ IsOfKind journey target (kind.Area area) =
     IsAhead journey target.place × Contains journey.track.areas area × (is_inside target.place area ≡ true)
     × (target.speed ≡ speed_in journey.track.national area)
 IsOfKind journey target kind.EndOfAuthority =
-    IsSomeAnd journey.bounds.end (λ end. (target.place ≡ end.end) × (target.speed ≡ end.speed))
+    IsSomeAnd journey.bounds.end (λ end. (target.place ≡ end.place) × (target.speed ≡ end.speed))
 IsOfKind journey target kind.SupervisedLocation =
     IsSomeAnd journey.bounds.end (λ end. (target.place ≡ end.location) × (target.speed ≡ 0))
 

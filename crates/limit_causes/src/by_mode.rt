@@ -4,7 +4,7 @@ ghost use Rattle.track_picture.specs.History.{restrictions_of};
 ghost use Rattle.mode_control.specs.Conditions.{is_overridden};
 ghost use Rattle.mode_control.specs.History.{tracks};
 ghost use Rattle.mode_control.specs.Life.{Life, driver_of};
-ghost use Rattle.mode_control.specs.Sentences.{values_of, standing_in};
+ghost use Rattle.mode_control.specs.Sentences.{values_of, span_of};
 ghost use Rattle.mode_control.specs.StandsFor.{StandsForLife};
 ghost use Rattle.speed_supervision.specs.Limit.{within_maximum, restricted, responsible_limit, unfitted_limit, permitted_speed, permitted_for, limit as limit_of};
 ghost use Rattle.limit_causes.specs.Over.{IsRestrictionOver};
@@ -54,9 +54,9 @@ fn train_cause<G: ProfileStore<Permille> + Drop, S: ProfileStore<CategorySpeeds>
     train: &TrainData,
 ) -> SpeedCause
     ensures { (life : Life) → StandsForLife G.profile S.profile supervision.now life
-        → IsCause (standing_in life) (journey_of life train.now) (values_of life).release (permitted_speed life train.now) result }
+        → IsCause (span_of life) (journey_of life train.now) (values_of life).release (permitted_speed life train.now) result }
 {
-    let stretch = supervision.standing();
+    let stretch = supervision.stretch();
     let bounds = bounds(supervision, train);
     let track = along(supervision);
     let brakes = train.brakes();
@@ -112,9 +112,9 @@ fn restriction_in<G: ProfileStore<Permille> + Drop, S: ProfileStore<CategorySpee
 ) -> Option<Restriction>
     ensures { (life : Life) → StandsForLife G.profile S.profile supervision.now life
         → MatchOption result ((speed : ℕ) → restricted life speed ≡ limit → speed ≡ limit)
-        (IsRestrictionOver (restrictions_of (tracks life.entries)) (standing_in life) limit) }
+        (IsRestrictionOver (restrictions_of (tracks life.entries)) (span_of life) limit) }
 {
-    let stretch = supervision.standing();
+    let stretch = supervision.stretch();
     restriction_over(supervision.track().restrictions(), &stretch, limit)
 }
 

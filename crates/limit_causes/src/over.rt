@@ -176,7 +176,7 @@ fn bound_over(front: Cm, bounds: &Bounds, limit: Mph) -> OverTrain
     ensures { (train : Span) (track : TrackSpeeds) → train.max_front ≡ front → IsOver train bounds.now track limit result }
 {
     match bounds.end {
-        Some(end) if end.end <= front && end.speed.get() > 0 && end.speed == limit => {
+        Some(end) if end.place <= front && end.speed.get() > 0 && end.speed == limit => {
             return OverTrain::End;
         }
         _ => {}

@@ -47,11 +47,11 @@ pub fn supervised_cause<S: Profile<CategorySpeeds>, G: Profile<Permille>>(
 
 // The end of authority as a target.
 fn end_of(end: &End) -> TargetAhead
-    ensures { result ≡ record { target = record { place = end.now.end; speed = end.now.speed }; kind = EndOfAuthority } }
+    ensures { result ≡ record { target = record { place = end.now.place; speed = end.now.speed }; kind = EndOfAuthority } }
 {
     TargetAhead {
         target: Target {
-            place: end.end,
+            place: end.place,
             speed: end.speed,
         },
         kind: TargetKind::EndOfAuthority,

@@ -44,27 +44,41 @@ is_other Nominal Nominal = false
 abbrev pub is_wrong_way : GroupRead → Announcement → Bool
 is_wrong_way group a = option_map_or (is_other a.direction) group.direction false
 
--- ---- the verdict: the first row that holds, and else what stands behind the rows
+-- ---- the judgement: what becomes of a group and what linking asks for, by the first row that holds, and else by what
+-- stands after the rows
 
 pub record Row : Type 0 where
   pub holds : Bool
   pub verdict : Verdict
+  pub asks_for : Effect
 
-abbrev pub row : Bool → Verdict → Row
-row holds verdict = record { holds = holds; verdict = verdict }
+abbrev pub row : Bool → Verdict → Effect → Row
+row holds verdict asks_for = record { holds = holds; verdict = verdict; asks_for = asks_for }
 
-abbrev pub first_that_holds : List Row → Verdict → Verdict
+abbrev pub judged : Verdict → Effect → Judgement
+judged verdict asks_for = record { verdict = verdict; effect = asks_for }
+
+abbrev pub first_that_holds : List Row → Judgement → Judgement
 first_that_holds [] otherwise = otherwise
-first_that_holds (row ∷ later) otherwise = if row.holds then row.verdict else first_that_holds later otherwise
+first_that_holds (row ∷ later) otherwise =
+    if row.holds then judged row.verdict row.asks_for else first_that_holds later otherwise
 
--- of a linked group while others are announced, by the announcement that is meant, if there is one
-abbrev pub verdict_announced : GroupRead → Option Announcement → Verdict
-verdict_announced group None = Ignore  -- 3.4.4
-verdict_announced group (Some a) = first_that_holds (
-    row (is_wrong_way group a) (Reaction a)  -- 3.4.4
-    ∷ row (is_too_early group a) (Reaction a)  -- 3.16.2
+-- an accepted group passes the announcements before its own, which are missed
+abbrev pub is_before : ℕ → Announcement → Bool
+is_before number a = nat_lt a.number number
+
+abbrev pub misses_before : KnownLinks → Announcement → Effect
+misses_before known a = misses known.has_missed (filter (is_before a.number) known.left)
+
+-- of a linked group while others are announced, by the announcement that is meant, if there is one; the wrong direction
+-- gives a trip alone, whatever the announcement's own reaction is
+abbrev pub judged_by : KnownLinks → GroupRead → Option Announcement → Judgement
+judged_by known group None = judged Ignore no_effect  -- 3.4.4
+judged_by known group (Some a) = first_that_holds (
+    row (is_wrong_way group a) (Reaction a) trip  -- 3.16.2.3
+    ∷ row (is_too_early group a) (Reaction a) (effect_of a.reaction)  -- 3.16.2
     ∷ [])
-    (Accept (Some a))
+    (judged (Accept (Some a)) (misses_before known a))
 
 abbrev pub is_unlinked : GroupRead → Bool
 is_unlinked group = not group.linked
@@ -73,28 +87,14 @@ is_unlinked group = not group.linked
 abbrev pub linking_is_unused : KnownLinks → Bool
 linking_is_unused known = not (is_any known.left)
 
-abbrev pub verdict : KnownLinks → GroupRead → Verdict
-verdict known group = first_that_holds (
-    row (is_unlinked group) (Accept None)  -- 3.4.4
-    ∷ row (linking_is_unused known) (Accept None)  -- 3.4.4
-    ∷ [])
-    (verdict_announced group (first_of group.group known.left))
-
--- ---- what linking asks for by a verdict
-
--- an accepted group passes the announcements before its own, which are missed
-abbrev pub is_before : ℕ → Announcement → Bool
-is_before number a = nat_lt a.number number
-
--- the wrong direction gives a trip alone, whatever the announcement's own reaction is (this project's profile)
-abbrev pub effect : KnownLinks → GroupRead → Verdict → Effect
-effect known group (Accept None) = no_effect
-effect known group (Accept (Some a)) = misses known.has_missed (filter (is_before a.number) known.left)
-effect known group Ignore = no_effect
-effect known group (Reaction a) = if is_wrong_way group a then trip else effect_of a.reaction
-
 abbrev pub judgement : KnownLinks → GroupRead → Judgement
-judgement known group = record { verdict = verdict known group; effect = effect known group (verdict known group) }
+judgement known group = first_that_holds (
+    row (is_unlinked group) (Accept None) no_effect  -- 3.4.4
+    ∷ row (linking_is_unused known) (Accept None) no_effect  -- 3.4.4
+    ∷ [])
+    (judged_by known group (first_of group.group known.left))
+
+-- ---- what becomes of the announcements
 
 abbrev pub after_verdict : Verdict → List LinkEntry → List LinkEntry
 after_verdict (Accept None) entries = entries

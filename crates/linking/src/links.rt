@@ -3,7 +3,7 @@ ghost use Rattle.std.specs.Prelude.{◌≡◌, ◌≤◌, List, [], length, filt
 ghost use Rattle.std.specs.List.{list_any};
 ghost use Rattle.linking.specs.Linking.{LinkEntry, known, numbered, takes, is_any, is_passed_by, misses, after_misses};
 ghost use Rattle.linking.specs.Linking.LinkEntry.{Announced, Accepted, Reacted};
-ghost use Rattle.linking.specs.Judging.{first_of, verdict, effect, judgement, after_verdict, after_judgement, broken_effect, after_broken, is_before};
+ghost use Rattle.linking.specs.Judging.{first_of, judgement, judged_by, after_verdict, after_judgement, broken_effect, after_broken, is_before};
 
 use crate::{Announcement, Effect, GroupRead, Judgement, Verdict};
 use arrayvec::ArrayVec;
@@ -67,10 +67,9 @@ impl Links {
         ensures stands { (entries : List LinkEntry) → self.old ≡ known entries
             → self.new ≡ known (after_judgement (judgement self.old group.now) entries) }
     {
-        let verdict = self.verdict(group);
-        let effect = self.effect(group, &verdict);
-        self.follow(&verdict);
-        Judgement { verdict, effect }
+        let judgement = self.judged(group);
+        self.follow(&judgement.verdict);
+        judgement
     }
 
     /// Takes note of a broken group and answers what it asks for (3.16.2; this project's profile). `linked` is its
@@ -141,41 +140,44 @@ impl Links {
             .find(|a| a.is_of(group))
     }
 
-    // What becomes of a group that was read.
-    fn verdict(&self, group: &GroupRead) -> Verdict
-        ensures { result ≡ verdict self.now group.now }
+    // What becomes of a group that was read, and what linking asks for.
+    fn judged(&self, group: &GroupRead) -> Judgement
+        ensures { result ≡ judgement self.now group.now }
     {
         if !group.linked || !self.is_in_use() {
-            return Verdict::Accept(None);
+            return Judgement {
+                verdict: Verdict::Accept(None),
+                effect: Effect::NONE,
+            };
         }
         match self.first_of(&group.group) {
-            None => Verdict::Ignore,
-            Some(announcement) => {
-                if announcement.is_wrong_way(group) || announcement.is_too_early(group) {
-                    Verdict::Reaction(announcement)
-                } else {
-                    Verdict::Accept(Some(announcement))
-                }
-            }
+            None => Judgement {
+                verdict: Verdict::Ignore,
+                effect: Effect::NONE,
+            },
+            Some(announcement) => self.judged_by(group, announcement),
         }
     }
 
-    // What a verdict asks for.
-    fn effect(&self, group: &GroupRead, verdict: &Verdict) -> Effect
-        ensures { result ≡ effect self.now group.now verdict.now }
+    // The same of a group that is announced.
+    fn judged_by(&self, group: &GroupRead, announcement: Announcement) -> Judgement
+        ensures { result ≡ judged_by self.now group.now (Some announcement) }
     {
-        match verdict {
-            Verdict::Accept(None) | Verdict::Ignore => Effect::NONE,
-            Verdict::Accept(Some(announcement)) => {
-                effect_before(self.left.as_slice(), announcement.number, self.has_missed)
-            }
-            Verdict::Reaction(announcement) => {
-                if announcement.is_wrong_way(group) {
-                    Effect::TRIP
-                } else {
-                    Effect::of(announcement.reaction)
-                }
-            }
+        if announcement.is_wrong_way(group) {
+            return Judgement {
+                verdict: Verdict::Reaction(announcement),
+                effect: Effect::TRIP,
+            };
+        }
+        if announcement.is_too_early(group) {
+            return Judgement {
+                verdict: Verdict::Reaction(announcement),
+                effect: Effect::of(announcement.reaction),
+            };
+        }
+        Judgement {
+            verdict: Verdict::Accept(Some(announcement)),
+            effect: effect_before(self.left.as_slice(), announcement.number, self.has_missed),
         }
     }
 

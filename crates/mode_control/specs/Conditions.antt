@@ -44,9 +44,9 @@ is_known_throughout value from end = not (is_any (over (unknown_at value) from (
 
 abbrev pub is_full_to : Life → ℤ → End → Bool
 is_full_to life front end =
-    int_lt front end.end
-    && is_known_throughout (speeds_of (tracks life.entries)).value front end.end
-    && is_known_throughout (gradients_of (tracks life.entries)).value front end.end
+    int_lt front end.place
+    && is_known_throughout (speeds_of (tracks life.entries)).value front end.place
+    && is_known_throughout (gradients_of (tracks life.entries)).value front end.place
 
 abbrev pub is_full : Life → Span → Bool
 is_full life train = option_map_or (is_full_to life train.max_front) (end_of (authorities (tracks life.entries))) false
@@ -59,7 +59,7 @@ is_overridden life =
     is_active (driver_of life).overridden (moment_of (tracks life.entries)) (place_of (tracks life.entries)).sums.path
 
 abbrev pub is_beyond : ℤ → End → Bool
-is_beyond min_front end = int_lt end.end min_front && end.speed == 0
+is_beyond min_front end = int_lt end.place min_front && end.speed == 0
 
 abbrev pub is_beyond_end : Life → Span → Bool
 is_beyond_end life train = option_map_or (is_beyond train.min_front) (end_of (authorities (tracks life.entries))) false

@@ -69,11 +69,11 @@ after_deed (Some deed) entries = driver.DriverEntry.Did deed.action deed.occasio
 
 abbrev pub after_level : Option TrainLevel → List driver.DriverEntry → List driver.DriverEntry
 after_level None entries = entries
-after_level (Some level) entries = driver.DriverEntry.CameIn level ∷ entries
+after_level (Some level) entries = driver.DriverEntry.LevelEntered level ∷ entries
 
 abbrev pub after_mode : Option Mode → List driver.DriverEntry → List driver.DriverEntry
 after_mode None entries = entries
-after_mode (Some mode) entries = driver.DriverEntry.Turned mode ∷ entries
+after_mode (Some mode) entries = driver.DriverEntry.ModeEntered mode ∷ entries
 
 abbrev pub deeds : List SupervisionEntry → List driver.DriverEntry
 deeds [] = []
@@ -97,10 +97,10 @@ call_for kinds.OnSight calls = calls.on_sight
 call_for kinds.Shunting calls = calls.shunting
 call_for kinds.Level0 calls = calls.level_0
 
-abbrev pub is_left : Kind → Left → Bool
-is_left kinds.OnSight left = left.on_sight
-is_left kinds.Shunting left = left.shunting
-is_left kinds.Level0 left = left.level_0
+abbrev pub remains : Kind → Left → Bool
+remains kinds.OnSight left = left.on_sight
+remains kinds.Shunting left = left.shunting
+remains kinds.Level0 left = left.level_0
 
 abbrev pub only : Bool → Happening → Option Happening
 only so happening = if so then Some happening else None
@@ -121,7 +121,7 @@ happenings kind event =
     ∷ entered_at (call_for kind event.calls).turned
     ∷ only (call_for kind event.calls).asks Happening.Asked
     ∷ only (deletes event.track.entered) Happening.Deleted
-    ∷ only (not (is_left kind event.left)) Happening.Settled
+    ∷ only (not (remains kind event.left)) Happening.Settled
     ∷ []
 
 abbrev pub acknowledgement : Kind → List SupervisionEntry → Acknowledgement

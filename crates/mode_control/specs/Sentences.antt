@@ -7,7 +7,7 @@ use Rattle.std.specs.Prelude.{ℕ, Bool, false, not, ◌&&◌, if◌then◌else�
 use Rattle.std.specs.Option.{option_map_or}
 use Rattle.units.specs.Stretches.{Span}
 use Rattle.areas.specs.Acknowledging.{waits}
-use Rattle.areas.specs.Areas.{any_asks, any_left}
+use Rattle.areas.specs.Areas.{any_asks, any_remains}
 use Rattle.areas.specs.Levels.{coming, any_asks_for, is_level_0, is_level_0_announced}
 use Rattle.driver.specs.Accepting.{accepts}
 use Rattle.driver.specs.declared.action.Action.{Action}
@@ -27,7 +27,7 @@ use Rattle.vars.specs.declared.level.AreaMode.{AreaMode}
 use Rattle.vars.specs.declared.level.AreaMode.TheVariants as area
 use Rattle.track_picture.specs.Entry as track
 use Rattle.track_picture.specs.History.{place_of, speed_of, moment_of, areas_of, announced_level}
-use Rattle.track_picture.specs.Sentences.{received, standing, mark_behind, powered_up}
+use Rattle.track_picture.specs.Sentences.{received, span_with, mark_behind, powered_up}
 use Rattle.track_picture.specs.StandsFor.{national_of}
 use Rattle.mode_control.specs.Conditions.{conditions, is_shunting_choice}
 use Rattle.mode_control.specs.declared.deed.Deed.{Deed}
@@ -78,11 +78,11 @@ told life input = received (mode_of life.entries) (tracks life.entries) input
 -- ---- the train is seen: it is looked at where the groups that closed have put it, and the level comes into force that
 -- is announced for a place which its maximum safe front has reached
 
-abbrev pub standing_in : Life → Span
-standing_in life = standing (length_of life) (tracks life.entries)
+abbrev pub span_of : Life → Span
+span_of life = span_with (length_of life) (tracks life.entries)
 
 abbrev pub level_in : Life → Option TrainLevel
-level_in life = coming (standing_in life).max_front (announced_level (tracks life.entries))
+level_in life = coming (span_of life).max_front (announced_level (tracks life.entries))
 
 -- a sentence: by the life with the event as it is written so far, the event with further columns
 abbrev pub Sentence : Type 0
@@ -91,11 +91,11 @@ Sentence = Life → SupervisionEntry → SupervisionEntry
 -- the level is read by the announcement as it was, which the look then uses up
 abbrev pub the_train_is_seen : Sentence
 the_train_is_seen now event =
-    record event { track = record event.track { train = Some (standing_in now) }; level = level_in now }
+    record event { track = record event.track { train = Some (span_of now) }; level = level_in now }
 
 -- where the train was seen in this event
 abbrev pub train_in : Life → SupervisionEntry → Span
-train_in now event = unwrap_or event.track.train (standing_in now)
+train_in now event = unwrap_or event.track.train (span_of now)
 
 -- ---- the mode changes: one row of the mode table is taken (4.6)
 
@@ -155,8 +155,8 @@ the_mode_changes now event =
 
 abbrev pub left_in : List track.TrackEntry → Span → Left
 left_in told train = record {
-  on_sight = any_left area.OnSight train.min_front (areas_of told);
-  shunting = any_left area.Shunting train.min_front (areas_of told);
+  on_sight = any_remains area.OnSight train.min_front (areas_of told);
+  shunting = any_remains area.Shunting train.min_front (areas_of told);
   level_0 = is_level_0_announced (announced_level told);
 }
 
@@ -167,7 +167,7 @@ the_calls_are_settled now event = record event { left = left_in (tracks now.entr
 
 abbrev pub the_track_behind_is_forgotten : Sentence
 the_track_behind_is_forgotten now event =
-    record event { track = record event.track { mark = Some (mark_behind (standing_in now)) } }
+    record event { track = record event.track { mark = Some (mark_behind (span_of now)) } }
 
 -- ---- the whole event: the sentences in their order, each by the life with what those before it have written
 

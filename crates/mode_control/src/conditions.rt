@@ -81,7 +81,7 @@ fn asks_for_full(mode: Mode) -> bool
 fn is_beyond(min_front: Cm, end: &End) -> bool
     ensures { result ≡ is_beyond min_front end.now }
 {
-    end.end < min_front && end.speed.get() == 0
+    end.place < min_front && end.speed.get() == 0
 }
 
 impl<G: ProfileStore<Permille> + Drop, S: ProfileStore<CategorySpeeds> + Drop> SupervisionOver<
@@ -92,9 +92,9 @@ impl<G: ProfileStore<Permille> + Drop, S: ProfileStore<CategorySpeeds> + Drop> S
     fn is_full_to(&self, front: Cm, end: &End) -> bool
         ensures { (life : Life) → StandsForLife G.profile S.profile self.now life → result ≡ is_full_to life front end.now }
     {
-        front < end.end
-            && is_known(self.track.speeds(), front, end.end)
-            && is_known(self.track.gradients(), front, end.end)
+        front < end.place
+            && is_known(self.track.speeds(), front, end.place)
+            && is_known(self.track.gradients(), front, end.place)
     }
 
     // Whether an authority is stored, and the track ahead is known up to its end.

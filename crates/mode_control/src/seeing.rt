@@ -9,7 +9,7 @@ ghost use Rattle.mode_control.specs.declared.deed.Deed.{Deed};
 ghost use Rattle.mode_control.specs.Entry.{SupervisionEntry, begun};
 ghost use Rattle.mode_control.specs.History.{after_level};
 ghost use Rattle.mode_control.specs.Life.{Life, grown};
-ghost use Rattle.mode_control.specs.Sentences.{standing_in, level_in, the_train_is_seen};
+ghost use Rattle.mode_control.specs.Sentences.{span_of, level_in, the_train_is_seen};
 ghost use Rattle.mode_control.specs.StandsFor.{StandsForLife, parts_of};
 ghost use Rattle.track_picture.specs.StandsFor.{size_in};
 
@@ -56,7 +56,7 @@ impl<G: ProfileStore<Permille> + Drop, S: ProfileStore<CategorySpeeds> + Drop> S
     /// The look at the train: what is announced comes into force where the maximum safe front has reached its place.
     pub(crate) fn see(&mut self) -> Seen
         ensures train { (life : Life) (event : SupervisionEntry) → StandsForLife G.profile S.profile self.old (grown life event)
-            → result.train ≡ standing_in (grown life event) }
+            → result.train ≡ span_of (grown life event) }
         ensures level { (life : Life) (told : TrackEntry) (deed : Option Deed)
             → (let event = begun (record told { train = None; entered = None }) deed in
             StandsForLife G.profile S.profile self.old (grown life event) → result.level ≡ level_in (grown life event)) }

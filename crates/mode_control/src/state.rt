@@ -1,7 +1,7 @@
 //! The supervision of a train: as a life begins, copied, and what it tells.
 ghost use Rattle.std.specs.Prelude.{◌≡◌, [], IsOk, IfOk};
 ghost use Rattle.mode_control.specs.Life.{Life, length_by};
-ghost use Rattle.mode_control.specs.Sentences.{begun_life, standing_in};
+ghost use Rattle.mode_control.specs.Sentences.{begun_life, span_of};
 ghost use Rattle.mode_control.specs.StandsFor.{StandsForLife};
 ghost use Rattle.track_picture.specs.StandsFor.{size_in};
 
@@ -63,8 +63,8 @@ impl<G: ProfileStore<Permille> + Drop, S: ProfileStore<CategorySpeeds> + Drop> S
     }
 
     /// Where the train is: from the minimum safe rear to the maximum safe front.
-    pub fn standing(&self) -> Stretch
-        ensures { (life : Life) → StandsForLife G.profile S.profile self.now life → result ≡ standing_in life }
+    pub fn stretch(&self) -> Stretch
+        ensures { (life : Life) → StandsForLife G.profile S.profile self.now life → result ≡ span_of life }
     {
         self.track.place().stretch(self.parts.length())
     }

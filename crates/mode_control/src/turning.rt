@@ -112,9 +112,9 @@ fn left_by<G, S>(track: &TracksideOver<G, S>, train: &Stretch) -> Left
     let front = train.min_front();
     let areas = track.areas();
     Left {
-        on_sight: areas.is_left(AreaMode::OnSight, front),
-        shunting: areas.is_left(AreaMode::Shunting, front),
-        level_0: track.level().is_left(),
+        on_sight: areas.remains(AreaMode::OnSight, front),
+        shunting: areas.remains(AreaMode::Shunting, front),
+        level_0: track.level().remains(),
     }
 }
 

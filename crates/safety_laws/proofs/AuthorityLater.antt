@@ -88,7 +88,7 @@ timer_seen end scale now sight seen None h = h
 timer_seen end scale now sight seen (Some timer) h = started_kept timer.time now (started_before end scale timer.start seen) _ h
 
 abbrev end_at : authority.Fact → List AuthorityEntry → ℤ
-end_at fact entries = (end_now fact (now_of entries) (sights entries)).end
+end_at fact entries = (end_now fact (now_of entries) (sights entries)).place
 
 -- a moment of the clock, and a place of the train
 by_clock : (fact : authority.Fact) (moment : ℕ) (before : List AuthorityEntry) → now_of before ≤ moment →
@@ -146,15 +146,15 @@ accepted_same : (clock : Option ℕ) (before : List AuthorityEntry) → accepted
 accepted_same None before = refl
 accepted_same (Some moment) before = refl
 
-by_fact : (fact : Option authority.Fact) (before after : authority.Fact → End) (new : End) → ((f : authority.Fact) → (after f).end ≤ℤ (before f).end) →
-    option_map after fact ≡ Some new → (old : End) × (option_map before fact ≡ Some old) × (new.end ≤ℤ old.end)
+by_fact : (fact : Option authority.Fact) (before after : authority.Fact → End) (new : End) → ((f : authority.Fact) → (after f).place ≤ℤ (before f).place) →
+    option_map after fact ≡ Some new → (old : End) × (option_map before fact ≡ Some old) × (new.place ≤ℤ old.place)
 by_fact None before after new h e = absurd (let no : None ≡ Some new = e in cc)
 by_fact (Some f) before after new h e =
     let same : after f ≡ new = cc in
-    (before f, refl, subst (λ (x : End). x.end ≤ℤ (before f).end) same (h f))
+    (before f, refl, subst (λ (x : End). x.place ≤ℤ (before f).place) same (h f))
 
 no_farther : (clock : Option ℕ) (here : Span) (before : List AuthorityEntry) (new : End) → now_of before ≤ unwrap_or clock (now_of before) →
-    end_of (Passed here ∷ after_clock clock before) ≡ Some new → (old : End) × (end_of before ≡ Some old) × (new.end ≤ℤ old.end)
+    end_of (Passed here ∷ after_clock clock before) ≡ Some new → (old : End) × (end_of before ≡ Some old) × (new.place ≤ℤ old.place)
 no_farther clock here before new o h =
     let later : List AuthorityEntry = Passed here ∷ after_clock clock before in
     by_fact (accepted before) (λ (f : authority.Fact). end_now f (now_of before) (sights before)) (λ (f : authority.Fact). end_now f (now_of later) (sights later)) new
@@ -245,7 +245,7 @@ now_is (an_event.Input input ∷ events) =
 
 pub never_forward : (events : List Event) (input : Input) (new : End) → uses_authority events input ≡ false →
     moment_after events ≤ moment_after (an_event.Input input ∷ events) → end_after (an_event.Input input ∷ events) ≡ Some new →
-    (old : End) × (end_after events ≡ Some old) × (new.end ≤ℤ old.end)
+    (old : End) × (end_after events ≡ Some old) × (new.place ≤ℤ old.place)
 never_forward events input new none order is =
     let life = life_of events in
     let event = told life input in

@@ -10,7 +10,7 @@ use Rattle.driver.specs.declared.datum.Datum.TheVariants.{Unknown, Valid, Invali
 use Rattle.driver.specs.declared.occasion.Occasion.{Occasion}
 use Rattle.driver.specs.Data.{is_valid}
 use Rattle.driver.specs.Entries.{DriverEntry}
-use Rattle.driver.specs.Entries.DriverEntry.{Did, Turned}
+use Rattle.driver.specs.Entries.DriverEntry.{Did, ModeEntered}
 use Rattle.driver.specs.Limits.{Train}
 use Rattle.driver.specs.Telling.{ItemTold, after_told, datum_after, train_data_told, ends}
 use Rattle.driver.specs.Telling.ItemTold.{Gives, Confirms, Leaves, Nothing}
@@ -56,7 +56,7 @@ by_action (Confirm confirm.TrainData) occasion = refl
 by_action (Confirm confirm.Level) occasion = refl
 by_action action occasion = refl
 
-by_mode : (mode : Mode) → runs mode ≡ true → ends (train_data_told (Turned mode)) ≡ false
+by_mode : (mode : Mode) → runs mode ≡ true → ends (train_data_told (ModeEntered mode)) ≡ false
 by_mode Shunting h = absurd (let no : false ≡ true = h in cc)
 by_mode StandBy h = absurd (let no : false ≡ true = h in cc)
 by_mode mode h = refl
@@ -73,8 +73,8 @@ module _ (kept : Datum Train) where
   past_level None rest h = h
   past_level (Some level) rest h = h
 
-  past_mode : (mode : Mode) (rest : List DriverEntry) → runs mode ≡ true → is_so rest → is_so (Turned mode ∷ rest)
-  past_mode mode rest runs h = told_keeps (train_data_told (Turned mode)) (datum_after train_data_told kept rest) (by_mode mode runs) h
+  past_mode : (mode : Mode) (rest : List DriverEntry) → runs mode ≡ true → is_so rest → is_so (ModeEntered mode ∷ rest)
+  past_mode mode rest runs h = told_keeps (train_data_told (ModeEntered mode)) (datum_after train_data_told kept rest) (by_mode mode runs) h
 
   -- the mode that is entered, if it is another one
   past_turn : (same : Bool) (old new : Mode) (rest : List DriverEntry) → runs (unwrap_or (cond same None (Some new)) old) ≡ true →

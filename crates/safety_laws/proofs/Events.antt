@@ -10,7 +10,7 @@ use Rattle.mode_control.specs.Conditions.{conditions}
 use Rattle.mode_control.specs.Entry.{SupervisionEntry, begun}
 use Rattle.mode_control.specs.History.{mode_of}
 use Rattle.mode_control.specs.Life.{Life, grown}
-use Rattle.mode_control.specs.Sentences.{changed, deed_of, told, standing_in, the_train_is_seen, entry_of}
+use Rattle.mode_control.specs.Sentences.{changed, deed_of, told, span_of, the_train_is_seen, entry_of}
 
 -- the mode behind an event, by the one before it and the conditions
 abbrev pub turned : Mode → Conditions → Mode
@@ -21,7 +21,7 @@ module _ (life : Life) (input : Input) where
   event_begun = begun (told life input) (deed_of life input)
 
   abbrev pub train : Span
-  train = standing_in (grown life event_begun)
+  train = span_of (grown life event_begun)
 
   abbrev pub event_seen : SupervisionEntry
   event_seen = the_train_is_seen (grown life event_begun) event_begun

@@ -188,7 +188,7 @@ module _ (life : Life) where
   is_tripping true beyond asked stopped o h = absurd (let no : true ≡ false = o in cc)
   is_tripping false false asked stopped o h = absurd (let no : false ≡ true = h in cc)
 
-  is_past : (place : ℤ) (end : Option End) (told : End) → end ≡ Some told → told.speed ≡ 0 → told.end <ℤ place →
+  is_past : (place : ℤ) (end : Option End) (told : End) → end ≡ Some told → told.speed ≡ 0 → told.place <ℤ place →
       option_map_or (is_beyond place) end false ≡ true
   is_past place (Some end) told is no_speed past = grind (arith, nat_tests)
   is_past place None told is no_speed past = absurd (let no : None ≡ Some told = is in cc)

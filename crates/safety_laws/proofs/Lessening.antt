@@ -167,10 +167,10 @@ module _ (setting : Setting) (track : TrackSpeeds) (more : List Restriction)
   rule_less : (end : Option End) → released_by (permitted (with track more)) end setting.release ≤ released_by (permitted track) end setting.release
   rule_less None = permitted_less None
   rule_less (Some end) =
-      let one = permitted_less (Some (record { place = end.end; speed = end.speed })) in
+      let one = permitted_less (Some (record { place = end.place; speed = end.speed })) in
       let other = permitted_less (Some (record { place = end.location; speed = 0 })) in
-      greater (release_speed end.release setting.release) (permitted (with track more) (Some (record { place = end.end; speed = end.speed })))
-      (permitted track (Some (record { place = end.end; speed = end.speed }))) (permitted (with track more) (Some (record { place = end.location; speed = 0 })))
+      greater (release_speed end.release setting.release) (permitted (with track more) (Some (record { place = end.place; speed = end.speed })))
+      (permitted track (Some (record { place = end.place; speed = end.speed }))) (permitted (with track more) (Some (record { place = end.location; speed = 0 })))
       (permitted track (Some (record { place = end.location; speed = 0 }))) one other
     where
       greater : (r a b c d : ℕ) → a ≤ b → c ≤ d → max a (min r c) ≤ max b (min r d)

@@ -184,7 +184,7 @@ module _ (front : ℤ) (asked : ℤ → List Target) (own : (c : ℤ) (t : Targe
 
 of_unknown : (end : Option End) (c : ℤ) (t : Target) → IsIn t (listed (unknown_target end c)) → t.place ≡ c
 of_unknown None c t there = absurd there
-of_unknown (Some end) c t there = ap (λ (x : Target). x.place) (one_listed (int_lt c end.end) (at_place c 0) t there)
+of_unknown (Some end) c t there = ap (λ (x : Target). x.place) (one_listed (int_lt c end.place) (at_place c 0) t there)
 
 of_static : (bounds : Bounds) (c : ℤ) (t : Target) (value : Option CategorySpeeds) → IsIn t (listed (static_target bounds c value)) → t.place ≡ c
 of_static bounds c t None there = of_unknown bounds.end c t there

@@ -37,7 +37,7 @@ use Rattle.units.proofs.Gathering.{IsIn, in_over}
 use Rattle.mode_control.specs.History.{tracks, mode_of}
 use Rattle.mode_control.specs.Life.{Life, driver_of}
 use Rattle.mode_control.specs.Sentences.{values_of}
-use Rattle.speed_supervision.specs.Limit.{bounds_of, along, supervised_limit, permitted_to, release_speed, released, released_by, permitted_for, limit_in, limit}
+use Rattle.speed_supervision.specs.Limit.{bounds_of, along, supervised_limit, permitted_to, release_speed, with_release_speed, released_by, permitted_for, limit_in, limit}
 use Rattle.safety_laws.specs.Running.{modes_by_authority}
 use Rattle.safety_laws.specs.Stopping.{front_of, gradient_along, square_at, IsSupervised, BrakesFromLimit, KeepsTrackSpeeds}
 use Rattle.safety_laws.proofs.Courses.{slows}
@@ -72,19 +72,19 @@ within end scale now seen (Some overlap) danger =
     elim [ true ↦ bare end scale danger | false ↦ omega (arith, ints) ] in
     cases (overlap_has_run_out end scale now seen overlap)
 
-by_place : (fact : Fact) (now : ℕ) (seen : List Sight) (taken : Option ℤ) → (end_by fact now seen taken).end ≤ℤ (end_by fact now seen taken).location
+by_place : (fact : Fact) (now : ℕ) (seen : List Sight) (taken : Option ℤ) → (end_by fact now seen taken).place ≤ℤ (end_by fact now seen taken).location
 by_place fact now seen None = within (told_end fact) fact.packet.scale now seen fact.packet.overlap fact.packet.danger_point
 by_place fact now seen (Some place) = omega (arith, ints)
 
 abbrev located : Option End → Type 0
 located None = Unit {0}
-located (Some end) = end.end ≤ℤ end.location
+located (Some end) = end.place ≤ℤ end.location
 
-by_fact : (now : ℕ) (seen : List Sight) (fact : Option Fact) (end : End) → option_map (λ f. end_now f now seen) fact ≡ Some end → end.end ≤ℤ end.location
+by_fact : (now : ℕ) (seen : List Sight) (fact : Option Fact) (end : End) → option_map (λ f. end_now f now seen) fact ≡ Some end → end.place ≤ℤ end.location
 by_fact now seen None end h = absurd (let no : None ≡ Some end = h in cc)
 by_fact now seen (Some fact) end h = subst located h (by_place fact now seen (taken_back fact now seen))
 
-end_located : (entries : List AuthorityEntry) (end : End) → end_of entries ≡ Some end → end.end ≤ℤ end.location
+end_located : (entries : List AuthorityEntry) (end : End) → end_of entries ≡ Some end → end.place ≤ℤ end.location
 end_located entries end h = by_fact (now_of entries) (sights entries) (accepted entries) end h
 
 -- ---- a speed that fits a list with a last target fits that one, and each before it
@@ -143,15 +143,15 @@ module _ (life : Life) (train : Train) where
 
   module _ (end : End) where
     abbrev to_end : Target
-    to_end = record { place = end.end; speed = end.speed }
+    to_end = record { place = end.place; speed = end.speed }
 
     abbrev stop : Target
     stop = record { place = end.location; speed = 0 }
 
     abbrev by_rule : ℕ
-    by_rule = released (permitted_to life train) end (values_of life).release
+    by_rule = with_release_speed (permitted_to life train) end (values_of life).release
 
-    at_location : end.end ≤ℤ end.location → end.speed ≡ 0 → can_meet stop by_rule
+    at_location : end.place ≤ℤ end.location → end.speed ≡ 0 → can_meet stop by_rule
     at_location behind none =
         let near : IsNoNearer to_end stop = record { place = behind; speed = omega (arith, none) } in
         either_fits (front_of life) (gradient_along life) train.brakes stop (permitted_to life train (Some to_end)) (permitted_to life train (Some stop))
@@ -223,11 +223,11 @@ module _ (life : Life) (train : Train) where
           by_static speeds is =
               subst (λ (known : Option CategorySpeeds). IsIn (at (speed_of speeds train.category)) (listed (static_target bounds place known))) (sym is) (inl refl)
 
-          by_unknown : (e : End) → end_of (authorities (tracks life.entries)) ≡ Some e → place <ℤ e.end → track.static place ≡ None →
+          by_unknown : (e : End) → end_of (authorities (tracks life.entries)) ≡ Some e → place <ℤ e.place → track.static place ≡ None →
               IsIn (at 0) (static_targets bounds track.static place)
           by_unknown e known short is =
-              let within : int_lt place e.end ≡ true = is_less place e.end short in
-              let inside : IsIn (at 0) (listed (cond (int_lt place e.end) (Some (at 0)) None)) =
+              let within : int_lt place e.place ≡ true = is_less place e.place short in
+              let inside : IsIn (at 0) (listed (cond (int_lt place e.place) (Some (at 0)) None)) =
               subst (λ (b : Bool). IsIn (at 0) (listed (cond b (Some (at 0)) None))) (sym within) (inl refl) in
               let asked : IsIn (at 0) (listed (unknown_target (end_of (authorities (tracks life.entries))) place)) =
               subst (λ (o : Option End). IsIn (at 0) (listed (unknown_target o place))) (sym known) inside in

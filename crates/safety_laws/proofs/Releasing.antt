@@ -13,8 +13,8 @@ use Rattle.speed_profile.proofs.Members.{in_left, in_right, in_either}
 use Rattle.units.proofs.Gathering.{IsIn}
 use Rattle.mode_control.specs.Life.{Life}
 use Rattle.mode_control.specs.Sentences.{values_of}
-use Rattle.speed_supervision.specs.Limit.{limit, bounds_of, along, supervised_limit, permitted_to, released}
-use Rattle.safety_laws.specs.Release.{can_meet, at_end, at_location, release_of, MayRun, limit_to_end, limit_to_location, IsReleased}
+use Rattle.speed_supervision.specs.Limit.{limit, bounds_of, along, supervised_limit, permitted_to, with_release_speed, the_end, the_supervised_location}
+use Rattle.safety_laws.specs.Release.{can_meet, release_of, MayRun, limit_to_end, limit_to_location, IsReleased}
 use Rattle.safety_laws.specs.Starts.{starts_of, braking_limit}
 use Rattle.safety_laws.specs.Stopping.{front_of, gradient_along, IsSupervised}
 use Rattle.safety_laws.proofs.Lessening.{greatest_least, to_in, to_among}
@@ -68,8 +68,8 @@ module _ (life : Life) (train : Train) where
     abbrev release : ℕ
     release = release_of life end
 
-    pub by_starts : limit life ≡ released (braking_limit life train) end (values_of life).release
-    by_starts = limit_is life train end it ∙ ap (λ (permitted : Option Target → ℕ). released permitted end (values_of life).release) (λ i last. last_is last i)
+    pub by_starts : limit life ≡ with_release_speed (braking_limit life train) end (values_of life).release
+    by_starts = limit_is life train end it ∙ ap (λ (permitted : Option Target → ℕ). with_release_speed permitted end (values_of life).release) (λ i last. last_is last i)
 
     limit_by : limit life ≡ max to_end (min release to_location)
     limit_by = by_starts
@@ -80,17 +80,17 @@ module _ (life : Life) (train : Train) where
         up_to speed to_end release to_location (omega (arith, below, limit_by)) in
         elim which [
           | inl less ↦ record {
-            here = omega (arith, less, within (at_end end));
-            ahead = λ t there. fits_up_to (at_end end) t speed less (in_left t starts (at_end end ∷ []) (to_in t starts there));
-            to_end = inl (fits_up_to (at_end end) (at_end end) speed less (in_right (at_end end) starts (at_end end ∷ []) (inl refl)));
+            here = omega (arith, less, within (the_end end));
+            ahead = λ t there. fits_up_to (the_end end) t speed less (in_left t starts (the_end end ∷ []) (to_in t starts there));
+            to_end = inl (fits_up_to (the_end end) (the_end end) speed less (in_right (the_end end) starts (the_end end ∷ []) (inl refl)));
           }
           | inr less ↦ record {
-            here = omega (arith, less.1, within (at_location end));
-            ahead = λ t there. fits_up_to (at_location end) t speed less.1 (in_left t starts (at_location end ∷ []) (to_in t starts there));
+            here = omega (arith, less.1, within (the_supervised_location end));
+            ahead = λ t there. fits_up_to (the_supervised_location end) t speed less.1 (in_left t starts (the_supervised_location end ∷ []) (to_in t starts there));
             to_end = inr (
               less.0,
-              fits_up_to (at_location end) (at_location end) speed less.1
-                  (in_right (at_location end) starts (at_location end ∷ []) (inl refl)),
+              fits_up_to (the_supervised_location end) (the_supervised_location end) speed less.1
+                  (in_right (the_supervised_location end) starts (the_supervised_location end ∷ []) (inl refl)),
             );
           }
         ]
@@ -98,8 +98,8 @@ module _ (life : Life) (train : Train) where
     below_limit : (speed : ℕ) → MayRun life train end speed → speed ≤ limit life
     below_limit speed may =
         elim may.to_end [
-          | inl stops ↦ (let less : speed ≤ to_end = fitting_within (at_end end) speed may.here may.ahead stops in omega (arith, less, limit_by))
-          | inr slow ↦ (let less : speed ≤ to_location = fitting_within (at_location end) speed may.here may.ahead slow.1 in
+          | inl stops ↦ (let less : speed ≤ to_end = fitting_within (the_end end) speed may.here may.ahead stops in omega (arith, less, limit_by))
+          | inr slow ↦ (let less : speed ≤ to_location = fitting_within (the_supervised_location end) speed may.here may.ahead slow.1 in
               omega (arith, less, slow.0, limit_by))
         ]
 
@@ -110,5 +110,5 @@ module _ (life : Life) (train : Train) where
     case_by_case = record {
       released = λ below. omega (arith, below, limit_by);
       nearer = λ below. omega (arith, below, limit_by);
-      here = omega (arith, limit_by, within (at_end end), within (at_location end));
+      here = omega (arith, limit_by, within (the_end end), within (the_supervised_location end));
     }

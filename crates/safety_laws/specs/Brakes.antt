@@ -18,18 +18,18 @@ use Rattle.mode_control.specs.History.{tracks, deeds, acknowledgement}
 use Rattle.mode_control.specs.Life.{Life, left_at_power_up}
 use Rattle.mode_control.specs.Sentences.{values_of}
 use Rattle.speed_supervision.specs.Limit.{limit}
-use Rattle.kernel.specs.Brake.{Moment, moments, since, train_stood, asked_for_service, rolled_backward}
+use Rattle.kernel.specs.Brake.{Snapshot, snapshots, since, train_stood, asked_for_service, rolled_backward}
 use Rattle.kernel.specs.Laws.{all_deeds}
 use Rattle.kernel.specs.Lives.{life_of}
 use Rattle.kernel.specs.Output.{output_after}
 
 -- the events since the odometer last read speed 0, that one included; where it never did, all since the power-up
-abbrev pub since_standstill : Life → List Moment
-since_standstill life = since train_stood (moments life)
+abbrev pub since_standstill : Life → List Snapshot
+since_standstill life = since train_stood (snapshots life)
 
 -- the speed of the last reading behind an event, and the limit that the event answered
-abbrev pub speed_at : Moment → ℕ
-speed_at moment = speed_of (tracks moment.life.entries)
+abbrev pub speed_at : Snapshot → ℕ
+speed_at snapshot = speed_of (tracks snapshot.life.entries)
 
 pub record IsFree (events : List Event) : Type 0 where
   pub is_revalidated : (let life = life_of events in IsRevalidated (is_valid (left_at_power_up life).level) (deeds life.entries))
@@ -37,12 +37,12 @@ pub record IsFree (events : List Event) : Type 0 where
   pub not_in_failure : (output_after events).mode ≡ SystemFailure → ⊥
   pub owes_no_trip : HasTripped (all_deeds events) → ⊥
   pub is_slow : speed_of (tracks (life_of events).entries) ≤ (output_after events).limit + 5_000
-  pub was_slow : (moment : Moment) → IsAmong moment (since_standstill (life_of events)) → speed_at moment ≤ limit moment.life + 10_000
+  pub was_slow : (snapshot : Snapshot) → IsAmong snapshot (since_standstill (life_of events)) → speed_at snapshot ≤ limit snapshot.life + 10_000
   pub stands : ((output_after events).mode ≡ StandBy) ⊎ ((output_after events).mode ≡ PostTrip) → speed_of (tracks (life_of events).entries) ≡ 0
   pub rolled_little : rolled_backward (life_of events) ≤ (values_of (life_of events)).roll
   pub owes_not_long : (kind : Kind) (from : ℕ) → acknowledgement kind (life_of events).entries ≡ Owed from →
       moment_of (tracks (life_of events).entries) < from + 5_000
-  pub asked_nothing : (moment : Moment) → IsAmong moment (since_standstill (life_of events)) → asked_for_service moment ≡ false
+  pub asked_nothing : (snapshot : Snapshot) → IsAmong snapshot (since_standstill (life_of events)) → asked_for_service snapshot ≡ false
 
 abbrev pub NoBrakeOnlyWhere : Type 0
 NoBrakeOnlyWhere = (events : List Event) → (output_after events).brake ≡ brake.None → IsFree events

@@ -40,4 +40,4 @@ abbrev pub EndNeverMovesForward : Type 0
 EndNeverMovesForward = (events : List Event) (input : Input) (new : End) →
     uses_authority events input ≡ false → moment_after events ≤ moment_after (an_event.Input input ∷ events) →
     end_after (an_event.Input input ∷ events) ≡ Some new →
-    (old : End) × (end_after events ≡ Some old) × (new.end ≤ℤ old.end)
+    (old : End) × (end_after events ≡ Some old) × (new.place ≤ℤ old.place)

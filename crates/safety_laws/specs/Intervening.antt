@@ -22,7 +22,7 @@ use Rattle.mode_control.specs.History.{tracks}
 use Rattle.mode_control.specs.Life.{Life, grown}
 use Rattle.mode_control.specs.Sentences.{values_of, train_in}
 use Rattle.mode_control.specs.Tripping.{seen_by}
-use Rattle.kernel.specs.Brake.{Moment, rolled_backward}
+use Rattle.kernel.specs.Brake.{Snapshot, rolled_backward}
 use Rattle.kernel.specs.Lives.{life_of}
 use Rattle.kernel.specs.Output.{output_after}
 use Rattle.safety_laws.specs.Brakes.{since_standstill, speed_at}
@@ -43,7 +43,7 @@ pub record HasPassedEnd (life : Life) (input : Input) : Type 0 where
   pub end : End
   pub known : end_of (authorities (tracks (seen life input).entries)) ≡ Some end
   pub no_speed : end.speed ≡ 0
-  pub is_past : end.end <ℤ (train_in (seen life input) (seen_by life input)).min_front
+  pub is_past : end.place <ℤ (train_in (seen life input) (seen_by life input)).min_front
 
 -- a train in one of these modes trips by an event that finds it past the end, unless an override is active; but for an
 -- overrun, and for a desk that is closed at standstill
@@ -59,8 +59,8 @@ PassingEndTrips = (events : List Event) (input : Input) → IsTrue (is_one_of mo
 -- it is commanded where the train was more than 10,000 above the limit behind an event since standstill, the last event
 -- included
 abbrev pub FarTooFastBrakes : Type 0
-FarTooFastBrakes = (events : List Event) (moment : Moment) → IsAmong moment (since_standstill (life_of events)) →
-    limit moment.life + 10_000 < speed_at moment → (output_after events).brake ≡ brake.Emergency
+FarTooFastBrakes = (events : List Event) (snapshot : Snapshot) → IsAmong snapshot (since_standstill (life_of events)) →
+    limit snapshot.life + 10_000 < speed_at snapshot → (output_after events).brake ≡ brake.Emergency
 
 abbrev pub FarTooFastNowBrakes : Type 0
 FarTooFastNowBrakes = (events : List Event) → (output_after events).limit + 10_000 < speed_of (tracks (life_of events).entries) →

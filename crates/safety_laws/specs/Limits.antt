@@ -16,7 +16,7 @@ use Rattle.speed_profile.specs.Limit.{limit_on}
 use Rattle.speed_profile.specs.Track.{TrackSpeeds}
 use Rattle.units.specs.Stretches.{Span}
 use Rattle.mode_control.specs.Life.{Life}
-use Rattle.mode_control.specs.Sentences.{values_of, standing_in}
+use Rattle.mode_control.specs.Sentences.{values_of, span_of}
 use Rattle.speed_supervision.specs.Limit.{bounds_of, along, permitted_speed, released_by}
 use Rattle.safety_laws.specs.Stopping.{gradient_along}
 
@@ -40,7 +40,7 @@ permitted_on setting track =
 -- that of a life
 abbrev pub setting_of : Life → Train → Setting
 setting_of life train = record {
-  train = standing_in life;
+  train = span_of life;
   bounds = bounds_of life train;
   gradient = gradient_along life;
   brakes = train.brakes;

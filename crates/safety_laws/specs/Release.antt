@@ -12,20 +12,13 @@ use Rattle.braking.specs.Braking.{fits}
 use Rattle.driver.specs.Limits.{Train}
 use Rattle.mode_control.specs.Life.{Life}
 use Rattle.mode_control.specs.Sentences.{values_of}
-use Rattle.speed_supervision.specs.Limit.{limit, supervised_limit, release_speed}
+use Rattle.speed_supervision.specs.Limit.{limit, supervised_limit, release_speed, the_end, the_supervised_location}
 use Rattle.safety_laws.specs.Starts.{starts_of, braking_limit}
 use Rattle.safety_laws.specs.Stopping.{front_of, gradient_along, IsSupervised}
 
 -- from a speed the train can brake for a target
 abbrev pub can_meet : Life → Train → Target → ℕ → Bool
 can_meet life train target speed = fits (front_of life) (gradient_along life) train.brakes target speed
-
--- the end of the authority, with the speed that is allowed there (V_LOA); a stop at the supervised location
-abbrev pub at_end : End → Target
-at_end end = record { place = end.end; speed = end.speed }
-
-abbrev pub at_location : End → Target
-at_location end = record { place = end.location; speed = 0 }
 
 -- the release speed that holds: its own, or the national value
 abbrev pub release_of : Life → End → ℕ
@@ -39,8 +32,8 @@ release_of life end = release_speed end.release (values_of life).release
 pub record MayRun (life : Life) (train : Train) (end : End) (speed : ℕ) : Type 0 where
   pub here : speed ≤ supervised_limit life train
   pub ahead : (start : Target) → IsAmong start (starts_of life train) → IsTrue (can_meet life train start speed)
-  pub to_end : IsTrue (can_meet life train (at_end end) speed)
-      ⊎ ((speed ≤ release_of life end) × IsTrue (can_meet life train (at_location end) speed))
+  pub to_end : IsTrue (can_meet life train (the_end end) speed)
+      ⊎ ((speed ≤ release_of life end) × IsTrue (can_meet life train (the_supervised_location end) speed))
 
 -- these are the speeds up to the limit
 abbrev pub MayRunUpToLimit : Type 0
@@ -50,10 +43,10 @@ MayRunUpToLimit = (life : Life) (train : Train) (end : End) (speed : ℕ) → Is
 -- ---- case by case
 
 abbrev pub limit_to_end : Life → Train → End → ℕ
-limit_to_end life train end = braking_limit life train (Some (at_end end))
+limit_to_end life train end = braking_limit life train (Some (the_end end))
 
 abbrev pub limit_to_location : Life → Train → End → ℕ
-limit_to_location life train end = braking_limit life train (Some (at_location end))
+limit_to_location life train end = braking_limit life train (Some (the_supervised_location end))
 
 -- while the train can stop at the supervised location from the release speed, the limit is the greater of that speed
 -- and of the braking limit to the end; nearer, the greater of the braking limits to the end and to the supervised

@@ -18,7 +18,7 @@ use Rattle.track_store.specs.Profiles.{listed}
 use Rattle.units.specs.Stretches.{least}
 use Rattle.mode_control.specs.Life.{Life}
 use Rattle.mode_control.specs.Sentences.{values_of}
-use Rattle.speed_supervision.specs.Limit.{limit, bounds_of, along, supervised_limit, released}
+use Rattle.speed_supervision.specs.Limit.{limit, bounds_of, along, supervised_limit, with_release_speed}
 use Rattle.safety_laws.specs.Stopping.{front_of, gradient_along, IsSupervised}
 
 -- ---- the start of a lower speed
@@ -87,4 +87,4 @@ braking_limit life train last =
 -- the limit in Full Supervision and On Sight
 abbrev pub LimitByStarts : Type 0
 LimitByStarts = (life : Life) (train : Train) (end : End) → IsSupervised life train end →
-    limit life ≡ released (braking_limit life train) end (values_of life).release
+    limit life ≡ with_release_speed (braking_limit life train) end (values_of life).release

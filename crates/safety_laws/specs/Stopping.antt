@@ -26,7 +26,7 @@ use Rattle.units.specs.Stretches.{natural}
 use Rattle.track_picture.specs.History.{authorities, gradients_of}
 use Rattle.mode_control.specs.History.{tracks, mode_of}
 use Rattle.mode_control.specs.Life.{Life, driver_of}
-use Rattle.mode_control.specs.Sentences.{values_of, standing_in}
+use Rattle.mode_control.specs.Sentences.{values_of, span_of}
 use Rattle.speed_supervision.specs.Limit.{limit, along, release_speed}
 use Rattle.safety_laws.specs.Running.{modes_by_authority}
 
@@ -39,7 +39,7 @@ pub record IsSupervised (life : Life) (train : Train) (end : End) : Type 0 where
 
 -- the greatest place at which its front may be, and the gradient of each centimetre
 abbrev pub front_of : Life → ℤ
-front_of life = (standing_in life).max_front
+front_of life = (span_of life).max_front
 
 abbrev pub gradient_along : Life → ℤ → Option ℤ
 gradient_along life = (gradients_of (tracks life.entries)).value
@@ -80,7 +80,7 @@ HaltsAtLocation = (life : Life) (train : Train) (end : End) (square : ℕ → �
 abbrev pub HaltsAtEnd : Type 0
 HaltsAtEnd = (life : Life) (train : Train) (end : End) (square : ℕ → ℕ) → IsSupervised life train end → end.speed ≡ 0 →
     release_speed end.release (values_of life).release ≡ 0 →
-    BrakesFromLimit life train square → square_at life square end.end ≡ 0
+    BrakesFromLimit life train square → square_at life square end.place ≡ 0
 
 -- ---- each speed that the track ahead asks for: of the static speeds for its category, of the restrictions in force and
 -- of the mode areas. A centimetre before the end without a static speed asks for a stop
@@ -88,7 +88,7 @@ HaltsAtEnd = (life : Life) (train : Train) (end : End) (square : ℕ → ℕ) �
 pub record KeepsTrackSpeeds (life : Life) (train : Train) (square : ℕ → ℕ) (place : ℤ) : Type 0 where
   pub static : (speeds : CategorySpeeds) → (along life).static place ≡ Some speeds →
       square_at life square place ≤ speed_of speeds train.category * speed_of speeds train.category
-  pub unknown : (end : End) → end_of (authorities (tracks life.entries)) ≡ Some end → place <ℤ end.end →
+  pub unknown : (end : End) → end_of (authorities (tracks life.entries)) ≡ Some end → place <ℤ end.place →
       (along life).static place ≡ None → square_at life square place ≡ 0
   pub restricted : (restriction : Restriction) → IsAmong restriction (along life).restrictions.restrictions →
       IsTrue (covers (along life).restrictions.mark place restriction) →

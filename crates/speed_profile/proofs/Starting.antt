@@ -40,7 +40,7 @@ unknown_nearer : (end : Option End) (place c : ℤ) (t : Target) → place ≤�
 unknown_nearer None place c t ahead h = absurd h
 unknown_nearer (Some end) place c t ahead h =
     let stop : ℤ → Target = λ x. record { place = x; speed = 0 } in
-    let cases : (a b : Bool) → int_lt place end.end ≡ a → int_lt c end.end ≡ b → IsIn t (listed (cond b (Some (stop c)) None)) →
+    let cases : (a b : Bool) → int_lt place end.place ≡ a → int_lt c end.place ≡ b → IsIn t (listed (cond b (Some (stop c)) None)) →
     HasNearer (listed (cond a (Some (stop place)) None)) t = elim [
       | true ↦ elim [
         | true ↦ λ e f k. elim k [ inl is ↦ (stop place, inl refl, there_nearer place c 0 t ahead is) | inr never ↦ absurd never ]
@@ -51,7 +51,7 @@ unknown_nearer (Some end) place c t ahead h =
         | false ↦ λ e f k. absurd k
       ]
     ] in
-    cases (int_lt place end.end) (int_lt c end.end) refl refl h
+    cases (int_lt place end.place) (int_lt c end.place) refl refl h
 
 value_nearer : (bounds : Bounds) (place c : ℤ) (t : Target) (value : Option CategorySpeeds) → place ≤ℤ c →
     IsIn t (listed (static_target bounds c value)) → HasNearer (listed (static_target bounds place value)) t
@@ -127,7 +127,7 @@ unknown_place (Some end) c t h =
       | true ↦ λ k. elim k [ inl is ↦ ap (λ (x : Target). x.place) is | inr never ↦ absurd never ]
       | false ↦ λ k. absurd k
     ] in
-    cases (int_lt c end.end) h
+    cases (int_lt c end.place) h
 
 value_place : (bounds : Bounds) (c : ℤ) (t : Target) (value : Option CategorySpeeds) → IsIn t (listed (static_target bounds c value)) → t.place ≡ c
 value_place bounds c t None h = unknown_place bounds.end c t h

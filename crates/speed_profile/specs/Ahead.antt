@@ -27,7 +27,7 @@ greatest_place = pos (2 ^ 42)
 -- a centimetre without a static speed, before the end of the authority where one is known, is to be reached at speed 0
 abbrev pub unknown_target : Option End → ℤ → Option Target
 unknown_target None place = None
-unknown_target (Some end) place = if int_lt place end.end then Some (record { place = place; speed = 0 }) else None
+unknown_target (Some end) place = if int_lt place end.place then Some (record { place = place; speed = 0 }) else None
 
 -- the static speed of a centimetre for the train's category, whatever its Q_FRONT
 abbrev pub static_target : Bounds → ℤ → Option CategorySpeeds → Option Target

@@ -36,7 +36,7 @@ least_static profile category train otherwise =
 -- V_LOA, where the maximum safe front is at or above the end, while V_LOA is above 0
 abbrev pub speed_at_end : ℤ → Option End → Option ℕ
 speed_at_end front None = None
-speed_at_end front (Some end) = if not (int_lt front end.end) && nat_lt 0 end.speed then Some end.speed else None
+speed_at_end front (Some end) = if not (int_lt front end.place) && nat_lt 0 end.speed then Some end.speed else None
 
 -- the least of the train's greatest speed, of V_MAIN, and of V_LOA where it limits
 abbrev pub bound_speed : ℤ → Bounds → ℕ

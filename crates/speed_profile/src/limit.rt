@@ -58,7 +58,7 @@ fn speed_at_end(front: Cm, end: &Option<End>) -> Option<Mph>
     ensures { result ≡ speed_at_end front end.now }
 {
     match end {
-        Some(end) if end.end <= front && end.speed.get() > 0 => Some(end.speed),
+        Some(end) if end.place <= front && end.speed.get() > 0 => Some(end.speed),
         _ => None,
     }
 }

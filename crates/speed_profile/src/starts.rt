@@ -46,7 +46,7 @@ fn unknown_target(end: &Option<End>, place: Cm) -> Option<Target>
     ensures { result ≡ unknown_target end.now place }
 {
     match end {
-        Some(end) if place < end.end => Some(stop_at(place)),
+        Some(end) if place < end.place => Some(stop_at(place)),
         _ => None,
     }
 }
@@ -80,7 +80,7 @@ pub fn first_in_area(front: Cm, national: &NationalSpeeds, area: &Area) -> Optio
     ensures { result ≡ first_in_area front national.now area.now }
 {
     let place = next_after(front)?.max(area.start);
-    if area.is_left(place) {
+    if area.remains(place) {
         Some(Target {
             place,
             speed: area.speed_in(national),

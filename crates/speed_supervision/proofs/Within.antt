@@ -21,7 +21,7 @@ use Rattle.mode_control.specs.Conditions.{is_overridden}
 use Rattle.mode_control.specs.History.{tracks}
 use Rattle.mode_control.specs.Life.{Life, driver_of}
 use Rattle.track_picture.specs.History.{authorities}
-use Rattle.mode_control.specs.Sentences.{values_of, standing_in}
+use Rattle.mode_control.specs.Sentences.{values_of, span_of}
 use Rattle.speed_supervision.specs.Limit.{within_maximum, maximum_in, restricted, while_overridden, bounds_of, along, supervised_limit, permitted_to, release_speed, released_by, permitted_speed, permitted_for, limit_in}
 
 least_within : (otherwise : ℕ) (speeds : List ℕ) → least otherwise speeds ≤ otherwise
@@ -48,7 +48,7 @@ released_within : (permitted : Option Target → ℕ) (most : ℕ) → ((last : 
     released_by permitted end national ≤ most
 released_within permitted most within None national = within None
 released_within permitted most within (Some end) national =
-    omega (arith, within (Some (record { place = end.end; speed = end.speed })), within (Some (record { place = end.location; speed = 0 })))
+    omega (arith, within (Some (record { place = end.place; speed = end.speed })), within (Some (record { place = end.location; speed = 0 })))
 
 lowered_within : (active : Bool) (speed other : ℕ) → cond active (min speed other) speed ≤ speed
 lowered_within true speed other = omega arith
@@ -58,7 +58,7 @@ module _ (life : Life) (train : Train) (valid : (driver_of life).train_data ≡ 
   ahead_within : (last : Option Target) → permitted_to life train last ≤ train.maximum
   ahead_within last =
       let there : permitted_to life train last ≤ supervised_limit life train = greatest_within _ (supervised_limit life train) in
-      let here : supervised_limit life train ≤ train.maximum = on_within (standing_in life) (bounds_of life train) (along life) in
+      let here : supervised_limit life train ≤ train.maximum = on_within (span_of life) (bounds_of life train) (along life) in
       omega (arith, there, here)
 
   full_within : permitted_for life (driver_of life).train_data ≤ train.maximum

@@ -23,7 +23,7 @@ use Rattle.track_picture.specs.History.{restrictions_of, authorities, areas_of, 
 use Rattle.mode_control.specs.Conditions.{is_overridden}
 use Rattle.mode_control.specs.History.{tracks, mode_of}
 use Rattle.mode_control.specs.Life.{Life, driver_of}
-use Rattle.mode_control.specs.Sentences.{values_of, standing_in}
+use Rattle.mode_control.specs.Sentences.{values_of, span_of}
 
 -- ---- in Staff Responsible and in Unfitted: a national value, the train's maximum, and the restrictions in force over
 -- the train; in Staff Responsible also the speed of an override while one is active
@@ -38,7 +38,7 @@ abbrev pub maximum_in : Life → ℕ → ℕ
 maximum_in life speed = within_maximum (driver_of life).train_data speed
 
 abbrev pub restricted : Life → ℕ → ℕ
-restricted life speed = least_speed (restrictions_of (tracks life.entries)) (standing_in life) speed
+restricted life speed = least_speed (restrictions_of (tracks life.entries)) (span_of life) speed
 
 abbrev pub while_overridden : Life → ℕ → ℕ
 while_overridden life speed = if is_overridden life then min speed (values_of life).override_speed else speed
@@ -75,13 +75,13 @@ along life =
     }
 
 abbrev pub supervised_limit : Life → Train → ℕ
-supervised_limit life train = limit_on (standing_in life) (bounds_of life train) (along life)
+supervised_limit life train = limit_on (span_of life) (bounds_of life train) (along life)
 
 -- .. and up to that the greatest speed from which the train can still brake for all that lies ahead, and for a last
 -- target
 abbrev pub permitted_to : Life → Train → Option Target → ℕ
 permitted_to life train last =
-    permitted_ahead (standing_in life).max_front (supervised_limit life train) last (bounds_of life train) (along life)
+    permitted_ahead (span_of life).max_front (supervised_limit life train) last (bounds_of life train) (along life)
     (gradients_of (tracks life.entries)).value train.brakes
 
 -- the release speed, which may be the national value
@@ -89,17 +89,24 @@ abbrev pub release_speed : Release → ℕ → ℕ
 release_speed (Speed speed) national = speed
 release_speed National national = national
 
+-- the end of authority, with the speed that is allowed there (V_LOA); a stop at the supervised location
+abbrev pub the_end : End → Target
+the_end end = record { place = end.place; speed = end.speed }
+
+abbrev pub the_supervised_location : End → Target
+the_supervised_location end = record { place = end.location; speed = 0 }
+
 -- the release rule: the end of authority is the last target; or else a stop at the supervised location is, but then the
 -- release speed isn't passed
-abbrev pub released : (Option Target → ℕ) → End → ℕ → ℕ
-released permitted end national =
-    max (permitted (Some (record { place = end.end; speed = end.speed })))
-    (min (release_speed end.release national) (permitted (Some (record { place = end.location; speed = 0 }))))
+abbrev pub with_release_speed : (Option Target → ℕ) → End → ℕ → ℕ
+with_release_speed permitted end national =
+    max (permitted (Some (the_end end)))
+    (min (release_speed end.release national) (permitted (Some (the_supervised_location end))))
 
 -- without an authority there is no last target
 abbrev pub released_by : (Option Target → ℕ) → Option End → ℕ → ℕ
 released_by permitted None national = permitted None
-released_by permitted (Some end) national = released permitted end national
+released_by permitted (Some end) national = with_release_speed permitted end national
 
 abbrev pub permitted_speed : Life → Train → ℕ
 permitted_speed life train =

@@ -50,7 +50,7 @@ fn restricted<G: ProfileStore<Permille> + Drop, S: ProfileStore<CategorySpeeds> 
 ) -> Mph
     ensures { (life : Life) → StandsForLife G.profile S.profile supervision.now life → result ≡ restricted life speed }
 {
-    let stretch = supervision.standing();
+    let stretch = supervision.stretch();
     supervision.track().restrictions().least(&stretch, speed)
 }
 

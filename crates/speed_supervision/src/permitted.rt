@@ -63,7 +63,7 @@ fn permitted_speed<G: ProfileStore<Permille> + Drop, S: ProfileStore<CategorySpe
 ) -> Mph
     ensures { (life : Life) → StandsForLife G.profile S.profile supervision.now life → result ≡ permitted_speed life train.now }
 {
-    let stretch = supervision.standing();
+    let stretch = supervision.stretch();
     let bounds = bounds(supervision, train);
     let track = along(supervision);
     let brakes = train.brakes();

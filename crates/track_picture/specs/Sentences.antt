@@ -225,8 +225,8 @@ received mode entries input = record blank { begun = begun entries input; used =
 -- come into force where the maximum safe front has reached their places
 
 -- where a train of some length is; 0 where the length isn't known
-abbrev pub standing : ℕ → List TrackEntry → Span
-standing length entries = odometry.stretch (place_of entries) length
+abbrev pub span_with : ℕ → List TrackEntry → Span
+span_with length entries = odometry.stretch (place_of entries) length
 
 -- ---- at last, once the mode is known, the track is forgotten that lies more than a kilometre behind the minimum safe
 -- rear
@@ -236,4 +236,4 @@ mark_behind train = train.rear -ℤ pos 100_000
 
 -- a power-up is an exact fix at 0, and the track is forgotten behind the minimum safe rear there too
 abbrev pub powered_up : ℕ → TrackEntry
-powered_up length = record blank { mark = Some (mark_behind (standing length [])) }
+powered_up length = record blank { mark = Some (mark_behind (span_with length [])) }

@@ -4,7 +4,7 @@ ghost use Rattle.units.specs.Limits.{HasReach};
 ghost use Rattle.areas.specs.Levels.{coming};
 ghost use Rattle.track_picture.specs.Entry.{TrackEntry};
 ghost use Rattle.track_picture.specs.History.{announced_level};
-ghost use Rattle.track_picture.specs.Sentences.{standing, mark_behind};
+ghost use Rattle.track_picture.specs.Sentences.{span_with, mark_behind};
 ghost use Rattle.track_picture.specs.StandsFor.{Life, StandsForLife, grown, size_in};
 ghost use Rattle.track_picture.specs.Columns.{StandsForColumns, columns_of};
 
@@ -48,11 +48,11 @@ impl<G: ProfileStore<Permille> + Drop, S: ProfileStore<CategorySpeeds> + Drop> T
     pub fn look(&mut self, length: Length) -> Option<TrainLevel>
         ensures level { (life : Life) (event : TrackEntry)
             → (let now = grown life (record event { train = None; entered = None }) in
-            StandsForLife G.profile S.profile self.old now → result ≡ coming (standing length now.entries).max_front (announced_level now.entries)) }
+            StandsForLife G.profile S.profile self.old now → result ≡ coming (span_with length now.entries).max_front (announced_level now.entries)) }
         ensures stands { (life : Life) (event : TrackEntry)
             → (let now = grown life (record event { train = None; entered = None }) in
             StandsForLife G.profile S.profile self.old now
-            → StandsForLife G.profile S.profile self.new (grown life (record event { train = Some (standing length now.entries); entered = None }))) }
+            → StandsForLife G.profile S.profile self.new (grown life (record event { train = Some (span_with length now.entries); entered = None }))) }
         ensures size { size_in G.size S.size self.new ≡ size_in G.size S.size self.old }
     {
         let stretch = self.parts.place.stretch(length);
@@ -79,7 +79,7 @@ impl<G: ProfileStore<Permille> + Drop, S: ProfileStore<CategorySpeeds> + Drop> T
         ensures stands { (life : Life) (event : TrackEntry)
             → (let now = grown life (record event { mark = None }) in
             StandsForLife G.profile S.profile self.old now
-            → StandsForLife G.profile S.profile self.new (grown life (record event { mark = Some (mark_behind (standing length now.entries)) }))) }
+            → StandsForLife G.profile S.profile self.new (grown life (record event { mark = Some (mark_behind (span_with length now.entries)) }))) }
         ensures size { size_in G.size S.size self.new ≤ size_in G.size S.size self.old }
     {
         let stretch = self.parts.place.stretch(length);

@@ -2,7 +2,7 @@ use Rattle.std.proofs.Common.{◌≡◌, ℕ, ℤ, ap, sym, subst, ◌∙◌}
 use Rattle.units.specs.Stretches.{Span}
 use Rattle.national.specs.declared.values.Values.{Values}
 use Rattle.track_store.specs.Profiles.{Profile}
-use Rattle.mode_control.specs.Sentences.{standing_in}
+use Rattle.mode_control.specs.Sentences.{span_of}
 use Rattle.speed_profile.specs.Track.{speeds_along}
 use Rattle.limit_causes.specs.Targets.{Journey}
 use Rattle.limit_causes.specs.Supervised.{permitted_on, IsCause}
@@ -12,7 +12,7 @@ use Rattle.limit_causes.proofs.by_mode.train_cause.Goals as goal
 pub returns : goal.returns
 returns g c life s =
     let known = c.args.supervision.now in
-    let stretch : c.standing-stretch.result ≡ standing_in life = c.standing-stretch.ensures life s in
+    let stretch : c.stretch-stretch.result ≡ span_of life = c.stretch-stretch.ensures life s in
     let front = c.max_front.ensures.value ∙ ap (λ (t : Span). t.max_front) stretch in
     let bounds = c.bounds-bounds.ensures life s in
     let along = c.along-track.ensures life s in
@@ -36,7 +36,7 @@ returns g c life s =
       brakes = c.brakes-brakes.ensures i;
     } in
     let release : ℕ = c.values.result.now.release in
-    let train : Span = standing_in life in
+    let train : Span = span_of life in
     let standing : IsCause train here release (permitted_on train here release) c.supervised_cause.result =
     subst (λ (t : Span). IsCause t here release (permitted_on t here release) c.supervised_cause.result) stretch c.supervised_cause.ensures in
     let journey : IsCause train there release (permitted_on train there release) c.supervised_cause.result =

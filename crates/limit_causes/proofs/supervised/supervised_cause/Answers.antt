@@ -2,11 +2,11 @@ use Rattle.std.proofs.Common.{◌≡◌, ◌<◌, ◌≤◌, ℕ, min, ap, ◌�
 use Rattle.std.specs.Prelude.{Some}
 use Rattle.std.proofs.lemmas.Bool.Decides.{nat_tests}
 use Rattle.speed_profile.specs.Ahead.{permitted_ahead}
-use Rattle.speed_supervision.specs.Limit.{release_speed}
+use Rattle.speed_supervision.specs.Limit.{release_speed, the_end, the_supervised_location}
 use Rattle.limit_causes.specs.declared.cause.TargetAhead.{TargetAhead}
 use Rattle.limit_causes.specs.Targets.{journey_by}
-use Rattle.limit_causes.specs.Supervised.{permitted_to, at_end}
-use Rattle.limit_causes.proofs.Releasing.{at_location, end_is_target, location_is_target, of_equal, without_end, at_the_end, at_the_location, by_release}
+use Rattle.limit_causes.specs.Supervised.{permitted_to}
+use Rattle.limit_causes.proofs.Releasing.{end_is_target, location_is_target, of_equal, without_end, at_the_end, at_the_location, by_release}
 use Rattle.limit_causes.proofs.supervised.supervised_cause.Goals as goal
 
 pub returns-in_default : goal.returns-in_default
@@ -26,15 +26,15 @@ returns-then-le g c =
     let end = c.in-Some.end in
     let to : ℕ → TargetAhead → ℕ = λ limit ahead.
     permitted_ahead journey.front limit (Some ahead.target) journey.bounds journey.track journey.gradient journey.brakes in
-    let reached : c.permitted_for_either-either.result.0 ≡ permitted_to train journey (Some (at_end end)) =
+    let reached : c.permitted_for_either-either.result.0 ≡ permitted_to train journey (Some (the_end end)) =
     c.permitted_for_either-either.ensures.one ∙ (λ i. to (c.limit_on-limit.ensures i) (c.end_of-to_end.ensures i)) in
-    let stopped : c.permitted_for_either-either.result.1 ≡ permitted_to train journey (Some (at_location end)) =
+    let stopped : c.permitted_for_either-either.result.1 ≡ permitted_to train journey (Some (the_supervised_location end)) =
     c.permitted_for_either-either.ensures.other ∙ (λ i. to (c.limit_on-limit.ensures i) (c.location_of-to_location.ensures i)) in
     let release : c.release_speed-release.result ≡ release_speed end.release c.args.national = c.release_speed-release.ensures in
     let least : c.min-released.result ≡ min c.release_speed-release.result c.permitted_for_either-either.result.1 = grind (arith, nat_tests) in
     let low : c.min-released.result ≤ c.permitted_for_either-either.result.0 = grind (arith, nat_tests) in
     let decides = of_equal train journey c.args.national (permitted_to train journey (Some c.end_of-to_end.result.target))
-    (permitted_to train journey (Some (at_end end))) c.cause_to-then-le.result
+    (permitted_to train journey (Some (the_end end))) c.cause_to-then-le.result
     (ap (λ (a : TargetAhead). permitted_to train journey (Some a.target)) c.end_of-to_end.ensures) (c.cause_to-then-le.ensures c.args.national) in
     at_the_end train journey c.args.national end c.in-Some.is c.cause_to-then-le.result
     (omega (arith, low, least, reached, stopped, release)) decides
@@ -46,9 +46,9 @@ returns-then-lt g c =
     let end = c.in-Some.end in
     let to : ℕ → TargetAhead → ℕ = λ limit ahead.
     permitted_ahead journey.front limit (Some ahead.target) journey.bounds journey.track journey.gradient journey.brakes in
-    let reached : c.permitted_for_either-either.result.0 ≡ permitted_to train journey (Some (at_end end)) =
+    let reached : c.permitted_for_either-either.result.0 ≡ permitted_to train journey (Some (the_end end)) =
     c.permitted_for_either-either.ensures.one ∙ (λ i. to (c.limit_on-limit.ensures i) (c.end_of-to_end.ensures i)) in
-    let stopped : c.permitted_for_either-either.result.1 ≡ permitted_to train journey (Some (at_location end)) =
+    let stopped : c.permitted_for_either-either.result.1 ≡ permitted_to train journey (Some (the_supervised_location end)) =
     c.permitted_for_either-either.ensures.other ∙ (λ i. to (c.limit_on-limit.ensures i) (c.location_of-to_location.ensures i)) in
     let release : c.release_speed-release.result ≡ release_speed end.release c.args.national = c.release_speed-release.ensures in
     let least : c.min-released.result ≡ min c.release_speed-release.result c.permitted_for_either-either.result.1 = grind (arith, nat_tests) in
@@ -69,16 +69,16 @@ returns g c =
     let end = c.in-Some.end in
     let to : ℕ → TargetAhead → ℕ = λ limit ahead.
     permitted_ahead journey.front limit (Some ahead.target) journey.bounds journey.track journey.gradient journey.brakes in
-    let reached : c.permitted_for_either-either.result.0 ≡ permitted_to train journey (Some (at_end end)) =
+    let reached : c.permitted_for_either-either.result.0 ≡ permitted_to train journey (Some (the_end end)) =
     c.permitted_for_either-either.ensures.one ∙ (λ i. to (c.limit_on-limit.ensures i) (c.end_of-to_end.ensures i)) in
-    let stopped : c.permitted_for_either-either.result.1 ≡ permitted_to train journey (Some (at_location end)) =
+    let stopped : c.permitted_for_either-either.result.1 ≡ permitted_to train journey (Some (the_supervised_location end)) =
     c.permitted_for_either-either.ensures.other ∙ (λ i. to (c.limit_on-limit.ensures i) (c.location_of-to_location.ensures i)) in
     let release : c.release_speed-release.result ≡ release_speed end.release c.args.national = c.release_speed-release.ensures in
     let least : c.min-released.result ≡ min c.release_speed-release.result c.permitted_for_either-either.result.1 = grind (arith, nat_tests) in
     let above : c.permitted_for_either-either.result.0 < c.min-released.result = grind (arith, nat_tests) in
     let below : c.permitted_for_either-either.result.1 ≤ c.release_speed-release.result = grind (arith, nat_tests) in
     let decides = of_equal train journey c.args.national (permitted_to train journey (Some c.location_of-to_location.result.target))
-    (permitted_to train journey (Some (at_location end))) c.cause_to-2.result
+    (permitted_to train journey (Some (the_supervised_location end))) c.cause_to-2.result
     (ap (λ (a : TargetAhead). permitted_to train journey (Some a.target)) c.location_of-to_location.ensures) (c.cause_to-2.ensures c.args.national) in
     at_the_location train journey c.args.national end c.in-Some.is c.cause_to-2.result
     (omega (arith, above, least, reached, stopped)) (omega (arith, below, stopped, release)) decides

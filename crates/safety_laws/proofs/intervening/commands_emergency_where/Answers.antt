@@ -14,7 +14,7 @@ use Rattle.mode_control.specs.History.{tracks}
 use Rattle.mode_control.specs.Life.{Life}
 use Rattle.mode_control.specs.Sentences.{values_of}
 use Rattle.speed_supervision.specs.Limit.{limit}
-use Rattle.kernel.specs.Brake.{Moment, train_stood, is_above_limit_by, rolled_backward, has_begun, is_in, is_not_revalidated, owes_trip, has_rolled_too_far, brake_of}
+use Rattle.kernel.specs.Brake.{Snapshot, train_stood, is_above_limit_by, rolled_backward, has_begun, is_in, is_not_revalidated, owes_trip, has_rolled_too_far, brake_of}
 use Rattle.kernel.specs.Lives.{life_of}
 use Rattle.safety_laws.specs.Brakes.{since_standstill, speed_at}
 use Rattle.safety_laws.proofs.intervening.commands_emergency_where.Goals as goal
@@ -56,11 +56,11 @@ any_of test (y ∷ ys) x (inr later) h = later_holds (test y) (list_any test ys)
 is_more : (a b : ℕ) → a < b → nat_lt a b ≡ true
 is_more a b h = grind (arith, nat_tests)
 
-too_fast : (life : Life) (moment : Moment) → IsAmong moment (since_standstill life) → limit moment.life + 10_000 < speed_at moment →
+too_fast : (life : Life) (snapshot : Snapshot) → IsAmong snapshot (since_standstill life) → limit snapshot.life + 10_000 < speed_at snapshot →
     brake_of life ≡ brake.Emergency
-too_fast life moment there fast =
+too_fast life snapshot there fast =
     by_fifth (is_not_revalidated life) (is_in Trip life) (is_in SystemFailure life) (owes_trip life) (has_begun (is_above_limit_by 10_000) train_stood life) _
-    (any_of (is_above_limit_by 10_000) (since_standstill life) moment there (is_more (limit moment.life + 10_000) (speed_at moment) fast))
+    (any_of (is_above_limit_by 10_000) (since_standstill life) snapshot there (is_more (limit snapshot.life + 10_000) (speed_at snapshot) fast))
 
 -- the newest event is among those since standstill; a life without events has the speed 0
 module _ (kept : Kept) (cold : Cold) where
@@ -70,10 +70,10 @@ module _ (kept : Kept) (cold : Cold) where
   too_fast_now : (entries : List SupervisionEntry) → limit (at entries) + 10_000 < speed_of (tracks entries) → brake_of (at entries) ≡ brake.Emergency
   too_fast_now [] fast = absurd (let none : speed_of (tracks []) ≡ 0 = refl in omega (arith, none, fast))
   too_fast_now (event ∷ earlier) fast =
-      let now : Moment = record { event = event; life = at (event ∷ earlier) } in too_fast (at (event ∷ earlier)) now (inl refl) fast
+      let now : Snapshot = record { event = event; life = at (event ∷ earlier) } in too_fast (at (event ∷ earlier)) now (inl refl) fast
 
 pub returns-clause-too_fast : goal.returns-clause-too_fast
-returns-clause-too_fast c events moment there fast = too_fast (life_of events) moment there fast
+returns-clause-too_fast c events snapshot there fast = too_fast (life_of events) snapshot there fast
 
 pub returns-clause-now : goal.returns-clause-now
 returns-clause-now c events fast = let life = life_of events in too_fast_now life.kept life.cold life.entries fast

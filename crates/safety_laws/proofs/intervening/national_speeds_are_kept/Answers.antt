@@ -8,7 +8,7 @@ use Rattle.mode_table.specs.declared.mode.Mode.TheVariants.{StaffResponsible, Sh
 use Rattle.mode_control.specs.Conditions.{is_overridden}
 use Rattle.mode_control.specs.History.{mode_of, tracks}
 use Rattle.mode_control.specs.Life.{Life, driver_of}
-use Rattle.mode_control.specs.Sentences.{values_of, standing_in}
+use Rattle.mode_control.specs.Sentences.{values_of, span_of}
 use Rattle.speed_supervision.specs.Limit.{limit, limit_in, within_maximum, maximum_in, while_overridden, restricted, responsible_limit, unfitted_limit}
 use Rattle.track_picture.specs.History.{restrictions_of}
 use Rattle.track_store.specs.Restrictions.{speeds_at}
@@ -33,7 +33,7 @@ of_override false other speed h = absurd (let no : false ≡ true = h in cc)
 module _ (life : Life) where
   is_restricted : (speed : ℕ) → restricted life speed ≤ speed
   is_restricted speed =
-      let train = standing_in life in least_within speed (over (speeds_at (restrictions_of (tracks life.entries)) train) train.rear train.max_front)
+      let train = span_of life in least_within speed (over (speeds_at (restrictions_of (tracks life.entries)) train) train.rear train.max_front)
 
   by_staff : responsible_limit life ≤ (values_of life).staff_responsible
   by_staff =

@@ -24,7 +24,7 @@ use Rattle.mode_control.specs.History.{tracks, deeds, mode_of, on_sight_of, shun
 use Rattle.mode_control.specs.Life.{Life, left_at_power_up}
 use Rattle.mode_control.specs.Sentences.{values_of}
 use Rattle.speed_supervision.specs.Limit.{limit}
-use Rattle.kernel.specs.Brake.{Moment, moments, since, train_stood, was_within_limit, is_above_limit_by, asked_for_service, rolled_backward, has_begun, is_in, is_not_revalidated, owes_trip, has_rolled_too_far, must_stand, owes_too_long}
+use Rattle.kernel.specs.Brake.{Snapshot, snapshots, since, train_stood, was_within_limit, is_above_limit_by, asked_for_service, rolled_backward, has_begun, is_in, is_not_revalidated, owes_trip, has_rolled_too_far, must_stand, owes_too_long}
 use Rattle.kernel.specs.Lives.{life_of}
 use Rattle.kernel.proofs.Items.{trip_so}
 use Rattle.safety_laws.specs.Brakes.{since_standstill, speed_at}
@@ -78,9 +78,9 @@ module _ (kept : Kept) (cold : Cold) where
       speed_of (tracks entries) ≤ limit (at entries) + 5_000
   slow_now [] h = omega arith
   slow_now (event ∷ earlier) h =
-      let now : Moment = record { event = event; life = at (event ∷ earlier) } in
+      let now : Snapshot = record { event = event; life = at (event ∷ earlier) } in
       no_more (limit (at (event ∷ earlier)) + 5_000) (speed_of (tracks (event ∷ earlier)))
-      (none_of (is_above_limit_by 5_000) (since was_within_limit (moments (at (event ∷ earlier)))) h now (inl refl))
+      (none_of (is_above_limit_by 5_000) (since was_within_limit (snapshots (at (event ∷ earlier)))) h now (inl refl))
 
 pub returns : goal.returns
 returns c events none =
@@ -105,7 +105,7 @@ returns c events none =
       not_in_failure = another SystemFailure (mode_of life.entries) r3.0 refl;
       owes_no_trip = λ tripped. (let no : true ≡ false = sym ((trip_so events).1 tripped) ∙ r4.0 in cc);
       is_slow = slow_now life.kept life.cold life.entries r8.0;
-      was_slow = λ moment there. no_more (limit moment.life + 10_000) (speed_at moment) (none_of (is_above_limit_by 10_000) (since_standstill life) r5.0 moment there);
+      was_slow = λ snapshot there. no_more (limit snapshot.life + 10_000) (speed_at snapshot) (none_of (is_above_limit_by 10_000) (since_standstill life) r5.0 snapshot there);
       stands = λ either. still (is_in StandBy life) (is_in PostTrip life) (speed_of (tracks life.entries)) r9.0
           (elim either [ inl is ↦ inl (ap (is_mode StandBy) is) | inr is ↦ inr (ap (is_mode PostTrip) is) ]);
       rolled_little = no_more (values_of life).roll (rolled_backward life) r6.0;
@@ -114,5 +114,5 @@ returns c events none =
         | kinds.Shunting ↦ λ from is. owed_not_long now from (shunting_of life.entries) t.1 is
         | kinds.Level0 ↦ λ from is. owed_not_long now from (level_0_of life.entries) s.1 is
       ];
-      asked_nothing = λ moment there. none_of asked_for_service (since_standstill life) r7.0 moment there;
+      asked_nothing = λ snapshot there. none_of asked_for_service (since_standstill life) r7.0 snapshot there;
     }

@@ -3,7 +3,7 @@ use Rattle.mode_table.specs.declared.level.TrainLevel.{TrainLevel}
 use Rattle.areas.specs.Levels.{coming}
 use Rattle.track_picture.specs.Entry.{TrackEntry}
 use Rattle.track_picture.specs.History.{announced_level}
-use Rattle.track_picture.specs.Sentences.{standing}
+use Rattle.track_picture.specs.Sentences.{span_with}
 use Rattle.mode_control.specs.Entry.{begun}
 use Rattle.mode_control.specs.History.{tracks}
 use Rattle.mode_control.specs.Life.{track_of, length_by, grown}
@@ -17,7 +17,7 @@ returns-clause-level g c life told deed s =
     let length = c.length-length.ensures ∙ ap (λ (k : KnownModes). length_by k.driver.train_data) before.parts_are in
     let all : List TrackEntry = record told { train = None; entered = None } ∷ tracks life.entries in
     c.look-level.ensures.level (track_of life) told before.track_is
-    ∙ ap (λ (n : ℕ). coming (standing n all).max_front (announced_level all)) length
+    ∙ ap (λ (n : ℕ). coming (span_with n all).max_front (announced_level all)) length
 
 pub returns-clause-stands : goal.returns-clause-stands
 returns-clause-stands g c life told deed s =
@@ -25,12 +25,12 @@ returns-clause-stands g c life told deed s =
     let length = c.length-length.ensures ∙ ap (λ (k : KnownModes). length_by k.driver.train_data) before.parts_are in
     let all : List TrackEntry = record told { train = None; entered = None } ∷ tracks life.entries in
     let level = c.look-level.ensures.level (track_of life) told before.track_is
-    ∙ ap (λ (n : ℕ). coming (standing n all).max_front (announced_level all)) length in
+    ∙ ap (λ (n : ℕ). coming (span_with n all).max_front (announced_level all)) length in
     subst (λ (x : ℕ × Option TrainLevel). StandsForLife g.G.ProfileStore.profile g.S.ProfileStore.profile
     (record { parts = c.come_in.new.self; track = c.look-level.new.self })
-    (grown life (record (begun (record told { train = Some (standing x.0 all); entered = None }) deed) { level = x.1 })))
+    (grown life (record (begun (record told { train = Some (span_with x.0 all); entered = None }) deed) { level = x.1 })))
     (λ i. (length i, level i))
     (record {
-      parts_are = c.come_in.ensures life told (Some (standing c.length-length.result all)) deed before.parts_are;
+      parts_are = c.come_in.ensures life told (Some (span_with c.length-length.result all)) deed before.parts_are;
       track_is = c.look-level.ensures.stands (track_of life) told before.track_is;
     })

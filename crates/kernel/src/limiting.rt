@@ -1,12 +1,10 @@
-//! Why the limit is what it is, and what trips the train.
+//! Why the limit is what it is.
 ghost use Rattle.std.specs.Prelude.{◌≡◌, List};
 ghost use Rattle.events.specs.declared.input.Event.{Event};
 ghost use Rattle.kernel.specs.Lives.{life_of};
 ghost use Rattle.kernel.specs.Output.{output_after};
 ghost use Rattle.kernel.specs.StandsFor.{StandsFor};
 ghost use Rattle.limit_causes.specs.Causes.{IsLimitCause};
-ghost use Rattle.mode_control.specs.History.{tracks};
-ghost use Rattle.track_picture.specs.History.{happened_of, is_stopped};
 
 use crate::state::StateOver;
 use limit_causes::{LimitCause, limit_cause};
@@ -22,21 +20,5 @@ impl<G: ProfileStore<Permille> + Drop, S: ProfileStore<CategorySpeeds> + Drop> S
             → IsLimitCause (life_of events) (output_after events).limit result }
     {
         limit_cause(&self.supervision)
-    }
-
-    /// Whether linking or a balise group asked for a trip in the last event (SUBSET-026, 3.4.4, 3.16.2).
-    pub fn asked_for_trip(&self) -> bool
-        ensures { (events : List Event) → StandsFor G.profile S.profile self.now events
-            → result ≡ (happened_of (tracks (life_of events).entries)).asked.trip }
-    {
-        self.supervision.track().happened().asked.trip
-    }
-
-    /// Whether an authority was used in the last event whose speed is 0, a stop (SUBSET-026, 3.8).
-    pub fn is_stopped(&self) -> bool
-        ensures { (events : List Event) → StandsFor G.profile S.profile self.now events
-            → result ≡ is_stopped (tracks (life_of events).entries) }
-    {
-        self.supervision.track().is_stopped()
     }
 }

@@ -1,8 +1,8 @@
--- What becomes of a balise group that was read, or of a broken one (SUBSET-026, 3.4.4 and 3.16.2; the order of the rows,
--- and that the wrong direction gives a trip: this project's profile). Places are centimetres. Lists of entries have the
--- newest first; lists of announcements are in the order of packet 5, and their numbers rise. A reader may take for
--- granted that the place of a group is that of the front when the group's balise was read, and that what is known of
--- linking holds all that the life brought before this group.
+-- What becomes of a balise group that was read, or of a broken one (SUBSET-026, 3.4.4 and 3.16.2; the order of the rows:
+-- this project's profile). Places are centimetres. Lists of entries have the newest first; lists of announcements are in
+-- the order of packet 5, and their numbers rise. A reader may take for granted that the place of a group is that of the
+-- front when the group's balise was read, and that what is known of linking holds all that the life brought before this
+-- group.
 use Rattle.std.specs.Prelude.{ℕ, ℤ, ◌+ℤ◌, int_lt, Bool, true, false, not, ◌==◌, ◌&&◌, nat_lt, if◌then◌else◌, Option, Some, None, List, [], ◌∷◌, filter, find}
 use Rattle.std.specs.Option.{option_map_or}
 use Rattle.vars.specs.declared.group.GroupIdentity.{GroupIdentity}
@@ -71,7 +71,7 @@ abbrev pub misses_before : KnownLinks → Announcement → Effect
 misses_before known a = misses known.has_missed (filter (is_before a.number) known.left)
 
 -- of a linked group while others are announced, by the announcement that is meant, if there is one; the wrong direction
--- gives a trip alone, whatever the announcement's own reaction is
+-- gives a trip alone, whatever the announcement's own reaction is (3.16.2.3)
 abbrev pub judged_by : KnownLinks → GroupRead → Option Announcement → Judgement
 judged_by known group None = judged Ignore no_effect  -- 3.4.4
 judged_by known group (Some a) = first_that_holds (

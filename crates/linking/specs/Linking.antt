@@ -1,5 +1,5 @@
--- Announced balise groups, read off what one life brought (SUBSET-026, 3.4.4 and 3.16.2; what two missed groups in turn
--- do: this project's profile). Lists of entries have the newest first. Places are centimetres.
+-- Announced balise groups, read off what one life brought (SUBSET-026, 3.4.4 and 3.16.2). Lists of entries have the
+-- newest first. Places are centimetres.
 use Rattle.std.specs.Prelude.{ℕ, ◌+◌, ◌*◌, ◌<◌, ℤ, pos, ◌+ℤ◌, ◌-ℤ◌, int_lt, Bool, true, false, not, ◌==◌, ◌||◌, nat_le, if◌then◌else◌, List, [], ◌∷◌, filter, length, AllPairs}
 use Rattle.std.specs.Int.{from_bool}
 use Rattle.std.specs.List.{list_any}

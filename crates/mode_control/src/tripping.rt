@@ -19,11 +19,12 @@ use units::{NoMemory, Permille, Stretch};
 /// holds (SUBSET-026, 4.6; the rows: this project's profile).
 #[derive(Clone, Copy)]
 pub enum TripCause {
-    /// Rows 3 to 5: the minimum safe front is above the end of authority, where no speed is allowed (3.8).
+    /// Rows 3 to 5: the minimum safe front is above the end of authority, where no speed is allowed (4.6.3, condition
+    /// 12).
     EndPassed,
     /// Rows 3 to 5: linking or a balise group asks for a trip in this event (3.4.4, 3.16.2).
     Linking,
-    /// Rows 3 to 5: an authority is used in this event whose speed V_MAIN is 0 (3.8).
+    /// Rows 3 to 5: an authority is used in this event whose speed V_MAIN is 0 (3.11.6).
     Stop,
     /// Row 6: the path since Staff Responsible was entered is above D_NVSTFF (4.4).
     StaffDistance,

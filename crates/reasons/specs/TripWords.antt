@@ -19,8 +19,8 @@ trip_sentence_of StaffDistance = codes "the path in Staff Responsible was above 
 trip_sentence_of Level = codes "the level was 1, and the authority or the track ahead was not known"
 
 abbrev pub trip_section_of : TripCause → List ℕ
-trip_section_of EndPassed = codes "3.8"
+trip_section_of EndPassed = codes "4.6.3"
 trip_section_of Linking = codes "3.4.4, 3.16.2"
-trip_section_of Stop = codes "3.8"
+trip_section_of Stop = codes "3.11.6"
 trip_section_of StaffDistance = codes "4.4"
 trip_section_of Level = codes "5.10"

@@ -225,7 +225,7 @@ pub fn limit_section(kind: LimitKind) -> &'static str
         LimitKind::Shunting => "3.11.7, 3.18.2",
         LimitKind::Unfitted => "3.11.7, 3.18.2",
         LimitKind::Maximum => "3.11.8",
-        LimitKind::Main => "3.8",
+        LimitKind::Main => "3.11.6",
         LimitKind::End => "3.8",
         LimitKind::StaticSpeed => "3.11.3",
         LimitKind::Restriction => "3.11.5",

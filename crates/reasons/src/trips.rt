@@ -75,9 +75,9 @@ pub fn trip_section(cause: TripCause) -> &'static str
     ensures { result.now ≡ trip_section_of cause }
 {
     match cause {
-        TripCause::EndPassed => "3.8",
+        TripCause::EndPassed => "4.6.3",
         TripCause::Linking => "3.4.4, 3.16.2",
-        TripCause::Stop => "3.8",
+        TripCause::Stop => "3.11.6",
         TripCause::StaffDistance => "4.4",
         TripCause::Level => "5.10",
     }

@@ -30,9 +30,9 @@ CAUSES = {
                       "ends when the driver acknowledges, a mode deletes it, or a further transition begins it anew")}
 """Of each cause, in the order of the brake table, what it says and how it ends, in the words of `etcs_lab why`."""
 TRIP_CAUSES = {
-    "end_passed": ("the minimum safe front was past the end of authority", "3.8"),
+    "end_passed": ("the minimum safe front was past the end of authority", "4.6.3"),
     "linking": ("linking or a balise group asked for it", "3.4.4, 3.16.2"),
-    "stop": ("an authority with V_MAIN 0 was used", "3.8"),
+    "stop": ("an authority with V_MAIN 0 was used", "3.11.6"),
     "staff_distance": ("the path in Staff Responsible was above D_NVSTFF", "4.4"),
     "level": ("the level was 1, and the authority or the track ahead was not known", "5.10")}
 """Of each cause of a trip what it says, in the words of `etcs_lab why`, and its sections of SUBSET-026."""

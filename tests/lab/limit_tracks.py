@@ -53,7 +53,7 @@ BY_HAND = (
     ("train_maximum", (*ENTERED, "enter-train-data 20000 25000 70 0 15", "start"),
      "; the limit is the greatest speed of the train: 25000 m/h (3.11.8)\n"),
     # V_MAIN 6 is 30 km/h.
-    ("main_speed", (heard(authority(3_000, main=6), LEVEL, FAST), *DRIVER), "; the limit is V_MAIN of the authority: 30000 m/h (3.8)\n"),
+    ("main_speed", (heard(authority(3_000, main=6), LEVEL, FAST), *DRIVER), "; the limit is V_MAIN of the authority: 30000 m/h (3.11.6)\n"),
     # At 29,000 the front is at 29,000 + 500 + 1,450, behind the end at 30,000.
     ("end_speed", (heard(authority(300, end_speed=6), LEVEL, FAST), *DRIVER, *["move 10000 20000"] * 2, "move 9000 20000"),
      "; the limit is V_LOA, the end of authority being reached: 30000 m/h (3.8)\n"),

@@ -58,7 +58,7 @@ TRIPS_BY_HAND = (
                                  authority(3_000), LEVEL, FAST), *SR, "move 3000 20000"), 6,
      "; the train was tripped: linking or a balise group asked for it (event 6, 3.4.4, 3.16.2); no train may run in this mode: 0 m/h (4.4)\n"),
     ("V_MAIN 0", (*SUPERVISED, heard(authority(3_000, main=0), group=3)), 6,
-     "; the train was tripped: an authority with V_MAIN 0 was used (event 6, 3.8); no train may run in this mode: 0 m/h (4.4)\n"),
+     "; the train was tripped: an authority with V_MAIN 0 was used (event 6, 3.11.6); no train may run in this mode: 0 m/h (4.4)\n"),
     # D_NVSTFF is 40 m: a path of 4,000 cm isn't above it, one of 4,001 cm is.
     ("too far in Staff Responsible", (*SR, heard(NATIONAL, group=9), "move 4000 10000", "move 1 10000"), 7,
      "; the train was tripped: the path in Staff Responsible was above D_NVSTFF (event 7, 4.4); no train may run in this mode: 0 m/h (4.4)\n"),
@@ -71,7 +71,7 @@ TRIPS_BY_HAND = (
      "mode: 0 m/h (4.4)\n"),
     # It stays told while the trip is owed.
     ("the event behind a trip", (*SUPERVISED, heard(authority(3_000, main=0), group=3), "move 10 0"), 7,
-     "; the train was tripped: an authority with V_MAIN 0 was used (event 6, 3.8); no train may run in this mode: 0 m/h (4.4)\n"),
+     "; the train was tripped: an authority with V_MAIN 0 was used (event 6, 3.11.6); no train may run in this mode: 0 m/h (4.4)\n"),
 )
 # .. and of the examples: in "trip" the minimum safe front is past the end of authority at event 10, which the driver acknowledges at event 13;
 # in "linking_fault" a group that was announced with the service brake is missed at event 11; in "on_sight" the acknowledgement that a
@@ -83,10 +83,10 @@ IN_EXAMPLES = (
      "(since event 10, ends when the driver acknowledges the trip at standstill); the speed was above the limit by more than 10000 m/h, and the "
      "train has not stood since (since event 8, ends when the train stands); the speed was above the limit by more than 5000 m/h, and not within "
      "it since (since event 8, ends when the speed is within the limit); the train was tripped: the minimum safe front was past the end of "
-     "authority (event 10, 3.8); no train may run in this mode: 0 m/h (4.4)\n"),
+     "authority (event 10, 4.6.3); no train may run in this mode: 0 m/h (4.4)\n"),
     ("trip", 11, "rolled backward 0 cm of 200 cm; the mode is Trip (since event 10, ends when the driver acknowledges the trip at standstill); a "
      "trip is not acknowledged (since event 10, ends when the driver acknowledges the trip at standstill); the train was tripped: the minimum "
-     "safe front was past the end of authority (event 10, 3.8); no train may run in this mode: 0 m/h (4.4)\n"),
+     "safe front was past the end of authority (event 10, 4.6.3); no train may run in this mode: 0 m/h (4.4)\n"),
     ("trip", 13, "event 13: brake none, limit 0 m/h, speed 0 m/h, rolled backward 0 cm of 200 cm; no train may run in this mode: 0 m/h (4.4)\n"),
     ("linking_fault", 11, "; linking or a balise group asked for the service brake, and the train has not stood since (since event 11, ends when "
      "the train stands); the limit is the static speed over the train: 120000 m/h at 42250 cm (3.11.3)\n"),

@@ -86,7 +86,7 @@ def examples(rows):
         first = rows.page(name, charts=charts, text=["each event agrees with the kernel", "IC 704"])
         rows.wants(f"{name}, the same page twice", rows.page(name, charts=charts), first)
     rows.page("trip", charts=2, text=["the mode is Trip: since event 10", "not stood since: since event 8, no longer behind event", "15.0 km/h", "event 8", "the driver starts (not accepted)", "300.00 – 327.00", "end announced by event 1",
-              "the train was tripped: the minimum safe front was past the end of authority (event 10, 3.8)",
+              "the train was tripped: the minimum safe front was past the end of authority (event 10, 4.6.3)",
               "life 1, event 10, at 325.00 m", "perhaps not: the outputs of block", "1 power-up, each with the emergency brake"])
     row = next(row for row in csv.DictReader(io.StringIO(rows.lab("table", "trip"))) if row["event"] == "11")
     rows.wants("the cause of a trip in the table", (row["mode"], row["trip_cause"], row["trip_cause_event"]), ("TR", "end_passed", "10"))

@@ -18,7 +18,7 @@ KINDS = {
     "national_shunting": ("the limit is the national value V_NVSHUNT", "3.11.7, 3.18.2"),
     "national_unfitted": ("the limit is the national value V_NVUNFIT", "3.11.7, 3.18.2"),
     "train_maximum": ("the limit is the greatest speed of the train", "3.11.8"),
-    "main_speed": ("the limit is V_MAIN of the authority", "3.8"),
+    "main_speed": ("the limit is V_MAIN of the authority", "3.11.6"),
     "end_speed": ("the limit is V_LOA, the end of authority being reached", "3.8"),
     "static_speed": ("the limit is the static speed over the train", "3.11.3"),
     "restriction": ("the limit is that of a temporary speed restriction over the train", "3.11.5"),

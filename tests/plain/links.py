@@ -83,7 +83,7 @@ class Links:
         if not entry:
             return Verdict(IGNORE)
         if closed.nominal is not None and closed.nominal != entry.nominal:
-            self.left.remove(entry)  # the wrong way is a trip, whatever its own reaction is (this project's)
+            self.left.remove(entry)  # the wrong way is a trip, whatever its own reaction is (3.16.2.3)
             return Verdict(REACTION, entry, True)
         if max_front < entry.first_place():
             self.left.remove(entry)  # too early

@@ -42,9 +42,9 @@ WORDS = {
 
 # Of each row that led to Trip, and of rows 3 to 5 by the first condition that held: what it says, and the sections that it is from.
 TRIPS = {
-    "end_passed": ("the minimum safe front was past the end of authority", "3.8"),
+    "end_passed": ("the minimum safe front was past the end of authority", "4.6.3"),
     "linking": ("linking or a balise group asked for it", "3.4.4, 3.16.2"),
-    "stop": ("an authority with V_MAIN 0 was used", "3.8"),
+    "stop": ("an authority with V_MAIN 0 was used", "3.11.6"),
     "staff_distance": ("the path in Staff Responsible was above D_NVSTFF", "4.4"),
     "level": ("the level was 1, and the authority or the track ahead was not known", "5.10"),
 }

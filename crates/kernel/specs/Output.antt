@@ -15,7 +15,7 @@ use Rattle.mode_control.specs.History.{tracks, mode_of, on_sight_of, shunting_of
 use Rattle.mode_control.specs.Life.{Life, driver_of}
 use Rattle.track_picture.specs.History.{place_of, speed_of}
 use Rattle.kernel.specs.Brake.{brake_of, is_not_revalidated}
-use Rattle.kernel.specs.Lives.{life_of}
+use Rattle.kernel.specs.Lives.{Story, life_of, past_at}
 
 -- a datum that holds
 abbrev pub where_valid : {A : Type 0} → Datum A → Option A
@@ -43,13 +43,23 @@ output_of life = record {
   indications = indications_of life;
 }
 
+-- where the train is thought to be, and how far that may be wrong to either side
+abbrev pub estimate_in : Life → ℤ
+estimate_in life = estimate (place_of (tracks life.entries))
+
+abbrev pub uncertainty_in : Life → ℕ
+uncertainty_in life = uncertainty (place_of (tracks life.entries))
+
 -- after a list of events, the newest first
 abbrev pub output_after : List Event → Output
 output_after events = output_of (life_of events)
 
--- where the train is thought to be after it, and how far that may be wrong to either side
 abbrev pub estimate_after : List Event → ℤ
-estimate_after events = estimate (place_of (tracks (life_of events).entries))
+estimate_after events = estimate_in (life_of events)
 
 abbrev pub uncertainty_after : List Event → ℕ
-uncertainty_after events = uncertainty (place_of (tracks (life_of events).entries))
+uncertainty_after events = uncertainty_in (life_of events)
+
+-- after a story
+abbrev pub output_at : Story → Output
+output_at story = output_of (past_at story).life

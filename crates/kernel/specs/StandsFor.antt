@@ -1,4 +1,4 @@
--- What the kernel knows represents a life, and so a list of events (this project's profile). Distances are centimetres,
+-- What the kernel knows represents a life, and so a past or a list of events (this project's profile). Distances are centimetres,
 -- speeds metres per hour.
 use Rattle.std.specs.Prelude.{◌≡◌, ℕ, ◌-◌, ◌^◌, ℤ, min, Option, Some, None, List, ◌∷◌}
 use Rattle.driver.specs.declared.datum.Datum.{Datum}
@@ -19,7 +19,7 @@ use Rattle.kernel.specs.declared.counts.Counts.{Counts}
 use Rattle.kernel.specs.declared.sight.Sight.{Sight}
 use Rattle.kernel.specs.declared.window.Window.{Window}
 use Rattle.kernel.specs.Brake.{stands, train_stood, was_within_limit, is_above_limit_by, asked_for_service, backward_at, rolled_backward, has_begun}
-use Rattle.kernel.specs.Lives.{counts_of, life_of}
+use Rattle.kernel.specs.Lives.{Past, kept_of, counts_of, life_of}
 use Rattle.kernel.specs.Position.{position_at_power_up}
 
 -- what the brakes remember, of the rows of their table that begin at one event and end at another; the movement
@@ -75,7 +75,12 @@ pub record StandsForLife {G S : Type 0} (gradients_in : G → Profile ℤ) (spee
   pub parts_are : known.parts ≡ parts_of life
   pub supervision_is : mode_control.StandsForLife gradients_in speeds_in known.supervision life
 
--- .. and for a list of events
+-- .. a past
+pub record StandsAt {G S : Type 0} (gradients_in : G → Profile ℤ) (speeds_in : S → Profile CategorySpeeds) (known : Knowledge G S) (past : Past) : Type 0 where
+  pub life_is : StandsForLife gradients_in speeds_in known past.life
+  pub kept_is : past.kept ≡ kept_of known.counts past.life
+
+-- .. and a list of events
 pub record StandsFor {G S : Type 0} (gradients_in : G → Profile ℤ) (speeds_in : S → Profile CategorySpeeds) (known : Knowledge G S) (events : List Event) : Type 0 where
   pub life_is : StandsForLife gradients_in speeds_in known (life_of events)
   pub counts_are : known.counts ≡ counts_of events

@@ -7,7 +7,7 @@ use Rattle.mode_table.specs.declared.mode.Mode.TheVariants.{Trip}
 use Rattle.mode_table.specs.Modes.{is_mode}
 use Rattle.mode_control.specs.Tripping.{trip_by}
 use Rattle.mode_control.specs.declared.tripping.TripCause.{TripCause}
-use Rattle.kernel.specs.Lives.{life_of}
+use Rattle.kernel.specs.Lives.{Past, life_of}
 use Rattle.kernel.specs.Output.{output_after}
 
 -- the row of the mode table that led to Trip; none where the event didn't enter it, as no power-up does
@@ -15,6 +15,11 @@ abbrev pub trip_at : List Event → Option TripCause
 trip_at [] = None
 trip_at (PowerUp cold ∷ events) = None
 trip_at (Input input ∷ events) = trip_by (life_of events) input
+
+-- the same of an event behind a past
+abbrev pub trip_behind : Past → Event → Option TripCause
+trip_behind past (PowerUp cold) = None
+trip_behind past (Input input) = trip_by past.life input
 
 -- an event has a cause exactly where the mode behind it is Trip, and that before it wasn't
 abbrev pub TripsHaveCauses : Type 0

@@ -1,10 +1,8 @@
 //! What the brakes are commanded to do, row by row of their table, and why.
-ghost use Rattle.std.specs.Prelude.{◌≡◌, ◌-◌, ◌^◌, ◌||◌, min, List};
-ghost use Rattle.events.specs.declared.input.Event.{Event};
+ghost use Rattle.std.specs.Prelude.{◌≡◌, ◌-◌, ◌^◌, ◌||◌, min};
 ghost use Rattle.kernel.specs.Brake.{rolled_backward, has_rolled_too_far, must_stand, owes_too_long, brake_of, causes_of};
-ghost use Rattle.kernel.specs.Causes.{marked, causes_after};
-ghost use Rattle.kernel.specs.Lives.{life_of};
-ghost use Rattle.kernel.specs.StandsFor.{StandsForLife, StandsFor};
+ghost use Rattle.kernel.specs.Causes.{marked};
+ghost use Rattle.kernel.specs.StandsFor.{StandsForLife};
 ghost use Rattle.mode_control.specs.History.{tracks};
 ghost use Rattle.mode_control.specs.Life.{Life};
 ghost use Rattle.mode_control.specs.Sentences.{values_of};
@@ -121,31 +119,29 @@ impl<G: ProfileStore<Permille> + Drop, S: ProfileStore<CategorySpeeds> + Drop> S
     /// Why the brakes are commanded after the last event: all rows of the brake table that hold (SUBSET-026, 3.14; the
     /// rows: this project's profile). Takes no memory, and is worked out where it is asked alone.
     pub fn brake_causes(&self) -> BrakeCauses
-        ensures { (events : List Event) → StandsFor G.profile S.profile self.now events → marked result ≡ causes_after events }
+        ensures { (life : Life) → StandsForLife G.profile S.profile self.now life → marked result ≡ causes_of life }
     {
         self.causes()
     }
 
     /// The speed of the last reading of this life, in metres per hour; 0 before the first one.
     pub fn speed(&self) -> Mph
-        ensures { (events : List Event) → StandsFor G.profile S.profile self.now events
-            → result ≡ speed_of (tracks (life_of events).entries) }
+        ensures { (life : Life) → StandsForLife G.profile S.profile self.now life → result ≡ speed_of (tracks life.entries) }
     {
         self.supervision.track().speed()
     }
 
     /// How far the train has rolled backward since it stood, in centimetres, up to the greatest number of 64 bits.
     pub fn rolled_backward(&self) -> u64
-        ensures { (events : List Event) → StandsFor G.profile S.profile self.now events
-            → result ≡ min (rolled_backward (life_of events)) (2 ^ 64 - 1) }
+        ensures { (life : Life) → StandsForLife G.profile S.profile self.now life
+            → result ≡ min (rolled_backward life) (2 ^ 64 - 1) }
     {
         self.parts.window.backward
     }
 
     /// How far it may roll backward, in centimetres: the national value D_NVROLL that is in force.
     pub fn allowed_backward(&self) -> u64
-        ensures { (events : List Event) → StandsFor G.profile S.profile self.now events
-            → result ≡ (values_of (life_of events)).roll }
+        ensures { (life : Life) → StandsForLife G.profile S.profile self.now life → result ≡ (values_of life).roll }
     {
         u64::from(self.supervision.track().national().values().roll.get())
     }

@@ -2,11 +2,11 @@
 ghost use Rattle.std.specs.Prelude.{◌≡◌, List, ◌∷◌};
 ghost use Rattle.events.specs.declared.input.Event.{Event};
 ghost use Rattle.events.specs.declared.input.Event.TheVariants as event;
-ghost use Rattle.kernel.specs.Lives.{kept_of, left_by, kept_by};
-ghost use Rattle.kernel.specs.Output.{output_after, estimate_after, uncertainty_after};
+ghost use Rattle.kernel.specs.Lives.{Past, past_after, kept_of, left_by, kept_by};
+ghost use Rattle.kernel.specs.Output.{output_of, output_after, estimate_in, uncertainty_in};
 ghost use Rattle.kernel.specs.Position.{position_of};
 ghost use Rattle.kernel.specs.Quiet.{HasNoTrack};
-ghost use Rattle.kernel.specs.StandsFor.{StandsForLife, StandsFor};
+ghost use Rattle.kernel.specs.StandsFor.{StandsForLife, StandsAt, StandsFor};
 ghost use Rattle.mode_control.specs.Life.{Life};
 
 use crate::position::position_by;
@@ -48,7 +48,8 @@ impl<G: ProfileStore<Permille> + Drop, S: ProfileStore<CategorySpeeds> + Drop> S
 
     /// What a power-up keeps (SUBSET-026, 4.10; what: this project's profile). Takes no memory.
     pub fn kept(&self) -> Kept
-        ensures { (events : List Event) → StandsFor G.profile S.profile self.now events → result ≡ kept_by events }
+        ensures lists { (events : List Event) → StandsFor G.profile S.profile self.now events → result ≡ kept_by events }
+        ensures pasts { (past : Past) → StandsAt G.profile S.profile self.now past → result ≡ past.kept }
     {
         self.kept_of_life()
     }
@@ -59,6 +60,10 @@ impl<G: ProfileStore<Permille> + Drop, S: ProfileStore<CategorySpeeds> + Drop> S
     pub fn power_up(alloc: Global, kept: &Kept, cold: Cold) -> (Self, Output)
         ensures stands { (events : List Event) → left_by cold kept.now ≡ left_by cold (kept_by events) → StandsFor G.profile S.profile result.0 (event.PowerUp cold ∷ events) }
         ensures output { (events : List Event) → left_by cold kept.now ≡ left_by cold (kept_by events) → result.1 ≡ output_after (event.PowerUp cold ∷ events) }
+        ensures begun { (past : Past) → left_by cold kept.now ≡ left_by cold past.kept
+            → StandsAt G.profile S.profile result.0 (past_after past (event.PowerUp cold)) }
+        ensures answer { (past : Past) → left_by cold kept.now ≡ left_by cold past.kept
+            → result.1 ≡ output_of (past_after past (event.PowerUp cold)).life }
         ensures track { HasNoTrack G.size S.size result.0 }
     {
         let state = StateOver::begin(alloc, kept.copy(), cold);
@@ -69,8 +74,9 @@ impl<G: ProfileStore<Permille> + Drop, S: ProfileStore<CategorySpeeds> + Drop> S
     /// Where the train is thought to be, in centimetres from where its life began, and how far that may be wrong to
     /// either side. Takes no memory.
     pub fn place_of(&self) -> (Estimate, u64)
-        ensures estimate { (events : List Event) → StandsFor G.profile S.profile self.now events → result.0 ≡ estimate_after events }
-        ensures uncertainty { (events : List Event) → StandsFor G.profile S.profile self.now events → result.1 ≡ uncertainty_after events }
+        ensures estimate { (life : Life) → StandsForLife G.profile S.profile self.now life → result.0 ≡ estimate_in life }
+        ensures uncertainty { (life : Life) → StandsForLife G.profile S.profile self.now life
+            → result.1 ≡ uncertainty_in life }
     {
         let place = self.supervision.track().place();
         let estimate = Estimate::new(place.estimate().get()).unwrap();

@@ -2,9 +2,9 @@
 ghost use Rattle.std.specs.Prelude.{◌≡◌, List, ◌∷◌, IsOk, OnOk, OnErr};
 ghost use Rattle.events.specs.declared.input.Event.{Event};
 ghost use Rattle.events.specs.declared.input.Event.TheVariants as event;
-ghost use Rattle.kernel.specs.Lives.{counted};
+ghost use Rattle.kernel.specs.Lives.{Past, past_after, counted};
 ghost use Rattle.kernel.specs.Quiet.{HasRoomFor, HasNoTrack};
-ghost use Rattle.kernel.specs.StandsFor.{StandsForLife, StandsFor, parts_of, sight_at};
+ghost use Rattle.kernel.specs.StandsFor.{StandsForLife, StandsAt, StandsFor, parts_of, sight_at};
 ghost use Rattle.mode_control.specs.Entry.{SupervisionEntry};
 ghost use Rattle.mode_control.specs.Life.{Life, grown};
 ghost use Rattle.mode_control.specs.Sentences.{entry_of};
@@ -75,6 +75,8 @@ impl<G: ProfileStore<Permille> + Drop, S: ProfileStore<CategorySpeeds> + Drop> S
     fn begin_again(&mut self, alloc: Global, cold: Cold)
         ensures stands { (events : List Event) → StandsFor G.profile S.profile self.old events
             → StandsFor G.profile S.profile self.new (event.PowerUp cold ∷ events) }
+        ensures reaches { (past : Past) → StandsAt G.profile S.profile self.old past
+            → StandsAt G.profile S.profile self.new (past_after past (event.PowerUp cold)) }
         ensures track { HasNoTrack G.size S.size self.new }
     {
         *self = StateOver::begin(alloc, self.kept(), cold);
@@ -88,6 +90,8 @@ impl<G: ProfileStore<Permille> + Drop, S: ProfileStore<CategorySpeeds> + Drop> S
             → OnOk result (HasNoTrack G.size S.size self.new) }
         ensures stands { OnOk result ((events : List Event) → StandsFor G.profile S.profile self.old events
             → StandsFor G.profile S.profile self.new (event.now ∷ events)) }
+        ensures reaches { OnOk result ((past : Past) → StandsAt G.profile S.profile self.old past
+            → StandsAt G.profile S.profile self.new (past_after past event.now)) }
         ensures err { OnErr result (self.new ≡ self.old) }
     {
         match event {

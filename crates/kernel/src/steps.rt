@@ -2,9 +2,10 @@
 ghost use Rattle.std.specs.Prelude.{◌≡◌, List, ◌∷◌, IsOk, IsOkAnd, IfOk, OnOk, OnErr};
 ghost use Rattle.events.specs.declared.input.Event.{Event};
 ghost use Rattle.events.specs.declared.input.Event.TheVariants.{PowerUp};
-ghost use Rattle.kernel.specs.Output.{output_after};
+ghost use Rattle.kernel.specs.Lives.{Past, past_after};
+ghost use Rattle.kernel.specs.Output.{output_of, output_after};
 ghost use Rattle.kernel.specs.Quiet.{HasRoomFor, HasNoTrack};
-ghost use Rattle.kernel.specs.StandsFor.{StandsFor};
+ghost use Rattle.kernel.specs.StandsFor.{StandsAt, StandsFor};
 ghost use Rattle.mode_table.specs.declared.statuses.Cold.{Cold};
 
 use crate::state::StateOver;
@@ -53,6 +54,10 @@ impl<G: ProfileStore<Permille> + Drop, S: ProfileStore<CategorySpeeds> + Drop> S
             → StandsFor G.profile S.profile self.new (event.now ∷ events)) }
         ensures output { IfOk result (λ output. (events : List Event) → StandsFor G.profile S.profile self.old events
             → output ≡ output_after (event.now ∷ events)) }
+        ensures reaches { OnOk result ((past : Past) → StandsAt G.profile S.profile self.old past
+            → StandsAt G.profile S.profile self.new (past_after past event.now)) }
+        ensures answers { IfOk result (λ output. (past : Past) → StandsAt G.profile S.profile self.old past
+            → output ≡ output_of (past_after past event.now).life) }
         ensures refused { OnErr result (self.new ≡ self.old) }
     {
         self.take(alloc, event)?;

@@ -1,12 +1,11 @@
 //! Why Trip is entered.
-ghost use Rattle.std.specs.Prelude.{◌≡◌, false, List, ◌∷◌, IsOk, IfOk};
-ghost use Rattle.events.specs.declared.input.Event.{Event};
+ghost use Rattle.std.specs.Prelude.{◌≡◌, false, IsOk, IfOk};
 ghost use Rattle.events.specs.declared.input.Event.TheVariants as event;
-ghost use Rattle.kernel.specs.Output.{output_after};
 ghost use Rattle.kernel.specs.Quiet.{HasRoomFor, HasNoTrack};
-ghost use Rattle.kernel.specs.StandsFor.{StandsFor};
-ghost use Rattle.kernel.specs.Trips.{trip_at};
-ghost use Rattle.mode_control.specs.Tripping.{leads_to_trip};
+ghost use Rattle.kernel.specs.StandsFor.{StandsForLife};
+ghost use Rattle.mode_control.specs.History.{mode_of};
+ghost use Rattle.mode_control.specs.Life.{Life};
+ghost use Rattle.mode_control.specs.Tripping.{trip_by, leads_to_trip};
 
 use crate::state::StateOver;
 use events::Input;
@@ -22,10 +21,10 @@ impl<G: ProfileStore<Permille> + Drop, S: ProfileStore<CategorySpeeds> + Drop> S
     /// alone: NoMemory where memory is refused for that. None is taken in a mode from which no row leads to Trip; nor
     /// where no restriction and no profile is kept, nor room for one, of an input that uses no packet.
     pub fn trip_by(&self, alloc: Global, input: &Input) -> Result<Option<TripCause>, NoMemory>
-        ensures cause { IfOk result (λ cause. (events : List Event) → StandsFor G.profile S.profile self.now events
-            → cause ≡ trip_at (event.Input input.now ∷ events)) }
-        ensures rowless { (events : List Event) → StandsFor G.profile S.profile self.now events
-            → leads_to_trip (output_after events).mode ≡ false → IsOk result }
+        ensures cause { IfOk result (λ cause. (life : Life) → StandsForLife G.profile S.profile self.now life
+            → cause ≡ trip_by life input.now) }
+        ensures rowless { (life : Life) → StandsForLife G.profile S.profile self.now life
+            → leads_to_trip (mode_of life.entries) ≡ false → IsOk result }
         ensures quiet { HasNoTrack G.size S.size self.now → HasRoomFor G.room S.room self.now (event.Input input.now)
             → IsOk result }
     {

@@ -1,7 +1,7 @@
 -- What contracts see of a life that is run again to tell why it brakes (this project's profile).
-use Rattle.std.specs.Prelude.{◌≡◌, ℕ, ℤ, Option, List}
-use Rattle.events.specs.declared.input.Event.{Event}
-use Rattle.kernel.specs.StandsFor.{Knowledge, StandsFor}
+use Rattle.std.specs.Prelude.{◌≡◌, ℕ, ℤ, Option}
+use Rattle.kernel.specs.Lives.{Story, past_at}
+use Rattle.kernel.specs.StandsFor.{Knowledge, StandsAt}
 use Rattle.speed_profile.specs.declared.told.CategorySpeeds.{CategorySpeeds}
 use Rattle.track_store.specs.Segments.{Segmented, profile_kept}
 use Rattle.reasons.specs.declared.runs.Runs.{Runs}
@@ -17,9 +17,9 @@ pub record Reasoned : Type 0 where
   pub runs : Runs
   pub trip : Option TripTold
 
--- it represents a list of events, the newest first
-pub record Reasons (events : List Event) (known : Reasoned) : Type 0 where
-  pub knows : StandsFor profile_kept profile_kept known.state events
-  pub numbered : known.next ≡ number_behind events
-  pub runs_are : known.runs ≡ runs_of events
-  pub trip_is : known.trip ≡ trip_of events
+-- it represents a story
+pub record Reasons (story : Story) (known : Reasoned) : Type 0 where
+  pub knows : StandsAt profile_kept profile_kept known.state (past_at story)
+  pub numbered : known.next ≡ number_behind story
+  pub runs_are : known.runs ≡ runs_of story
+  pub trip_is : known.trip ≡ trip_of story

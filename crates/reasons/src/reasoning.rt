@@ -1,13 +1,12 @@
 //! A life that is run again, with why it brakes.
-ghost use Rattle.std.specs.Prelude.{◌≡◌, List, ◌∷◌, IfOk, OnOk, OnErr};
-ghost use Rattle.events.specs.declared.input.Event.{Event};
+ghost use Rattle.std.specs.Prelude.{◌≡◌, IfOk, OnOk, OnErr};
 ghost use Rattle.events.specs.declared.input.Event.TheVariants.{PowerUp};
-ghost use Rattle.kernel.specs.Causes.{marked, causes_after};
-ghost use Rattle.kernel.specs.Lives.{left_by, kept_by, life_of};
-ghost use Rattle.kernel.specs.Output.{output_after};
-ghost use Rattle.kernel.specs.Trips.{trip_at};
+ghost use Rattle.kernel.specs.Causes.{marked};
+ghost use Rattle.kernel.specs.Lives.{Story, onward, past_at, left_by};
+ghost use Rattle.kernel.specs.Output.{output_at};
+ghost use Rattle.kernel.specs.Trips.{trip_behind};
 ghost use Rattle.limit_causes.specs.Causes.{IsLimitCause};
-ghost use Rattle.reasons.specs.Runs.{runs_of};
+ghost use Rattle.reasons.specs.Runs.{runs_of, causes_behind};
 ghost use Rattle.reasons.specs.Trips.{trip_of};
 
 use crate::runs::Runs;
@@ -21,7 +20,7 @@ use std::marker::Model;
 use units::NoMemory;
 
 /// A life that is run again from its power-up on, with the causes of each brake. It stores no history: what it says is
-/// said of every list of events that it stands behind.
+/// said of every story that it stands behind.
 #[derive(Drop)]
 pub struct Reasoning {
     state: State,
@@ -44,10 +43,10 @@ impl Reasoning {
 
     /// Begins a life behind what was kept, and answers its power-up. It takes no memory.
     pub fn begin(alloc: Global, kept: &Kept, word: Cold) -> (Reasoning, Output)
-        ensures stands { (events : List Event) → left_by word kept.now ≡ left_by word (kept_by events)
-            → Reasons (PowerUp word ∷ events) result.0 }
-        ensures output { (events : List Event) → left_by word kept.now ≡ left_by word (kept_by events)
-            → result.1 ≡ output_after (PowerUp word ∷ events) }
+        ensures stands { (story : Story) → left_by word kept.now ≡ left_by word (past_at story).kept
+            → Reasons (onward story (PowerUp word)) result.0 }
+        ensures output { (story : Story) → left_by word kept.now ≡ left_by word (past_at story).kept
+            → result.1 ≡ output_at (onward story (PowerUp word)) }
     {
         let (state, output) = State::power_up(alloc, kept, word);
         let causes = state.brake_causes();
@@ -64,8 +63,8 @@ impl Reasoning {
 
     // Why an event enters Trip, as the next one.
     fn trip_by(&self, alloc: Global, event: &Event) -> Result<Option<TripCause>, NoMemory>
-        ensures { IfOk result (λ cause. (events : List Event) → Reasons events self.now
-            → cause ≡ trip_at (event.now ∷ events)) }
+        ensures { IfOk result (λ cause. (story : Story) → Reasons story self.now
+            → cause ≡ trip_behind (past_at story) event.now) }
     {
         match event {
             Event::PowerUp(_) => Ok(None),
@@ -76,9 +75,9 @@ impl Reasoning {
     /// Runs one event more, and answers it. NoMemory where memory is refused; then nothing changes.
     pub fn follow(&mut self, alloc: Global, event: &Event) -> Result<Output, NoMemory>
         ensures refused { OnErr result (self.new ≡ self.old) }
-        ensures stands { (events : List Event) → Reasons events self.old → OnOk result (Reasons (event.now ∷ events) self.new) }
-        ensures output { (events : List Event) → Reasons events self.old
-            → IfOk result (λ output. output ≡ output_after (event.now ∷ events)) }
+        ensures stands { (story : Story) → Reasons story self.old → OnOk result (Reasons (onward story event.now) self.new) }
+        ensures output { (story : Story) → Reasons story self.old
+            → IfOk result (λ output. output ≡ output_at (onward story event.now)) }
     {
         let Ok(entered) = self.trip_by(alloc, event) else {
             return Err(NoMemory);
@@ -98,29 +97,29 @@ impl Reasoning {
 
     /// The causes that hold behind the last event.
     pub fn causes(&self) -> BrakeCauses
-        ensures { (events : List Event) → Reasons events self.now → marked result ≡ causes_after events }
+        ensures { (story : Story) → Reasons story self.now → marked result ≡ causes_behind story }
     {
         self.state.brake_causes()
     }
 
     /// From which event on each of them has held.
     pub fn runs(&self) -> Runs
-        ensures { (events : List Event) → Reasons events self.now → result ≡ runs_of events }
+        ensures { (story : Story) → Reasons story self.now → result ≡ runs_of story }
     {
         self.runs
     }
 
     /// The trip that is owed, where it was entered in this life.
     pub fn trip(&self) -> Option<TripTold>
-        ensures { (events : List Event) → Reasons events self.now → result ≡ trip_of events }
+        ensures { (story : Story) → Reasons story self.now → result ≡ trip_of story }
     {
         self.trip
     }
 
     /// What decides the limit that was answered to the last event.
     pub fn limit_cause(&self) -> LimitCause
-        ensures { (events : List Event) → Reasons events self.now
-            → IsLimitCause (life_of events) (output_after events).limit result }
+        ensures { (story : Story) → Reasons story self.now
+            → IsLimitCause (past_at story).life (output_at story).limit result }
     {
         self.state.limit_cause()
     }

@@ -1,10 +1,10 @@
 //! From which event on each cause of a brake has held.
-ghost use Rattle.std.specs.Prelude.{◌≡◌, List, ◌∷◌};
-ghost use Rattle.events.specs.declared.input.Event.{Event};
+ghost use Rattle.std.specs.Prelude.{◌≡◌};
 ghost use Rattle.events.specs.declared.input.Event.TheVariants.{PowerUp};
 ghost use Rattle.mode_table.specs.declared.statuses.Cold.{Cold};
-ghost use Rattle.kernel.specs.Causes.{marked, causes_after};
-ghost use Rattle.reasons.specs.Runs.{number_behind, gone_on, run_of, runs_of, runs_held};
+ghost use Rattle.kernel.specs.Causes.{marked};
+ghost use Rattle.kernel.specs.Lives.{Story, onward};
+ghost use Rattle.reasons.specs.Runs.{number_behind, causes_behind, gone_on, run_of, runs_of, runs_held};
 
 use events::Event;
 use kernel::{BrakeCause, BrakeCauses};
@@ -81,16 +81,16 @@ impl Runs {
 
     /// Behind a power-up of this number, behind which these causes hold.
     pub fn begun(causes: &BrakeCauses, number: u64) -> Runs
-        ensures { (events : List Event) (word : Cold) → marked causes.now ≡ causes_after (PowerUp word ∷ events)
-            → number ≡ number_behind events → result ≡ runs_of (PowerUp word ∷ events) }
+        ensures { (story : Story) (word : Cold) → marked causes.now ≡ causes_behind (onward story (PowerUp word))
+            → number ≡ number_behind story → result ≡ runs_of (onward story (PowerUp word)) }
     {
         Runs::NONE.held(causes, number)
     }
 
     /// Behind a further event, of this number, behind which these causes hold. A power-up begins all anew.
     pub fn after(&self, event: &Event, causes: &BrakeCauses, number: u64) -> Runs
-        ensures { (events : List Event) → self.now ≡ runs_of events → marked causes.now ≡ causes_after (event.now ∷ events)
-            → number ≡ number_behind events → result ≡ runs_of (event.now ∷ events) }
+        ensures { (story : Story) → self.now ≡ runs_of story → marked causes.now ≡ causes_behind (onward story event.now)
+            → number ≡ number_behind story → result ≡ runs_of (onward story event.now) }
     {
         match event {
             Event::PowerUp(_) => Runs::begun(causes, number),
@@ -100,7 +100,7 @@ impl Runs {
 
     /// From which event on a cause has held.
     pub fn first(&self, cause: BrakeCause) -> Option<u64>
-        ensures { (events : List Event) → self.now ≡ runs_of events → result ≡ run_of cause events }
+        ensures { (story : Story) → self.now ≡ runs_of story → result ≡ run_of cause story }
     {
         match cause {
             BrakeCause::NotRevalidated => self.not_revalidated,

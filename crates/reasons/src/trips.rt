@@ -1,6 +1,7 @@
 //! The trip that is owed, and why it was entered.
 ghost use Rattle.std.specs.Prelude.{◌≡◌};
-ghost use Rattle.reasons.specs.Trips.{trip_held, trip_before};
+ghost use Rattle.reasons.specs.Runs.{in_this_life};
+ghost use Rattle.reasons.specs.Trips.{trip_held};
 ghost use Rattle.reasons.specs.TripWords.{trip_word_of, trip_sentence_of, trip_section_of};
 
 use events::Event;
@@ -17,7 +18,7 @@ pub struct TripTold {
 
 /// What an event leaves of the trip before it: nothing where it begins a life.
 pub(crate) fn trip_before(event: &Event, before: Option<TripTold>) -> Option<TripTold>
-    ensures { result ≡ trip_before event.now before }
+    ensures { result ≡ in_this_life event.now before }
 {
     match event {
         Event::PowerUp(_) => None,

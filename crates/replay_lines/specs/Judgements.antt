@@ -1,5 +1,6 @@
--- How records and heads of blocks are judged, in the words of `replaying` (this project's profile). Lists of events have
--- the newest first, records of a block the oldest.
+-- How records and heads of blocks are judged, in the words of `replaying` (this project's profile). Records of a block
+-- have the oldest first. What is said of every story behind which a head is kept is never said of nothing: there is one
+-- for each head (law `each_head_is_led` of `replaying`).
 use Rattle.std.specs.Prelude.{◌≡◌, ℕ, ◌+◌, ◌^◌, ◌<◌, ◌==◌, Bool, true, false, if◌then◌else◌, List, [], ◌∷◌, length, Option, Some, None, Result, Ok, Err, MatchOption}
 use Rattle.blocks.specs.declared.block.Block.{Block}
 use Rattle.blocks.specs.declared.format.Format.{Format}
@@ -8,6 +9,7 @@ use Rattle.events.specs.Nothing.{nothing_kept}
 use Rattle.events.specs.declared.input.Event.{Event}
 use Rattle.events.specs.declared.input.Event.TheVariants.{PowerUp, Input}
 use Rattle.events.specs.declared.kept.Kept.{Kept}
+use Rattle.kernel.specs.Lives.{Story, number_at}
 use Rattle.mode_table.specs.declared.statuses.Cold.{Cold}
 use Rattle.replaying.specs.Comparing.{KeptDiffersIn}
 use Rattle.replaying.specs.Following.{behind, head_behind, AreAnswers, IsFirst, IsBehind}
@@ -22,21 +24,20 @@ use Rattle.record_objects.specs.declared.left_out.Reason.TheVariants.{Gap, Withi
 
 -- ---- records
 
--- all are the kernel's answers behind these events, and the replay stands behind them too, or this is the first that
--- isn't
-abbrev pub IsVerdict : Format → List Event → List BlockRecord → ReplayState → Option Found → Type 0
-IsVerdict format events records replay found = MatchOption found (AreAnswers format events records × StandsBehind (behind records events) replay)
-    (λ it. IsFirst format events records it.index it.field it.answer)
+-- all are the kernel's answers behind a story, and the replay stands behind them too, or this is the first that isn't
+abbrev pub IsVerdict : Format → Story → List BlockRecord → ReplayState → Option Found → Type 0
+IsVerdict format at records replay found = MatchOption found (AreAnswers format at records × StandsBehind (behind records at) replay)
+    (λ it. IsFirst format at records it.index it.field it.answer)
 
--- records that follow the events of a replay, whatever those are
+-- records that follow the story of a replay, whatever it is
 abbrev pub Follows : Format → List BlockRecord → ReplayState → ReplayState → Option Found → Type 0
 Follows format records old new found =
-    (s : List Event) → StandsBehind s old → length s + length records < 2 ^ 64 → IsVerdict format s records new found
+    (at : Story) → StandsBehind at old → number_at at + length records < 2 ^ 64 → IsVerdict format at records new found
 
--- records from a power-up on, behind any events behind which this is kept
+-- records from a power-up on, behind any story behind which this is kept
 abbrev pub Begins : Format → Cold → List BlockRecord → Kept → ReplayState → Option Found → Type 0
 Begins format word records kept replay found =
-    (p : List Event) → IsBehind kept word p → length p + length records < 2 ^ 64 → IsVerdict format p records replay found
+    (at : Story) → IsBehind kept word at → number_at at + length records < 2 ^ 64 → IsVerdict format at records replay found
 
 -- a life goes on: it is replayed on, where it was replayed so far
 abbrev pub GoesOn : Format → List BlockRecord → Judged → Judged → Option Found → Type 0
@@ -83,11 +84,11 @@ IsJudged is_first format (first ∷ rest) c judged found = FirstIs first.event i
 
 -- ---- heads
 
--- a head tells what the kernel keeps behind the events of the replay, or it differs so; of a life that isn't replayed
+-- a head tells what the kernel keeps behind the story of the replay, or it differs so; of a life that isn't replayed
 -- nothing is found
 abbrev pub IsHeadFound : Judged → Block → Option HeadFound → Type 0
-IsHeadFound (Agrees replay) b found = (s : List Event) → StandsBehind s replay →
-    MatchOption found (b.kept ≡ head_behind b.format s) (λ it. (it.kept ≡ head_behind b.format s) × KeptDiffersIn it.field b.kept it.kept)
+IsHeadFound (Agrees replay) b found = (at : Story) → StandsBehind at replay →
+    MatchOption found (b.kept ≡ head_behind b.format at) (λ it. (it.kept ≡ head_behind b.format at) × KeptDiffersIn it.field b.kept it.kept)
 IsHeadFound (Not reason) b found = found ≡ None
 
 -- the events of a block follow those of the one before, as the head of that one tells their count

@@ -2,7 +2,7 @@
 use Rattle.std.proofs.Common.{◌≡◌, ◌∙◌, ℕ, zero, suc, List, [], ◌∷◌, Option, Some, None, refl, sym, subst}
 use Rattle.blocks.specs.declared.format.Format.{Format}
 use Rattle.blocks.specs.declared.records.BlockRecord.{BlockRecord}
-use Rattle.events.specs.declared.input.Event.{Event}
+use Rattle.kernel.specs.Lives.{Story, onward}
 use Rattle.replaying.specs.Comparing.{DiffersIn}
 use Rattle.replaying.specs.Following.{AreAnswers, IsFirst}
 use Rattle.replaying.specs.declared.differences.RecordField.{RecordField}
@@ -42,8 +42,8 @@ same_record a_field.Limit one differs = same_situation a_field.Limit one.situati
 equal_records : (field : RecordField) (one other : BlockRecord) → one ≡ other → DiffersIn field one other → ⊥
 equal_records field one other same differs = same_record field one (subst (λ (r : BlockRecord). DiffersIn field one r) (sym same) differs)
 
-pub excluded : (format : Format) (s : List Event) (records : List BlockRecord) (index : ℕ) (field : RecordField) (answer : BlockRecord)
-    → AreAnswers format s records → IsFirst format s records index field answer → ⊥
-excluded format s [] index field answer are first = first
-excluded format s (told ∷ rest) zero field answer are first = equal_records field told answer (are.0 ∙ sym first.0) first.1
-excluded format s (told ∷ rest) (suc index) field answer are first = excluded format (told.event ∷ s) rest index field answer are.1 first.1
+pub excluded : (format : Format) (at : Story) (records : List BlockRecord) (index : ℕ) (field : RecordField) (answer : BlockRecord)
+    → AreAnswers format at records → IsFirst format at records index field answer → ⊥
+excluded format at [] index field answer are first = first
+excluded format at (told ∷ rest) zero field answer are first = equal_records field told answer (are.0 ∙ sym first.0) first.1
+excluded format at (told ∷ rest) (suc index) field answer are first = excluded format (onward at told.event) rest index field answer are.1 first.1

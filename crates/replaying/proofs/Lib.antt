@@ -1,4 +1,3 @@
-pub mod Moments
 pub mod Shown
 pub mod Firsts
 pub mod Units

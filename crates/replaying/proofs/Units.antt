@@ -1,5 +1,5 @@
 -- The records of a unit's events are answers.
-use Rattle.std.proofs.Common.{◌≡◌, ◌∙◌, ℕ, zero, suc, List, [], ◌∷◌, ◌++◌, map, refl, sym, ap, subst}
+use Rattle.std.proofs.Common.{◌≡◌, ◌∙◌, ℕ, zero, suc, List, [], ◌∷◌, ◌++◌, length, map, refl, sym, ap, subst}
 use Rattle.blocks.specs.Blocks.{event_told, record_told}
 use Rattle.blocks.specs.declared.block.Block.{Block}
 use Rattle.blocks.specs.declared.format.Format.{Format}
@@ -8,7 +8,8 @@ use Rattle.blocks.specs.declared.records.BlockRecord.{BlockRecord}
 use Rattle.blocks.specs.declared.records.Record.{Record}
 use Rattle.events.specs.declared.input.Event.{Event}
 use Rattle.events.specs.declared.input.Event.TheVariants as an_event
-use Rattle.onboard.specs.Events.{record_of, records_of, account_of}
+use Rattle.kernel.specs.Lives.{Past, past_of, past_after, past_at, number_at, story_of}
+use Rattle.onboard.specs.Events.{record_in, record_at, record_of, records_of, moment_of, account_of}
 use Rattle.ring.specs.Account.{Tells}
 use Rattle.replaying.specs.Following.{answer_to, AreAnswers}
 
@@ -55,22 +56,35 @@ told_so : (event : Event) → event_told Three event ≡ event
 told_so (an_event.PowerUp word) = refl
 told_so (an_event.Input input) = refl
 
-told_answers : (s : List Event) (rs : List Record) → AreRecords s rs → AreAnswers Three s (map (record_told Three) rs)
+-- the records of a list of events are those behind its story
+past_same : (s : List Event) → past_of s ≡ past_at (story_of s)
+past_same [] = refl
+past_same (event ∷ s) = ap (λ (p : Past). past_after p event) (past_same s)
+
+number_same : (s : List Event) → length s ≡ number_at (story_of s)
+number_same [] = refl
+number_same (event ∷ s) = ap suc (number_same s)
+
+record_same : (s : List Event) (event : Event) → record_of s event ≡ record_at (story_of s) event
+record_same s event =
+    λ i. record_in (past_after (past_same s i) event).life (number_same s i) event (moment_of (event ∷ s))
+
+told_answers : (s : List Event) (rs : List Record) → AreRecords s rs → AreAnswers Three (story_of s) (map (record_told Three) rs)
 told_answers s [] are = tt
 told_answers s (r ∷ rs) are =
     let same : event_told Three r.event ≡ r.event = told_so r.event in
-    let rest : AreAnswers Three (event_told Three r.event ∷ s) (map (record_told Three) rs) =
-    subst (λ (e : Event). AreAnswers Three (e ∷ s) (map (record_told Three) rs)) (sym same) (told_answers (r.event ∷ s) rs are.1) in
-    let first : record_told Three r ≡ answer_to Three s (event_told Three r.event) =
-    ap (record_told Three) are.0 ∙ ap (λ (e : Event). answer_to Three s e) (sym same) in
+    let rest : AreAnswers Three (story_of (event_told Three r.event ∷ s)) (map (record_told Three) rs) =
+    subst (λ (e : Event). AreAnswers Three (story_of (e ∷ s)) (map (record_told Three) rs)) (sym same) (told_answers (r.event ∷ s) rs are.1) in
+    let first : record_told Three r ≡ answer_to Three (story_of s) (event_told Three r.event) =
+    ap (record_told Three) (are.0 ∙ record_same s r.event) ∙ ap (λ (e : Event). answer_to Three (story_of s) e) (sym same) in
     (first, rest)
 
-pub units_agree : (whole_from : ℕ) (events : List Event) (block : Block) → Tells (account_of whole_from events) block → block.format ≡ Three → (s : List Event) × AreAnswers block.format s block.records.items
+pub units_agree : (whole_from : ℕ) (events : List Event) (block : Block) → Tells (account_of whole_from events) block → block.format ≡ Three → (s : List Event) × AreAnswers block.format (story_of s) block.records.items
 units_agree whole_from events block tells three =
     let all : AreRecords [] (tells.before ++ (tells.its ++ tells.after)) = subst (AreRecords []) tells.split (all_records events) in
     let s = events_behind tells.before [] in
     let its : AreRecords s tells.its = earlier s tells.its tells.after (later [] tells.before (tells.its ++ tells.after) all) in
-    let answers : AreAnswers Three s (map (record_told Three) tells.its) = told_answers s tells.its its in
-    let told : AreAnswers block.format s (map (record_told block.format) tells.its) =
-    subst (λ (f : Format). AreAnswers f s (map (record_told f) tells.its)) (sym three) answers in
-    (s, subst (λ (rs : List BlockRecord). AreAnswers block.format s rs) (sym tells.records) told)
+    let answers : AreAnswers Three (story_of s) (map (record_told Three) tells.its) = told_answers s tells.its its in
+    let told : AreAnswers block.format (story_of s) (map (record_told block.format) tells.its) =
+    subst (λ (f : Format). AreAnswers f (story_of s) (map (record_told f) tells.its)) (sym three) answers in
+    (s, subst (λ (rs : List BlockRecord). AreAnswers block.format (story_of s) rs) (sym tells.records) told)

@@ -1,8 +1,8 @@
 -- What contracts see of a life that is run again (this project's profile). A moment is in milliseconds.
-use Rattle.std.specs.Prelude.{◌≡◌, ℕ, ◌-◌, ◌^◌, min, ℤ, List, length}
-use Rattle.events.specs.declared.input.Event.{Event}
+use Rattle.std.specs.Prelude.{◌≡◌, ℕ, ◌-◌, ◌^◌, min, ℤ}
+use Rattle.kernel.specs.Lives.{Story, past_at, number_at}
 use Rattle.kernel.specs.StandsFor.{Knowledge}
-use Rattle.onboard.specs.Events.{moment_of, Knows}
+use Rattle.onboard.specs.Events.{moment_of, KnowsAt}
 use Rattle.speed_profile.specs.declared.told.CategorySpeeds.{CategorySpeeds}
 use Rattle.track_store.specs.Segments.{Segmented}
 
@@ -13,8 +13,8 @@ pub record ReplayState : Type 0 where
   pub events : ℕ
   pub moment : ℕ
 
--- it represents a list of events, the newest first
-pub record StandsBehind (events : List Event) (replay : ReplayState) : Type 0 where
-  pub knows : Knows replay.state events
-  pub counted : replay.events ≡ min (length events) (2 ^ 64 - 1)
-  pub moment_is : replay.moment ≡ moment_of events
+-- it represents a story
+pub record StandsBehind (at : Story) (replay : ReplayState) : Type 0 where
+  pub knows : KnowsAt replay.state (past_at at)
+  pub counted : replay.events ≡ min (number_at at) (2 ^ 64 - 1)
+  pub moment_is : replay.moment ≡ moment_of at.events

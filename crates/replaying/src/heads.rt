@@ -1,6 +1,6 @@
 //! What the head of a block tells, beside what the kernel keeps behind its events.
-ghost use Rattle.std.specs.Prelude.{◌≡◌, List, MatchOption};
-ghost use Rattle.events.specs.declared.input.Event.{Event};
+ghost use Rattle.std.specs.Prelude.{◌≡◌, MatchOption};
+ghost use Rattle.kernel.specs.Lives.{Story};
 ghost use Rattle.replaying.specs.Comparing.{KeptDiffersIn};
 ghost use Rattle.replaying.specs.Following.{head_behind};
 ghost use Rattle.replaying.specs.ReplayState.{StandsBehind};
@@ -24,9 +24,9 @@ pub struct HeadFound {
 /// What differs in the head of a block from what the kernel keeps behind the events that were replayed; None exactly
 /// where it tells just that (SUBSET-026, 4.10; this project's profile).
 pub fn compare_head(replay: &Replay, block: &Block) -> Option<HeadFound>
-    ensures { (s : List Event) → StandsBehind s replay.now →
-        MatchOption result (block.now.kept ≡ head_behind block.now.format s)
-        (λ found. (found.kept ≡ head_behind block.now.format s) × KeptDiffersIn found.field block.now.kept found.kept) }
+    ensures { (at : Story) → StandsBehind at replay.now →
+        MatchOption result (block.now.kept ≡ head_behind block.now.format at)
+        (λ found. (found.kept ≡ head_behind block.now.format at) × KeptDiffersIn found.field block.now.kept found.kept) }
 {
     let kept = kept_in(block.format, replay.kept());
     match kept_differs(&block.kept, &kept) {

@@ -16,5 +16,5 @@ mod telling;
 pub use differences::{KeptField, RecordField};
 pub use following::{Found, follow_records, replay_life};
 pub use heads::{HeadFound, compare_head};
-pub use laws::{units_agree, verdicts_exclude};
+pub use laws::{each_head_is_led, units_agree, verdicts_exclude};
 pub use replay::Replay;

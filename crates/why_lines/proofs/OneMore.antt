@@ -10,6 +10,7 @@ use Rattle.events.specs.declared.input.Event.TheVariants as an_event
 use Rattle.events.specs.declared.input.Input.{Input}
 use Rattle.events.specs.declared.step.Step.{Step}
 use Rattle.events.specs.declared.step.Step.TheVariants.{Accept}
+use Rattle.kernel.specs.Lives.{story_of}
 use Rattle.mode_table.specs.declared.statuses.Cold.{Cold}
 use Rattle.onboard.specs.Events.{pair_of, pairs_of}
 use Rattle.onboard.specs.Releases.{Release}
@@ -77,13 +78,13 @@ took_all steps place over =
 
 -- a line more
 pub one_line : (input_steps : List ℕ) (events : List Event) (input : Input) (one : Release) (step : ℕ) (lines line : List ℕ)
-    → slice_index input_steps (length events - 1) ≡ step → one ≡ pair_of events (an_event.Input input) → AreLines input_steps events lines → IsLine step (an_event.Input input ∷ events) one line
+    → slice_index input_steps (length events - 1) ≡ step → one ≡ pair_of events (an_event.Input input) → AreLines input_steps events lines → IsLine step (story_of (an_event.Input input ∷ events)) one line
     → AreLines input_steps (an_event.Input input ∷ events) (lines ++ line)
 one_line input_steps events input one step lines line its_step its earlier later = record {
   earlier = lines;
   later = line;
   earlier_is = earlier;
-  later_is = subst (λ (n : ℕ). IsLine n (an_event.Input input ∷ events) (pair_of events (an_event.Input input)) line) (sym its_step)
-      (subst (λ (r : Release). IsLine step (an_event.Input input ∷ events) r line) its later);
+  later_is = subst (λ (n : ℕ). IsLine n (story_of (an_event.Input input ∷ events)) (pair_of events (an_event.Input input)) line) (sym its_step)
+      (subst (λ (r : Release). IsLine step (story_of (an_event.Input input ∷ events)) r line) its later);
   text_is = refl;
 }

@@ -3,10 +3,9 @@
 -- have the newest first.
 use Rattle.std.specs.Prelude.{ℕ, ◌-◌, ◌^◌, ℤ, min, Option, List, [], ◌∷◌, ◌++◌, codes, decimal, flat_map}
 use Rattle.std.specs.Fmt.{signed_decimal}
-use Rattle.events.specs.declared.input.Event.{Event}
 use Rattle.kernel.specs.Brake.{rolled_backward}
-use Rattle.kernel.specs.Lives.{life_of}
-use Rattle.kernel.specs.Output.{estimate_after, uncertainty_after}
+use Rattle.kernel.specs.Lives.{Story, past_at}
+use Rattle.kernel.specs.Output.{estimate_in, uncertainty_in}
 use Rattle.mode_control.specs.History.{tracks}
 use Rattle.mode_control.specs.Sentences.{values_of}
 use Rattle.onboard.specs.Releases.{Release}
@@ -45,25 +44,25 @@ abbrev pub played_line_of : Answer → Played → List Told → Option TripTold 
 played_line_of answer played told trip decides =
     played_text answer played ++ (flat_map (cause_text Json) told ++ last_text Json trip decides)
 
--- ---- the answer to the last of these events, whose output was released
+-- ---- the answer to the last event of a story, whose output was released
 
-abbrev pub answer_of : List Event → Release → Answer
-answer_of events one = record {
+abbrev pub answer_of : Story → Release → Answer
+answer_of story one = record {
   event = one.number;
   brake = one.output.brake;
   limit = one.output.limit;
-  speed = speed_of (tracks (life_of events).entries);
-  backward = min (rolled_backward (life_of events)) (2 ^ 64 - 1);
-  allowed = (values_of (life_of events)).roll;
+  speed = speed_of (tracks (past_at story).life.entries);
+  backward = min (rolled_backward (past_at story).life) (2 ^ 64 - 1);
+  allowed = (values_of (past_at story).life).roll;
 }
 
 -- .. and what is told of it beside, where it comes from this step of the scenario
-abbrev pub played_of : List Event → Release → ℕ → Played
-played_of events one step = record {
+abbrev pub played_of : Story → Release → ℕ → Played
+played_of story one step = record {
   step = step;
   mode = one.output.mode;
   level = one.output.level;
   shown = one.output.indications;
-  place = estimate_after events;
-  uncertainty = uncertainty_after events;
+  place = estimate_in (past_at story).life;
+  uncertainty = uncertainty_in (past_at story).life;
 }

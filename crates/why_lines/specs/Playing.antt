@@ -9,8 +9,8 @@ use Rattle.events.specs.declared.input.Event.{Event}
 use Rattle.events.specs.declared.input.Event.TheVariants.{PowerUp, Input}
 use Rattle.events.specs.declared.step.Step.{Step}
 use Rattle.events.specs.declared.step.Step.TheVariants.{Accept, Flush}
-use Rattle.kernel.specs.Lives.{life_of}
-use Rattle.kernel.specs.Output.{output_after}
+use Rattle.kernel.specs.Lives.{Story, story_of, past_at}
+use Rattle.kernel.specs.Output.{output_at}
 use Rattle.limit_causes.specs.Causes.{IsLimitCause}
 use Rattle.limit_causes.specs.declared.cause.LimitCause.{LimitCause}
 use Rattle.onboard.specs.Events.{pair_of}
@@ -41,11 +41,11 @@ input_steps life = map (step_at life.ends.items) (inputs_from 0 life.steps.items
 
 -- ---- the lines of the outputs
 
--- the line of an output that was released to the last of these events, which comes from this step of the scenario
-abbrev pub IsLine : ℕ → List Event → Release → List ℕ → Type 0
-IsLine step events one line =
-    (cause : LimitCause) × IsLimitCause (life_of events) (output_after events).limit cause
-    × (line ≡ played_line_of (answer_of events one) (played_of events one step) (told_of (runs_of events)) (trip_of events) (limit_told one.output.limit cause))
+-- the line of an output that was released to the last event of a story, which comes from this step of the scenario
+abbrev pub IsLine : ℕ → Story → Release → List ℕ → Type 0
+IsLine step story one line =
+    (cause : LimitCause) × IsLimitCause (past_at story).life (output_at story).limit cause
+    × (line ≡ played_line_of (answer_of story one) (played_of story one step) (told_of (runs_of story)) (trip_of story) (limit_told one.output.limit cause))
 
 -- a text, and another one behind it
 pub record IsFollowed (Earlier Later : List ℕ → Type 0) (text : List ℕ) : Type 0 where
@@ -60,7 +60,7 @@ abbrev pub AreLines : List ℕ → List Event → List ℕ → Type 0
 AreLines steps [] text = text ≡ []
 AreLines steps (PowerUp cold ∷ events) text = text ≡ []
 AreLines steps (Input input ∷ events) text =
-    IsFollowed (AreLines steps events) (IsLine (slice_index steps (length events - 1)) (Input input ∷ events) (pair_of events (Input input))) text
+    IsFollowed (AreLines steps events) (IsLine (slice_index steps (length events - 1)) (story_of (Input input ∷ events)) (pair_of events (Input input))) text
 
 -- ---- all that is written, by how the life ended: at its end, or for this error
 

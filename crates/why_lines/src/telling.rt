@@ -3,6 +3,7 @@ ghost use Rattle.std.specs.Prelude.{◌≡◌, ◌∷◌, ◌++◌, [], List, �
 ghost use Rattle.std.specs.Io.KnownBytes.{Appends};
 ghost use Rattle.events.specs.declared.input.Event.{Event};
 ghost use Rattle.events.specs.declared.input.Event.TheVariants.{PowerUp, Input as an_input};
+ghost use Rattle.kernel.specs.Lives.{Story, onward};
 ghost use Rattle.onboard.specs.Events.{pairs_of};
 ghost use Rattle.onboard.specs.Runs.{accepted_by};
 ghost use Rattle.reasons.specs.Told.{Reasons};
@@ -27,10 +28,10 @@ fn tell_one<W: Write>(
     one: &Released,
     out: &mut W,
 ) -> Result<(), LateError>
-    ensures stands { (events : List Event) → Reasons events reasoning.old
-        → OnOk result (Reasons (an_input input.now ∷ events) reasoning.new) }
-    ensures line { (events : List Event) → Reasons events reasoning.old
-        → OnOk result ((line : List ℕ) × IsLine step (an_input input.now ∷ events) one.now line
+    ensures stands { (story : Story) → Reasons story reasoning.old
+        → OnOk result (Reasons (onward story (an_input input.now)) reasoning.new) }
+    ensures line { (story : Story) → Reasons story reasoning.old
+        → OnOk result ((line : List ℕ) × IsLine step (onward story (an_input input.now)) one.now line
         × Appends (W.contents out.old) (W.contents out.new) line) }
 {
     let Ok(_) = reasoning.follow(alloc, &Event::Input(input.copy())) else {

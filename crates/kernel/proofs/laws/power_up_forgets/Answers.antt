@@ -5,7 +5,7 @@ use Rattle.events.specs.declared.kept.Kept.{Kept}
 use Rattle.mode_table.specs.declared.statuses.Cold.{Cold}
 use Rattle.mode_control.specs.Sentences.{begun_life}
 use Rattle.kernel.specs.declared.counts.Counts.{Counts}
-use Rattle.kernel.specs.Lives.{counted, counts_of, life_after, life_of, kept_by}
+use Rattle.kernel.specs.Lives.{counted, counts_of, kept_of, life_after, life_of, kept_by}
 use Rattle.kernel.specs.Output.{output_of}
 use Rattle.kernel.proofs.laws.power_up_forgets.Goals as goal
 
@@ -21,7 +21,9 @@ same_counts cold p q (e ∷ later) same = ap (λ (n : Counts). counted n e) (sam
 same_life : (cold : Cold) (p q later : List Event) → kept_by p ≡ kept_by q →
     life_of (later ++ PowerUp cold ∷ p) ≡ life_of (later ++ PowerUp cold ∷ q)
 same_life cold p q [] same = ap (λ (k : Kept). begun_life k cold) same
-same_life cold p q (e ∷ later) same = λ i. life_after (same_counts cold p q later same i) (same_life cold p q later same i) e
+same_life cold p q (e ∷ later) same =
+    let kept = λ i. kept_of (same_counts cold p q later same i) (same_life cold p q later same i) in
+    λ i. life_after (kept i) (same_life cold p q later same i) e
 
 pub returns : goal.returns
 returns c cold p q later same = ap output_of (same_life cold p q later same)

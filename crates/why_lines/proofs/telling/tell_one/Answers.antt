@@ -1,12 +1,13 @@
-use Rattle.std.proofs.Common.{◌∷◌, subst}
+use Rattle.std.proofs.Common.{subst}
 use Rattle.events.specs.declared.input.Event.TheVariants as an_event
 use Rattle.events.specs.declared.input.Input.{Input}
+use Rattle.kernel.specs.Lives.{onward}
 use Rattle.onboard.proofs.Opening.{on_ok_of}
 use Rattle.reasons.specs.Told.{Reasons}
 use Rattle.why_lines.proofs.telling.tell_one.Goals as goal
 
 pub returns-clause-stands : goal.returns-clause-stands
-returns-clause-stands g c events stands = on_ok_of _ _ (subst (λ (i : Input). Reasons (an_event.Input i ∷ events) c.follow.new.self) c.copy.ensures (c.in-Ok.ensures.stands events stands))
+returns-clause-stands g c story stands = on_ok_of _ _ (subst (λ (i : Input). Reasons (onward story (an_event.Input i)) c.follow.new.self) c.copy.ensures (c.in-Ok.ensures.stands story stands))
 
 pub returns-clause-line : goal.returns-clause-line
-returns-clause-line g c events stands = c.write_one.ensures (an_event.Input c.args.input.now ∷ events) (subst (λ (i : Input). Reasons (an_event.Input i ∷ events) c.follow.new.self) c.copy.ensures (c.in-Ok.ensures.stands events stands))
+returns-clause-line g c story stands = c.write_one.ensures (onward story (an_event.Input c.args.input.now)) (subst (λ (i : Input). Reasons (onward story (an_event.Input i)) c.follow.new.self) c.copy.ensures (c.in-Ok.ensures.stands story stands))

@@ -5,7 +5,7 @@ use Rattle.events.specs.declared.input.Event.TheVariants as an_event
 use Rattle.events.specs.declared.kept.Kept.{Kept}
 use Rattle.events.specs.declared.step.Step.{Step}
 use Rattle.events.specs.declared.step.Step.TheVariants.{Accept}
-use Rattle.kernel.specs.Lives.{left_by}
+use Rattle.kernel.specs.Lives.{left_by, story_of}
 use Rattle.onboard.specs.Events.{pair_of}
 use Rattle.onboard.specs.Runs.{accept_one, accepted_by}
 use Rattle.reasons.specs.Told.{Reasons}
@@ -18,7 +18,7 @@ use Rattle.why_lines.proofs.telling.tell_released.Goals as goal
 
 pub loop-place-init : goal.loop-place-init
 loop-place-init g c = record {
-  reasons = c.begin-reasoning.ensures.stands [] (ap (λ (k : Kept). left_by c.args.life.now.cold k) c.nothing.ensures);
+  reasons = c.begin-reasoning.ensures.stands (story_of []) (ap (λ (k : Kept). left_by c.args.life.now.cold k) c.nothing.ensures);
   count = refl;
   within = omega arith;
   stepped = omega arith;
@@ -38,7 +38,7 @@ loop-place-preserved-in_default g c =
     let on : accepted_by (begun life.cold) (take (place + 1) steps) ≡ up_to_here life.cold steps place =
     one_on life.cold steps place x x below at ∙ ap (accept_one (up_to_here life.cold steps place)) c.in_default.is in
     record {
-      reasons = subst (λ (l : List Event). Reasons l c.loop-place.reasoning) (sym on) before.reasons;
+      reasons = subst (λ (l : List Event). Reasons (story_of l) c.loop-place.reasoning) (sym on) before.reasons;
       count = ap length on ∙ before.count;
       within = before.within;
       stepped = step_later life.ends.items c.loop-place.step place before.stepped;
@@ -79,13 +79,13 @@ loop-place-preserved g c =
     ∙ ap (λ (l : List ℕ). c.loop-place.step + step_at (drop c.loop-place.step l) place) c.as_slice-ends.ensures.value
     ∙ sym (behind_ended ends c.loop-place.step place place (omega arith) before.stepped) in
     record {
-      reasons = subst (λ (l : List Event). Reasons l c.tell_one.new.reasoning) (sym on) (c.in_ok-tell_one.ensures.stands up before.reasons);
+      reasons = subst (λ (l : List Event). Reasons (story_of l) c.tell_one.new.reasoning) (sym on) (c.in_ok-tell_one.ensures.stands (story_of up) before.reasons);
       count = omega (arith, long, before.count);
       within = omega (arith, some);
       stepped = step_later ends c.step_from-step.result place (omega (arith, step));
       lines = λ durable more accepted pairs.
           let so = before.lines durable more accepted pairs in
-          let line = c.in_ok-tell_one.ensures.line up before.reasons in
+          let line = c.in_ok-tell_one.ensures.line (story_of up) before.reasons in
           let one : c.index-released-told.result ≡ pair_of up (an_event.Input input) =
           c.index-released-told.is
           ∙ input_release life.cold steps place input x below at_input durable more c.args.released.now c.loop-place.told c.index-released-told.result accepted pairs before.count some in (

@@ -1,6 +1,7 @@
 use Rattle.std.proofs.Common.{◌≡◌, ℕ, suc, ◌≤◌, List, ◌++◌, length, take}
 use Rattle.std.specs.Io.KnownBytes.{Appends}
 use Rattle.events.specs.declared.input.Event.{Event}
+use Rattle.kernel.specs.Lives.{story_of}
 use Rattle.onboard.specs.Events.{pairs_of}
 use Rattle.onboard.specs.Runs.{accepted_by}
 use Rattle.reasons.specs.Told.{Reasons}
@@ -11,7 +12,7 @@ use Rattle.why_lines.proofs.telling.tell_released.Given as goal
 
 abbrev pub invariant-loop-place : goal.invariant-loop-place
 invariant-loop-place g l = record {
-  reasons : Reasons (accepted_by (begun l.fn.life.cold) (take l.place l.fn.life.steps.items)) l.reasoning;
+  reasons : Reasons (story_of (accepted_by (begun l.fn.life.cold) (take l.place l.fn.life.steps.items))) l.reasoning;
   count : length (accepted_by (begun l.fn.life.cold) (take l.place l.fn.life.steps.items)) ≡ suc l.told;
   within : l.told ≤ length l.released;
   stepped : l.step ≤ step_at l.fn.life.ends.items l.place;

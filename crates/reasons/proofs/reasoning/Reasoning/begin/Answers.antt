@@ -1,9 +1,10 @@
-use Rattle.std.proofs.Common.{◌≡◌, ℕ, Bool, true, false, None, ap, ◌∷◌, arith, refl}
+use Rattle.std.proofs.Common.{◌≡◌, ℕ, Bool, true, false, None, ap, arith, refl}
 use Rattle.events.specs.declared.input.Event.TheVariants.{PowerUp}
 use Rattle.events.specs.declared.kept.Kept.{Kept}
 use Rattle.kernel.specs.declared.causes.BrakeCause.TheVariants as cause
-use Rattle.kernel.specs.Causes.{is_among, causes_after}
-use Rattle.reasons.specs.Runs.{number_behind}
+use Rattle.kernel.specs.Causes.{is_among}
+use Rattle.kernel.specs.Lives.{onward, past_at}
+use Rattle.reasons.specs.Runs.{number_behind, causes_behind}
 use Rattle.reasons.specs.Trips.{trip_held}
 use Rattle.reasons.proofs.Numbers.{one_more_behind}
 use Rattle.reasons.proofs.reasoning.Reasoning.begin.Goals as goal
@@ -14,15 +15,16 @@ none_held true number = refl
 none_held false number = refl
 
 pub returns-clause-stands : goal.returns-clause-stands
-returns-clause-stands c = λ events left.
-    let knows = c.power_up-state.ensures.stands events left in
-    let number : c.args.kept.now.events ≡ number_behind events = ap (λ (k : Kept). k.events) left in
+returns-clause-stands c = λ story left.
+    let begun = onward story (PowerUp c.args.word) in
+    let knows = c.power_up-state.ensures.begun (past_at story) left in
+    let number : c.args.kept.now.events ≡ number_behind story = ap (λ (k : Kept). k.events) left in
     record {
       knows = knows;
-      numbered = omega (arith, number, one_more_behind events (PowerUp c.args.word));
-      runs_are = c.begun-runs.ensures events c.args.word (c.brake_causes-causes.ensures (PowerUp c.args.word ∷ events) knows) number;
-      trip_is = none_held (is_among cause.OwesTrip (causes_after (PowerUp c.args.word ∷ events))) (number_behind events);
+      numbered = omega (arith, number, one_more_behind story (PowerUp c.args.word));
+      runs_are = c.begun-runs.ensures story c.args.word (c.brake_causes-causes.ensures (past_at begun).life knows.life_is) number;
+      trip_is = none_held (is_among cause.OwesTrip (causes_behind begun)) (number_behind story);
     }
 
 pub returns-clause-output : goal.returns-clause-output
-returns-clause-output c = λ events left. c.power_up-state.ensures.output events left
+returns-clause-output c = λ story left. c.power_up-state.ensures.answer (past_at story) left

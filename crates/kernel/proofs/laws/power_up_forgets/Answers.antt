@@ -21,9 +21,8 @@ same_counts cold p q (e ∷ later) same = ap (λ (n : Counts). counted n e) (sam
 same_life : (cold : Cold) (p q later : List Event) → kept_by p ≡ kept_by q →
     life_of (later ++ PowerUp cold ∷ p) ≡ life_of (later ++ PowerUp cold ∷ q)
 same_life cold p q [] same = ap (λ (k : Kept). begun_life k cold) same
-same_life cold p q (e ∷ later) same =
-    let kept = λ i. kept_of (same_counts cold p q later same i) (same_life cold p q later same i) in
-    λ i. life_after (kept i) (same_life cold p q later same i) e
+same_life cold p q (e ∷ later) same = λ i.
+    life_after (kept_of (same_counts cold p q later same i) (same_life cold p q later same i)) (same_life cold p q later same i) e
 
 pub returns : goal.returns
 returns c cold p q later same = ap output_of (same_life cold p q later same)

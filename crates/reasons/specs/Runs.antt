@@ -36,7 +36,7 @@ in_this_life (Input input) before = before
 abbrev pub run_from : BrakeCause → Kept → List Event → Option ℕ
 run_from why kept [] = None
 run_from why kept (event ∷ events) =
-    let before = record { kept = kept; events = events } in
+    let before : Story = record { kept = kept; events = events } in
     gone_on (is_among why (causes_behind (onward before event))) (in_this_life event (run_from why kept events)) (number_behind before)
 
 abbrev pub run_of : BrakeCause → Story → Option ℕ

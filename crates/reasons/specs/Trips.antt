@@ -20,7 +20,7 @@ trip_held owes None before number = if owes then before else None
 abbrev pub trip_from : Kept → List Event → Option TripTold
 trip_from kept [] = None
 trip_from kept (event ∷ events) =
-    let before = record { kept = kept; events = events } in
+    let before : Story = record { kept = kept; events = events } in
     trip_held (is_among cause.OwesTrip (causes_behind (onward before event))) (trip_behind (past_at before) event)
     (in_this_life event (trip_from kept events)) (number_behind before)
 

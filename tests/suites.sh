@@ -8,7 +8,7 @@ etcs=${2:-$(dirname "$(readlink -f -- "$0")")/../crates/etcs/out/etcs}
 lab=$(realpath "$lab") && etcs=$(realpath "$etcs") || exit 1
 cd "$(dirname "$(readlink -f -- "$0")")/.." || exit 1
 export PYTHONDONTWRITEBYTECODE=1 GAKNIFUR_ETCS_LAB=$lab GAKNIFUR_ETCS=$etcs
-least=480 # results
+least=550 # results
 for program in "$lab" "$etcs"; do
     [ -x "$program" ] || { echo "there is no program $program: rt ci makes it"; exit 1; }
 done

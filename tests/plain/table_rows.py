@@ -3,12 +3,18 @@
 lines and cells. Each kind of table has rows, and whatever differs is told."""
 import importlib.machinery
 import importlib.util
+import itertools
 import sys
 from pathlib import Path
+from types import SimpleNamespace
 
 import acknowledgements
+import driver
+import links
 import modes
 import output
+from groups import Closed
+from items import INVALID, UNKNOWN, VALID
 
 TOOL = Path(__file__).parent / "../../tools/tables"
 
@@ -22,8 +28,28 @@ CAUSES = {
 }
 
 
+# The actions, as the plain program has them.
+ACTIONS = {
+    "EnterIdentity identity": [("enter-identity", "A")], "EnterRunningNumber number": [("enter-running-number", "1")],
+    "EnterTrainData train": [("enter-train-data", "1 1 1 0 0")], "ChooseLevel level": [("choose-level", "1")],
+    "Confirm confirmed": [("confirm", item) for item in ("identity", "running-number", "train-data", "level")],
+    "Start": [("start", None)], "ChooseShunting": [("choose-shunting", None)], "LeaveShunting": [("leave-shunting", None)],
+    "Override": [("override", None)], "Acknowledge acknowledge.Trip": [("acknowledge", "trip")],
+    "Acknowledge acknowledge.OnSight": [("acknowledge", "on-sight")], "Acknowledge acknowledge.Shunting": [("acknowledge", "shunting")],
+    "Acknowledge acknowledge.Level0": [("acknowledge", "level-0")], "CloseDesk": [("close-desk", None)]}
+ALLOWED = 5_000  # V_NVALLOWOVTRP in the situations that are tried
+
+# What an action needs, of a situation and of what the action carries.
+NEEDS = {
+    "is_valid driver.identity": lambda it, value: it.items["identity"] == VALID, "is_valid driver.level": lambda it, value: it.items["level"] == VALID,
+    "is_valid driver.train_data": lambda it, value: it.items["train-data"] == VALID,
+    "is_known_to driver confirmed": lambda it, value: it.items[value] != UNKNOWN,
+    "not driver.trip_outstanding": lambda it, value: not it.tripped, "driver.trip_outstanding": lambda it, value: it.tripped,
+    "nat_le now.speed now.override_allowed": lambda it, value: it.at <= ALLOWED, "now.on_sight_waits": lambda it, value: it.waiting == "on-sight",
+    "now.shunting_waits": lambda it, value: it.waiting == "shunting", "now.level_0_waits": lambda it, value: it.waiting == "level-0"}
+
 # How many rows each kind of table has.
-ROWS = {"modes": 34, "statuses": 17, "brakes": 10, "acknowledgements": 5}
+ROWS = {"modes": 34, "statuses": 17, "brakes": 10, "acknowledgements": 5, "packets": 9, "actions": 14, "groups": 10}
 
 
 def tool():
@@ -31,6 +57,77 @@ def tool():
     made = importlib.util.module_from_spec(importlib.util.spec_from_loader("tables", loader))
     loader.exec_module(made)
     return made
+
+
+def situations():
+    """What may be known when an action comes: mode, speed, status of each item, a trip, and what waits for an acknowledgement."""
+    for mode, speed, identity, data, level, tripped, waiting in itertools.product(
+            [*modes.FATES["identity"]][2:], (0, 1, ALLOWED, ALLOWED + 1), *[(UNKNOWN, INVALID, VALID)] * 3, (False, True), (None, *driver.KINDS)):
+        yield SimpleNamespace(now=mode, at=speed, tripped=tripped, waiting=waiting,
+                              items={"identity": identity, "running-number": identity, "train-data": data, "level": level})
+
+
+def as_life(it):
+    """A situation, as the plain program asks for it."""
+    allowed = SimpleNamespace(override_allowed=ALLOWED)
+    return SimpleNamespace(
+        mode=lambda: it.now, speed=lambda: it.at, is_tripped=lambda: it.tripped, item=lambda name: SimpleNamespace(status=it.items[name]),
+        national=SimpleNamespace(in_force=SimpleNamespace(values=allowed)),
+        acknowledgement=lambda kind: SimpleNamespace(waits=lambda: it.waiting == kind))
+
+
+def accepted(key, answer):
+    """In how many situations an action is accepted, and a digest of which."""
+    found = [(at, value) for at, it in enumerate(situations()) for _, value in ACTIONS[key] if answer(it, value)]
+    return key, len(found), hash(tuple(found))
+
+
+def by_table(line):
+    key, listed, stands, needs = line
+    return accepted(key, lambda it, value: (not listed or it.now in listed) and (not stands or it.at == 0)
+                    and all(NEEDS[need](it, value) for need in needs))
+
+
+def by_plain(key):
+    word = ACTIONS[key][0][0]
+    return accepted(key, lambda it, value: driver.accepts(as_life(it), word, value))
+
+
+def judged(case, reaction):
+    """What becomes of a group in one of ten cases, in the order of the table, by the plain program, and what is asked for."""
+    entry = links.Entry((1, 2), 1_000, 500, 1, reaction)
+    known = links.Links()
+    known.replace([] if case == 1 else [links.Entry((1, 3), 900, 500, 1, reaction), entry] if case == 5 else [entry])
+    closed = Closed((1, 9) if case in (2, 9) else (1, 2), int(case not in (0, 7)), nominal=0 if case in (0, 3) else 1)
+    if case == 6:
+        one = known.missed(1_501)
+        return "missed" if not known.left else "stays", one.trip, one.service
+    one = known.broken(closed) if case > 6 else known.judge(closed, 499 if case in (0, 3, 4) else 500)
+    words = {links.IGNORE: "ignored", links.REACTION: "not used", links.ACCEPT: "its packets are used"}[one.kind]
+    return ("it makes a fix at p" if one.entry and one.kind == links.ACCEPT else words), one.trip, one.service
+
+
+ASKED = {(0, 0): "nothing", (1, 0): "a trip", (0, 1): "the service brake"}
+
+
+def asked_by(case):
+    """What is asked for, by each reaction: trip, service and none."""
+    return [(words, ASKED[trip, service]) for words, trip, service in (judged(case, reaction) for reaction in (0, 1, 2))]
+
+
+def told_of_group(words, asks):
+    """The same, as a row of the table says it."""
+    began = next(it for it in ("ignored", "not used", "its packets are used", "it makes a fix at p", "missed") if words.startswith(it))
+    by_reaction = ["a trip", "the service brake", "nothing"]
+    return [(began, it) for it in (by_reaction if "reaction" in asks else [asks] * 3)]
+
+
+def more_pairs(defined):
+    """The same of packets, actions and groups, of which the plain program is asked."""
+    numbers, used = defined.packet_lines()
+    yield "packets", [(mode, used[mode]) for mode in sorted(used)], [(mode, list(modes.used_in(mode))) for mode in sorted(used)]
+    yield "actions", [by_table(line) for line in defined.action_lines()], [by_plain(key) for key in ACTIONS]
+    yield "groups", [told_of_group(words, asks) for _, words, asks in defined.group_rows()], [asked_by(case) for case in range(10)]
 
 
 def pairs(defined):
@@ -48,7 +145,8 @@ def pairs(defined):
 
 def main():
     found, compared = 0, {}
-    for name, ours, plain in pairs(tool()):
+    defined = tool()
+    for name, ours, plain in itertools.chain(pairs(defined), more_pairs(defined)):
         compared[name] = len(ours)
         differing = [(a, b) for a, b in zip(ours, plain) if a != b]
         for a, b in differing:

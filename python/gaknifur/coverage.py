@@ -68,7 +68,7 @@ def sections() -> list[Section]:
     """The sections of docs/CONFORMANCE.md."""
     text, found = page("CONFORMANCE.md"), []
     for heading in ("Chapter 3", "Chapters 4 and 5", "Chapters 7 and 8"):
-        for cell, subject, here in table_rows(text, heading):
+        for cell, subject, here, _ in table_rows(text, heading):
             for name in names_of(cell):
                 found.append(Section(f"{heading}: {name}" if name == "all others" else name, subject, here))
     return found

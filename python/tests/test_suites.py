@@ -1,5 +1,6 @@
 """Scenarios and test cases in YAML: what they come to, and what is said of their faults."""
 import json
+import re
 import tempfile
 import time
 import unittest
@@ -9,6 +10,7 @@ from unittest.mock import patch
 from gaknifur import cases, coverage, playing, scenarios, telegrams
 from gaknifur.cases import derived
 from gaknifur.located import document
+from gaknifur.mode_rows import page, table_rows
 from gaknifur.playing import Missed, Played, with_speeds
 from gaknifur.program import Failed
 
@@ -321,6 +323,18 @@ class Coverage(InFiles):
         self.assertEqual(coverage.names_of("3.8.1, 3.8.3 to 3.8.5"), ["3.8.1", "3.8.3", "3.8.4", "3.8.5"])
         self.assertEqual(coverage.names_of("7.4.2, packets 21, 27"), ["7.4.2 packet 21", "7.4.2 packet 27"])
         self.assertEqual(coverage.names_of("3.11, all others"), ["3.11 all others"])
+
+    def test_what_another_train_does(self) -> None:
+        """Each section that isn't left out says what a train of issue 2.3.0 does, each difference with its sign and how sure it is."""
+        text, told = page("CONFORMANCE.md"), 0
+        for heading in ("Chapter 3", "Chapters 4 and 5", "Chapters 7 and 8"):
+            for name, _, here, otherwise in table_rows(text, heading):
+                if otherwise or not here.startswith("left out"):
+                    told += 1
+                    self.assertRegex(otherwise, "^(agrees [SFB]|none known|see [0-9]|B: |[-+=] [SFB]: )", name)
+                for at in re.finditer(r"(?:^|; )([-+=] .{2}|agrees.{2})", otherwise):
+                    self.assertRegex(at[1], "^([-+=] [SFB]:|agrees [SFB])$", name)
+        self.assertGreaterEqual(told, 48)
 
     def test_what_is_missing(self) -> None:
         self.write(CASE.replace("[3.10]", "[3.8.1, 3.99]") + "  - {note: x, at: {mode: FS}, row: 2 from OS}\n")

@@ -283,6 +283,9 @@ def tried(row, laws):
 
 
 def main(names):
+    if unknown := set(names) - {law.__name__ for law in LEAST}:
+        print("there is no law", *sorted(unknown))
+        return 1
     laws = [law for law in LEAST if not names or law.__name__ in names]
     held, broken = Counter(), 0
     for row in rows.read(ROWS.read_text()):

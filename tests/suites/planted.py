@@ -1,8 +1,9 @@
 #!/usr/bin/env python3
-"""How many planted changes the corpus tells: each is made in a copy of the plain kernel (tests/plain), and the cases of suites/ are
-judged by the records that the copy answers. A change of which no case tells is named.
+"""How many planted changes the corpus and the kernel's rows tell: each is made in a copy of the plain kernel (tests/plain). The cases of
+suites/ are judged by the records that the copy answers; of the wrong definitions of planted_definitions.py the rows by hand of
+tests/rows/test_kernel.row come first. A change of which nothing tells is named.
 
-    tests/suites/planted.py ETCS ETCS_LAB
+    tests/suites/planted.py ETCS ETCS_LAB [WORD ..]     with words, the wrong definitions alone whose sentences have one of them
 """
 import json
 import os
@@ -15,6 +16,7 @@ from pathlib import Path
 TOP = Path(__file__).resolve().parents[2]
 sys.path.insert(0, str(TOP / "python"))
 from gaknifur import cases, coverage, playing  # noqa: E402
+from planted_definitions import DEFINITIONS  # noqa: E402
 
 BITS = playing.BITS
 PLANTED = [
@@ -169,10 +171,26 @@ def missed(found, table, folder):
     return told
 
 
-def in_copy(found, table, plant):
-    """What is missed in a copy with a planted change, looked for in a process of its own."""
+def first_row(folder):
+    """The first row by hand that the plain kernel of a folder answers otherwise."""
+    sys.path.insert(0, folder)
+    import check_rows
+    import rows
+    for row in rows.read(check_rows.ROWS.read_text().partition(check_rows.GENERATED)[0]):
+        try:
+            differs = any(check_rows.differences(row))
+        except Exception:  # a change may break the kernel anywhere
+            differs = True
+        if differs:
+            return [f"row {row.name}"]
+    return []
+
+
+def in_copy(looks, plant):
+    """What is found in a copy with a planted change, looked for in a process of its own."""
     with tempfile.TemporaryDirectory() as room:
-        copy = shutil.copytree(TOP / "tests/plain", Path(room) / "plain")
+        copy = shutil.copytree(TOP / "tests/plain", Path(room) / "tests/plain")
+        (Path(room) / "tests/rows").symlink_to(TOP / "tests/rows")
         if plant:
             path, old, new = copy / plant[0], plant[1], plant[2]
             text = path.read_text()
@@ -181,25 +199,41 @@ def in_copy(found, table, plant):
             path.write_text(text.replace(old, new))
         answer = Path(room) / "answer"
         if (child := os.fork()) == 0:
-            answer.write_text(json.dumps(missed(found, table, str(copy))))
+            answer.write_text(json.dumps(looks(str(copy))))
             os._exit(0)
         os.waitpid(child, 0)
         return (json.loads(answer.read_text()), True) if answer.exists() else (["it ended"], True)
 
 
-def main(etcs, lab):
+def tells(plant, *looks):
+    """By what a change is told first, looked for in this order; what is wrong with the change, where it can't be made."""
+    for look in looks:
+        told, was_made = in_copy(look, plant)
+        if told or not was_made:
+            return told[0] if was_made else None, told
+    return None, []
+
+
+def main(etcs, lab, *words):
     os.environ |= {"GAKNIFUR_ETCS": str(Path(etcs).resolve()), "GAKNIFUR_ETCS_LAB": str(Path(lab).resolve())}
     found, table = [case for case in coverage.all_cases(TOP / "suites") if not any(life.ends for life in case.lives)], coverage.mode_table()
-    wrong, left = in_copy(found, table, None)[0], []
-    for one in wrong:
+
+    def by_cases(folder):
+        return missed(found, table, folder)
+
+    untrue, left = [told for look in (by_cases, first_row) for told in in_copy(look, None)[0]], 0
+    for one in untrue:
         print(f"tests/suites/planted.py: without a change: {one}")
-    for plant in PLANTED:
-        told, was_made = in_copy(found, table, plant)
-        if not was_made or not told:
-            left.append(plant)
-            print(f"tests/suites/planted.py: not told: {plant[0]}: {plant[1].strip()} {told}")
-    print(f"tests/suites/planted.py: {len(PLANTED)} planted changes, {len(left)} not told; {len(found)} cases")
-    return 1 if wrong or left else 0
+    definitions = [one for one in DEFINITIONS if not words or any(word in one[0] for word in words)]
+    planted = [(plant[1].strip(), plant, [by_cases]) for plant in PLANTED if not words]
+    planted += [(says, plant, [first_row, by_cases]) for says, *plant in definitions]
+    for says, plant, looks in planted:
+        by, wrong = tells(plant, *looks)
+        left += by is None
+        if by is None or words:
+            print(f"tests/suites/planted.py: {'not told' if by is None else by}: {plant[0]}: {says} {'' if by else wrong}")
+    print(f"tests/suites/planted.py: {len(planted)} planted changes, {left} not told; {len(found)} cases")
+    return 1 if untrue or left or not planted else 0
 
 
 if __name__ == "__main__":

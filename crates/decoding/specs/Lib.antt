@@ -1,1 +1,4 @@
+pub mod Fields
+pub mod Lines
+pub mod Refusals
 pub mod Showing

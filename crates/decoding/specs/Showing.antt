@@ -1,4 +1,4 @@
--- What the digits of a telegram come to (this project's profile).
+-- What is written of the digits of a telegram (this project's profile).
 use Rattle.std.specs.Prelude.{◌≡◌, ◌⊎◌, ℕ, List, Option, Ok, Err, codes}
 use Rattle.std.specs.Io.KnownBytes.{Appends}
 use Rattle.hex.specs.Hex.{decode_of}
@@ -8,21 +8,29 @@ use Rattle.command_line.specs.declared.status.Status.TheVariants.{Done, Refused}
 use Rattle.telegram.specs.Telegrams.{Carries, RefusesBytes}
 use Rattle.telegram.specs.declared.fault.TelegramFault.{TelegramFault}
 use Rattle.telegram.specs.declared.message.Telegram.{Telegram}
+use Rattle.decoding.specs.Lines.{telegram_lines, refusal_line}
 
--- the digits spell bytes that carry a telegram
-abbrev pub TellsTelegram : List ℕ → Type 0
-TellsTelegram text = (bytes : List ℕ) × (decode_of text ≡ Ok bytes) × (telegram : Telegram) × Carries bytes telegram
+-- the bytes carry a telegram, and its lines were written
+abbrev pub TellsTelegram : List ℕ → Option (List ℕ) → Option (List ℕ) → Type 0
+TellsTelegram bytes before after = (telegram : Telegram) × Carries bytes telegram × Appends before after (telegram_lines telegram)
 
--- they spell bytes that have a fault
-abbrev pub HasFault : List ℕ → Type 0
-HasFault text = (bytes : List ℕ) × (decode_of text ≡ Ok bytes) × (fault : TelegramFault) × RefusesBytes fault bytes
+-- the bytes have a fault, and its line was written
+abbrev pub TellsFault : List ℕ → Option (List ℕ) → Option (List ℕ) → Type 0
+TellsFault bytes before after = (fault : TelegramFault) × RefusesBytes fault bytes × Appends before after (refusal_line fault)
 
--- they spell no bytes, and the line of that was written
+-- Done: the bytes carry a telegram. Refused: they carry none.
+abbrev pub IsAnswered : List ℕ → Option (List ℕ) → Option (List ℕ) → Status → Type 0
+IsAnswered bytes before after status =
+    ((status ≡ Done) × TellsTelegram bytes before after)
+    ⊎ ((status ≡ Refused) × TellsFault bytes before after)
+
+-- the digits spell no bytes, and the line of that was written
 abbrev pub IsNoHex : List ℕ → Option (List ℕ) → Option (List ℕ) → Type 0
 IsNoHex text before after = (error : FromHexError) × (decode_of text ≡ Err error) × Appends before after (codes "refused hex\n")
 
--- Done: they spell a telegram. Refused: they spell none, or memory was refused, and the line of that was written.
+-- What the bytes are answered that the digits spell. Or Refused: they spell none, or memory was refused, and the line
+-- of that was written.
 abbrev pub IsShown : List ℕ → Option (List ℕ) → Option (List ℕ) → Status → Type 0
 IsShown text before after status =
-    ((status ≡ Done) × TellsTelegram text)
-    ⊎ ((status ≡ Refused) × (HasFault text ⊎ (IsNoHex text before after ⊎ Appends before after (codes "refused memory\n"))))
+    ((bytes : List ℕ) × (decode_of text ≡ Ok bytes) × IsAnswered bytes before after status)
+    ⊎ ((status ≡ Refused) × (IsNoHex text before after ⊎ Appends before after (codes "refused memory\n")))

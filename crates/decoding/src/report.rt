@@ -1,62 +1,101 @@
 //! A telegram in lines: its header, its packets, and its number of bits.
-ghost use Rattle.std.specs.Prelude.{◌^◌};
+ghost use Rattle.std.specs.Prelude.{◌≤◌, drop, flat_map, OnOk};
+ghost use Rattle.std.specs.Io.KnownBytes.{Appends};
+ghost use Rattle.packets.specs.Packets.{length_of};
+ghost use Rattle.telegram.specs.Sequences.{length_of_all};
+ghost use Rattle.decoding.specs.Lines.{field_text, header_line, body_text, packet_line, end_line, telegram_lines};
 
-use bits::{Run, VariableName};
-use packets::{FieldSink, Packet};
+use crate::fields::{FieldValue, fields_of_header, fields_of_packet};
+use packets::Packet;
 use std::io;
 use std::io::Write;
 use telegram::{Header, Telegram};
 
-/// Writes each field as its name and its number.
-#[derive(Drop)]
-struct FieldLine<'a, W> {
-    out: &'a mut W,
+fn write_field<W: Write>(field: FieldValue, out: &mut W) -> io::Result<()>
+    ensures { OnOk result (Appends (W.contents out.old) (W.contents out.new) (field_text field)) }
+{
+    let name = field.name.text();
+    let number = field.number;
+    write!(out, " {name}={number}")
 }
 
-/// What the output takes can't be said, only what is handed to it; it has room for each packet.
-impl<'a, W: Write> FieldSink for FieldLine<'a, W> {
-    ghost Seen = { Unit {0} };
-
-    ghost seen = { λ _. tt };
-
-    ghost took = { λ _ _. tt };
-
-    ghost held = { λ _. 0 };
-
-    ghost most = { 2 ^ 34 };
-
-    type Error = io::Error;
-
-    fn field(&mut self, name: VariableName, _width: u32, number: u64) -> io::Result<()> {
-        write!(self.out, " {}={number}", name.text())
+fn write_fields<W: Write>(fields: &[FieldValue], out: &mut W) -> io::Result<()>
+    ensures { OnOk result (Appends (W.contents out.old) (W.contents out.new) (flat_map field_text fields.now)) }
+{
+    for field in fields {
+        write_field(*field, out)?;
     }
+    Ok(())
+}
 
-    fn run(&mut self, _bits: &Run<'_>) -> io::Result<()> {
-        write!(self.out, " skipped")
+fn write_header<W: Write>(header: &Header, out: &mut W) -> io::Result<()>
+    ensures { OnOk result (Appends (W.contents out.old) (W.contents out.new) (header_line header.now)) }
+{
+    let list = fields_of_header(header);
+    out.write_all(b"telegram")?;
+    write_fields(list.fields.as_slice(), out)?;
+    out.write_all(b"\n")
+}
+
+// The fields behind the first one, which is NID_PACKET.
+fn write_others<W: Write>(fields: &[FieldValue], out: &mut W) -> io::Result<()>
+    ensures { OnOk result (Appends (W.contents out.old) (W.contents out.new) (flat_map field_text (drop 1 fields.now))) }
+{
+    match fields.split_first() {
+        Some((_, others)) => write_fields(others, out),
+        None => Ok(()),
     }
 }
 
-fn print_header<W: Write>(header: &Header, out: &mut W) -> io::Result<()> {
-    write!(out, "telegram")?;
-    let mut line = FieldLine { out };
-    header.fields(&mut line)?;
-    writeln!(line.out)
+fn write_body<W: Write>(packet: &Packet<'_>, out: &mut W) -> io::Result<()>
+    ensures { OnOk result (Appends (W.contents out.old) (W.contents out.new) (body_text packet.now)) }
+{
+    match packet {
+        Packet::Other(_) => out.write_all(b" skipped"),
+        _ => Ok(()),
+    }
 }
 
-fn print_packet<W: Write>(packet: &Packet<'_>, out: &mut W) -> io::Result<()> {
-    write!(out, "packet {}", packet.number().get())?;
-    let mut line = FieldLine { out };
-    packet.fields(packet.length(), &mut line)?;
-    writeln!(line.out)
+fn write_packet<W: Write>(packet: &Packet<'_>, out: &mut W) -> io::Result<()>
+    requires { length_of packet.now ≤ 832 }
+    ensures { OnOk result (Appends (W.contents out.old) (W.contents out.new) (packet_line packet.now)) }
+{
+    let number = packet.number().get();
+    let list = fields_of_packet(packet);
+    write!(out, "packet {number}")?;
+    write_others(list.fields.as_slice(), out)?;
+    write_body(packet, out)?;
+    out.write_all(b"\n")
+}
+
+fn write_packets<W: Write>(packets: &[Packet<'_>], out: &mut W) -> io::Result<()>
+    requires { length_of_all packets.now ≤ 832 }
+    ensures { OnOk result (Appends (W.contents out.old) (W.contents out.new) (flat_map packet_line packets.now)) }
+{
+    match packets.split_first() {
+        Some((packet, others)) => {
+            write_packet(packet, out)?;
+            write_packets(others, out)
+        }
+        None => Ok(()),
+    }
+}
+
+fn write_end<W: Write>(telegram: &Telegram<'_>, out: &mut W) -> io::Result<()>
+    ensures { OnOk result (Appends (W.contents out.old) (W.contents out.new) (end_line telegram.now)) }
+{
+    let bits = telegram.bits();
+    writeln!(out, "end {bits}")
 }
 
 /// Writes a telegram: a line with the fields of its header, one for each packet, and `end` with its number of bits.
 /// Fields are named as in SUBSET-026, 7.5.1, with their numbers as they were sent. The error is that of a write; then
 /// some of the text may be written.
-pub fn print_telegram<W: Write>(telegram: &Telegram<'_>, out: &mut W) -> io::Result<()> {
-    print_header(&telegram.header, out)?;
-    for packet in telegram.packets.as_slice() {
-        print_packet(packet, out)?;
-    }
-    writeln!(out, "end {}", telegram.bits())
+pub fn print_telegram<W: Write>(telegram: &Telegram<'_>, out: &mut W) -> io::Result<()>
+    requires { length_of_all telegram.now.packets.items ≤ 832 }
+    ensures { OnOk result (Appends (W.contents out.old) (W.contents out.new) (telegram_lines telegram.now)) }
+{
+    write_header(&telegram.header, out)?;
+    write_packets(telegram.packets.as_slice(), out)?;
+    write_end(telegram, out)
 }

@@ -1,22 +1,28 @@
 //! From hexadecimal digits to the lines of a telegram, or to why they carry none.
-ghost use Rattle.std.specs.Prelude.{◌≡◌, ◌⊎◌, IfOk};
-ghost use Rattle.command_line.specs.declared.status.Status.TheVariants as a_status;
-ghost use Rattle.telegram.specs.Telegrams.{Carries, RefusesBytes};
-ghost use Rattle.telegram.specs.declared.fault.TelegramFault.{TelegramFault};
-ghost use Rattle.telegram.specs.declared.message.Telegram.{Telegram};
-ghost use Rattle.decoding.specs.Showing.{IsShown};
+ghost use Rattle.std.specs.Prelude.{IfOk, OnOk};
+ghost use Rattle.std.specs.Io.KnownBytes.{Appends};
+ghost use Rattle.decoding.specs.Lines.{refusal_line};
+ghost use Rattle.decoding.specs.Showing.{IsAnswered, IsShown};
 
+use crate::refusals::{name_of_fault, number_of_fault};
 use crate::report::print_telegram;
 use command_line::{Status, tell};
 use hex::FromHexError;
 use std::alloc::Global;
 use std::io;
 use std::io::Write;
-use telegram::{Telegram, decode_into};
+use telegram::{Telegram, TelegramFault, decode_into};
+
+fn refuse<W: Write>(fault: TelegramFault, out: &mut W) -> io::Result<()>
+    ensures { OnOk result (Appends (W.contents out.old) (W.contents out.new) (refusal_line fault)) }
+{
+    let number = number_of_fault(fault);
+    let name = name_of_fault(fault);
+    writeln!(out, "refused {number} {name}")
+}
 
 fn show<W: Write>(bytes: &[u8], out: &mut W) -> io::Result<Status>
-    ensures { IfOk result (λ status. ((status ≡ a_status.Done) × (telegram : Telegram) × Carries bytes.now telegram)
-        ⊎ ((status ≡ a_status.Refused) × (fault : TelegramFault) × RefusesBytes fault bytes.now)) }
+    ensures { IfOk result (IsAnswered bytes.now (W.contents out.old) (W.contents out.new)) }
 {
     let mut telegram = Telegram::new();
     match decode_into(bytes, &mut telegram) {
@@ -25,8 +31,7 @@ fn show<W: Write>(bytes: &[u8], out: &mut W) -> io::Result<Status>
             Ok(Status::Done)
         }
         Err(fault) => {
-            let number = fault as u8;
-            writeln!(out, "refused {number} {fault}")?;
+            refuse(fault, out)?;
             Ok(Status::Refused)
         }
     }

@@ -11,8 +11,9 @@ use Rattle.bits.specs.Layout.{Layout, done, unless, field, run, choice, kind, pa
 use Rattle.bits.specs.Writing.{value, each_taken, taken, with_bits}
 use Rattle.bits.specs.declared.name.VariableName.{VariableName}
 use Rattle.bits.proofs.Numbers.{number_bits-zero}
-use Rattle.telegram_objects.specs.Fields.{with_field, fields_bits}
-use Rattle.telegram_objects.specs.declared.fields.FieldValue.{FieldValue}
+use Rattle.decoding.specs.Fields.{with_field}
+use Rattle.telegram_objects.specs.Fields.{fields_bits}
+use Rattle.decoding.specs.declared.fields.FieldValue.{FieldValue}
 
 pub fields_bits-append : (xs ys : List FieldValue) → fields_bits (xs ++ ys) ≡ fields_bits xs ++ fields_bits ys
 fields_bits-append [] ys = refl

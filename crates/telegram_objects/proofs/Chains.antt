@@ -21,7 +21,7 @@ use Rattle.telegram.specs.Telegrams.{SpellsPackets}
 use Rattle.telegram_objects.specs.Fields.{fields_bits, fields_size}
 use Rattle.telegram_objects.specs.Laying.{Lays, BeginWithOther, length_field}
 use Rattle.telegram_objects.specs.Telling.{pair_of, TellsBits, TellPackets}
-use Rattle.telegram_objects.specs.declared.fields.FieldValue.{FieldValue}
+use Rattle.decoding.specs.declared.fields.FieldValue.{FieldValue}
 use Rattle.telegram_objects.proofs.Laid.{length-fields_bits}
 use Rattle.telegram_objects.proofs.Puts.{last_told}
 

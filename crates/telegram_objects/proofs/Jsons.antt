@@ -12,7 +12,7 @@ use Rattle.serde_json.proofs.Views.{Entry, members_len-members_view}
 use Rattle.serde_json.specs.declared.value.Value.{Value}
 use Rattle.telegram_objects.specs.Telling.{pair_of, HasCount}
 use Rattle.telegram_objects.specs.Widths.{widths, width_in, HasWidth}
-use Rattle.telegram_objects.specs.declared.fields.FieldValue.{FieldValue}
+use Rattle.decoding.specs.declared.fields.FieldValue.{FieldValue}
 
 pub items_same : (ds es : List Data) → items_of ds ≡ items_of es → ds ≡ es
 items_same [] [] e = refl

@@ -9,10 +9,11 @@ use Rattle.packets.specs.Packets.{packet, packet_taken, length_of, number_of}
 use Rattle.packets.specs.declared.packet.Packet.{Packet}
 use Rattle.packets.proofs.AnyPacket.{spelled-packet}
 use Rattle.serde_json.specs.Data.{Data}
-use Rattle.telegram_objects.specs.Fields.{with_field, fields_bits, fields_size, packet_fields}
+use Rattle.decoding.specs.Fields.{with_field, packet_fields}
+use Rattle.telegram_objects.specs.Fields.{fields_bits, fields_size}
 use Rattle.telegram_objects.specs.Laying.{Lays, length_field}
 use Rattle.telegram_objects.specs.Telling.{TellsFields, TellsPacket}
-use Rattle.telegram_objects.specs.declared.fields.FieldValue.{FieldValue}
+use Rattle.decoding.specs.declared.fields.FieldValue.{FieldValue}
 use Rattle.telegram_objects.proofs.Shapes.{direction_field, shape}
 
 pub length-fields_bits : (fields : List FieldValue) → length (fields_bits fields) ≡ fields_size fields

@@ -13,4 +13,5 @@ mod LinesTell
 mod PieceTexts
 mod PlainNames
 mod ReadAgain
+mod RefusalText
 mod UniqueNames

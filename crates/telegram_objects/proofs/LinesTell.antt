@@ -16,15 +16,15 @@ use Rattle.telegram.specs.Sequences.{length_of_all}
 use Rattle.telegram.specs.Telegrams.{header, Carries}
 use Rattle.telegram.specs.declared.header.Header.{Header}
 use Rattle.telegram.specs.declared.message.Telegram.{Telegram}
-use Rattle.telegram_objects.specs.Fields.{header_fields, packet_fields}
+use Rattle.decoding.specs.Fields.{header_fields, packet_fields}
 use Rattle.telegram_objects.specs.Lines.{body_bytes, members_of, body_members, members_behind, packet_object, telegram_object, line_of, AreSmall, HaveSmallFields}
 use Rattle.telegram_objects.specs.Telling.{pair_of, pairs_of, TellsBits, TellsBody, TellsPacket, TellPackets, TellsHeader, TellsTelegram, TellsText}
-use Rattle.telegram_objects.specs.declared.fields.FieldValue.{FieldValue}
+use Rattle.decoding.specs.declared.fields.FieldValue.{FieldValue}
 use Rattle.telegram_objects.proofs.BodyBytes.{length-body_bytes, bits_of-body_bytes, IsBytes-body_bytes}
 use Rattle.telegram_objects.proofs.Chains.{other_short}
 use Rattle.telegram_objects.proofs.HexDigits.{digits_in_utf8}
 use Rattle.telegram_objects.proofs.PlainNames.{plain_name}
-use Rattle.telegram_objects.proofs.Puts.{packets_short}
+use Rattle.decoding.proofs.Lengths.{packets_short}
 use Rattle.telegram_objects.proofs.ReadAgain.{stored, items_stored, IsWritable, AreWritable, MembersAreWritable, line_in_utf8, line_read, line_document}
 use Rattle.telegram_objects.proofs.Shapes.{shape}
 use Rattle.telegram_objects.proofs.UniqueNames.{telegram_unique}

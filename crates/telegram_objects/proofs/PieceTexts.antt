@@ -11,10 +11,10 @@ use Rattle.serde_json.specs.Written.{compact_text, items_text, members_text}
 use Rattle.telegram.specs.Sequences.{length_of_all}
 use Rattle.telegram.specs.Telegrams.{header_bits}
 use Rattle.telegram.specs.declared.message.Telegram.{Telegram}
-use Rattle.telegram_objects.specs.Fields.{header_fields}
+use Rattle.decoding.specs.Fields.{header_fields}
 use Rattle.telegram_objects.specs.Lines.{members_of, packet_object, text_behind_header, line_of}
 use Rattle.telegram_objects.specs.Telling.{pair_of, pairs_of}
-use Rattle.telegram_objects.specs.declared.fields.FieldValue.{FieldValue}
+use Rattle.decoding.specs.declared.fields.FieldValue.{FieldValue}
 use Rattle.telegram_objects.proofs.PlainNames.{plain_name}
 
 pub same_text : (x y : Option (List ℕ)) (a b : List ℕ) → Appends x y a → a ≡ b → Appends x y b

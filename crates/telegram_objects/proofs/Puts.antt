@@ -16,10 +16,11 @@ use Rattle.telegram.specs.Telegrams.{header, Carries, SpellsPackets, SpellsTeleg
 use Rattle.telegram.specs.declared.header.Header.{Header}
 use Rattle.telegram.specs.declared.message.Telegram.{Telegram}
 use Rattle.telegram.proofs.Lengths.{found-header, next_is_packet, end_mark, length-telegram}
-use Rattle.telegram_objects.specs.Fields.{fields_bits, fields_size, header_fields}
+use Rattle.decoding.specs.Fields.{header_fields}
+use Rattle.telegram_objects.specs.Fields.{fields_bits, fields_size}
 use Rattle.telegram_objects.specs.Laying.{Lays, SameVariables}
 use Rattle.telegram_objects.specs.Telling.{TellPackets, HasMembers}
-use Rattle.telegram_objects.specs.declared.fields.FieldValue.{FieldValue}
+use Rattle.decoding.specs.declared.fields.FieldValue.{FieldValue}
 use Rattle.telegram_objects.proofs.Adding.{Plain, adds}
 use Rattle.telegram_objects.proofs.Laid.{laid}
 
@@ -113,11 +114,3 @@ front_of body n k bits e long = ap (take k) e ∙ take_at body (replicate n fals
 
 pub carries : (t : Telegram) (bits : List Bool) (bytes : List ℕ) (n : ℕ) → SpellsTelegram t bits → length bytes ≤ 104 → bits_of bytes ≡ bits ++ replicate n false → Carries bytes t
 carries t bits bytes n s small parts = record { small = small; front = bits; rest = replicate n false; parts = parts; spelled = s }
-
-pub carried_short : (t : Telegram) (bytes : List ℕ) (c : Carries bytes t) → length c.front ≤ 832
-carried_short t bytes c =
-    let small = c.small in
-    omega (arith, ap length c.parts, length-append c.front c.rest, length-bits_of bytes)
-
-pub packets_short : (t : Telegram) (bytes : List ℕ) → Carries bytes t → length_of_all t.packets.items ≤ 832
-packets_short t bytes c = omega (arith, carried_short t bytes c, length-telegram t c.front c.spelled)

@@ -26,11 +26,12 @@ use Rattle.serde_json.specs.Data.{Data}
 use Rattle.vars.specs.Values.{direction_number}
 use Rattle.vars.specs.declared.packet_head.ValidityDirection.{ValidityDirection}
 use Rattle.vars.specs.declared.scale.Scale.{Scale}
-use Rattle.telegram_objects.specs.Fields.{with_field, fields_bits}
+use Rattle.decoding.specs.Fields.{with_field}
+use Rattle.telegram_objects.specs.Fields.{fields_bits}
 use Rattle.telegram_objects.specs.Laying.{HaveWidths, BeginWithOther, length_field}
 use Rattle.telegram_objects.specs.Telling.{TellsBits, TellsBody}
 use Rattle.telegram_objects.specs.Widths.{HasWidth}
-use Rattle.telegram_objects.specs.declared.fields.FieldValue.{FieldValue}
+use Rattle.decoding.specs.declared.fields.FieldValue.{FieldValue}
 use Rattle.telegram_objects.proofs.Adding.{Plain, adds, plain-folded}
 use Rattle.telegram_objects.proofs.Plains.{plain-country, plain-link, plain-section, plain-gradient, plain-level_order, plain-mode_area, plain-mode_speeds, plain-override_values, plain-authority_end, plain-static_step}
 

@@ -15,10 +15,10 @@ use Rattle.serde_json.specs.Written.{outline, items_outline, members_outline}
 use Rattle.telegram.specs.Telegrams.{header}
 use Rattle.telegram.specs.declared.header.Header.{Header}
 use Rattle.telegram.specs.declared.message.Telegram.{Telegram}
-use Rattle.telegram_objects.specs.Fields.{header_fields, packet_fields}
+use Rattle.decoding.specs.Fields.{header_fields, packet_fields}
 use Rattle.telegram_objects.specs.Lines.{members_of, members_behind, packet_object, telegram_object}
 use Rattle.telegram_objects.specs.Telling.{pair_of, pairs_of}
-use Rattle.telegram_objects.specs.declared.fields.FieldValue.{FieldValue}
+use Rattle.decoding.specs.declared.fields.FieldValue.{FieldValue}
 
 -- ---- lists of names that are computed
 

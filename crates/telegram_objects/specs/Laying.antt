@@ -8,7 +8,7 @@ use Rattle.serde_json.specs.Data.{Data}
 use Rattle.telegram_objects.specs.Fields.{fields_bits}
 use Rattle.telegram_objects.specs.Telling.{TellsFields, TellsBits}
 use Rattle.telegram_objects.specs.Widths.{HasWidth}
-use Rattle.telegram_objects.specs.declared.fields.FieldValue.{FieldValue}
+use Rattle.decoding.specs.declared.fields.FieldValue.{FieldValue}
 
 -- each field has the bits of its variable
 abbrev pub HaveWidths : List FieldValue → Type 0

@@ -13,10 +13,12 @@ use Rattle.serde_json.specs.View.{items_of}
 use Rattle.serde_json.specs.Written.{compact_text, items_text}
 use Rattle.telegram.specs.Sequences.{length_of_all}
 use Rattle.telegram.specs.Telegrams.{header_bits}
+use Rattle.telegram.specs.declared.fault.TelegramFault.{TelegramFault}
 use Rattle.telegram.specs.declared.message.Telegram.{Telegram}
-use Rattle.telegram_objects.specs.Fields.{header_fields, packet_fields}
+use Rattle.decoding.specs.Fields.{header_fields, packet_fields}
+use Rattle.decoding.specs.Refusals.{number_of_fault, name_of_fault}
 use Rattle.telegram_objects.specs.Telling.{pairs_of}
-use Rattle.telegram_objects.specs.declared.fields.FieldValue.{FieldValue}
+use Rattle.decoding.specs.declared.fields.FieldValue.{FieldValue}
 
 -- ---- the body of a packet that is skipped
 
@@ -66,6 +68,16 @@ text_behind_header t =
 
 abbrev pub line_of : Telegram → List ℕ
 line_of t = compact_text (telegram_object t) ++ codes "\n"
+
+-- ---- why bytes carry no telegram
+
+-- the number and the name of the fault
+abbrev pub refusal_object : TelegramFault → Data
+refusal_object e =
+    object (member (codes "refused") (object (member (codes "number") (number (unsigned (number_of_fault e))) (member (codes "name") (string (name_of_fault e)) no_members))) no_members)
+
+abbrev pub refusal_line : TelegramFault → List ℕ
+refusal_line e = compact_text (refusal_object e) ++ codes "\n"
 
 -- ---- numbers that JSON readers keep whole
 

@@ -19,8 +19,8 @@ use Rattle.telegram.specs.Sequences.{length_of_all}
 use Rattle.telegram.specs.Telegrams.{Carries, header_bits}
 use Rattle.telegram.specs.declared.header.Header.{Header}
 use Rattle.telegram.specs.declared.message.Telegram.{Telegram}
-use Rattle.telegram_objects.specs.Fields.{header_fields, packet_fields}
-use Rattle.telegram_objects.specs.declared.fields.FieldValue.{FieldValue}
+use Rattle.decoding.specs.Fields.{header_fields, packet_fields}
+use Rattle.decoding.specs.declared.fields.FieldValue.{FieldValue}
 
 -- ---- members of objects
 

@@ -2,7 +2,7 @@
 //! the reader of packets: it reads the fields so far with zero bits behind them, in the length that suits it.
 
 use crate::faults::Ranges;
-use crate::fields::{FieldValue, fields_of_packet};
+use decoding::{FieldValue, fields_of_packet};
 use arrayvec::ArrayVec;
 use bits::{BitReader, BitWriter, Full, VariableName};
 use packet_coding::read_packet;

@@ -2,7 +2,7 @@
 
 use crate::drafts::put;
 use crate::faults::{ObjectFault, Place, Ranges, Reason};
-use crate::fields::{FieldValue, fields_of_header};
+use decoding::{FieldValue, fields_of_header};
 use crate::values::has_count;
 use arrayvec::ArrayVec;
 use bits::{BitWriter, Full};

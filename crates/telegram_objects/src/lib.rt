@@ -5,7 +5,6 @@
 mod bodies;
 mod drafts;
 mod faults;
-mod fields;
 mod headers;
 mod matching;
 mod packets_told;

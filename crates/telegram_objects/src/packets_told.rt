@@ -3,7 +3,7 @@
 use crate::bodies::body_at;
 use crate::drafts::{Draft, MOST_BITS, Next};
 use crate::faults::{ObjectFault, Place, Ranges, Reason};
-use crate::fields::FieldValue;
+use decoding::FieldValue;
 use crate::values::{agrees_at, has_only, list_at, pair_in};
 use bits::VariableName;
 use serde_json::Value;

@@ -9,14 +9,15 @@ ghost use Rattle.telegram.specs.Telegrams.{SpellsPackets, SpellsTelegram};
 ghost use Rattle.telegram.specs.declared.header.Header.{Header as a_header};
 ghost use Rattle.telegram.specs.declared.message.Telegram.{Telegram as a_telegram};
 ghost use Rattle.packets.specs.declared.packet.Packet.{Packet as a_packet};
-ghost use Rattle.telegram_objects.specs.Fields.{fields_bits, fields_size, header_fields};
+ghost use Rattle.decoding.specs.Fields.{header_fields};
+ghost use Rattle.telegram_objects.specs.Fields.{fields_bits, fields_size};
 ghost use Rattle.telegram_objects.specs.Laying.{BeginWithOther, HaveWidths, Lays, SameVariables, length_field};
 ghost use Rattle.telegram_objects.specs.Telling.{HasMembers, TellPackets, TellsBits, TellsTelegram, pair_of};
 ghost use Rattle.telegram_objects.specs.Widths.{HasWidth};
-ghost use Rattle.telegram_objects.specs.declared.fields.FieldValue.{FieldValue as a_field};
+ghost use Rattle.decoding.specs.declared.fields.FieldValue.{FieldValue as a_field};
 
 use crate::bodies::body_at;
-use crate::fields::{FieldValue, fields_of_header};
+use decoding::{FieldValue, fields_of_header};
 use crate::values::{list_at, number_at, pair_in};
 use crate::widths::width_of;
 use bits::{BitReader, BitWriter};

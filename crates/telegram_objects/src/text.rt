@@ -13,11 +13,11 @@ ghost use Rattle.telegram.specs.Sequences.{length_of_all};
 ghost use Rattle.telegram.specs.Telegrams.{Carries, RefusesBytes};
 ghost use Rattle.telegram.specs.declared.fault.TelegramFault.{TelegramFault as a_fault};
 ghost use Rattle.telegram.specs.declared.message.Telegram.{Telegram as a_telegram};
-ghost use Rattle.telegram_objects.specs.Fields.{header_fields, packet_fields};
-ghost use Rattle.telegram_objects.specs.Lines.{body_bytes, members_of, body_members, members_behind, packet_object, text_behind_header, line_of, AreSmall, HaveSmallFields};
+ghost use Rattle.decoding.specs.Fields.{header_fields, packet_fields};
+ghost use Rattle.telegram_objects.specs.Lines.{body_bytes, members_of, body_members, members_behind, packet_object, text_behind_header, line_of, refusal_line, AreSmall, HaveSmallFields};
 ghost use Rattle.telegram_objects.specs.Telling.{pair_of, TellsText};
 
-use crate::fields::{FieldValue, fields_of_header, fields_of_packet};
+use decoding::{FieldValue, fields_of_header, fields_of_packet, name_of_fault, number_of_fault};
 use bits::{BitWriter, Run};
 use packets::{Packet, TELEGRAM_BYTES};
 use pieces::{Form, Piece, write_pieces};
@@ -230,11 +230,15 @@ fn write_object<W: Write>(telegram: &Telegram<'_>, out: &mut W) -> io::Result<()
     write_list(telegram, out)
 }
 
-fn write_refusal<W: Write>(fault: TelegramFault, out: &mut W) -> io::Result<()> {
-    let number = fault as u8;
+// Writes why bytes carry no telegram.
+fn write_refusal<W: Write>(fault: TelegramFault, out: &mut W) -> io::Result<()>
+    ensures { OnOk result (Appends (W.contents out.old) (W.contents out.new) (refusal_line fault)) }
+{
+    let number = number_of_fault(fault);
+    let name = name_of_fault(fault);
     writeln!(
         out,
-        "{{\"refused\":{{\"number\":{number},\"name\":\"{fault}\"}}}}"
+        "{{\"refused\":{{\"number\":{number},\"name\":\"{name}\"}}}}"
     )
 }
 
@@ -242,7 +246,7 @@ fn write_refusal<W: Write>(fault: TelegramFault, out: &mut W) -> io::Result<()> 
 /// false. The error is that of a write.
 pub fn write_answer<W: Write>(bytes: &[u8], out: &mut W) -> io::Result<bool>
     ensures told { IfOk result (λ told. IsTrue told → (t : a_telegram) × Carries bytes.now t × TellsText (line_of t) t × Appends (W.contents out.old) (W.contents out.new) (line_of t)) }
-    ensures refused { IfOk result (λ told. told ≡ false → (e : a_fault) × RefusesBytes e bytes.now) }
+    ensures refused { IfOk result (λ told. told ≡ false → (e : a_fault) × RefusesBytes e bytes.now × Appends (W.contents out.old) (W.contents out.new) (refusal_line e)) }
 {
     let mut telegram = Telegram::new();
     match decode_into(bytes, &mut telegram) {

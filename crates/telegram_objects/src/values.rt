@@ -5,7 +5,7 @@ ghost use Rattle.serde_json.specs.Data.{unsigned, Data, number, string, array};
 ghost use Rattle.serde_json.specs.Find.{get};
 ghost use Rattle.serde_json.specs.View.{view, items_of};
 ghost use Rattle.telegram_objects.specs.Telling.{AgreesAt, HasCount, HasOnly, count_of, pair_of};
-ghost use Rattle.telegram_objects.specs.declared.fields.FieldValue.{FieldValue as a_field};
+ghost use Rattle.decoding.specs.declared.fields.FieldValue.{FieldValue as a_field};
 
 use serde_json::Value;
 

@@ -2,7 +2,7 @@ use Rattle.std.proofs.Common.{◌≡◌, ◌<◌, ◌++◌, ℕ, List, Bool, sub
 use Rattle.serde_json.specs.Find.{get}
 use Rattle.serde_json.specs.View.{view}
 use Rattle.telegram_objects.specs.Laying.{SameVariables}
-use Rattle.telegram_objects.specs.declared.fields.FieldValue.{FieldValue}
+use Rattle.decoding.specs.declared.fields.FieldValue.{FieldValue}
 use Rattle.telegram_objects.proofs.Chains.{some_same, same_bits, put_next, room_first, room_next}
 use Rattle.telegram_objects.proofs.Puts.{next_member}
 use Rattle.telegram_objects.proofs.putting.+put_members.Goals as goal

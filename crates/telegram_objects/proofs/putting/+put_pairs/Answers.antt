@@ -1,7 +1,7 @@
 use Rattle.std.proofs.Common.{List, map, true≢false, subst, sym, ap, ◌∙◌}
 use Rattle.serde_json.specs.View.{view}
 use Rattle.telegram_objects.specs.Laying.{HaveWidths}
-use Rattle.telegram_objects.specs.declared.fields.FieldValue.{FieldValue}
+use Rattle.decoding.specs.declared.fields.FieldValue.{FieldValue}
 use Rattle.telegram_objects.proofs.Chains.{put_next, room_first, room_next}
 use Rattle.telegram_objects.proofs.Jsons.{next_pair}
 use Rattle.telegram_objects.proofs.putting.+put_pairs.Goals as goal

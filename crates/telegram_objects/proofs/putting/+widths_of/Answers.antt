@@ -2,7 +2,7 @@ use Rattle.std.proofs.Common.{◌≡◌, ◌+◌, ◌≤◌, List, map, subst, s
 use Rattle.serde_json.specs.View.{view}
 use Rattle.telegram_objects.specs.Fields.{fields_size}
 use Rattle.telegram_objects.specs.Laying.{HaveWidths}
-use Rattle.telegram_objects.specs.declared.fields.FieldValue.{FieldValue}
+use Rattle.decoding.specs.declared.fields.FieldValue.{FieldValue}
 use Rattle.telegram_objects.proofs.Jsons.{next_pair}
 use Rattle.telegram_objects.proofs.putting.+widths_of.Goals as goal
 

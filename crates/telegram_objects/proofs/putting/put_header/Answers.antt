@@ -1,7 +1,8 @@
 use Rattle.std.proofs.Common.{◌++◌, List, Bool, length, subst, sym, ap, ◌∙◌, arith}
-use Rattle.telegram_objects.specs.Fields.{fields_bits, header_fields}
+use Rattle.decoding.specs.Fields.{header_fields}
+use Rattle.telegram_objects.specs.Fields.{fields_bits}
 use Rattle.telegram_objects.specs.Laying.{SameVariables}
-use Rattle.telegram_objects.specs.declared.fields.FieldValue.{FieldValue}
+use Rattle.decoding.specs.declared.fields.FieldValue.{FieldValue}
 use Rattle.telegram_objects.proofs.Puts.{headers_same, header_size}
 use Rattle.telegram_objects.proofs.putting.put_header.Goals as goal
 

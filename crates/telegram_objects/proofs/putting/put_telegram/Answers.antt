@@ -1,7 +1,7 @@
 use Rattle.std.proofs.Common.{◌≡◌, ◌+◌, ◌≤◌, ◌++◌, List, Bool, length, map, true≢false, subst, sym, ap, ◌∙◌, arith, length-append}
 use Rattle.serde_json.specs.Data.{Data}
 use Rattle.serde_json.specs.View.{view}
-use Rattle.telegram_objects.specs.Fields.{header_fields}
+use Rattle.decoding.specs.Fields.{header_fields}
 use Rattle.telegram_objects.specs.Telling.{HasMembers, TellPackets}
 use Rattle.telegram_objects.proofs.Chains.{some_same}
 use Rattle.telegram_objects.proofs.Puts.{header_spelled}

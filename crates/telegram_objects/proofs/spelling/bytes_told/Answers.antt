@@ -1,7 +1,8 @@
 use Rattle.std.proofs.Common.{◌-◌, ◌*◌, ◌≤◌, ℕ, List, Bool, true≢false, length, subst, sym, ◌∙◌}
 use Rattle.telegram.specs.Telegrams.{Carries}
 use Rattle.telegram_objects.specs.Telling.{ArePadded}
-use Rattle.telegram_objects.proofs.Puts.{carries, carried_short}
+use Rattle.decoding.proofs.Lengths.{carried_short}
+use Rattle.telegram_objects.proofs.Puts.{carries}
 use Rattle.telegram_objects.proofs.spelling.bytes_told.Goals as goal
 
 pub returns-then-carry_told-clause-each : goal.returns-then-carry_told-clause-each

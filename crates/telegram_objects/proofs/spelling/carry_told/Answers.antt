@@ -3,7 +3,7 @@ use Rattle.serde_json.specs.View.{view}
 use Rattle.telegram.specs.declared.message.Telegram.{Telegram}
 use Rattle.telegram_objects.specs.Telling.{TellsTelegram}
 use Rattle.telegram_objects.proofs.Chains.{on_true}
-use Rattle.telegram_objects.proofs.Puts.{packets_short}
+use Rattle.decoding.proofs.Lengths.{packets_short}
 use Rattle.telegram_objects.proofs.spelling.carry_told.Goals as goal
 
 pub returns-in-Ok : goal.returns-in-Ok

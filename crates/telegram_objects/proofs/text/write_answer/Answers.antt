@@ -1,5 +1,5 @@
 use Rattle.telegram_objects.proofs.LinesTell.{line_tells}
-use Rattle.telegram_objects.proofs.Puts.{packets_short}
+use Rattle.decoding.proofs.Lengths.{packets_short}
 use Rattle.telegram_objects.proofs.text.write_answer.Goals as goal
 
 pub write_object-requires : goal.write_object-requires

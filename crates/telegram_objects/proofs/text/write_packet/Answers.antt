@@ -4,7 +4,7 @@ use Rattle.std.proofs.lemmas.Result.{on_ok_weaker}
 use Rattle.packets.specs.Packets.{number_of}
 use Rattle.serde_json.specs.View.{items_of}
 use Rattle.serde_json.specs.Written.{comma_if, items_text, members_text}
-use Rattle.telegram_objects.specs.Fields.{packet_fields}
+use Rattle.decoding.specs.Fields.{packet_fields}
 use Rattle.telegram_objects.specs.Lines.{members_behind}
 use Rattle.telegram_objects.specs.Telling.{pair_of}
 use Rattle.telegram_objects.proofs.PieceTexts.{appended, packet_text}

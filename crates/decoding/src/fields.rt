@@ -1,7 +1,7 @@
 //! The fields of a header and of a packet, taken into a list.
 ghost use Rattle.std.specs.Prelude.{◌≡◌, ◌≤◌};
 ghost use Rattle.packets.specs.Packets.{length_of};
-ghost use Rattle.telegram_objects.specs.Fields.{header_fields, packet_fields};
+ghost use Rattle.decoding.specs.Fields.{header_fields, packet_fields};
 
 use arrayvec::ArrayVec;
 use bits::{Run, VariableName};
@@ -12,10 +12,10 @@ use telegram::Header;
 
 /// A field: the name of its variable, the number of its bits, and the number that they spell.
 #[derive(Clone, Copy)]
-pub(crate) struct FieldValue {
-    pub(crate) name: VariableName,
-    pub(crate) width: u32,
-    pub(crate) number: u64,
+pub struct FieldValue {
+    pub name: VariableName,
+    pub width: u32,
+    pub number: u64,
 }
 
 impl Default for FieldValue {
@@ -30,15 +30,15 @@ impl Default for FieldValue {
 
 /// Fields, one after another; no telegram has more than its 832 bits.
 #[derive(Drop)]
-pub(crate) struct FieldList {
-    pub(crate) fields: ArrayVec<FieldValue, 832>,
+pub struct FieldList {
+    pub fields: ArrayVec<FieldValue, 832>,
 }
 
 /// It holds each field that has bits, and none that is skipped.
 impl FieldSink for FieldList {
     ghost use Rattle.std.specs.Prelude.{List, length};
-    ghost use Rattle.telegram_objects.specs.Fields.{with_field};
-    ghost use Rattle.telegram_objects.specs.declared.fields.FieldValue.{FieldValue as a_field};
+    ghost use Rattle.decoding.specs.Fields.{with_field};
+    ghost use Rattle.decoding.specs.declared.fields.FieldValue.{FieldValue as a_field};
 
     ghost Seen = { List a_field };
 
@@ -69,7 +69,7 @@ impl FieldSink for FieldList {
 }
 
 /// The fields of a header.
-pub(crate) fn fields_of_header(header: &Header) -> FieldList
+pub fn fields_of_header(header: &Header) -> FieldList
     ensures { result.fields.items ≡ header_fields header.now }
 {
     let mut list = FieldList {
@@ -82,7 +82,7 @@ pub(crate) fn fields_of_header(header: &Header) -> FieldList
 }
 
 /// The fields of a packet, NID_PACKET first.
-pub(crate) fn fields_of_packet(packet: &Packet<'_>) -> FieldList
+pub fn fields_of_packet(packet: &Packet<'_>) -> FieldList
     requires { length_of packet.now ≤ 832 }
     ensures { result.fields.items ≡ packet_fields packet.now }
 {

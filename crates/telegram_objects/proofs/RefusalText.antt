@@ -1,19 +1,29 @@
 -- The text of why bytes carry no telegram: no name of a fault needs an escape in JSON.
-use Rattle.std.proofs.Common.{◌≡◌, ◌++◌, codes, decimal, refl}
-use Rattle.json.specs.Print.{escape_byte}
+use Rattle.std.proofs.Common.{◌≡◌, ℕ, List, [], ◌∷◌, ◌++◌, codes, decimal, refl, sym, ap, ◌∙◌, append_assoc}
+use Rattle.json.specs.Print.{escape_byte, escape}
 use Rattle.decoding.specs.Refusals.{number_of_fault, name_of_fault}
 use Rattle.telegram.specs.declared.fault.TelegramFault.{TelegramFault}
 use Rattle.telegram.specs.declared.fault.TelegramFault.TheVariants as a_fault
 use Rattle.telegram_objects.specs.Lines.{refusal_line}
 
-pub refusal_text : (e : TelegramFault) → codes "{\"refused\":{\"number\":" ++ decimal (number_of_fault e) ++ codes ",\"name\":\"" ++ name_of_fault e ++ codes "\"}}\n" ≡ refusal_line e
+plain_fault : (e : TelegramFault) → escape (name_of_fault e) ≡ name_of_fault e
 unfolding escape_byte
-refusal_text a_fault.Truncated = refl
-refusal_text a_fault.WrongLength = refl
-refusal_text a_fault.Spare = refl
-refusal_text a_fault.OutOfRange = refl
-refusal_text a_fault.WrongVersion = refl
-refusal_text a_fault.NotUplink = refl
-refusal_text a_fault.NotBalise = refl
-refusal_text a_fault.NoEnd = refl
-refusal_text a_fault.TooLong = refl
+plain_fault a_fault.Truncated = refl
+plain_fault a_fault.WrongLength = refl
+plain_fault a_fault.Spare = refl
+plain_fault a_fault.OutOfRange = refl
+plain_fault a_fault.WrongVersion = refl
+plain_fault a_fault.NotUplink = refl
+plain_fault a_fault.NotBalise = refl
+plain_fault a_fault.NoEnd = refl
+plain_fault a_fault.TooLong = refl
+
+refusal_parts : (d n : List ℕ) → codes "{\"refused\":{\"number\":" ++ (d ++ (codes ",\"name\":\"" ++ (n ++ codes "\"}}\n")))
+    ≡ (codes "{\"refused\":" ++ ((codes "{\"number\":" ++ (d ++ (codes ",\"name\":\"" ++ ((n ++ 34 ∷ []) ++ 125 ∷ [])))) ++ 125 ∷ [])) ++ codes "\n"
+refusal_parts d n = simp append_assoc
+
+pub refusal_text : (e : TelegramFault) → codes "{\"refused\":{\"number\":" ++ (decimal (number_of_fault e) ++ (codes ",\"name\":\"" ++ (name_of_fault e ++ codes "\"}}\n"))) ≡ refusal_line e
+unfolding escape_byte
+refusal_text e =
+    refusal_parts (decimal (number_of_fault e)) (name_of_fault e)
+    ∙ ap (λ (n : List ℕ). (codes "{\"refused\":" ++ ((codes "{\"number\":" ++ (decimal (number_of_fault e) ++ (codes ",\"name\":\"" ++ ((n ++ 34 ∷ []) ++ 125 ∷ [])))) ++ 125 ∷ [])) ++ codes "\n") (sym (plain_fault e))

@@ -52,7 +52,7 @@ CAMPAIGN_TABLE = beginning("a table of a campaign", b"name,job_sha256,kind,ended
 REPORT = holding("a report", b"<!DOCTYPE html>\n", b'<meta name="generator" content="%s">' % MAKER.encode())
 SVG = holding("a picture", b"<?xml", b"<dc:title>%s</dc:title>" % MAKER.encode())
 PNG = holding("a picture", b"\x89PNG\r\n\x1a\n", b"tEXtSoftware\0%s" % MAKER.encode())
-JUNIT = beginning("results in XML", b'<?xml version="1.0" encoding="utf-8"?><testsuites><testsuite name="pytest" ')
+JUNIT = holding("results in XML", b"<?xml", b'<property name="generator" value="%s"' % MAKER.encode())
 
 
 @dataclass(frozen=True)

@@ -10,21 +10,31 @@ import pytest
 from . import files
 
 
+def writers(session: pytest.Session) -> list[Any]:
+    """What writes pytest's results."""
+    return [plugin for plugin in session.config.pluginmanager.get_plugins() if type(plugin).__name__ == "LogXML"]
+
+
 class Results:
-    """A plugin of pytest: what it wrote into a folder of its own goes under the name, which it then tells."""
+    """A plugin of pytest: what it wrote into a folder of its own goes under the name, which it then tells. A property of all
+    results says that they are this package's."""
 
     def __init__(self, out: files.Out, made: Path) -> None:
         self.out, self.made = out, made
+
+    @pytest.hookimpl(tryfirst=True)  # type: ignore[misc]
+    def pytest_sessionstart(self, session: pytest.Session) -> None:
+        """No test has begun."""
+        for writer in writers(session):
+            writer.add_global_property("generator", files.MAKER)
 
     @pytest.hookimpl(trylast=True)  # type: ignore[misc]
     def pytest_sessionfinish(self, session: pytest.Session) -> None:
         """The tests are done, and pytest has written the file."""
         if self.made.exists():
             files.write(self.out, self.made.read_bytes())
-        for plugin in session.config.pluginmanager.get_plugins():
-            writer: Any = plugin
-            if type(plugin).__name__ == "LogXML":
-                writer.logfile = str(self.out.path.absolute())
+        for writer in writers(session):
+            writer.logfile = str(self.out.path.absolute())
 
 
 @contextlib.contextmanager

@@ -110,9 +110,13 @@ class Folders(Room):
 
     def test_results_in_xml(self) -> None:
         (self.work / "a.case.yaml").write_text(CASE)
-        (self.work / "notes.xml").write_text("my own notes")
-        status, told, said = self.lab("test", ".", "--junitxml=notes.xml", "--force")
-        self.assertEqual((status, said.split(": ")[1], (self.work / "notes.xml").read_text()), (1, "notes.xml", "my own notes"))
+        others = '<?xml version="1.0" encoding="utf-8"?><testsuites><testsuite name="pytest" errors="0" failures="0" skipped="0" ' \
+                 'tests="1" time="0.01" timestamp="2026-01-01T00:00:00" hostname="here"><testcase classname="a" name="b" time="0.01" />' \
+                 '</testsuite></testsuites>'
+        for notes in ("my own notes", others):
+            (self.work / "notes.xml").write_text(notes)
+            status, told, said = self.lab("test", ".", "--junitxml=notes.xml", "--force")
+            self.assertEqual((status, said.split(": ")[1], (self.work / "notes.xml").read_text()), (1, "notes.xml", notes))
         status, told, said = self.lab("test", ".", "--junitxml", "out.xml")
         first = (self.work / "out.xml").read_text()
         self.assertIn(f"generated xml file: {self.work / 'out.xml'}", told)

@@ -60,7 +60,10 @@ def words() -> argparse.ArgumentParser:
                  "Units stand in the names of the columns; nothing stands where nothing is known.")
     table.add_argument("image", metavar="IMAGE", type=Path)
     table.add_argument("out", metavar="OUT.csv", nargs="?", type=Path, help="the file; else standard output")
-    add_all(table)
+    which = table.add_mutually_exclusive_group()
+    add_all(which)
+    which.add_argument("--damaged", action="store_true", help="in place of these the records of blocks that are damaged or in "
+                       "a wrong slot, each with its slot and byte; nothing else vouches for them")
     add_force(table)
     data = word("database", "adds images to an SQLite database",
                 "A database that isn't there is made. An image that is in it already, by its SHA-256, is left as it is.")
@@ -105,7 +108,7 @@ def add_suites(word: Callable[[str, str, str], argparse.ArgumentParser]) -> None
     told.add_argument("folder", metavar="FOLDER", type=Path)
 
 
-def add_all(parser: argparse.ArgumentParser) -> None:
+def add_all(parser: argparse._ActionsContainer) -> None:
     """The word for other blocks."""
     parser.add_argument("--all", action="store_true", dest="other_blocks",
                         help="also the records of readable blocks that aren't of the journal; `source` tells them apart")
@@ -144,9 +147,10 @@ def out_of(told: argparse.Namespace, kind: files.Kind, source: Path) -> files.Ou
 def write_table(told: argparse.Namespace, progress: Progress) -> int:
     """The word `table`. (pandas, and matplotlib of a report, take a second to load, which other words needn't.)"""
     out = out_of(told, files.TABLE, told.image)
-    journal = read(told.image, other_blocks=told.other_blocks, replay=True, why=True, progress=progress)
+    journal = read(told.image, other_blocks=told.other_blocks, replay=True, why=not told.damaged, progress=progress,
+                   strays=told.damaged)
     from . import tables
-    write(out, tables.csv_text(tables.frame(journal)), told.image)
+    write(out, tables.csv_text(tables.strays(journal) if told.damaged else tables.frame(journal)), told.image)
     return note(journal)
 
 
@@ -171,7 +175,7 @@ def write_report(told: argparse.Namespace, progress: Progress) -> int:
     from .extent import Extent, bound
     extent = Extent(bound(told.first) if told.first else None, bound(told.last) if told.last else None, told.life)
     out = out_of(told, files.REPORT, told.image)
-    journal = read(told.image, replay=True, why=True, progress=progress)
+    journal = read(told.image, replay=True, why=True, progress=progress, strays=True)
     from . import report
     write(out, report.page(journal, extent, progress, told.newest_first), told.image)
     return note(journal)

@@ -46,7 +46,7 @@ def holding(name: str, beginning: bytes, mark: bytes) -> Kind:
 
 MAKER = "gaknifur lab"
 """The maker that pages and pictures tell."""
-TABLE = beginning("a table", b"block,event,life,stretch,kind,time_ms,mode,")
+TABLE = beginning("a table", b"block,event,life,stretch,kind,time_ms,mode,", b"source,slot,byte,block,event,life,kind,")
 DRIVE_TABLE = beginning("a table of a drive", b"time_ms,first_event,event,place_cm,speed_m_per_h,")
 CAMPAIGN_TABLE = beginning("a table of a campaign", b"name,job_sha256,kind,ended,image_sha256,")
 REPORT = holding("a report", b"<!DOCTYPE html>\n", b'<meta name="generator" content="%s">' % MAKER.encode())

@@ -39,6 +39,9 @@ class Journal:
     """Why it tells nothing."""
     refusal: str | None = None
     """Why no record can be told, although the image was examined."""
+    strays: list[Json] = field(default_factory=list)
+    """Records of blocks in a wrong slot and of damaged ones, where they were asked for. They are in no other list: an event
+    may stand twice there, and of a damaged block the life isn't known."""
 
     @property
     def name(self) -> str:
@@ -125,11 +128,16 @@ def examine(path: Path) -> Json:
     return told[0]
 
 
-UNTABLED = ("misplaced", "damaged")
-"""Sources whose records aren't taken: an event may stand twice there, and of a damaged block the life isn't known."""
+STRAY = ("misplaced", "damaged")
+"""Sources of strays."""
 
 
-def tell_events(journal: Journal, other_blocks: bool, progress: Progress) -> None:
+def listing(other_blocks: bool, strays: bool) -> list[str]:
+    """The words by which `etcs_lab` tells the records that are asked for, and perhaps more."""
+    return ["events", *(["--all"] if other_blocks or strays else [])]
+
+
+def tell_events(journal: Journal, other_blocks: bool, strays: bool, progress: Progress) -> None:
     """Takes what `etcs_lab events` tells."""
     extent = journal.examination["journal"] or {}
     last, first = extent.get("last_event"), extent.get("first_event")
@@ -138,9 +146,11 @@ def tell_events(journal: Journal, other_blocks: bool, progress: Progress) -> Non
 
     def step(told: Json) -> None:
         nonlocal ended
-        if told.get("source") in UNTABLED:
+        if told.get("source") in STRAY:
+            journal.strays += [told] if strays else []
+        elif not other_blocks and told.pop("source", "journal") != "journal":
             return
-        if "event" in told:
+        elif "event" in told:
             journal.records.append(told)
             if len(journal.records) % 1000 == 0:
                 progress("events", len(journal.records), whole)
@@ -149,7 +159,7 @@ def tell_events(journal: Journal, other_blocks: bool, progress: Progress) -> Non
         elif "end" in told:
             ended = True
 
-    run = objects(["events", *(["--all"] if other_blocks else [])], journal.path, step)
+    run = objects(listing(other_blocks, strays), journal.path, step)
     if run.status == REFUSED and not journal.records:
         journal.refusal = run.last_said()
     elif run.status not in (WHOLE, NOT_WHOLE):
@@ -216,17 +226,16 @@ def ask_why(journal: Journal, progress: Progress) -> None:
 
 
 def read(path: str | Path, other_blocks: bool = False, replay: bool = False, why: bool = False,
-         progress: Progress = silent) -> Journal:
+         progress: Progress = silent, strays: bool = False) -> Journal:
     """The journal in a file. An image that isn't formatted is an error; of one that is damaged all is told that can be.
     Causes are known only with a replay."""
     path = Path(path)
     if not path.exists():
         raise Failed(f"{path}: there is no such file", DEVICE)
     progress("examination", 0, 0)
-    listing = ["events", *(["--all"] if other_blocks else [])]
-    is_dear = prepare(path, [["examine", "--json"], listing, *([["replay", "--json"]] if replay else []), *([["why", "--json"]] if why else [])])
+    is_dear = prepare(path, [["examine", "--json"], listing(other_blocks, strays), *([["replay", "--json"]] if replay else []), *([["why", "--json"]] if why else [])])
     journal = Journal(path, examine(path))
-    tell_events(journal, other_blocks, progress)
+    tell_events(journal, other_blocks, strays, progress)
     if replay and journal.refusal is None:
         tell_replay(journal, progress)
     if why and journal.refusal is None:

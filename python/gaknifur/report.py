@@ -13,6 +13,7 @@ from .extent import Extent
 from .reading import Journal, Json, Progress, silent
 
 MOST_ROWS, MOST_WINDOWS, MOST_LIVES, MOST_TOLD, AROUND, SHORT = 1500, 12, 12, 400, 25, 400
+MOST_STRAYS = 800
 FIRST_TOLD = 20
 
 
@@ -133,6 +134,13 @@ def told_rows(journal: Journal, table: pd.DataFrame, shown: pd.DataFrame) -> lis
     return rows
 
 
+def stray_rows(journal: Journal) -> list[Json]:
+    """The rows of records of blocks that are damaged or in a wrong slot."""
+    return [{"record": one, "slot": tables.slot_of(one), "text": words.event_text(one),
+             "shows": [words.INDICATIONS.get(name, name) for name in one["indications"]]}
+            for one in journal.strays[:MOST_STRAYS]]
+
+
 def top_of(table: pd.DataFrame, name: str) -> Json | None:
     """The greatest of a column, and its row."""
     values = table[name].astype("Float64").to_numpy(float, na_value=np.nan)
@@ -222,6 +230,7 @@ def page(journal: Journal, extent: Extent = Extent(), progress: Progress = silen
         rows=told_rows(journal, table, shown), row_set=rows, anchors=anchors,
         quiet=int((~notable).sum()), left_out=int(notable.sum()) - len(shown),
         fastest=fastest, over=over if over and over["value"] > 0 else None,
+        strays=stray_rows(journal), more_strays=max(len(journal.strays) - MOST_STRAYS, 0),
         way_m=float(table["movement_cm"].fillna(0).abs().sum()) / 100, modes=list(dict.fromkeys(table["mode"])),
         service=int((found["worst"] == "service").sum()), emergency=int((found["worst"] == "emergency").sum()),
         causes=causes, words=words, pd=pd)

@@ -15,6 +15,10 @@ Columns of `frame`, in their order:
   `trip_cause`, `trip_cause_event`: while a trip is owed, why it was entered and by which event; `limit_cause`: the kind of
   what decides the limit; `held`: the causes as a dictionary; `trip`: the trip that is owed; `why`: the line of `etcs_lab
   why` (module `causes`). They are missing where they aren't told.
+
+Columns of `strays`, the records of blocks in a wrong slot and of damaged ones: `source`, `slot` and `byte`, where a record
+stands in the image, and of those above what it tells by itself. Of a damaged block the life is missing, and the block where
+its head tells none.
 """
 from collections.abc import Callable, Sequence
 from operator import itemgetter
@@ -40,6 +44,7 @@ OF_KIND = {
                "maximum_m_per_h", "category", "deceleration_cm_per_s2", "reaction_ms")}
 """Those of one kind of event."""
 HEADER = ("NID_C", "NID_BG", "N_PIG", "N_TOTAL", "M_DUP", "M_MCOUNT", "Q_LINK")
+SECTOR, SLOT_SECTORS = 512, 6
 SHOWS = tuple(f"shows_{name}" for name in INDICATIONS)
 
 
@@ -212,8 +217,26 @@ def is_notable(table: pd.DataFrame) -> Any:
     return ~same | ~table["kind"].isin(["odometer", "clock"]).to_numpy()
 
 
+def slot_of(record: Json) -> int:
+    """The slot in which a record stands, by its byte (docs/FORMAT.md)."""
+    return int(record["byte"] // SECTOR - 1) // SLOT_SECTORS
+
+
+def strays(journal: Journal) -> pd.DataFrame:
+    """One row for each record of a block in a wrong slot or of a damaged one, in the order in which `etcs_lab events` tells
+    them."""
+    records = journal.strays
+    some = by_kind(records)
+    columns: dict[str, Any] = {"source": [one["source"] for one in records], "slot": [slot_of(one) for one in records]}
+    for name in ("byte", *OF_ALL):
+        columns |= shown_columns([one[name] for one in records]) if name == "indications" else {name: [one[name] for one in records]}
+    columns |= {"movement_cm": some["movement_cm"], "reading_m_per_h": some["speed_m_per_h"]}
+    columns |= {name: some[name] for name in (*NUMBERS, *TEXTS)} | decoded_columns(some["decoded"])
+    return pd.DataFrame({name: pd.Series(values, dtype=object) for name, values in columns.items()})
+
+
 def csv_text(table: pd.DataFrame) -> str:
     """The table as comma-separated values, without the columns `decoded`, `held`, `trip` and `why`; nothing stands where
     nothing is known."""
-    text: str = table.drop(columns=["decoded", "held", "trip", "why"]).to_csv(index=False, lineterminator="\n")
+    text: str = table.drop(columns=["decoded", "held", "trip", "why"], errors="ignore").to_csv(index=False, lineterminator="\n")
     return text

@@ -5,6 +5,8 @@
 
 - Tables and the database agree, record by record, with the plain reader of tests/events over pseudo-random images in
   all three formats, whole and damaged, with and without other blocks; so do interventions and runs above the limit.
+- So do the records of blocks that are damaged or in a wrong slot, each with its slot and byte, in a table of their own and on
+  the page.
 - Over images of lives that are run, whole, damaged and in all formats, the causes of tables, database and interventions are
   those of the plain causes (tests/plain/why.py), and they are not known just where the plain replay doesn't agree.
 - Whatever text an image holds stands escaped on the page.
@@ -45,6 +47,8 @@ PLAIN = ("block event life kind time_ms mode level brake place_cm uncertainty_cm
          "deceleration_cm_per_s2 reaction_ms telegram").split()
 HEADER = "NID_C NID_BG N_PIG N_TOTAL M_DUP M_MCOUNT Q_LINK".split()
 GREATEST = 2**62
+LEAST_STRAYS, EACH_PAGE, LEAST_PAGES, MOST_SHOWN = {"damaged": 800, "misplaced": 400}, 40, 5, 800
+"""Records of each source, and pages that show some: that of each fortieth image that has any."""
 
 BESIDE = """
 SELECT image, block, event FROM (
@@ -63,6 +67,11 @@ def plain_records(image, all_blocks):
     return [line for line in lines if "event" in line], [dict(line["unreadable"])["block"] for line in lines if "unreadable" in line]
 
 
+def plain_strays(image):
+    """The records of blocks that are damaged or in a wrong slot, as dictionaries."""
+    return [line for line in map(dict, told(image, True)[0][1:-1]) if line.get("source") in ("misplaced", "damaged")]
+
+
 def with_speeds(records):
     """Each record with the speed that holds behind it, and whether it goes on from the record before."""
     before, speed = None, None
@@ -78,10 +87,10 @@ def with_speeds(records):
         before = record
 
 
-def wanted_row(record, speed):
-    """A row of the table as CSV tells it."""
+def wanted_row(record, beside):
+    """A row of the table as CSV tells it, with what stands there beside the record's own members."""
     row = {name: record.get(name) for name in PLAIN}
-    row |= {"reading_m_per_h": record.get("speed_m_per_h"), "speed_m_per_h": speed, "source": record.get("source")}
+    row |= {"reading_m_per_h": record.get("speed_m_per_h"), "source": record.get("source"), **beside}
     row |= {f"shows_{sign}": sign in record["indications"] for sign in SIGNS}
     decoded = dict(record.get("decoded", ()))
     header = dict(decoded.get("header", ()))
@@ -111,7 +120,8 @@ def is_above(record, speed):
 
 class Count:
     def __init__(self):
-        self.images = self.records = self.interventions = self.telegrams = self.compared = self.differ = 0
+        self.images = self.records = self.interventions = self.telegrams = self.compared = self.differ = self.pages = self.strayed = 0
+        self.strays = Counter()
 
     def compare(self, name, got, want):
         self.compared += 1
@@ -121,9 +131,11 @@ class Count:
                 print(f"{name}:\n  told   {got}\n  wanted {want}")
 
     def end(self):
-        print(f"lab: {self.records} records of {self.images} images, {self.interventions} interventions, {self.telegrams} telegrams: "
-              f"{self.compared} comparisons, {self.differ} differ")
+        print(f"lab: {self.records} records of {self.images} images, {self.interventions} interventions, {self.telegrams} telegrams, "
+              f"{self.strays['damaged']} records of damaged blocks and {self.strays['misplaced']} of misplaced ones, also on {self.pages} "
+              f"pages: {self.compared} comparisons, {self.differ} differ")
         few = self.records < LEAST_RECORDS or self.interventions < LEAST_INTERVENTIONS or self.telegrams < LEAST_TELEGRAMS
+        few = few or self.pages < LEAST_PAGES or any(self.strays[source] < least for source, least in LEAST_STRAYS.items())
         if few:
             print("too little was tried")
         return 1 if self.differ or few else 0
@@ -133,7 +145,7 @@ def compare_table(count, name, journal, records):
     """The table, as it comes out of its CSV text."""
     table = tables.frame(journal)
     rows = list(csv.DictReader(io.StringIO(tables.csv_text(table))))
-    wanted = [wanted_row(record, speed) for record, speed, _ in with_speeds(records)]
+    wanted = [wanted_row(record, {"speed_m_per_h": speed}) for record, speed, _ in with_speeds(records)]
     got = [{key: row.get(key, "") for key in (wanted[0] if wanted else ())} for row in rows]
     count.compare(f"{name}, rows", len(got), len(wanted))
     for one, other in zip(got, wanted):
@@ -146,6 +158,23 @@ def compare_table(count, name, journal, records):
     count.records += len(records)
     count.interventions += len(runs)
     return table
+
+
+def compare_strays(count, name, journal, image):
+    """The table of records of blocks that are damaged or in a wrong slot; and the page of some images that have any."""
+    strays = plain_strays(image)
+    wanted = [wanted_row(one, {"byte": str(one["byte"]), "slot": str((one["byte"] - 512) // 3072)}) for one in strays]
+    rows = list(csv.DictReader(io.StringIO(tables.csv_text(tables.strays(journal)))))
+    count.compare(f"{name}, records of damaged blocks", rows, wanted)
+    count.strays.update(one["source"] for one in strays)
+    if not strays:
+        return
+    count.strayed += 1
+    if count.strayed % EACH_PAGE == 1:
+        count.pages += 1
+        told = [[row[at] for at in (0, 1, 2, 3, 4, 5, 9)] for row in page_of(report.page(journal)).strays]
+        count.compare(f"{name}, damaged blocks on the page", told, [
+            [row[key] or "?" for key in ("source", "slot", "byte", "block", "life", "event", "mode")] for row in wanted[:MOST_SHOWN]])
 
 
 def compare_database(count, name, connection, journal, table, records):
@@ -205,8 +234,9 @@ def images_agree(room, images, seed):
                 count.compare(name, is_no_image(path), True)
                 continue
             name += ", all" if all_blocks else ""
-            journal = reading.read(path, other_blocks=all_blocks, replay=True)
+            journal = reading.read(path, other_blocks=all_blocks, replay=True, strays=True)
             count.images += 1
+            compare_strays(count, name, journal, image)
             count.compare(f"{name}, unreadable", journal.unreadable, unreadable)
             table = compare_table(count, name, journal, records)
             added = compare_database(count, name, connection, journal, table, records)
@@ -343,9 +373,16 @@ class Page(html.parser.HTMLParser):
     def __init__(self):
         super().__init__()
         self.elements, self.text, self.ids, self.links = {}, [], [], []
+        self.strays = []  # the cells of the rows of damaged and misplaced blocks
+        self.is_stray = False
 
     def handle_starttag(self, tag, attributes):
         self.elements[tag] = self.elements.get(tag, 0) + 1
+        if tag == "tr":
+            self.is_stray = ("class", "stray") in attributes
+            self.strays += [[]] if self.is_stray else []
+        if tag == "td" and self.is_stray:
+            self.strays[-1].append("")
         for key, value in attributes:
             if key == "id":
                 self.ids.append(value)
@@ -354,8 +391,13 @@ class Page(html.parser.HTMLParser):
 
     handle_startendtag = handle_starttag
 
+    def handle_endtag(self, tag):
+        self.is_stray = self.is_stray and tag != "tr"
+
     def handle_data(self, data):
         self.text.append(data)
+        if self.is_stray and self.strays[-1]:
+            self.strays[-1][-1] += data
 
 
 def page_of(text):

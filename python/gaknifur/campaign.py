@@ -261,7 +261,8 @@ def by_scheduler(jobs: Iterable[Job], scheduler: str, take: Take) -> None:
 # ---- the table
 
 class Table:
-    """The results, in SQLite. A table is of one pair of programs."""
+    """The results, in SQLite. A table is of one pair of programs, and one campaign at a time writes to it: it has a transaction
+    open from its beginning to its end. Others may read it."""
 
     def __init__(self, path: Path, settings: dict[str, str]) -> None:
         def fill(connection: sqlite3.Connection) -> None:
@@ -269,7 +270,8 @@ class Table:
             connection.executemany("INSERT INTO campaign VALUES (?, ?)", settings.items())
 
         self.path, self.written = path, time.monotonic()
-        self.connection = files.open_database(path, files.CAMPAIGN, fill)
+        self.connection = files.open_database(path, files.CAMPAIGN, fill, is_by_hand=True)
+        self.take_alone()
         try:
             found = dict(self.connection.execute("SELECT name, value FROM campaign"))
         except sqlite3.DatabaseError as error:
@@ -279,6 +281,18 @@ class Table:
             if found.get(name) != value:
                 self.connection.close()
                 raise Failed(f"{path}: was made with {name} {found.get(name)}, and this is {value}; take another file", REFUSED)
+
+    def take_alone(self) -> None:
+        """Begins the first transaction; refused at once where another program has one."""
+        try:
+            self.connection.execute("PRAGMA busy_timeout = 0")
+            self.connection.execute("BEGIN IMMEDIATE")
+            self.connection.execute(f"PRAGMA busy_timeout = {files.WAIT_SECONDS * 1000:.0f}")
+        except sqlite3.Error as error:
+            self.connection.close()
+            is_busy = error.sqlite_errorcode == sqlite3.SQLITE_BUSY
+            said = "another program writes to it; wait for its end, or take another file" if is_busy else error
+            raise Failed(f"{self.path}: {said}", DEVICE) from error
 
     def is_there(self, job: Job) -> bool:
         """Whether the table has the row of just this job."""
@@ -292,14 +306,16 @@ class Table:
             self.connection.execute(f"INSERT OR REPLACE INTO result ({', '.join(COLUMNS)}) VALUES ({marks})",
                                     [row[name] for name in COLUMNS])
             if time.monotonic() - self.written > COMMIT_SECONDS:
-                self.connection.commit()
+                self.connection.execute("COMMIT")
+                self.connection.execute("BEGIN IMMEDIATE")
                 self.written = time.monotonic()
         except sqlite3.Error as error:
             raise Failed(f"{self.path}: {error}", DEVICE) from error
 
     def close(self) -> None:
-        """All rows are on the disk."""
-        self.connection.commit()
+        """All rows are on the disk, also where `take` was interrupted."""
+        if self.connection.in_transaction:
+            self.connection.execute("COMMIT")
         self.connection.close()
 
 

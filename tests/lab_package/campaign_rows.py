@@ -16,6 +16,7 @@ from pathlib import Path
 TOP = Path(__file__).resolve().parents[2]
 PYTHON = sys.executable
 WAIT = 60
+MOST_REFUSING = 20  # seconds, of which nearly all is Python's beginning on a machine that has other work
 failed = 0
 
 
@@ -88,6 +89,9 @@ def interrupted(room, lives):
     playing = subprocess.Popen(words, stdin=subprocess.DEVNULL, stdout=subprocess.PIPE, stderr=subprocess.PIPE, text=True,
                                start_new_session=True, preexec_fn=lambda: signal.signal(signal.SIGINT, signal.SIG_DFL))
     until(lambda: rows(out) >= 5 or playing.poll() is not None, "rows")
+    os.killpg(playing.pid, signal.SIGSTOP)
+    second(out)
+    os.killpg(playing.pid, signal.SIGCONT)
     unless(playing.poll() is None, "the campaign ended before it could be interrupted; take more lives")
     os.killpg(playing.pid, signal.SIGINT)
     said = playing.communicate(timeout=WAIT)[1]
@@ -97,6 +101,16 @@ def interrupted(room, lives):
     again = lab(*words[1:])
     unless(again.returncode == 0 and again.stdout.startswith(f"{lives} rows, {lives - before} of them"), f"gone on: {again.stdout}{again.stderr}")
     return out
+
+
+def second(out):
+    """A second campaign into a table to which another one writes is refused at once."""
+    begun = time.monotonic()
+    told = lab("campaign", out, "--random", "1", "--seed", "8")
+    took = time.monotonic() - begun
+    unless((told.returncode, told.stdout, told.stderr) == (3, "", f"lab: {out}: another program writes to it; wait for its end, or take another "
+           "file\n"), f"a second campaign: {told.returncode} {told.stdout}{told.stderr}")
+    unless(took < MOST_REFUSING, f"a second campaign: refused after {took:.0f} s")
 
 
 def faults(room, whole):

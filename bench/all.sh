@@ -17,7 +17,7 @@ for part in "$@"; do
     [ -x "$top/bench/$part.sh" ] || { echo "there is no part $part"; exit 2; }
     "$top/bench/$part.sh" "${words[@]}" >"$out/printed/$part" 2>>"$out/said" || { echo "$part: failed, see $out/said"; status=1; rm -f "$out/printed/$part"; }
 done
-python3 - "$top/bench/figures.txt" "$out/printed" "$keep" "$@" <<'P' || status=1
+python3 -I - "$top/bench/figures.txt" "$out/printed" "$keep" "$@" <<'P' || status=1
 import re, sys
 from pathlib import Path
 

@@ -62,7 +62,7 @@ done
 blocks=2000
 etcs=$top/crates/etcs/out/etcs
 if [ -x "$etcs" ]; then
-    python3 -c "import json
+    python3 -I -c "import json
 steps = [step for moment in range($blocks) for step in ({'clock': moment}, {'flush': True})]
 json.dump({'groups': [], 'steps': steps}, open('scenario', 'w'))"
     "$etcs" format image $((2 * blocks)) >&2

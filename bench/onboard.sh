@@ -70,7 +70,7 @@ done
 
 etcs=$top/crates/etcs/out/etcs
 if [ -x "$etcs" ]; then
-    python3 -c "import json
+    python3 -I -c "import json
 json.dump({'groups': [], 'steps': [{'clock': moment} for moment in range(8 * $batches)]}, open('scenario', 'w'))"
     "$etcs" format image $((2 * batches)) >&2
     printf 'etcs run over a file: %d events, %d ms\n' $((8 * batches)) "$(milliseconds "$etcs" run scenario image)"

@@ -8,7 +8,7 @@ program=$top/crates/etcs/out/etcs
 [ -x "$program" ] || { echo "there is no program $program: rt ci or ./etcs --prove makes it"; exit 1; }
 room=$(mktemp -d) || exit 1
 trap 'rm -rf "$room"' EXIT
-exec python3 - "$program" "$room" "${1:-100000}" <<'P'
+exec python3 -I - "$program" "$room" "${1:-100000}" <<'P'
 import json, os, subprocess, sys, threading, time
 
 program, room, count = sys.argv[1], sys.argv[2], int(sys.argv[3])

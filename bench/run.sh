@@ -13,7 +13,7 @@ room=$(mktemp -d) || exit 1
 trap 'rm -rf "$room"' EXIT
 mkdir -p "$top/bench/out"
 rustc --edition 2021 -O -C target-cpu=x86-64-v2 -g "$top/bench/plain_kernel.rs" -o "$top/bench/out/plain_kernel" >&2 || exit 1
-exec python3 - "$program" "$top/bench/out/plain_kernel" "$room" "$events" <<'P'
+exec python3 -I - "$program" "$top/bench/out/plain_kernel" "$room" "$events" <<'P'
 import json, os, re, subprocess, sys
 
 program, plain, room, count = *sys.argv[1:4], int(sys.argv[4])

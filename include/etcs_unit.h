@@ -164,8 +164,10 @@ enum etcs_mode {
     ETCS_SYSTEM_FAILURE = 9
 };
 
+/* The level of the train. */
 enum etcs_level { ETCS_LEVEL_0 = 0, ETCS_LEVEL_1 = 1, ETCS_LEVEL_INVALID = 255 };
 
+/* What the brakes are commanded to do. */
 enum etcs_brake { ETCS_BRAKE_NONE = 0, ETCS_BRAKE_SERVICE = 1, ETCS_BRAKE_EMERGENCY = 2 };
 
 /* What the driver is shown; etcs_unit_output has the sum. */
@@ -179,6 +181,7 @@ enum etcs_indication {
     ETCS_SHOWS_OVERSPEED = 64
 };
 
+/* What is to be done on the medium. */
 enum etcs_request_kind { ETCS_REQUEST_WRITE = 1, ETCS_REQUEST_SYNC = 2 };
 
 /* A unit, in the caller's memory. Its fields are the library's. */

@@ -10,117 +10,16 @@ decides the limit. `lives`, `why_at` and `why_in` read bytes. Each life is run f
 life is up to the event.
 """
 import ctypes
-import enum
 from collections.abc import Iterator
 from dataclasses import dataclass
 from pathlib import Path
 
-from . import unit
+from . import _header, unit
+from ._header import BrakeCause, Datum, KeptField, LimitCause, RecordField, TripCause, Verdict
 from .unit import Brake, Level, Record, Refused, Status, TrainData
 
-CAUSES = 10
-
-
-class Verdict(enum.IntEnum):
-    """What a life came to that was run again."""
-
-    AGREES = 1
-    RECORD_DIFFERS = 2
-    HEAD_DIFFERS = 3
-    BEFORE_OLDEST = 4
-    BEHIND_GAP = 5
-    BEGINS_EARLIER = 6
-
-
-class RecordField(enum.IntEnum):
-    """What of a record differs first."""
-
-    EVENT = 1
-    WORD = 2
-    MOMENT = 3
-    MODE = 4
-    LEVEL = 5
-    BRAKE = 6
-    INDICATIONS = 7
-    PLACE = 8
-    FRONT = 9
-    UNCERTAINTY = 10
-    LIMIT = 11
-
-
-class KeptField(enum.IntEnum):
-    """What of the head of a block differs first."""
-
-    EVENTS = 1
-    LIVES = 2
-    TRIP = 3
-    IDENTITY = 4
-    RUNNING_NUMBER = 5
-    TRAIN = 6
-    LEVEL = 7
-    POSITION = 8
-    NATIONAL = 9
-    COUNTRIES = 10
-
-
-class BrakeCause(enum.IntEnum):
-    """Why a brake is commanded (docs/BRAKES.md); the first six command the emergency brake."""
-
-    NOT_REVALIDATED = 0
-    IN_TRIP = 1
-    IN_SYSTEM_FAILURE = 2
-    OWES_TRIP = 3
-    FAR_TOO_FAST = 4
-    ROLLED_TOO_FAR = 5
-    ASKED_FOR_SERVICE = 6
-    TOO_FAST = 7
-    MUST_STAND = 8
-    OWES_TOO_LONG = 9
-
-
-class TripCause(enum.IntEnum):
-    """Why Trip was entered (docs/BRAKES.md); UNKNOWN where none is owed, or it was entered in a life before."""
-
-    UNKNOWN = 0
-    END_PASSED = 1
-    LINKING = 2
-    STOP = 3
-    STAFF_DISTANCE = 4
-    LEVEL = 5
-
-
-class LimitCause(enum.IntEnum):
-    """What decides a limit (docs/BRAKES.md)."""
-
-    NO_SPEED = 1
-    NO_TRAIN_DATA = 2
-    NATIONAL_STAFF_RESPONSIBLE = 3
-    NATIONAL_OVERRIDE = 4
-    NATIONAL_SHUNTING = 5
-    NATIONAL_UNFITTED = 6
-    TRAIN_MAXIMUM = 7
-    MAIN_SPEED = 8
-    END_SPEED = 9
-    STATIC_SPEED = 10
-    RESTRICTION = 11
-    MODE_AREA = 12
-    STATIC_SPEED_AHEAD = 13
-    UNKNOWN_SPEED_AHEAD = 14
-    RESTRICTION_AHEAD = 15
-    MODE_AREA_AHEAD = 16
-    END_OF_AUTHORITY = 17
-    SUPERVISED_LOCATION = 18
-    RELEASE_SPEED = 19
-    NATIONAL_RELEASE_SPEED = 20
-
-
-class Datum(enum.IntEnum):
-    """Whether a datum may be relied on (SUBSET-026, 4.10)."""
-
-    UNKNOWN = 0
-    VALID = 1
-    INVALID = 2
-
+__all__ = ["BrakeCause", "Datum", "Difference", "Kept", "KeptField", "Life", "LimitCause", "RecordField", "TripCause",
+           "Verdict", "Why", "lives", "replay", "why", "why_at", "why_in"]
 
 @dataclass(frozen=True, slots=True)
 class Kept:
@@ -183,21 +82,20 @@ def _level(status: int, level: int) -> tuple[Datum, Level | None]:
     return Datum(status), Level(level) if status else None
 
 
-def _kept(told: unit._Kept) -> Kept:
-    train, values = told.train, told.national
-    names = [name for name, *_ in values._fields_][:11]
-    numbers = [int(getattr(values, name)) for name in names]
+def _kept(told: _header.etcs_kept) -> Kept:
+    values = told.national
+    numbers = [int(getattr(values, name)) for name, *_ in values._fields_[:11]]
     position = (told.country, told.group, told.distance_cm) if told.position_status else None
     return Kept(
         told.trip_outstanding != 0, bytes(told.identity[:told.identity_len]) or None,
         told.running_number if told.has_running_number else None,
-        TrainData(train.length, train.maximum, train.deceleration, train.reaction, train.category) if told.has_train else None,
+        TrainData(*(getattr(told.train, name) for name, *_ in told.train._fields_)) if told.has_train else None,
         _level(told.level_status, told.level), (Datum(told.position_status), position),
-        tuple(None if at > 8 and number == 0xFFFFFFFF else number for at, number in enumerate(numbers)),
+        tuple(None if at > 8 and number == _header.ENDLESS else number for at, number in enumerate(numbers)),
         tuple(values.countries[:values.count]))
 
 
-def _life(told: unit._Replay) -> Life:
+def _life(told: _header.etcs_replay) -> Life:
     verdict, difference = Verdict(told.verdict), None
     if verdict == Verdict.RECORD_DIFFERS:
         difference = Difference(told.block, told.event, RecordField(told.field), unit._record(told.journal), unit._record(told.kernel))
@@ -209,7 +107,7 @@ def _life(told: unit._Replay) -> Life:
 def lives(image: bytes) -> Iterator[Life]:
     """Each life of the journal that an image holds, the oldest first. A block that can't be read is passed over: what is
     behind it comes as a life of its own, with the verdict BEHIND_GAP, up to the next power-up."""
-    cursor, told = unit._Journal(), unit._Replay()
+    cursor, told = _header.etcs_journal(), _header.etcs_replay()
     unit._told(unit._called("etcs_journal_open_", image, len(image), unit.ABI, ctypes.byref(cursor)))
     while (status := unit._called("etcs_image_replay_", image, len(image), unit.ABI, ctypes.byref(cursor), ctypes.byref(told))) != Status.END:
         if status == Status.OK:
@@ -226,7 +124,7 @@ def replay(path: str | Path) -> list[Life]:
 def why_at(image: bytes, block: int, event: int) -> Why:
     """Why an event of a block was answered so, as its `Record` tells both numbers. NOT_REPLAYED where its life can't be run
     again, NO_SUCH_BLOCK and NO_SUCH_RECORD where the image hasn't it."""
-    told = unit._Why()
+    told = _header.etcs_why()
     unit._told(unit._called("etcs_image_why_", image, len(image), unit.ABI, unit._number(block, 64), unit._number(event, 64),
                             ctypes.byref(told)))
     return Why(

@@ -16,7 +16,6 @@ Any exception of a unit means the emergency brake: `Refused` has the number and 
 what it raises. Outputs come from `Unit.flush` alone, and only when all of it is on the medium.
 """
 import ctypes
-import enum
 import errno
 import fcntl
 import functools
@@ -27,139 +26,14 @@ from pathlib import Path
 from types import TracebackType
 from typing import Protocol, Self
 
-ABI = 2
-VERSION_BYTES = 32
-SECTOR = 512
-OUTPUTS = 8
-REQUEST_BYTES = 8192
+from . import _header
+from ._header import (ABI, OUTPUTS, REQUEST_BYTES, SECTOR, VERSION_BYTES, Action, Brake, Cold, Indication, Kind, Level,
+                      Mode, RequestKind, SlotState, Status)
 
-
-class Status(enum.IntEnum):
-    """What a call answers; docs/REFUSALS.md says more of each."""
-
-    OK = 0
-    OPEN_DEVICE_FAULT = 1
-    OPEN_NOT_FORMATTED = 2
-    OPEN_DAMAGED = 3
-    OPEN_NO_MEMORY = 4
-    OPEN_WORN_OUT = 6
-    PENDING_FULL = 10
-    CLOCK_BACK = 11
-    NO_MEMORY = 12
-    INPUT_FAILED = 13
-    FAILED = 21
-    REQUESTS_OWED = 22
-    WORN_OUT = 23
-    IMAGE_NOT_FORMATTED = 31
-    IMAGE_DAMAGED = 32
-    NO_SUCH_SLOT = 35
-    NO_SUCH_BLOCK = 36
-    NO_SUCH_RECORD = 37
-    END = 38
-    NOT_REPLAYED = 39
-    BAD_SLOTS = 41
-    WRONG_COUNT = 248
-    NO_SUCH_REQUEST = 249
-    NOT_OPEN = 250
-    IS_OPEN = 251
-    NO_ROOM = 252
-    NULL_POINTER = 253
-    OTHER_ABI = 254
-    OUT_OF_RANGE = 255
-
-
-class Cold(enum.IntEnum):
-    """Whether the train was moved while the unit was without power."""
-
-    UNKNOWN = 0
-    MOVED = 1
-    NOT_MOVED = 2
-
-
-class Action(enum.IntEnum):
-    """What the driver does without further values (SUBSET-026, 5)."""
-
-    CHOOSE_LEVEL_0 = 1
-    CHOOSE_LEVEL_1 = 2
-    CONFIRM_IDENTITY = 3
-    CONFIRM_RUNNING_NUMBER = 4
-    CONFIRM_TRAIN_DATA = 5
-    CONFIRM_LEVEL = 6
-    START = 7
-    CHOOSE_SHUNTING = 8
-    LEAVE_SHUNTING = 9
-    OVERRIDE = 10
-    ACKNOWLEDGE_TRIP = 11
-    ACKNOWLEDGE_ON_SIGHT = 12
-    ACKNOWLEDGE_SHUNTING = 13
-    ACKNOWLEDGE_LEVEL_0 = 14
-    CLOSE_DESK = 15
-
-
-class Mode(enum.IntEnum):
-    """M_MODE (SUBSET-026, 7.5.1)."""
-
-    FULL_SUPERVISION = 0
-    ON_SIGHT = 1
-    STAFF_RESPONSIBLE = 2
-    SHUNTING = 3
-    UNFITTED = 4
-    STAND_BY = 6
-    TRIP = 7
-    POST_TRIP = 8
-    SYSTEM_FAILURE = 9
-
-
-class Level(enum.IntEnum):
-    """The level of the train."""
-
-    LEVEL_0 = 0
-    LEVEL_1 = 1
-    INVALID = 255
-
-
-class Brake(enum.IntEnum):
-    """What the brakes are commanded to do."""
-
-    NONE = 0
-    SERVICE = 1
-    EMERGENCY = 2
-
-
-class Indication(enum.IntFlag):
-    """What the driver is shown."""
-
-    ON_SIGHT = 1
-    SHUNTING = 2
-    LEVEL_0 = 4
-    TRIP = 8
-    OVERRIDDEN = 16
-    NOT_REVALIDATED = 32
-    OVERSPEED = 64
-
-
-class Kind(enum.IntEnum):
-    """The kind of an event in a journal."""
-
-    POWER_UP = 1
-    TELEGRAM = 2
-    ODOMETER = 3
-    CLOCK = 4
-    DRIVER = 5
-
-
-class SlotState(enum.IntEnum):
-    """What a slot of an image holds (docs/FORMAT.md)."""
-
-    EMPTY = 0
-    BLOCK = 1
-    UNREADABLE = 2
-    MISPLACED = 3
-    FOREIGN = 4
-    UNWRITTEN = 5
-    REPLACED = 6
-    REMAINS = 7
-
+__all__ = ["ABI", "OUTPUTS", "REQUEST_BYTES", "SECTOR", "VERSION_BYTES", "Action", "Brake", "Cold", "Facts",
+           "FileMedium", "Indication", "Kind", "Level", "Medium", "MemoryMedium", "Mode", "Output", "Record", "Refused",
+           "Slot", "SlotState", "State", "Status", "TrainData", "Unit", "decode", "facts", "first_request",
+           "format_medium", "journal", "library", "records", "slots", "version"]
 
 @dataclass(frozen=True, slots=True)
 class Output:
@@ -376,124 +250,11 @@ class FileMedium:
 
 # ---- the library
 
-class _Handle(ctypes.Structure):
-    _fields_ = [("at", ctypes.c_void_p), ("is_open", ctypes.c_uint64)]
-
-
-class _Output(ctypes.Structure):
-    _fields_ = [("event", ctypes.c_uint64), ("limit_m_per_h", ctypes.c_uint32), ("mode", ctypes.c_uint8),
-                ("level", ctypes.c_uint8), ("brake", ctypes.c_uint8), ("indications", ctypes.c_uint8)]
-
-
-class _Request(ctypes.Structure):
-    _fields_ = [(name, ctypes.c_uint64) for name in ("sector", "sectors", "kind")]
-
-
-class _TrainData(ctypes.Structure):
-    _fields_ = [(name, ctypes.c_uint32) for name in ("length", "maximum", "deceleration", "reaction", "category")]
-
-
-class _State(ctypes.Structure):
-    _fields_ = [("last", _Output), *((name, ctypes.c_uint64) for name in ("requests", "done", "held", "has_failed", "pending", "moment_ms")),
-                ("front_cm", ctypes.c_int64), ("uncertainty_cm", ctypes.c_uint64)]
-
-
-class _Image(ctypes.Structure):
-    _fields_ = [(name, ctypes.c_uint64) for name in ("sectors", "slots", "whole", "newest")]
-
-
-class _Slot(ctypes.Structure):
-    _fields_ = [("number", ctypes.c_uint64), ("fault_at", ctypes.c_uint64),
-                *((name, ctypes.c_uint32) for name in ("state", "is_sound", "has_fault", "fault_record"))]
-
-
-class _National(ctypes.Structure):
-    _fields_ = [*((name, ctypes.c_uint32) for name in (
-        "shunting_m_per_h", "staff_responsible_m_per_h", "on_sight_m_per_h", "unfitted_m_per_h", "release_m_per_h", "roll_cm",
-        "override_allowed_m_per_h", "override_m_per_h", "override_distance_cm", "override_time_ms",
-        "staff_responsible_distance_cm", "count")), ("countries", ctypes.c_uint16 * 32)]
-
-
-class _Kept(ctypes.Structure):
-    _fields_ = [("distance_cm", ctypes.c_int64), ("train", _TrainData), ("running_number", ctypes.c_uint32), ("country", ctypes.c_uint32),
-                ("group", ctypes.c_uint32), ("identity", ctypes.c_uint8 * 16), *((name, ctypes.c_uint8) for name in (
-                    "identity_len", "has_running_number", "has_train", "level_status", "level", "position_status",
-                    "trip_outstanding", "reserved")), ("national", _National)]
-
-
-class _Block(ctypes.Structure):
-    _fields_ = [*((name, ctypes.c_uint64) for name in ("number", "first_event", "events")), ("lives", ctypes.c_uint32),
-                ("format", ctypes.c_uint8), ("records", ctypes.c_uint8), ("reserved", ctypes.c_uint16), ("kept", _Kept)]
-
-
-class _Record(ctypes.Structure):
-    _fields_ = [("event", ctypes.c_uint64), ("block", ctypes.c_uint64), ("moment_ms", ctypes.c_uint64), ("front_cm", ctypes.c_int64),
-                ("uncertainty_cm", ctypes.c_uint64), ("limit_m_per_h", ctypes.c_uint32), ("life", ctypes.c_uint32),
-                *((name, ctypes.c_uint8) for name in (
-                    "format", "kind", "mode", "level", "brake", "indications", "has_place", "payload_len")),
-                ("payload", ctypes.c_uint8 * 104)]
-
-
-class _Journal(ctypes.Structure):
-    _fields_ = [(name, ctypes.c_uint64) for name in ("block", "last", "index")]
-
-
-class _Replay(ctypes.Structure):
-    _fields_ = [*((name, ctypes.c_uint64) for name in ("first_event", "last_event", "block", "event")),
-                *((name, ctypes.c_uint32) for name in ("life", "verdict", "field", "reserved")),
-                ("journal", _Record), ("kernel", _Record), ("journal_kept", _Kept), ("kernel_kept", _Kept)]
-
-
-class _Why(ctypes.Structure):
-    _fields_ = [("event", ctypes.c_uint64), ("since", ctypes.c_uint64 * 10),
-                *((name, ctypes.c_uint64) for name in ("trip_event", "backward_cm", "allowed_backward_cm")),
-                ("limit_cause_cm", ctypes.c_int64), ("restriction", ctypes.c_uint64),
-                *((name, ctypes.c_uint32) for name in ("limit_m_per_h", "speed_m_per_h", "limit_cause_m_per_h")),
-                ("holds", ctypes.c_uint8 * 10),
-                *((name, ctypes.c_uint8) for name in ("brake", "trip_cause", "limit_cause", "has_place", "has_restriction")),
-                ("reserved", ctypes.c_uint8 * 5)]
-
-
-_HANDLE = ctypes.POINTER(_Handle)
-_SIZE = ctypes.c_size_t
-_U32 = ctypes.c_uint32
-_CALLS: dict[str, tuple[object, ...]] = {
-    "etcs_abi": (),
-    "etcs_version_": (ctypes.c_char_p, _SIZE, ctypes.POINTER(_U32)),
-    "etcs_unit_open_": (_HANDLE, ctypes.c_char_p, _SIZE, _U32, _U32),
-    "etcs_unit_telegram_": (_HANDLE, ctypes.c_char_p, _SIZE),
-    "etcs_unit_odometer_": (_HANDLE, ctypes.c_int64, _U32),
-    "etcs_unit_clock_": (_HANDLE, ctypes.c_uint64),
-    "etcs_unit_action_": (_HANDLE, _U32),
-    "etcs_unit_identity_": (_HANDLE, ctypes.c_char_p, _SIZE),
-    "etcs_unit_running_number_": (_HANDLE, _U32),
-    "etcs_unit_train_data_": (_HANDLE, ctypes.POINTER(_TrainData)),
-    "etcs_unit_prepare_": (_HANDLE,),
-    "etcs_unit_request_": (_HANDLE, _U32, ctypes.POINTER(_Request), ctypes.c_char_p, _SIZE),
-    "etcs_unit_done_": (_HANDLE, _U32),
-    "etcs_unit_fail_": (_HANDLE,),
-    "etcs_unit_release_": (_HANDLE, ctypes.POINTER(_Output), _SIZE, ctypes.POINTER(_U32)),
-    "etcs_unit_state_": (_HANDLE, ctypes.POINTER(_State)),
-    "etcs_unit_close_": (_HANDLE,),
-    "etcs_unit_format_request_": (_U32, _U32, ctypes.POINTER(_Request), ctypes.c_char_p, _SIZE),
-    "etcs_image_facts_": (ctypes.c_char_p, _SIZE, _U32, ctypes.POINTER(_Image)),
-    "etcs_image_slot_": (ctypes.c_char_p, _SIZE, _U32, ctypes.c_uint64, ctypes.c_uint64, ctypes.POINTER(_Slot)),
-    "etcs_image_block_": (ctypes.c_char_p, _SIZE, _U32, ctypes.c_uint64, ctypes.POINTER(_Block)),
-    "etcs_image_record_": (ctypes.c_char_p, _SIZE, _U32, ctypes.c_uint64, _U32, ctypes.POINTER(_Record)),
-    "etcs_journal_open_": (ctypes.c_char_p, _SIZE, _U32, ctypes.POINTER(_Journal)),
-    "etcs_journal_next_": (ctypes.c_char_p, _SIZE, ctypes.POINTER(_Journal), ctypes.POINTER(_Record)),
-    "etcs_image_replay_": (ctypes.c_char_p, _SIZE, _U32, ctypes.POINTER(_Journal), ctypes.POINTER(_Replay)),
-    "etcs_image_why_": (ctypes.c_char_p, _SIZE, _U32, ctypes.c_uint64, ctypes.c_uint64, ctypes.POINTER(_Why)),
-    "etcs_decode": (ctypes.c_char_p, _SIZE),
-    "etcs_packet_count": (ctypes.c_char_p, _SIZE),
-}
-
-
 @functools.cache
 def library() -> ctypes.CDLL:
     """The library, whose calls have their types. OTHER_ABI where it is of another interface than this module."""
     found = ctypes.CDLL(os.environ.get("GAKNIFUR_ETCS_UNIT") or f"libetcs_unit.so.{ABI}")
-    for name, types in _CALLS.items():
+    for name, types in _header.CALLS.items():
         call = getattr(found, name)
         call.restype, call.argtypes = ctypes.c_uint32, types
     if found.etcs_abi() != ABI:
@@ -519,30 +280,30 @@ def _number(number: int, bits: int, *, signed: bool = False) -> int:
     return number
 
 
-def _output(told: _Output) -> Output:
+def _output(told: _header.etcs_unit_output) -> Output:
     return Output(told.event, Mode(told.mode), Level(told.level), Brake(told.brake), told.limit_m_per_h,
                   Indication(told.indications))
 
 
-def _carry_out(medium: Medium, request: _Request, room: ctypes.Array[ctypes.c_char]) -> None:
-    if request.kind == 1:
+def _carry_out(medium: Medium, request: _header.etcs_unit_request_told, room: ctypes.Array[ctypes.c_char]) -> None:
+    if request.kind == RequestKind.WRITE:
         medium.write(request.sector, room.raw[:SECTOR * request.sectors])
     else:
         medium.sync()
 
 
-def _format_request(slots: int, index: int, request: _Request, room: ctypes.Array[ctypes.c_char]) -> int:
+def _format_request(slots: int, index: int, request: _header.etcs_unit_request_told, room: ctypes.Array[ctypes.c_char]) -> int:
     return _called("etcs_unit_format_request_", _number(slots, 32), index, ctypes.byref(request), room, SECTOR)
 
 
 def first_request(slots: int) -> None:
     """BAD_SLOTS where a journal can't have so many slots."""
-    _told(_format_request(slots, 0, _Request(), ctypes.create_string_buffer(SECTOR)))
+    _told(_format_request(slots, 0, _header.etcs_unit_request_told(), ctypes.create_string_buffer(SECTOR)))
 
 
 def format_medium(medium: Medium, slots: int) -> None:
     """Makes a medium of 1 + 6 * slots sectors an empty journal."""
-    request, room, index = _Request(), ctypes.create_string_buffer(SECTOR), 0
+    request, room, index = _header.etcs_unit_request_told(), ctypes.create_string_buffer(SECTOR), 0
     while (status := _format_request(slots, index, request, room)) == Status.OK:
         _carry_out(medium, request, room)
         index += 1
@@ -565,7 +326,7 @@ def decode(digits: str) -> tuple[int, int]:
 
 # ---- reading
 
-def _record(told: _Record) -> Record:
+def _record(told: _header.etcs_record) -> Record:
     place = bool(told.has_place)
     return Record(told.event, told.block, told.life, told.format, Kind(told.kind), told.moment_ms, Mode(told.mode), Level(told.level),
                   Brake(told.brake), Indication(told.indications), told.front_cm if place else None,
@@ -576,7 +337,7 @@ def _record(told: _Record) -> Record:
 def records(image: bytes) -> Iterator[Record]:
     """The records of the journal that an image holds, the oldest first. IMAGE_DAMAGED where one can't be read, behind those
     before it."""
-    cursor, told = _Journal(), _Record()
+    cursor, told = _header.etcs_journal(), _header.etcs_record()
     _told(_called("etcs_journal_open_", image, len(image), ABI, ctypes.byref(cursor)))
     while (status := _called("etcs_journal_next_", image, len(image), ctypes.byref(cursor), ctypes.byref(told))) == Status.OK:
         yield _record(told)
@@ -591,14 +352,14 @@ def journal(path: str | Path) -> Iterator[Record]:
 
 def facts(image: bytes) -> Facts:
     """What an image has at first sight."""
-    told = _Image()
+    told = _header.etcs_image()
     _told(_called("etcs_image_facts_", image, len(image), ABI, ctypes.byref(told)))
     return Facts(told.sectors, told.slots, told.whole, told.newest)
 
 
 def slots(image: bytes) -> Iterator[Slot]:
     """What each slot holds that an image has with all its sectors, in their order."""
-    seen, told = facts(image), _Slot()
+    seen, told = facts(image), _header.etcs_slot()
     for slot in range(seen.whole):
         _told(_called("etcs_image_slot_", image, len(image), ABI, seen.newest, slot, ctypes.byref(told)))
         yield Slot(SlotState(told.state), told.number or None, told.is_sound != 0,
@@ -610,7 +371,7 @@ class Unit:
 
     def __init__(self, medium: Medium, cold: Cold = Cold.UNKNOWN) -> None:
         self.medium, self.cold = medium, cold
-        self._handle = _Handle()
+        self._handle = _header.etcs_unit()
 
     def __enter__(self) -> Self:
         self.open()
@@ -667,7 +428,7 @@ class Unit:
     def train_data(self, data: TrainData) -> None:
         """The driver enters train data."""
         numbers = (data.length_cm, data.maximum_m_per_h, data.deceleration_cm_per_s2, data.reaction_ms, data.category)
-        self._call("train_data", ctypes.byref(_TrainData(*(_number(number, 32) for number in numbers))))
+        self._call("train_data", ctypes.byref(_header.etcs_train_data(*(_number(number, 32) for number in numbers))))
 
     # ---- outputs
 
@@ -679,12 +440,12 @@ class Unit:
 
     def _release(self) -> list[Output]:
         self._carry_out()
-        outputs, count = (_Output * OUTPUTS)(), ctypes.c_uint32()
+        outputs, count = (_header.etcs_unit_output * OUTPUTS)(), ctypes.c_uint32()
         self._call("release", outputs, OUTPUTS, ctypes.byref(count))
         return [_output(outputs[place]) for place in range(count.value)]
 
     def _carry_out(self) -> None:
-        request, room = _Request(), ctypes.create_string_buffer(REQUEST_BYTES)
+        request, room = _header.etcs_unit_request_told(), ctypes.create_string_buffer(REQUEST_BYTES)
         state = self.state()
         for index in range(state.done, state.requests):
             self._call("request", index, ctypes.byref(request), room, REQUEST_BYTES)
@@ -697,7 +458,7 @@ class Unit:
 
     def state(self) -> State:
         """How far it is."""
-        told = _State()
+        told = _header.etcs_unit_state_told()
         self._call("state", ctypes.byref(told))
         return State(_output(told.last), told.requests, told.done, told.held, told.has_failed != 0, told.pending,
                      told.moment_ms, told.front_cm, told.uncertainty_cm)

@@ -16,6 +16,7 @@ from unittest import mock
 import gaknifur
 from gaknifur import lives
 from gaknifur import unit as units
+from gaknifur._header import Fault, RequestKind
 from gaknifur.lives import BrakeCause, Datum, KeptField, LimitCause, RecordField, TripCause, Verdict
 from gaknifur.unit import (Action, Brake, Cold, FileMedium, Indication, Kind, Level, MemoryMedium, Mode, Output, Record, Refused,
                            SlotState, Status, TrainData, Unit)
@@ -26,48 +27,26 @@ TRAIN = TrainData(20_000, 160_000, 70, 1_000, 15)
 BEFORE = Output(0, Mode.STAND_BY, Level.INVALID, Brake.EMERGENCY, 0, Indication.NOT_REVALIDATED)
 
 
-def of_header(name: str, prefix: str) -> dict[str, int]:
-    """The names and numbers of one of its enums, or of etcs_image.h."""
-    text = HEADER.read_text() + (INCLUDE / "etcs_image.h").read_text()
-    found = re.search(rf"enum {name} {{(.*?)}};", text, re.DOTALL)
-    assert found is not None
-    return {one: int(number) for one, number in re.findall(rf"{prefix}(\w+) = (\d+)", found[1])}
-
-
 class Names(unittest.TestCase):
-    """Beside the header."""
+    """Beside the headers, as they read without `tools/bindings`."""
 
     def test_enums(self) -> None:
-        wanted: dict[type[enum.IntEnum], tuple[str, str]] = {
-            Status: ("etcs_unit_status", "ETCS_UNIT_"), Cold: ("etcs_cold", "ETCS_COLD_"), Action: ("etcs_action", "ETCS_"),
-            Kind: ("etcs_kind", "ETCS_"), SlotState: ("etcs_slot_state", "ETCS_SLOT_"), Mode: ("etcs_mode", "ETCS_"), Level: ("etcs_level", "ETCS_"), Brake: ("etcs_brake", "ETCS_BRAKE_")}
-        for one, (name, prefix) in wanted.items():
-            told = of_header(name, prefix)
-            if one is Level:
-                told = {key if key == "LEVEL_0" or key == "LEVEL_1" else key.removeprefix("LEVEL_"): n for key, n in told.items()}
-            self.assertEqual({key: int(member) for key, member in one.__members__.items()}, told, name)
-        self.assertEqual({key: int(member) for key, member in Indication.__members__.items()},
-                         of_header("etcs_indication", "ETCS_SHOWS_"))
-
-    def test_enums_of_lives(self) -> None:
-        wanted: dict[type[enum.IntEnum], tuple[str, str]] = {
-            Verdict: ("etcs_verdict", "ETCS_VERDICT_"), RecordField: ("etcs_record_field", "ETCS_RECORD_"),
-            KeptField: ("etcs_kept_field", "ETCS_KEPT_"), BrakeCause: ("etcs_brake_cause", "ETCS_CAUSE_"),
-            TripCause: ("etcs_trip_cause", "ETCS_TRIP_"), LimitCause: ("etcs_limit_cause", "ETCS_LIMIT_"), Datum: ("etcs_datum", "ETCS_DATUM_")}
-        for one, (name, prefix) in wanted.items():
-            self.assertEqual({key: int(member) for key, member in one.__members__.items()}, of_header(name, prefix), name)
-
-    def test_numbers(self) -> None:
-        self.assertRegex(HEADER.read_text(), rf"#define ETCS_VERSION_BYTES {units.VERSION_BYTES}\n")
-        for name, number in (("ABI", units.ABI), ("SECTOR", units.SECTOR), ("OUTPUTS", units.OUTPUTS),
-                             ("REQUEST_BYTES", units.REQUEST_BYTES)):
-            self.assertRegex(HEADER.read_text(), rf"#define ETCS_UNIT_{name} {number}\n")
+        enums: list[type[enum.IntEnum | enum.IntFlag]] = [
+            Fault, Status, Cold, Action, Mode, Level, Brake, Indication, RequestKind, SlotState, Kind, Datum, Verdict,
+            RecordField, KeptField, BrakeCause, TripCause, LimitCause]
+        text = "".join((INCLUDE / name).read_text() for name in ("etcs.h", "etcs_unit.h", "etcs_image.h"))
+        bodies = re.findall(r"^enum \w+ \{(.*?)\};", text, re.DOTALL | re.MULTILINE)
+        for one, body in zip(enums, bodies, strict=True):
+            told = re.findall(r"(ETCS_\w+) = (\d+)", body)
+            for member, (name, number) in zip(one.__members__.values(), told, strict=True):
+                self.assertEqual(member, int(number))
+                self.assertTrue(name.endswith(f"_{member.name}"), name)
 
     def test_the_texts_of_statuses(self) -> None:
         """The header's text of each status is its name, and docs/REFUSALS.md explains each."""
         text = HEADER.read_text()
         told = dict(re.findall(r'case ETCS_UNIT_(\w+): return "(\w+)";', text))
-        self.assertEqual(told, {name: name for name in of_header("etcs_unit_status", "ETCS_UNIT_")})
+        self.assertEqual(told, {one.name: one.name for one in Status})
         page = (INCLUDE.parent / "docs" / "REFUSALS.md").read_text()
         part = page[page.index("## The unit from C"):page.index("## The program")]
         rows = re.findall(r"^\| (\d+) \| ([A-Z_]+) \|(?:[^|\n]*\|){3}$", part, re.MULTILINE)

@@ -17,7 +17,8 @@ from collections import Counter
 from pathlib import Path
 
 HERE = Path(__file__).resolve().parent
-sys.path[:0] = [str(HERE.parents[1] / "tests" / part) for part in ("plain", "hostile", "lab")]
+sys.path[:0] = [str(HERE.parents[1] / part) for part in ("tests/plain", "tests/hostile", "tests/lab", "python")]
+from gaknifur.lives import BrakeCause, LimitCause, TripCause  # noqa: E402
 from replay import replayed  # noqa: E402
 from replay_rows import altered, damaged, examples, formats, random_lives  # noqa: E402
 from why import walked  # noqa: E402
@@ -43,23 +44,19 @@ def printed(*words, **changes):
     return done.returncode, [json.loads(line) for line in done.stdout.decode().splitlines()]
 
 
-# The enums of the header whose names are words of `reasons`: prefix, first number, file and variants.
-MIRRORS = (("etcs_brake_cause", "ETCS_CAUSE_", 0, "words", "BrakeCause"), ("etcs_trip_cause", "ETCS_TRIP_", 1, "trips", "TripCause"),
-           ("etcs_limit_cause", "ETCS_LIMIT_", 1, "limit_words", "LimitKind"))
+# The enums whose names are words of `reasons`: first number, file and variants.
+MIRRORS = (BrakeCause, 0, "words", "BrakeCause"), (TripCause, 1, "trips", "TripCause"), (LimitCause, 1, "limit_words", "LimitKind")
 
 
 def mirrors_differ():
-    """Enums of the header that haven't the words of the kernel's causes, in their order."""
-    header = (HERE.parents[1] / "include" / "etcs_image.h").read_text()
-    for name, prefix, first, file, variants in MIRRORS:
-        body = re.search(rf"enum {name} {{(.*?)}};", header, re.DOTALL)[1]
-        told = {int(number): word.lower() for word, number in re.findall(rf"{prefix}(\w+) = (\d+)", body)}
-        told.pop(first - 1, None)
+    """Enums that haven't the words of the kernel's causes, in their order."""
+    for causes, first, file, variants in MIRRORS:
+        told = {int(cause): cause.name.lower() for cause in causes if cause is not TripCause.UNKNOWN}
         source = (HERE.parents[1] / "crates" / "reasons" / "src" / f"{file}.rt").read_text()
         word_of = re.search(r"fn \w*word\(.*?\n}\n", source, re.DOTALL)[0]
         wanted = dict(enumerate(re.findall(rf'{variants}::\w+ => "(\w+)"', word_of), first))
         if told != wanted or not wanted:
-            yield f"enum {name}: {told}, wanted {wanted}"
+            yield f"{causes.__name__}: {told}, wanted {wanted}"
 
 
 def is_of_events(line):

@@ -1,7 +1,8 @@
 #!/usr/bin/env python3
-"""Sizes and places of the structs as C lays them out (layout.c) beside those of python/gaknifur/unit.py.
+"""Sizes and places of the structs as C lays them out beside those of python/gaknifur/_header.py.
 
-    tests/unit/layout.py PROGRAM..
+    tests/unit/layout.py --program    prints a C program that prints them, as the headers have them
+    tests/unit/layout.py PROGRAM..    compares what this program prints, built in several ways
 """
 import ctypes
 import subprocess
@@ -9,37 +10,41 @@ import sys
 from pathlib import Path
 
 sys.path.insert(0, str(Path(__file__).resolve().parents[2] / "python"))
+from gaknifur import _header  # noqa: E402
 
-from gaknifur import unit  # noqa: E402
-
-STRUCTS = {"etcs_unit": unit._Handle, "etcs_unit_output": unit._Output, "etcs_unit_request_told": unit._Request,
-           "etcs_train_data": unit._TrainData, "etcs_unit_state_told": unit._State, "etcs_image": unit._Image, "etcs_slot": unit._Slot,
-           "etcs_national": unit._National, "etcs_kept": unit._Kept, "etcs_block": unit._Block, "etcs_record": unit._Record,
-           "etcs_journal": unit._Journal, "etcs_replay": unit._Replay, "etcs_why": unit._Why}
-SHORT = {"length_cm": "length", "maximum_m_per_h": "maximum", "deceleration_cm_per_s2": "deceleration", "reaction_ms": "reaction"}
 LEAST = 133
+PROGRAM = """#include <stddef.h>
+#include <stdio.h>
+#include "etcs_image.h"
+int main(void) {
+%s    return 0;
+}
+"""
 
 
-def place_of(name):
-    struct, _, field = name.partition(".")
-    if not field:
-        return ctypes.sizeof(STRUCTS[struct])
-    if struct == "etcs_train_data":
-        field = SHORT.get(field, field)
-    return getattr(STRUCTS[struct], field).offset
+def places():
+    """Each struct with its size, and each of its fields with its place, by the C expression for it."""
+    for name, struct in vars(_header).items():
+        if isinstance(struct, type) and issubclass(struct, ctypes.Structure) and struct is not ctypes.Structure:
+            yield f"sizeof({name})", ctypes.sizeof(struct)
+            yield from ((f"offsetof({name}, {field})", getattr(struct, field).offset) for field, *_ in struct._fields_)
 
 
-def main(programs):
+def main(words):
+    wanted = dict(places())
+    if words == ["--program"]:
+        print(PROGRAM % "".join(f'    printf("{told}: %u\\n", (unsigned){told});\n' for told in wanted), end="")
+        return 0
     tried = found = 0
-    for program in programs:
-        for line in subprocess.run([program], capture_output=True, text=True, check=True).stdout.splitlines():
-            name, number = line.split()
+    for program in words:
+        lines = subprocess.run([program], capture_output=True, text=True, check=True).stdout.splitlines()
+        for name, number in (line.split(": ") for line in lines):
             tried += 1
-            if place_of(name) != int(number):
+            if wanted[name] != int(number):
                 found += 1
-                print(f"{line}, and from Python {place_of(name)}")
+                print(f"{name} is {number}, and from Python {wanted[name]}")
     print(f"layout: {tried} sizes and places, {found} differences")
-    return found > 0 or tried < LEAST * len(programs) or not programs
+    return found > 0 or tried < LEAST * len(words) or not words
 
 
 if __name__ == "__main__":

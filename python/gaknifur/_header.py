@@ -1,0 +1,377 @@
+"""What include/etcs.h, etcs_unit.h and etcs_image.h declare, for ctypes. Written by `tools/bindings`."""
+import enum
+from ctypes import POINTER, Structure, c_char_p, c_int64, c_size_t, c_uint8, c_uint16, c_uint32, c_uint64, c_void_p
+
+TELEGRAM_BYTES = 104
+ABI = 2
+VERSION_BYTES = 32
+SECTOR = 512
+OUTPUTS = 8
+REQUEST_BYTES = 8192
+PAYLOAD_BYTES = 104
+ENDLESS = 0xFFFFFFFF
+BRAKE_CAUSES = 10
+
+
+class Fault(enum.IntEnum):
+    """Why bytes carry no telegram. TOO_LONG comes before all others; else the fault that is told is the first one in
+    the order of the bits."""
+
+    OK = 0
+    TRUNCATED = 1
+    WRONG_LENGTH = 2
+    SPARE = 3
+    OUT_OF_RANGE = 4
+    WRONG_VERSION = 5
+    NOT_UPLINK = 6
+    NOT_BALISE = 7
+    NO_END = 8
+    TOO_LONG = 9
+
+
+class Status(enum.IntEnum):
+    """What calls answer. docs/REFUSALS.md says more of each."""
+
+    OK = 0
+    OPEN_DEVICE_FAULT = 1
+    OPEN_NOT_FORMATTED = 2
+    OPEN_DAMAGED = 3
+    OPEN_NO_MEMORY = 4
+    OPEN_WORN_OUT = 6
+    PENDING_FULL = 10
+    CLOCK_BACK = 11
+    NO_MEMORY = 12
+    INPUT_FAILED = 13
+    FAILED = 21
+    REQUESTS_OWED = 22
+    WORN_OUT = 23
+    IMAGE_NOT_FORMATTED = 31
+    IMAGE_DAMAGED = 32
+    NO_SUCH_SLOT = 35
+    NO_SUCH_BLOCK = 36
+    NO_SUCH_RECORD = 37
+    END = 38
+    NOT_REPLAYED = 39
+    BAD_SLOTS = 41
+    WRONG_COUNT = 248
+    NO_SUCH_REQUEST = 249
+    NOT_OPEN = 250
+    IS_OPEN = 251
+    NO_ROOM = 252
+    NULL_POINTER = 253
+    OTHER_ABI = 254
+    OUT_OF_RANGE = 255
+
+
+class Cold(enum.IntEnum):
+    """Whether the train was moved while the unit was without power."""
+
+    UNKNOWN = 0
+    MOVED = 1
+    NOT_MOVED = 2
+
+
+class Action(enum.IntEnum):
+    """What the driver does without further values (SUBSET-026, 5)."""
+
+    CHOOSE_LEVEL_0 = 1
+    CHOOSE_LEVEL_1 = 2
+    CONFIRM_IDENTITY = 3
+    CONFIRM_RUNNING_NUMBER = 4
+    CONFIRM_TRAIN_DATA = 5
+    CONFIRM_LEVEL = 6
+    START = 7
+    CHOOSE_SHUNTING = 8
+    LEAVE_SHUNTING = 9
+    OVERRIDE = 10
+    ACKNOWLEDGE_TRIP = 11
+    ACKNOWLEDGE_ON_SIGHT = 12
+    ACKNOWLEDGE_SHUNTING = 13
+    ACKNOWLEDGE_LEVEL_0 = 14
+    CLOSE_DESK = 15
+
+
+class Mode(enum.IntEnum):
+    """M_MODE (SUBSET-026, 7.5.1)."""
+
+    FULL_SUPERVISION = 0
+    ON_SIGHT = 1
+    STAFF_RESPONSIBLE = 2
+    SHUNTING = 3
+    UNFITTED = 4
+    STAND_BY = 6
+    TRIP = 7
+    POST_TRIP = 8
+    SYSTEM_FAILURE = 9
+
+
+class Level(enum.IntEnum):
+    """The level of the train."""
+
+    LEVEL_0 = 0
+    LEVEL_1 = 1
+    INVALID = 255
+
+
+class Brake(enum.IntEnum):
+    """What the brakes are commanded to do."""
+
+    NONE = 0
+    SERVICE = 1
+    EMERGENCY = 2
+
+
+class Indication(enum.IntFlag):
+    """What the driver is shown; etcs_unit_output has the sum."""
+
+    ON_SIGHT = 1
+    SHUNTING = 2
+    LEVEL_0 = 4
+    TRIP = 8
+    OVERRIDDEN = 16
+    NOT_REVALIDATED = 32
+    OVERSPEED = 64
+
+
+class RequestKind(enum.IntEnum):
+    """What is to be done on the medium."""
+
+    WRITE = 1
+    SYNC = 2
+
+
+class SlotState(enum.IntEnum):
+    """What a slot holds (docs/FORMAT.md)."""
+
+    EMPTY = 0
+    BLOCK = 1
+    UNREADABLE = 2
+    MISPLACED = 3
+    FOREIGN = 4
+    UNWRITTEN = 5
+    REPLACED = 6
+    REMAINS = 7
+
+
+class Kind(enum.IntEnum):
+    """The kind of an event."""
+
+    POWER_UP = 1
+    TELEGRAM = 2
+    ODOMETER = 3
+    CLOCK = 4
+    DRIVER = 5
+
+
+class Datum(enum.IntEnum):
+    """Whether a datum may be relied on (SUBSET-026, 4.10)."""
+
+    UNKNOWN = 0
+    VALID = 1
+    INVALID = 2
+
+
+class Verdict(enum.IntEnum):
+    """What a life came to that was run through the kernel again."""
+
+    AGREES = 1
+    RECORD_DIFFERS = 2
+    HEAD_DIFFERS = 3
+    BEFORE_OLDEST = 4
+    BEHIND_GAP = 5
+    BEGINS_EARLIER = 6
+
+
+class RecordField(enum.IntEnum):
+    """What of a record differs first, in the order in which it is compared."""
+
+    EVENT = 1
+    WORD = 2
+    MOMENT = 3
+    MODE = 4
+    LEVEL = 5
+    BRAKE = 6
+    INDICATIONS = 7
+    PLACE = 8
+    FRONT = 9
+    UNCERTAINTY = 10
+    LIMIT = 11
+
+
+class KeptField(enum.IntEnum):
+    """What of a head differs first, in the order in which it is compared."""
+
+    EVENTS = 1
+    LIVES = 2
+    TRIP = 3
+    IDENTITY = 4
+    RUNNING_NUMBER = 5
+    TRAIN = 6
+    LEVEL = 7
+    POSITION = 8
+    NATIONAL = 9
+    COUNTRIES = 10
+
+
+class BrakeCause(enum.IntEnum):
+    """Why a brake is commanded: the rows of the brake table, by their places in etcs_why (docs/BRAKES.md). The first
+    six command the emergency brake."""
+
+    NOT_REVALIDATED = 0
+    IN_TRIP = 1
+    IN_SYSTEM_FAILURE = 2
+    OWES_TRIP = 3
+    FAR_TOO_FAST = 4
+    ROLLED_TOO_FAR = 5
+    ASKED_FOR_SERVICE = 6
+    TOO_FAST = 7
+    MUST_STAND = 8
+    OWES_TOO_LONG = 9
+
+
+class TripCause(enum.IntEnum):
+    """Why Trip was entered (docs/BRAKES.md)."""
+
+    UNKNOWN = 0
+    END_PASSED = 1
+    LINKING = 2
+    STOP = 3
+    STAFF_DISTANCE = 4
+    LEVEL = 5
+
+
+class LimitCause(enum.IntEnum):
+    """What decides a limit (docs/BRAKES.md)."""
+
+    NO_SPEED = 1
+    NO_TRAIN_DATA = 2
+    NATIONAL_STAFF_RESPONSIBLE = 3
+    NATIONAL_OVERRIDE = 4
+    NATIONAL_SHUNTING = 5
+    NATIONAL_UNFITTED = 6
+    TRAIN_MAXIMUM = 7
+    MAIN_SPEED = 8
+    END_SPEED = 9
+    STATIC_SPEED = 10
+    RESTRICTION = 11
+    MODE_AREA = 12
+    STATIC_SPEED_AHEAD = 13
+    UNKNOWN_SPEED_AHEAD = 14
+    RESTRICTION_AHEAD = 15
+    MODE_AREA_AHEAD = 16
+    END_OF_AUTHORITY = 17
+    SUPERVISED_LOCATION = 18
+    RELEASE_SPEED = 19
+    NATIONAL_RELEASE_SPEED = 20
+
+
+class etcs_unit(Structure):
+    _fields_ = [("at", c_void_p), ("is_open", c_uint64)]
+
+
+class etcs_unit_output(Structure):
+    _fields_ = [("event", c_uint64), ("limit_m_per_h", c_uint32), ("mode", c_uint8), ("level", c_uint8),
+                ("brake", c_uint8), ("indications", c_uint8)]
+
+
+class etcs_unit_request_told(Structure):
+    _fields_ = [("sector", c_uint64), ("sectors", c_uint64), ("kind", c_uint64)]
+
+
+class etcs_train_data(Structure):
+    _fields_ = [("length_cm", c_uint32), ("maximum_m_per_h", c_uint32), ("deceleration_cm_per_s2", c_uint32),
+                ("reaction_ms", c_uint32), ("category", c_uint32)]
+
+
+class etcs_unit_state_told(Structure):
+    _fields_ = [("last", etcs_unit_output), ("requests", c_uint64), ("done", c_uint64), ("held", c_uint64),
+                ("has_failed", c_uint64), ("pending", c_uint64), ("moment_ms", c_uint64), ("front_cm", c_int64),
+                ("uncertainty_cm", c_uint64)]
+
+
+class etcs_image(Structure):
+    _fields_ = [("sectors", c_uint64), ("slots", c_uint64), ("whole", c_uint64), ("newest", c_uint64)]
+
+
+class etcs_slot(Structure):
+    _fields_ = [("number", c_uint64), ("fault_at", c_uint64), ("state", c_uint32), ("is_sound", c_uint32),
+                ("has_fault", c_uint32), ("fault_record", c_uint32)]
+
+
+class etcs_national(Structure):
+    _fields_ = [("shunting_m_per_h", c_uint32), ("staff_responsible_m_per_h", c_uint32), ("on_sight_m_per_h", c_uint32),
+                ("unfitted_m_per_h", c_uint32), ("release_m_per_h", c_uint32), ("roll_cm", c_uint32),
+                ("override_allowed_m_per_h", c_uint32), ("override_m_per_h", c_uint32),
+                ("override_distance_cm", c_uint32), ("override_time_ms", c_uint32),
+                ("staff_responsible_distance_cm", c_uint32), ("count", c_uint32), ("countries", c_uint16 * 32)]
+
+
+class etcs_kept(Structure):
+    _fields_ = [("distance_cm", c_int64), ("train", etcs_train_data), ("running_number", c_uint32),
+                ("country", c_uint32), ("group", c_uint32), ("identity", c_uint8 * 16), ("identity_len", c_uint8),
+                ("has_running_number", c_uint8), ("has_train", c_uint8), ("level_status", c_uint8), ("level", c_uint8),
+                ("position_status", c_uint8), ("trip_outstanding", c_uint8), ("reserved", c_uint8),
+                ("national", etcs_national)]
+
+
+class etcs_block(Structure):
+    _fields_ = [("number", c_uint64), ("first_event", c_uint64), ("events", c_uint64), ("lives", c_uint32),
+                ("format", c_uint8), ("records", c_uint8), ("reserved", c_uint16), ("kept", etcs_kept)]
+
+
+class etcs_record(Structure):
+    _fields_ = [("event", c_uint64), ("block", c_uint64), ("moment_ms", c_uint64), ("front_cm", c_int64),
+                ("uncertainty_cm", c_uint64), ("limit_m_per_h", c_uint32), ("life", c_uint32), ("format", c_uint8),
+                ("kind", c_uint8), ("mode", c_uint8), ("level", c_uint8), ("brake", c_uint8), ("indications", c_uint8),
+                ("has_place", c_uint8), ("payload_len", c_uint8), ("payload", c_uint8 * 104)]
+
+
+class etcs_journal(Structure):
+    _fields_ = [("block", c_uint64), ("last", c_uint64), ("index", c_uint64)]
+
+
+class etcs_replay(Structure):
+    _fields_ = [("first_event", c_uint64), ("last_event", c_uint64), ("block", c_uint64), ("event", c_uint64),
+                ("life", c_uint32), ("verdict", c_uint32), ("field", c_uint32), ("reserved", c_uint32),
+                ("journal", etcs_record), ("kernel", etcs_record), ("journal_kept", etcs_kept),
+                ("kernel_kept", etcs_kept)]
+
+
+class etcs_why(Structure):
+    _fields_ = [("event", c_uint64), ("since", c_uint64 * 10), ("trip_event", c_uint64), ("backward_cm", c_uint64),
+                ("allowed_backward_cm", c_uint64), ("limit_cause_cm", c_int64), ("restriction", c_uint64),
+                ("limit_m_per_h", c_uint32), ("speed_m_per_h", c_uint32), ("limit_cause_m_per_h", c_uint32),
+                ("holds", c_uint8 * 10), ("brake", c_uint8), ("trip_cause", c_uint8), ("limit_cause", c_uint8),
+                ("has_place", c_uint8), ("has_restriction", c_uint8), ("reserved", c_uint8 * 5)]
+
+
+CALLS: dict[str, tuple[object, ...]] = {
+    "etcs_decode": (c_char_p, c_size_t),
+    "etcs_packet_count": (c_char_p, c_size_t),
+    "etcs_version_": (c_char_p, c_size_t, POINTER(c_uint32)),
+    "etcs_unit_open_": (POINTER(etcs_unit), c_char_p, c_size_t, c_uint32, c_uint32),
+    "etcs_unit_telegram_": (POINTER(etcs_unit), c_char_p, c_size_t),
+    "etcs_unit_odometer_": (POINTER(etcs_unit), c_int64, c_uint32),
+    "etcs_unit_clock_": (POINTER(etcs_unit), c_uint64),
+    "etcs_unit_action_": (POINTER(etcs_unit), c_uint32),
+    "etcs_unit_identity_": (POINTER(etcs_unit), c_char_p, c_size_t),
+    "etcs_unit_running_number_": (POINTER(etcs_unit), c_uint32),
+    "etcs_unit_train_data_": (POINTER(etcs_unit), POINTER(etcs_train_data)),
+    "etcs_unit_prepare_": (POINTER(etcs_unit),),
+    "etcs_unit_request_": (POINTER(etcs_unit), c_uint32, POINTER(etcs_unit_request_told), c_char_p, c_size_t),
+    "etcs_unit_done_": (POINTER(etcs_unit), c_uint32),
+    "etcs_unit_fail_": (POINTER(etcs_unit),),
+    "etcs_unit_release_": (POINTER(etcs_unit), POINTER(etcs_unit_output), c_size_t, POINTER(c_uint32)),
+    "etcs_unit_state_": (POINTER(etcs_unit), POINTER(etcs_unit_state_told)),
+    "etcs_unit_close_": (POINTER(etcs_unit),),
+    "etcs_unit_format_request_": (c_uint32, c_uint32, POINTER(etcs_unit_request_told), c_char_p, c_size_t),
+    "etcs_abi": (),
+    "etcs_image_facts_": (c_char_p, c_size_t, c_uint32, POINTER(etcs_image)),
+    "etcs_image_slot_": (c_char_p, c_size_t, c_uint32, c_uint64, c_uint64, POINTER(etcs_slot)),
+    "etcs_image_block_": (c_char_p, c_size_t, c_uint32, c_uint64, POINTER(etcs_block)),
+    "etcs_image_record_": (c_char_p, c_size_t, c_uint32, c_uint64, c_uint32, POINTER(etcs_record)),
+    "etcs_journal_open_": (c_char_p, c_size_t, c_uint32, POINTER(etcs_journal)),
+    "etcs_journal_next_": (c_char_p, c_size_t, POINTER(etcs_journal), POINTER(etcs_record)),
+    "etcs_image_replay_": (c_char_p, c_size_t, c_uint32, POINTER(etcs_journal), POINTER(etcs_replay)),
+    "etcs_image_why_": (c_char_p, c_size_t, c_uint32, c_uint64, c_uint64, POINTER(etcs_why)),
+}

@@ -1,6 +1,6 @@
 #!/bin/bash
 # Trains in a closed loop with the onboard unit (drives/), over the library that tests/unit.sh left, or one that is built: each result comes, each
-# planted fault is told, and the program answers to the same events as the library. And the commands of docs/TESTING_A_TRAIN.md that drive.
+# planted fault is told, and the program answers to the same events as the library. And the commands of docs/CLOSED_LOOP.md.
 #
 #     tests/drive.sh [ETCS_LAB ETCS [PREFIX]]    on other programs, and on the library below PREFIX
 top=$(cd "$(dirname "$(readlink -f -- "$0")")/.." && pwd) || exit 1
@@ -27,5 +27,5 @@ fi
 export GAKNIFUR_ETCS_UNIT=$(realpath "$prefix")/lib/libetcs_unit.so
 status=0
 /usr/bin/python3 "$top/tests/suites/drive_rows.py" "$etcs" "$lab" || status=1
-/usr/bin/python3 "$top/tests/suites/page_rows.py" --drives "$etcs" "$lab" || status=1
+ETCS=$etcs ETCS_LAB=$lab /usr/bin/python3 "$top/tests/pages.py" CLOSED_LOOP || status=1
 exit $status

@@ -14,5 +14,5 @@ done
 status=0
 python3 lab/image_rows.py "$lab" "$etcs" || status=1
 python3 lab/verdict_rows.py "$lab" || status=1
-python3 lab/page_rows.py "$etcs" "$lab" || status=1
+ETCS=$etcs ETCS_LAB=$lab python3 pages.py INVESTIGATING || status=1
 exit $status

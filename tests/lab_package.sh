@@ -16,7 +16,7 @@ tools/python --checks || exit 1
 status=0
 (cd python && "$python" -m mypy) || status=1
 (cd python && "$python" -m unittest -q) || status=1
-"$python" tests/lab_package/page_rows.py "$etcs" "$lab" || status=1
+ETCS=$etcs ETCS_LAB=$lab "$python" tests/pages.py LABORATORY || status=1
 "$python" tests/lab_package/told_rows.py "$lab" "${@:3}" || status=1
 "$python" tests/lab_package/report_rows.py "$etcs" "$lab" || status=1
 "$python" tests/lab_package/campaign_rows.py "$etcs" "$lab" || status=1

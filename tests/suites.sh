@@ -25,6 +25,6 @@ covered=$(./lab coverage suites 2>&1) || { status=1; echo "$covered"; }
 tail -n 1 <<< "$covered"
 /usr/bin/python3 tests/suites/limits.py "$etcs" "$lab" || status=1
 /usr/bin/python3 tests/suites/control.py "$etcs" "$lab" || status=1
-/usr/bin/python3 tests/suites/page_rows.py "$etcs" "$lab" || status=1
+ETCS=$etcs ETCS_LAB=$lab /usr/bin/python3 tests/pages.py TESTING_A_TRAIN || status=1
 /usr/bin/python3 tests/suites/search.py "$etcs" "$lab" || status=1
 exit $status

@@ -1,0 +1,82 @@
+#!/usr/bin/env python3
+"""Runs the commands of pages of docs/ in their order, each page in a folder of its own, and compares what each prints, on both streams, with what
+stands below it.
+
+    tests/pages.py [--write] PAGE..    as LABORATORY. With --write what is printed takes the place of what stands there
+
+A command stands after `$ `, indented by four or in a block of `console`; lines after `> `, or after a backslash, go on with it. A block of C or Python
+becomes the file of the HOME that the line above it names. The folder has what the repository has at its top, and as ./etcs and ./etcs_lab the
+programs that $ETCS and $ETCS_LAB name, else those of the gate.
+"""
+import os
+import re
+import subprocess
+import sys
+import tempfile
+from pathlib import Path
+
+TOP = Path(__file__).resolve().parents[1]
+PROGRAMS = {name: Path(os.environ.get(name.upper()) or TOP / f"crates/{name}/out/{name}").resolve() for name in ("etcs", "etcs_lab")}
+COMMANDS = {"INVESTIGATING": 38, "LABORATORY": 27, "TESTING_A_TRAIN": 44, "CLOSED_LOOP": 13, "EMBEDDING": 17}
+"""How many commands a page has, at least."""
+COMMAND = re.compile(r"^(    |)\$ ((?:.*\\\n)*.*\n(?:\1> .*\n)*)((?:(?!\1\$ |```)\1.*\n)*)", re.MULTILINE)
+FILE = re.compile(r"`~/([\w.]+)`:\n+```(?:c|python)\n(.*?)^```$", re.DOTALL | re.MULTILINE)
+
+
+class Page:
+    """A page, and the folder in which its commands are run."""
+
+    def __init__(self, name, room):
+        self.path, self.room, self.home = TOP / "docs" / f"{name}.md", Path(room), Path(room) / "home"
+        self.text = self.path.read_text()
+        self.compared = self.differ = 0
+        self.environment = os.environ | {f"GAKNIFUR_{name.upper()}": str(path) for name, path in PROGRAMS.items()}
+        for entry in TOP.iterdir():
+            if not entry.name.startswith("."):
+                (self.room / entry.name).symlink_to(PROGRAMS.get(entry.name, entry))
+        if "```console" in self.text:
+            self.home.mkdir()
+            # (rustup looks for its toolchain in the HOME of who installed it)
+            rustup = os.environ.get("RUSTUP_HOME", str(Path.home() / ".rustup"))
+            self.environment |= {"HOME": str(self.home), "RUSTUP_HOME": rustup}
+            for name, text in FILE.findall(self.text):
+                (self.home / name).write_text(text)
+
+    def run(self, found):
+        """Runs a command, and answers it with what it prints."""
+        indent, words, wanted = found.groups()
+        command = re.sub(rf"^{indent}> ", "", words, flags=re.MULTILINE)
+        done = subprocess.run(["bash", "-c", command], cwd=self.room, env=self.environment, stdin=subprocess.DEVNULL, capture_output=True,
+                              text=True, timeout=300)
+        printed = (done.stdout + done.stderr).replace(str(self.home), "~").replace(f"{self.room}/", "")
+        printed = "".join(f"{indent}{line}".rstrip() + "\n" for line in printed.splitlines())
+        self.compared += 1
+        if printed != wanted:
+            self.differ += 1
+            print(f"{self.path.name}: {command}prints\n{printed}wanted\n{wanted}")
+        return f"{indent}$ {words}{printed}"
+
+    def commands(self):
+        """Runs the commands in their order, and answers the page with what they print."""
+        return COMMAND.sub(self.run, self.text)
+
+
+def main(words):
+    is_write, status = words[0] == "--write", 0
+    for name in words[is_write:]:
+        with tempfile.TemporaryDirectory() as room:
+            page = Page(name, room)
+            text = page.commands()
+        if is_write:
+            page.path.write_text(text)
+            continue
+        there = len(re.findall(r"^ *\$ ", page.text, re.MULTILINE))
+        print(f"docs/{name}.md: {page.compared} of {there} commands compared, {page.differ} differ")
+        if page.differ or page.compared != there or there < COMMANDS[name]:
+            print(f"docs/{name}.md: {COMMANDS[name]} commands are to be compared, and none is to differ")
+            status = 1
+    return status
+
+
+if __name__ == "__main__":
+    sys.exit(main(sys.argv[1:]))

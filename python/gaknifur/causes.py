@@ -2,10 +2,9 @@
 here guesses a cause from what a record shows.
 
 `etcs_lab why` has a line of each event at which brake, limit, a cause or the kind of what decides the limit is another
-one than before in its life, so between two lines the causes are those of the first. (Before it told what decides the
-limit, it had no line where a cause alone changed. Then causes are known of the events that have a line, and of the last
-event of each intervention, of which module `reading` asks.) What is told is what the kernel answers. So it counts only
-where the replay says that the journal tells the same; elsewhere the causes aren't known, and the reason is told.
+one than before in its life, so between two lines the causes are those of the first. What is told is what the kernel
+answers. So it counts only where the replay says that the journal tells the same; elsewhere the causes aren't known, and
+the reason is told.
 """
 from collections.abc import Iterable
 from dataclasses import dataclass
@@ -110,7 +109,6 @@ def trip_of(line: Json) -> Trip | None:
 def known(journal: Journal) -> list[Known]:
     """What is known of each record."""
     told = {line["event"]: line for line in journal.why}
-    is_complete = any(LIMIT_CAUSE in line for line in journal.why)
     found: list[Known] = []
     before = None
     for record, reason in zip(journal.records, reasons_of(journal)):
@@ -118,7 +116,7 @@ def known(journal: Journal) -> list[Known]:
         if one.line and one.line["brake"] != record["brake"]:
             one.reason, one.line = DIFFERS, None
         if one.reason is None:
-            latest = one.line or (before if is_complete and record["kind"] != "powerup" else None)
+            latest = one.line or (before if record["kind"] != "powerup" else None)
             if latest:
                 one.held, one.limit, one.trip = held(latest), latest.get(LIMIT_CAUSE), trip_of(latest)
             before = latest

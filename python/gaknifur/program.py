@@ -85,11 +85,11 @@ prepared: dict[tuple[str, ...], tuple[int, list[str], list[str]]] = {}
 CASE = re.compile(r"case=(\d+) run=ended status=(\d+) .*")
 
 
-def prepare(image: Path, runs: Sequence[Sequence[str]]) -> bool:
-    """Where `etcs_lab` would be compiled at each call, compiles it once and runs it on all these words; answers whether it
-    was so. A run that doesn't come to its end is left to a call of its own."""
+def prepare(image: Path, runs: Sequence[Sequence[str]]) -> None:
+    """Where `etcs_lab` would be compiled at each call, compiles it once and runs it on all these words. A run that doesn't
+    come to its end is left to a call of its own."""
     if is_built("etcs_lab") or shutil.which("rt") is None or "\n" in str(image.absolute()):
-        return False
+        return
     words = [(*one, "--", str(image.absolute())) for one in runs]
     with tempfile.TemporaryDirectory() as room:
         for number, one in enumerate(words, 1):
@@ -113,7 +113,6 @@ def prepare(image: Path, runs: Sequence[Sequence[str]]) -> bool:
         if line.startswith("case="):
             said = []
     note_unproved([f"etcs_lab: {UNPROVED}, which ./etcs_lab --prove makes"])
-    return True
 
 
 class Run:

@@ -14,10 +14,6 @@ Progress = Callable[[str, int, int], None]
 """What is told while it goes on: what is done, how much of it, and of how much (0 where that isn't known)."""
 
 
-MOST_ASKED = 200_000
-"""How many events are run again at the most for single questions of causes."""
-
-
 def silent(what: str, done: int, whole: int) -> None:
     """Tells nothing."""
 
@@ -111,9 +107,9 @@ def parsed(line: str, what: str) -> Json:
     return told
 
 
-def objects(words: list[str], path: Path, step: Callable[[Json], None], *more: str) -> Run:
-    """Hands each line of a run to `step`; `more` are words behind the image."""
-    run = Run(words, path, *more)
+def objects(words: list[str], path: Path, step: Callable[[Json], None]) -> Run:
+    """Hands each line of a run to `step`."""
+    run = Run(words, path)
     for line in run.lines():
         step(parsed(line, words[0]))
     return run
@@ -180,19 +176,6 @@ def tell_replay(journal: Journal, progress: Progress) -> None:
         raise Failed(f"{journal.path}: the replay was cut off", REFUSED)
 
 
-def last_commanded(records: list[Json]) -> list[int]:
-    """The last event of each run of records of the journal that command a brake."""
-    found: list[int] = []
-    for record in records:
-        if record["brake"] == "none" or record.get("source", "journal") != "journal":
-            continue
-        if record["kind"] != "powerup" and found and found[-1] + 1 == record["event"]:
-            found[-1] = record["event"]
-        else:
-            found.append(record["event"])
-    return found
-
-
 def tell_why(journal: Journal, progress: Progress) -> None:
     """Takes what `etcs_lab why` tells of changes. What it leaves out the replay tells too."""
     progress("causes", 0, 0)
@@ -208,23 +191,6 @@ def tell_why(journal: Journal, progress: Progress) -> None:
         raise run.failed(journal.path)
 
 
-def ask_why(journal: Journal, progress: Progress) -> None:
-    """Where `etcs_lab why` doesn't tell what decides the limit, it has no line where a cause alone changes, and is asked for
-    the last event of each run of commands, as long as that isn't too dear: each question runs the lives again."""
-    if not journal.why or any("limit_cause" in line for line in journal.why):
-        return
-    told = {line["event"] for line in journal.why}
-    agreed = [(line["first_event"], line["last_event"]) for line in journal.replay if line.get("replay") == "agrees"]
-    asked = [event for event in last_commanded(journal.records)
-             if event not in told and any(first <= event <= last for first, last in agreed)]
-    for number, event in enumerate(asked[:MOST_ASKED // max(len(journal.records), 1)]):
-        progress("causes", number, len(asked))
-        run = objects(["why", "--json"], journal.path, journal.why.append, str(event))
-        if run.status not in (WHOLE, NOT_WHOLE):
-            raise run.failed(journal.path)
-    journal.why.sort(key=lambda line: int(line["event"]))
-
-
 def read(path: str | Path, other_blocks: bool = False, replay: bool = False, why: bool = False,
          progress: Progress = silent, strays: bool = False) -> Journal:
     """The journal in a file. An image that isn't formatted is an error; of one that is damaged all is told that can be.
@@ -233,15 +199,13 @@ def read(path: str | Path, other_blocks: bool = False, replay: bool = False, why
     if not path.exists():
         raise Failed(f"{path}: there is no such file", DEVICE)
     progress("examination", 0, 0)
-    is_dear = prepare(path, [["examine", "--json"], listing(other_blocks, strays), *([["replay", "--json"]] if replay else []), *([["why", "--json"]] if why else [])])
+    prepare(path, [["examine", "--json"], listing(other_blocks, strays), *([["replay", "--json"]] if replay else []), *([["why", "--json"]] if why else [])])
     journal = Journal(path, examine(path))
     tell_events(journal, other_blocks, strays, progress)
     if replay and journal.refusal is None:
         tell_replay(journal, progress)
     if why and journal.refusal is None:
         tell_why(journal, progress)
-        if not is_dear:
-            ask_why(journal, progress)
     if digest(path) != journal.sha256:
         raise Failed(f"{path}: the file changed while it was read", DEVICE)
     return journal

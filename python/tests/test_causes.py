@@ -3,7 +3,7 @@ import unittest
 
 from gaknifur import causes, tables
 from gaknifur.causes import DIFFERS, OTHER_BLOCK, REASONS, Held
-from gaknifur.reading import Journal, last_commanded
+from gaknifur.reading import Journal
 
 from .samples import journal, line, reading, record
 
@@ -39,16 +39,11 @@ class Told(unittest.TestCase):
     """Of which records causes are known, and why not of the others."""
 
     def test_where_the_replay_agrees(self) -> None:
-        table = tables.frame(replayed({"replay": "agrees", "first_event": 0, "last_event": 4}))
-        self.assertEqual(list(table["causes"]), ["not_revalidated since 0", "", "far_too_fast since 2", None, ""])
-        self.assertEqual(list(table["causes_not_known"]), [None] * 5)
-        self.assertEqual(list(tables.interventions(table)["causes"])[1], [Held("far_too_fast", 2, 2)])
-
-    def test_between_lines_that_tell_each_change(self) -> None:
         told = replayed({"replay": "agrees", "first_event": 0, "last_event": 4})
         told.why = [one | {"limit_cause": "staff", "limit_cause_section": "4.4"} for one in TOLD]
         table = tables.frame(told)
         self.assertEqual(list(table["causes"]), ["not_revalidated since 0", "", *["far_too_fast since 2"] * 2, ""])
+        self.assertEqual(list(table["causes_not_known"]), [None] * 5)
         self.assertEqual(set(table["limit_cause"]), {"staff"})
         self.assertEqual(list(tables.interventions(table)["causes"])[1], [Held("far_too_fast", 2, 3)])
         self.assertEqual(causes.limit_text(told.why[0] | {"limit_cause_place_cm": 150, "limit_cause_number": 7,
@@ -75,10 +70,6 @@ class Told(unittest.TestCase):
         told = journal(*BRAKED)
         told.why_refusal = "no memory"
         self.assertEqual(set(tables.frame(told)["causes_not_known"]), {"no memory"})
-
-    def test_last_events_of_commands(self) -> None:
-        self.assertEqual(last_commanded(list(BRAKED)), [0, 3])
-        self.assertEqual(last_commanded([record(0, "powerup", brake="emergency"), record(1, "powerup", brake="emergency")]), [0, 1])
 
 
 if __name__ == "__main__":

@@ -73,8 +73,7 @@ class Reading(unittest.TestCase):
     def test_causes(self) -> None:
         self.says("events", [{"image": {}}, record(0, brake="service"), record(1, brake="service"), {"end": "done"}])
         self.says("replay", [{"life": 1, "first_event": 0, "last_event": 1, "replay": "agrees"}, {"end": "nothing_differs"}])
-        # the stand-in tells the same again where it is asked for the last event of the commands
-        self.assertEqual(self.read().why, [line(0, "none")] * 2)
+        self.assertEqual(self.read().why, [line(0, "none")])
 
     def test_causes_that_are_refused(self) -> None:
         self.says("why", [], 1, f"etcs_lab: {self.image}: there is no memory\n")
@@ -106,7 +105,7 @@ class Unproved(unittest.TestCase):
             image = top / "image"
             with patch.dict(os.environ, {"PATH": f"{top}:{os.environ['PATH']}"}), patch("gaknifur.program.find", lambda: str(top / "etcs_lab")), \
                     patch("gaknifur.program.is_built", lambda name: False), redirect_stderr(io.StringIO()):
-                self.assertTrue(prepare(image, [["examine", "--json"], ["events"], ["replay"]]))
+                prepare(image, [["examine", "--json"], ["events"], ["replay"]])
                 first, second = Run(["examine", "--json"], image), Run(["events"], image)
                 self.assertEqual((list(first.lines()), first.status), (["{1}"], 0))
                 self.assertEqual((list(second.lines()), second.status, second.last_said()), (["{2}", "{3}"], 4, "lost"))

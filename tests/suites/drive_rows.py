@@ -23,7 +23,7 @@ from gaknifur import cases, closed_loop, coverage, drive_words, drives, driving,
 from gaknifur.unit import Brake, FileMedium, Unit  # noqa: E402
 
 SWAPPED = {Brake.NONE: Brake.EMERGENCY, Brake.SERVICE: Brake.SERVICE, Brake.EMERGENCY: Brake.NONE}
-FLUSH, MOVE, READ, DUE, CYCLE = Unit.flush, driving.Motion.move, driving.Loop.read, driving.Motion.due, driving.Loop.cycle
+FLUSH, MOVE, READ, DUE = Unit.flush, driving.Motion.move, driving.Loop.read, driving.Motion.due
 
 
 def with_brakes(brakes):

@@ -1,6 +1,8 @@
 """Telegrams as `etcs decode` tells them: each field by its name, or the first fault in the order of the bits (SUBSET-026, chapters 7
 and 8; packet 3 in this project's order).
 """
+from collections import namedtuple
+
 from named import WIDTH
 
 FAULTS = {"Truncated": 1, "WrongLength": 2, "Spare": 3, "OutOfRange": 4, "WrongVersion": 5, "NotUplink": 6, "NotBalise": 7, "NoEnd": 8,
@@ -16,6 +18,11 @@ SPECIAL_SPEEDS = {"V_RELEASEDP": (126, 127), "V_RELEASEOL": (126, 127), "V_STATI
 REQUIRED = {"Q_UPDOWN": (1, "NotUplink"), "M_VERSION": (16, "WrongVersion"), "Q_MEDIA": (0, "NotBalise")}
 HEADER = "Q_UPDOWN M_VERSION Q_MEDIA N_PIG N_TOTAL M_DUP M_MCOUNT NID_C NID_BG Q_LINK"
 NATIONAL = ("V_NVSHUNT V_NVSTFF V_NVONSIGHT V_NVUNFIT V_NVREL D_NVROLL V_NVALLOWOVTRP V_NVSUPOVTRP D_NVOVTRP T_NVOVTRP D_NVSTFF")
+
+
+# Fields are pairs of a name and a number; those of a packet begin behind NID_PACKET, and of one that is skipped the body isn't read.
+Telegram = namedtuple("Telegram", "header packets bits")
+Packet = namedtuple("Packet", "number fields is_skipped")
 
 
 class Fault(Exception):
@@ -46,7 +53,7 @@ class Fields:
             raise Fault("Spare")
         if name.startswith("V_") and number > GREATEST_SPEED and number not in SPECIAL_SPEEDS.get(name, ()):
             raise Fault("OutOfRange")
-        self.told.append(f"{name}={number}")
+        self.told.append((name, number))
         return number
 
     def all(self, names):
@@ -129,32 +136,43 @@ def packet(fields, number):
             BODIES[number](fields)
         if fields.at - begun != length:
             raise Fault("WrongLength")
-        return f"packet {number} " + " ".join(fields.told)
+        return Packet(number, fields.told, False)
     direction, length = fields.number(2), fields.number(13)
     if length < 23:
         raise Fault("WrongLength")
     if length - 23 > fields.left():
         raise Fault("Truncated")
     fields.at += length - 23
-    return f"packet {number} Q_DIR={direction} L_PACKET={length} skipped"
+    return Packet(number, [("Q_DIR", direction), ("L_PACKET", length)], True)
 
 
 def header(fields):
     for name in HEADER.split():
         fields.take(name)
-        if name == "N_TOTAL" and int(fields.told[3].partition("=")[2]) > int(fields.told[4].partition("=")[2]):
+        if name == "N_TOTAL" and fields.told[3][1] > fields.told[4][1]:
             raise Fault("OutOfRange")
-    return "telegram " + " ".join(fields.told)
+    return fields.told
 
 
-def lines_of(data):
+def telegram_of(data):
+    """The telegram that some bytes carry, or a fault."""
     if len(data) > LONGEST:
         raise Fault("TooLong")
     fields = Fields(data)
-    lines = [header(fields)]
+    told, packets = header(fields), []
     while (number := fields.number(8, "NoEnd")) != 255:
-        lines.append(packet(fields, number))
-    return lines + [f"end {fields.at}"]
+        packets.append(packet(fields, number))
+    return Telegram(told, packets, fields.at)
+
+
+def line_of(first, fields):
+    return " ".join([first, *(f"{name}={number}" for name, number in fields)])
+
+
+def lines_of(data):
+    told = telegram_of(data)
+    packets = [line_of(f"packet {one.number}", one.fields) + " skipped" * one.is_skipped for one in told.packets]
+    return [line_of("telegram", told.header), *packets, f"end {told.bits}"]
 
 
 def answer(data):

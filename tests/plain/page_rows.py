@@ -1,5 +1,5 @@
 #!/usr/bin/env python3
-"""Whether docs/FORMAT.md tells enough: images are listed by the reader that was written from that page alone.
+"""Whether docs/FORMAT.md tells enough: images are listed by the reader that was written from that page (tests/lab/examined.py).
 
     tests/plain/page_rows.py     of each case of the program's rows and examples that the plain program works out, the plain unit makes
                                  the image, byte by byte; the lines are compared with those that the plain program prints. Then each
@@ -9,9 +9,11 @@
 import json
 import shlex
 import sys
+from pathlib import Path
 
+sys.path.append(str(Path(__file__).resolve().parents[1] / "lab"))
 from disk import SECTOR_BYTES, Disk
-from from_the_page import listing
+from examined import listing
 from journal import Journal, Refused, first_sector, read_block
 from onboard import MOST_PENDING, Unit
 from program import WORDS, Image, event_of, inputs_of

@@ -1,7 +1,7 @@
 #!/usr/bin/env python3
 """Images read from C (listing.c) beside `etcs journal`, line for line: those that are handed in, and those of all examples. And altered ones
-of all three formats, beside what plain readers of docs/FORMAT.md tell (tests/plain/from_the_page.py, tests/lab/examined.py): which records can
-be read, what each slot holds, and what each head keeps.
+of all three formats, beside what the plain reader of docs/FORMAT.md tells (tests/lab/examined.py): which records can be read, what each slot
+holds, and what each head keeps.
 
     tests/unit/images.py LISTING.. IMAGE..    LISTING are programs whose names begin with "listing"; $ETCS names the program
 """
@@ -17,7 +17,6 @@ sys.path[:0] = [str(TOP / "tests" / "plain"), str(TOP / "tests" / "lab")]
 
 import blocks  # noqa: E402
 import examined  # noqa: E402
-import from_the_page as page  # noqa: E402
 from journal import first_sector  # noqa: E402
 
 ETCS = os.environ.get("ETCS", str(TOP / "crates" / "etcs" / "out" / "etcs"))
@@ -58,11 +57,11 @@ def readable(data):
     block where it comes to it."""
     lines = []
     try:
-        for slot in page.retained(data):
-            lines += page.block_in(slot)
-    except page.NoSpelling:
+        for slot in examined.retained(data):
+            lines += examined.lines_in(slot)
+    except examined.Fault:
         return lines + ["refused IMAGE_DAMAGED"]
-    except page.Refused as refused:
+    except examined.Refused as refused:
         return [REFUSALS[f"refused {refused}"]]
     return lines
 
@@ -76,12 +75,11 @@ def slots_of(data):
     if slots is None:
         return ["refused IMAGE_NOT_FORMATTED"]
     whole = min(slots, (sectors - 1) // 6)
-    parts = [data[examined.SECTOR * (1 + 6 * s):examined.SECTOR * (7 + 6 * s)] for s in range(whole)]
-    gates = [(part[:examined.SECTOR], part[examined.SECTOR:]) for part in parts]
-    numbers = [examined.numbered(body) for _, body in gates]
-    newest = max((n for s, n in enumerate(numbers) if any(gates[s][0]) and n is not None and n % slots == s), default=0)
+    parts = examined.parts_of(data, whole)
+    newest = max(examined.valid_in(parts, slots), default=0)
     lines = [f"{sectors} {slots} {whole} {newest}"]
-    for slot, (gate, body) in enumerate(gates):
+    for slot, part in enumerate(parts):
+        gate, body = part[:examined.SECTOR], part[examined.SECTOR:]
         word, number, _, _ = examined.state_of(slots, slot, newest, gate, body)
         fault = examined.spelled(body)[1]
         sound = word == "empty" or word == "block" and gate == examined.gate_of(number)
@@ -95,8 +93,7 @@ def heads_of(data):
     if slots is None:
         return ["refused IMAGE_NOT_FORMATTED"]
     found = {}
-    for slot in range(min(slots, (len(data) // examined.SECTOR - 1) // 6)):
-        part = data[examined.SECTOR * (1 + 6 * slot):examined.SECTOR * (7 + 6 * slot)]
+    for slot, part in enumerate(examined.parts_of(data, min(slots, (len(data) // examined.SECTOR - 1) // 6))):
         block = examined.spelled(part[examined.SECTOR:])[0]
         if any(part[:examined.SECTOR]) and block and block["number"] % slots == slot:
             found[block["number"]] = block

@@ -7,7 +7,8 @@ import json
 import sys
 from pathlib import Path
 
-from built import SECTOR, SLOT, STAFF_RESPONSIBLE, Failures, formatted, ran, room
+from built import SECTOR, SLOT, STAFF_RESPONSIBLE, formatted, ran, room
+from compared import Compared
 from plain_images import bytes_of, disk_of, listed, lived
 
 SLOTS = 4
@@ -54,7 +55,7 @@ class Altered:
 
 
 def main():
-    failures = Failures()
+    failures = Compared()
     with room() as name:
         altered = Altered(Path(name), failures)
         whole = altered.whole
@@ -88,7 +89,7 @@ def main():
             opened = closed[:gate + at] + b"\x01" + closed[gate + at + 1:]
             kept = behind[:gate] + opened[gate:gate + SECTOR] + behind[gate + SECTOR:]
             altered.compare(opened, (listing, life, kept), f"a gate has 1 in byte {at} alone")
-    return failures.end(f"altered bytes: {failures.tried} comparisons")
+    return failures.end(f"altered bytes: {failures.count} comparisons")
 
 
 if __name__ == "__main__":

@@ -10,7 +10,7 @@ HERE = Path(__file__).resolve().parent
 TOP = HERE.parents[1]
 PROGRAM = os.environ.get("ETCS") or str(TOP / "crates/etcs/out/etcs")
 
-sys.path.insert(0, str(TOP / "tests/plain"))
+sys.path[:0] = [str(TOP / "tests/plain"), str(TOP / "tests")]
 
 SECTOR = 512
 SLOT = 6 * SECTOR
@@ -88,21 +88,3 @@ def formatted(path, slots):
     status, text = ran(["format", path, slots])
     if (status, text) != (0, f"formatted {slots} blocks {SECTOR + SLOT * slots} bytes\n"):
         raise SystemExit(f"format: {status} {text}")
-
-
-class Failures:
-    """What went wrong, and how much was tried."""
-
-    def __init__(self):
-        self.said, self.tried = [], 0
-
-    def unless(self, holds, text):
-        self.tried += 1
-        if not holds:
-            self.said.append(text)
-
-    def end(self, what):
-        for text in self.said[:20]:
-            print(text)
-        print(f"{what}, {len(self.said)} failures")
-        return 1 if self.said or not self.tried else 0

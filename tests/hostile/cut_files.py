@@ -11,7 +11,8 @@ import random
 import sys
 from pathlib import Path
 
-from built import ENTRIES, FULL_SUPERVISION, SECTOR, STAFF_RESPONSIBLE, Failures, built, formatted, ran, recorded_by, room, sectors_of
+from built import ENTRIES, FULL_SUPERVISION, SECTOR, STAFF_RESPONSIBLE, built, formatted, ran, recorded_by, room, sectors_of
+from compared import Compared
 from program import Image, listed
 
 NEXT = {"groups": [], "steps": [{"driver": [5, 1]}]}
@@ -129,7 +130,7 @@ def cut_run(name, scenario, slots, lives, folder, record, failures, numbers):
 
 
 def main():
-    failures, numbers = Failures(), random.Random(2026)
+    failures, numbers = Compared(), random.Random(2026)
     with room() as name:
         folder = Path(name)
         record = built("record")

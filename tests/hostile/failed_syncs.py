@@ -18,7 +18,8 @@ import sys
 from copy import deepcopy
 from pathlib import Path
 
-from built import ENTRIES, SECTOR, Failures, built, formatted, ran, recorded_by, room, sectors_of, settled
+from built import ENTRIES, SECTOR, built, formatted, ran, recorded_by, room, sectors_of, settled
+from compared import Compared
 from cut_files import images
 
 CUTS = 2  # so many images at a call, and behind the failed sync
@@ -176,7 +177,7 @@ def tried(way, slots, lives, folder, record, numbers):
 
 
 def main():
-    failures, numbers = Failures(), random.Random(2026)
+    failures, numbers = Compared(), random.Random(2026)
     with room() as name:
         folder = Path(name)
         record = built("record")

@@ -16,7 +16,8 @@ import tempfile
 from contextlib import contextmanager
 from pathlib import Path
 
-from built import TOP, Failures, built, formatted, ran, recorded_by
+from built import TOP, built, formatted, ran, recorded_by
+from compared import Compared
 from failed_syncs import BATCHES, is_kept, released_in
 
 SLOTS, LIVES = 8, 6  # so many lives first that each slot is used, and each block of the file has its place on the device
@@ -104,7 +105,7 @@ def fails_at(number, loop, folder, record, failures):
 
 
 def main():
-    failures, record, failed = Failures(), built("record"), 0
+    failures, record, failed = Compared(), built("record"), 0
     try:
         with file_system() as (loop, folder):
             image = folder / "image"

@@ -9,7 +9,8 @@ import re
 import sys
 from pathlib import Path
 
-from built import Failures, built, room
+from built import built, room
+from compared import Compared
 from lab_words import all_words, lab_ran, laid
 
 SAYS = re.compile(r"etcs_lab: [^\n]+: memory is refused\n")
@@ -46,7 +47,7 @@ def series(words, stdin, said, refuse, failures):
 
 
 def main():
-    failures, counts = Failures(), []
+    failures, counts = Compared(), []
     with room() as name:
         folder = Path(name)
         refuse, files = built("refuse"), laid(folder)

@@ -11,7 +11,8 @@ import subprocess
 import sys
 from pathlib import Path
 
-from built import Failures, room
+from built import room
+from compared import Compared
 from lab_words import LAB, all_words, lab_ran, laid
 
 SAYS = re.compile(r"etcs_lab: [^\n]+: can't be told: nothing can be written\n")
@@ -39,7 +40,7 @@ def to_nobody(words, stdin):
 
 
 def main():
-    failures, count = Failures(), 0
+    failures, count = Compared(), 0
     with room() as name:
         files = laid(Path(name))
         for words in all_words(files):

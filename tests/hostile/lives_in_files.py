@@ -13,7 +13,8 @@ import json
 import sys
 from pathlib import Path
 
-from built import SECTOR, Failures, built, recorded_by, room, sectors_of
+from built import SECTOR, built, recorded_by, room, sectors_of
+from compared import Compared
 from disk import SECTOR_BYTES, Disk
 from items import Kept
 from journal import first_sector
@@ -155,7 +156,7 @@ def life(name, scenario, disk, folder, record, failures):
 
 def main(words):
     count, seed = [int(word) for word in words] + [1_000, 2026][len(words):]
-    failures, numbers, calls = Failures(), Numbers(seed), 0
+    failures, numbers, calls = Compared(), Numbers(seed), 0
     with room() as name:
         folder = Path(name)
         record = built("record")

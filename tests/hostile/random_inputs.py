@@ -8,7 +8,8 @@ import random
 import sys
 from pathlib import Path
 
-from built import Failures, formatted, ran, room
+from built import formatted, ran, room
+from compared import Compared
 import decoded
 import pools
 import program
@@ -163,7 +164,7 @@ def judge(name, text, path, folder, failures):
 
 def main(words):
     given = [int(word) for word in words] + [10_000, 2_000, 2026][len(words):]
-    failures = Failures()
+    failures = Compared()
     with room() as name:
         read = telegrams(given[0], random.Random(given[2]), failures)
         scenarios(given[1], Numbers(given[2]), Path(name), failures)

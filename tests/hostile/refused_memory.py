@@ -11,7 +11,8 @@ import shutil
 import sys
 from pathlib import Path
 
-from built import AUTHORITY, FULL_SUPERVISION, RESTRICTION, STAFF_RESPONSIBLE, Failures, built, formatted, ran, room
+from built import AUTHORITY, FULL_SUPERVISION, RESTRICTION, STAFF_RESPONSIBLE, built, formatted, ran, room
+from compared import Compared
 
 # What a run without memory says: words, decoding, a scenario, an opening, a step, a listing.
 SAYS = ("refused memory", "refused 5 NoMemory", "stopped 4 NoMemory", "stopped 12 NoMemory", "refused 34 NoMemory")
@@ -66,7 +67,7 @@ def series(name, words, folder, refuse, failures, image=None):
 
 
 def main(paths):
-    failures, counts = Failures(), []
+    failures, counts = Compared(), []
     with room() as name:
         folder = Path(name)
         refuse = built("refuse")

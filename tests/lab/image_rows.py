@@ -19,33 +19,14 @@ import time
 from pathlib import Path
 
 HERE = Path(__file__).resolve().parent
-sys.path[:0] = [str(HERE), str(HERE.parent / "plain")]
+sys.path[:0] = [str(HERE), str(HERE.parent), str(HERE.parent / "plain")]
 from blocks import block, data_of, entry  # noqa: E402
+from compared import Compared, loaded, run, status_of_full  # noqa: E402
 from examined import examined, text_of  # noqa: E402
 from image_cases import GROUPS, SECTOR, SLOT, all_cases, blocks_of, first_sector, image_of, patched, ring  # noqa: E402
 
 LEAST = 10_300
 NOBODY = 65_534
-
-
-class Compared:
-    def __init__(self):
-        self.count, self.differ = 0, 0
-
-    def same(self, name, got, wanted):
-        self.count += 1
-        if got != wanted:
-            self.differ += 1
-            if self.differ <= 20:
-                print(f"{name}:\n  printed {str(got)[:1500]}\n  wanted  {str(wanted)[:1500]}")
-
-
-def run(program, words, **how):
-    try:
-        done = subprocess.run([program, *words], capture_output=True, stdin=subprocess.DEVNULL, timeout=20, **how)
-    except subprocess.TimeoutExpired:
-        return "", "", "no end"
-    return done.stdout.decode(), done.stderr.decode(), done.returncode
 
 
 def compare_images(program, room, compared):
@@ -68,14 +49,6 @@ def compare_image(program, path, name, image, slots, compared):
     compared.same(name + ", json", (loaded(printed), got, printed.count("\n")), (examined(image, slots)[0], status, 1))
     compared.same(name + ", untouched", path.read_bytes() == image, True)
     return status
-
-
-def loaded(text):
-    """The value of a text, or that it is none."""
-    try:
-        return json.loads(text)
-    except ValueError:
-        return "no JSON: " + text
 
 
 def compare_words(program, room, compared):
@@ -123,8 +96,7 @@ def compare_words(program, room, compared):
         wanted = ("", 1) if "1" in digits else (text, 0)
         compared.same(f"without the streams {digits}", (done.stdout.decode(), done.returncode), wanted)
     for word in ("examine", "check"):
-        done = subprocess.run(["sh", "-c", f'"$0" {word} "$1" >/dev/full', program, str(good)], capture_output=True)
-        compared.same(f"{word} on a full device", done.returncode, 1)
+        compared.same(f"{word} on a full device", status_of_full(program, [word, good]), 1)
     compared.same("the file after all", good.read_bytes() == image, True)
 
 

@@ -6,7 +6,6 @@ output.
     tests/lab/run_rows.py ETCS_LAB ETCS     runs both programs on each scenario, and compares
 """
 import json
-import subprocess
 import sys
 import tempfile
 from collections import Counter
@@ -14,8 +13,9 @@ from pathlib import Path
 
 HERE = Path(__file__).resolve().parent
 TOP = HERE.parents[1]
-sys.path[:0] = [str(HERE), str(TOP / "tests/plain"), str(TOP / "tests/hostile")]
+sys.path[:0] = [str(HERE), str(TOP / "tests"), str(TOP / "tests/plain"), str(TOP / "tests/hostile")]
 import program  # noqa: E402
+from compared import Compared, run, status_of_full  # noqa: E402
 from items import Kept  # noqa: E402
 from life import Life  # noqa: E402
 from random_inputs import Made  # noqa: E402
@@ -138,23 +138,18 @@ class Played(Made):
         return Told(Kept(), cold)
 
 
-class Tried:
+class Tried(Compared):
     def __init__(self, lab, etcs, folder):
+        super().__init__()
         self.lab, self.etcs, self.folder = lab, etcs, folder
         self.path, self.image = folder / "scenario.json", folder / "image"
-        self.tried = self.differ = self.outputs = 0
+        self.outputs = 0
         self.met = Counter()
 
-    def ran(self, *words):
-        done = subprocess.run(list(map(str, words)), stdin=subprocess.DEVNULL, capture_output=True, timeout=60)
-        return done.returncode, done.stdout.decode(), done.stderr.decode()
-
-    def unless(self, holds, text):
-        self.tried += 1
-        if not holds:
-            self.differ += 1
-            if self.differ <= 10:
-                print(text)
+    @staticmethod
+    def ran(program, *words):
+        printed, said, status = run(program, words)
+        return status, printed, said
 
     def play(self, text):
         self.path.write_text(text)
@@ -181,8 +176,7 @@ class Tried:
         status, out, said = self.ran(self.lab, "run", self.folder / "nothing")
         self.unless((status, out) == (3, "") and said, f"no file: status {status}, {out}{said}")
         self.path.write_text('{"groups":[],"steps":[{"clock":1}]}')
-        with open("/dev/full", "w", encoding="ascii") as full:
-            status = subprocess.run([self.lab, "run", self.path], stdout=full, stderr=subprocess.DEVNULL, timeout=60).returncode
+        status = status_of_full(self.lab, ["run", self.path])
         self.unless(status == 1, f"a full device: status {status}")
 
     def beside(self, name, scenario, lines):
@@ -228,7 +222,7 @@ class Tried:
         for number in range(SCENARIOS):
             made = Played(numbers)
             self.beside(f"scenario {number}", made.scenario(), made.life.lines)
-        print(f"run: {self.tried} comparisons, {self.outputs} outputs of {SCENARIOS} random scenarios and the examples, {self.differ} differ")
+        print(f"run: {self.count} comparisons, {self.outputs} outputs of {SCENARIOS} random scenarios and the examples, {self.differ} differ")
         for word in ["stopped", *(word for word, *_ in WORDS.values()), *(f"trip {why}" for why in TRIPS)]:
             if not self.met[word] and word != "in_system_failure":  # 2^40 cm would take more events than a scenario has
                 self.unless(False, f"no scenario has {word}")

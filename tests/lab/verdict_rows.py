@@ -5,7 +5,6 @@ those of the plain examiner (examined.py) and of the plain replay (tests/plain/r
     tests/lab/verdict_rows.py PROGRAM     runs the program on each image, as people and as programs read it, and compares
 """
 import json
-import subprocess
 import sys
 import tempfile
 from collections import Counter
@@ -13,7 +12,8 @@ from itertools import islice
 from pathlib import Path
 
 HERE = Path(__file__).resolve().parent
-sys.path[:0] = [str(HERE), str(HERE.parent / "plain")]
+sys.path[:0] = [str(HERE), str(HERE.parent), str(HERE.parent / "plain")]
+import compared  # noqa: E402
 from examined import examined, text_of  # noqa: E402
 from image_cases import sizes, states  # noqa: E402
 from replay import replayed  # noqa: E402
@@ -67,8 +67,8 @@ def main(words):
         path = Path(room) / "image"
 
         def run(*options):
-            done = subprocess.run([words[0], "check", *options, str(path)], capture_output=True, stdin=subprocess.DEVNULL, timeout=60)
-            return done.returncode, done.stdout.decode(), done.stderr.decode().count("\n")
+            text, said, status = compared.run(words[0], ["check", *options, path])
+            return status, text, said.count("\n")
 
         for name, image in images():
             path.write_bytes(image)

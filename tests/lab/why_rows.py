@@ -6,14 +6,14 @@ formats, and of damaged journals; and tracks from which what decides the limit i
     tests/lab/why_rows.py PROGRAM..     runs the program on each image, and compares
 """
 import json
-import subprocess
 import sys
 import tempfile
 from collections import Counter
 from pathlib import Path
 
 HERE = Path(__file__).resolve().parent
-sys.path[:0] = [str(HERE), str(HERE.parents[1] / "tests/plain"), str(HERE.parents[1] / "tests/hostile")]
+sys.path[:0] = [str(HERE), *(str(HERE.parents[1] / part) for part in ("tests", "tests/plain", "tests/hostile"))]
+from compared import Compared, run  # noqa: E402
 from journal import COLD  # noqa: E402
 from limit_reasons import KINDS  # noqa: E402
 from limit_tracks import BY_HAND as LIMITS_BY_HAND, FAST, LEVEL, TRAIN, authority, forces, heard, inputs_of, tracks, unanswered, without  # noqa: E402
@@ -125,25 +125,19 @@ def images():
         yield from made()
 
 
-class Tried:
+class Tried(Compared):
     """The program, an image for it, and what came of its runs."""
 
     def __init__(self, program, image):
+        super().__init__()
         self.program, self.image = program, image
-        self.tried = self.differ = self.lines = 0
+        self.lines = 0
         self.met = Counter()
 
     def run(self, data, *words):
         """Status and text; `@` stands for the image."""
         self.image.write_bytes(data)
-        words = [str(self.image) if word == "@" else word for word in words]
-        done = subprocess.run([*self.program, *words], stdin=subprocess.DEVNULL, capture_output=True, timeout=60)
-        return done.returncode, done.stdout.decode()
-
-    def tell(self, text):
-        self.differ += 1
-        if self.differ <= 10:
-            print(text)
+        return run(self.program, [self.image if word == "@" else word for word in words])[::-2]
 
     def by_hand(self):
         for name, data, asked, says in by_hand():
@@ -151,9 +145,7 @@ class Tried:
             self.met.update(kind for kind, (sentence, _) in KINDS.items() if f"; {sentence}: " in says)
             self.met.update(f"trip {why}" for why, (sentence, _) in TRIPS.items() if f"tripped: {sentence} (" in says)
             status, text = self.run(data, "@", str(asked))
-            self.tried += 1
-            if status or says not in text:
-                self.tell(f"by hand: {name}: status {status}, {text}--- wanted in it\n{says}")
+            self.unless(status == 0 and says in text, f"by hand: {name}: status {status}, {text}--- wanted in it\n{says}")
 
     def beside_the_plain(self):
         for number, (name, data) in enumerate(images()):
@@ -161,13 +153,11 @@ class Tried:
             for is_json, only in ((False, None), (True, None), (True, number % 40)):
                 wanted = told_of(walk, is_json, only)
                 found = self.run(data, *(["--json"] if is_json else []), "@", *([] if only is None else [str(only)]))
-                self.tried += 1
-                if found != wanted:
-                    self.tell(f"{name}: status {found[0]}, wanted {wanted[0]}\n{found[1]}--- wanted\n{wanted[1]}")
+                self.unless(found == wanted, f"{name}: status {found[0]}, wanted {wanted[0]}\n{found[1]}--- wanted\n{wanted[1]}")
                 if is_json and only is None:
-                    self.count(wanted[1])
+                    self.take(wanted[1])
 
-    def count(self, text):
+    def take(self, text):
         for line in text.splitlines():
             told = json.loads(line)
             if "event" not in told:
@@ -208,13 +198,13 @@ class Tried:
         self.by_hand()
         self.beside_the_plain()
         counted = self.taken_away()
-        print(f"why: {self.tried} comparisons, {self.lines} lines with what decides a limit, {self.differ} differ")
+        print(f"why: {self.count} comparisons, {self.lines} lines with what decides a limit, {self.differ} differ")
         print(f"tracks without what decides: limit greater {counted['greater']}, another of equal force {counted['of equal force']}, left out "
               f"{counted['of more than one thing']}")
         for word in [*(word for word, *_ in WORDS.values()), *KINDS, *(f"trip {why}" for why in TRIPS), *LEFT_OUT]:
             if not self.met[word] and word not in UNMET:
                 self.tell(f"no image has {word}")
-        if self.tried < LEAST or self.lines < LEAST_LINES or counted["greater"] < LEAST_RAISED:
+        if self.count < LEAST or self.lines < LEAST_LINES or counted["greater"] < LEAST_RAISED:
             self.tell(f"too few: {LEAST} comparisons, {LEAST_LINES} lines and {LEAST_RAISED} greater limits are wanted")
         return 1 if self.differ else 0
 

@@ -18,9 +18,10 @@ from pathlib import Path
 
 HERE = Path(__file__).resolve().parent
 TOP = HERE.parents[1]
-sys.path[:0] = [str(HERE), str(TOP / "python"), str(TOP / "tests/events"), str(TOP / "tests/plain")]
+sys.path[:0] = [str(HERE), *(str(TOP / part) for part in ("python", "tests", "tests/events", "tests/plain"))]
 
 import gaknifur.__main__  # noqa: E402
+from compared import Compared  # noqa: E402
 from images import blocks, slots_of  # noqa: E402
 from told_rows import page_faults, page_of  # noqa: E402
 
@@ -30,9 +31,10 @@ EXAMPLES = {"full_supervision": 2, "linking_fault": 2, "on_sight": 2, "power_cut
 """Examples, and charts on their pages at the least."""
 
 
-class Rows:
+class Rows(Compared):
     def __init__(self, etcs, room):
-        self.etcs, self.room, self.compared, self.differ = etcs, Path(room), 0, 0
+        super().__init__()
+        self.etcs, self.room = etcs, Path(room)
 
     def lab(self, *words, status=0, said=""):
         """Does what ./lab does, in this process; its status and its last line on standard error are compared."""
@@ -44,20 +46,14 @@ class Rows:
                 got = end.code
         self.said = errors.getvalue().splitlines()[-1] if errors.getvalue() else ""
         if said is not None:
-            self.wants(f"lab {' '.join(map(str, words))}", (got, self.said), (status, said))
+            self.same(f"lab {' '.join(map(str, words))}", (got, self.said), (status, said))
         return out.getvalue()
 
     def script(self, *words, status=0):
         """The same by the script; answers what it prints."""
         done = subprocess.run([TOP / "lab", *map(str, words)], capture_output=True, text=True, stdin=subprocess.DEVNULL)
-        self.wants(f"./lab {' '.join(map(str, words))}", (done.returncode, done.stderr), (status, ""))
+        self.same(f"./lab {' '.join(map(str, words))}", (done.returncode, done.stderr), (status, ""))
         return done.stdout
-
-    def wants(self, name, got, want):
-        self.compared += 1
-        if got != want:
-            self.differ += 1
-            print(f"{name}:\n  told   {got}\n  wanted {want}")
 
     def page(self, name, *words, charts, text=(), said=""):
         """A report whose page has so many charts at the least, and these texts; its status is 4 where something is said."""
@@ -66,11 +62,11 @@ class Rows:
         self.lab("report", name, out.name, *words, said=said, status=4 if said else 0)
         told = out.read_text() if out.exists() else ""
         page = page_of(told)
-        self.wants(f"{name} {words}, faults of the page", page_faults(told), [])
-        self.wants(f"{name} {words}, at least {charts} charts", page.elements.get("svg", 0) >= charts, True)
+        self.same(f"{name} {words}, faults of the page", page_faults(told), [])
+        self.same(f"{name} {words}, at least {charts} charts", page.elements.get("svg", 0) >= charts, True)
         plain = "".join(page.text)
         for one in text:
-            self.wants(f"{name} {words} tells \"{one}\"", one in plain, True)
+            self.same(f"{name} {words} tells \"{one}\"", one in plain, True)
         return told
 
     def run(self, *words):
@@ -84,12 +80,12 @@ def examples(rows):
             if (TOP / "examples" / name / scenario).exists():
                 rows.run("run", TOP / "examples" / name / scenario, name)
         first = rows.page(name, charts=charts, text=["each event agrees with the kernel", "IC 704"])
-        rows.wants(f"{name}, the same page twice", rows.page(name, charts=charts), first)
+        rows.same(f"{name}, the same page twice", rows.page(name, charts=charts), first)
     rows.page("trip", charts=2, text=["the mode is Trip: since event 10", "not stood since: since event 8, no longer behind event", "15.0 km/h", "event 8", "the driver starts (not accepted)", "300.00 – 327.00", "end announced by event 1",
               "the train was tripped: the minimum safe front was past the end of authority (event 10, 4.6.3)",
               "life 1, event 10, at 325.00 m", "perhaps not: the outputs of block", "1 power-up, each with the emergency brake"])
     row = next(row for row in csv.DictReader(io.StringIO(rows.lab("table", "trip"))) if row["event"] == "11")
-    rows.wants("the cause of a trip in the table", (row["mode"], row["trip_cause"], row["trip_cause_event"]), ("TR", "end_passed", "10"))
+    rows.same("the cause of a trip in the table", (row["mode"], row["trip_cause"], row["trip_cause_event"]), ("TR", "end_passed", "10"))
     rows.page("trip", "--from", "8", "--to", "11", charts=1, text=["from 8 to 11"])
     rows.page("trip", "--from", "200m", "--to", "315m", charts=1, text=["from 200m to 315m"])
     rows.page("on_sight", "--from", "20s", "--to", "40s", "--life", "1", charts=1, text=["of life 1"])
@@ -115,7 +111,7 @@ def damaged(rows):
     differs(rows)
     (rows.room / "none").write_bytes(b"x" * 5000)
     rows.lab("report", "none", "none.html", status=1, said="lab: none: is not a formatted image")
-    rows.wants("no page of what is no image", (rows.room / "none.html").exists(), False)
+    rows.same("no page of what is no image", (rows.room / "none.html").exists(), False)
     rows.lab("report", "missing", "none.html", status=3, said="lab: missing: there is no such file")
     rows.lab("report", "trip", "no/folder.html", status=3, said="lab: no/folder.html: No such file or directory")
     rows.lab("report", "trip", "none.html", "--from", "3.5", status=2,
@@ -125,8 +121,8 @@ def damaged(rows):
     rows.lab("database", "trip", "trip", status=1, said="lab: trip: is trip itself, which is read here")
     rows.lab("report", "trip", "byte", "--force", status=1, said="lab: byte: holds a journal, and nothing writes over that")
     for word in ("table", "database", "report"):
-        rows.wants(f"lab {word} --help", f"usage: lab {word}" in rows.lab(word, "--help"), True)
-    rows.wants("./lab table", rows.script("table", rows.room / "trip"), rows.lab("table", "trip"))
+        rows.same(f"lab {word} --help", f"usage: lab {word}" in rows.lab(word, "--help"), True)
+    rows.same("./lab table", rows.script("table", rows.room / "trip"), rows.lab("table", "trip"))
 
 
 def differs(rows):
@@ -139,7 +135,7 @@ def differs(rows):
     event = next(row["event"] for row in csv.DictReader(io.StringIO(wide)) if row["block"] == "2")
     said = f"lab: raised: the replay differs: life 1, event {event}, in limit_m_per_h"
     rows.page("raised", charts=EXAMPLES["trip"], said=said, text=["In brief", f"event {event}, in limit_m_per_h", "Cause not known"])
-    rows.wants("a table of what differs", len(rows.lab("table", "raised", status=4, said=said).splitlines()), len(wide.splitlines()))
+    rows.same("a table of what differs", len(rows.lab("table", "raised", status=4, said=said).splitlines()), len(wide.splitlines()))
     rows.lab("database", "raised", "trip", "raised.db", status=4, said=said)
 
 
@@ -182,9 +178,9 @@ def braked(rows):
     told = rows.page("braked", charts=12, text=[f"events 0 to {4 + 100 * 30:,}", "each event agrees with the kernel"])
     took = processor_seconds() - begun
     # 101 interventions, of which the power-up's has one cause and each other one both speeds
-    rows.wants("a page of 3,000 events has each cause", (told.count("the train has not stood since: since"), told.count("not within it since: since"),
+    rows.same("a page of 3,000 events has each cause", (told.count("the train has not stood since: since"), told.count("not within it since: since"),
                                                        "not known" in told), (100, 100, False))
-    rows.wants(f"a report of 3,000 events takes less than {MOST_SECONDS} s of processor time", took < MOST_SECONDS, True)
+    rows.same(f"a report of 3,000 events takes less than {MOST_SECONDS} s of processor time", took < MOST_SECONDS, True)
 
 
 def long(rows):
@@ -193,7 +189,7 @@ def long(rows):
     said = "lab: long: the replay differs: life 1, event 0, in mode"
     told = rows.page("long", charts=14, said=said, text=[f"{LONG:,} events", "The 12 interventions farthest above the limit"])
     took = processor_seconds() - begun
-    rows.wants(f"a report of {LONG} events takes less than {MOST_SECONDS} s of processor time and {MOST_BYTES} bytes",
+    rows.same(f"a report of {LONG} events takes less than {MOST_SECONDS} s of processor time and {MOST_BYTES} bytes",
                (took < MOST_SECONDS, len(told.encode()) < MOST_BYTES), (True, True))
     print(f"lab: a report of {LONG} events took {took:.1f} s of processor time, and has {len(told.encode()):,} bytes")
     rows.page("long", "--from", "6950", "--to", "7050", charts=2, said=said, text=["101"])
@@ -203,8 +199,8 @@ def long(rows):
             begun = time.process_time()
             found = len(connection.execute(f"SELECT * FROM {view}").fetchall())
             took = time.process_time() - begun
-            rows.wants(f"{view} of {LONG} events takes less than {MOST_VIEW_SECONDS} s of processor time", took < MOST_VIEW_SECONDS, True)
-            rows.wants(f"{view} has rows", found > 0, view in ("brake_intervention", "above_limit"))
+            rows.same(f"{view} of {LONG} events takes less than {MOST_VIEW_SECONDS} s of processor time", took < MOST_VIEW_SECONDS, True)
+            rows.same(f"{view} has rows", found > 0, view in ("brake_intervention", "above_limit"))
 
 
 def main(words):
@@ -215,7 +211,7 @@ def main(words):
         damaged(rows)
         braked(rows)
         long(rows)
-    print(f"lab: {rows.compared} comparisons of ./lab, {rows.differ} differ")
+    print(f"lab: {rows.count} comparisons of ./lab, {rows.differ} differ")
     return 1 if rows.differ else 0
 
 

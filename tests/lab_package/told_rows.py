@@ -25,9 +25,10 @@ from collections import Counter
 from pathlib import Path
 
 TOP = Path(__file__).resolve().parents[2]
-sys.path[:0] = [str(TOP / "python"), str(TOP / "tests/events"), str(TOP / "tests/plain"), str(TOP / "tests/lab")]
+sys.path[:0] = [str(TOP / part) for part in ("python", "tests", "tests/events", "tests/plain", "tests/lab")]
 
 import pandas as pd  # noqa: E402
+from compared import Compared  # noqa: E402
 from gaknifur import causes, database, program, reading, report, tables  # noqa: E402
 from gaknifur.program import Run  # noqa: E402
 from replay import replayed  # noqa: E402
@@ -118,22 +119,16 @@ def is_above(record, speed):
     return speed is not None and record["limit_m_per_h"] is not None and speed > record["limit_m_per_h"]
 
 
-class Count:
+class Count(Compared):
     def __init__(self):
-        self.images = self.records = self.interventions = self.telegrams = self.compared = self.differ = self.pages = self.strayed = 0
+        super().__init__()
+        self.images = self.records = self.interventions = self.telegrams = self.pages = self.strayed = 0
         self.strays = Counter()
-
-    def compare(self, name, got, want):
-        self.compared += 1
-        if got != want:
-            self.differ += 1
-            if self.differ <= 5:
-                print(f"{name}:\n  told   {got}\n  wanted {want}")
 
     def end(self):
         print(f"lab: {self.records} records of {self.images} images, {self.interventions} interventions, {self.telegrams} telegrams, "
               f"{self.strays['damaged']} records of damaged blocks and {self.strays['misplaced']} of misplaced ones, also on {self.pages} "
-              f"pages: {self.compared} comparisons, {self.differ} differ")
+              f"pages: {self.count} comparisons, {self.differ} differ")
         few = self.records < LEAST_RECORDS or self.interventions < LEAST_INTERVENTIONS or self.telegrams < LEAST_TELEGRAMS
         few = few or self.pages < LEAST_PAGES or any(self.strays[source] < least for source, least in LEAST_STRAYS.items())
         if few:
@@ -147,14 +142,14 @@ def compare_table(count, name, journal, records):
     rows = list(csv.DictReader(io.StringIO(tables.csv_text(table))))
     wanted = [wanted_row(record, {"speed_m_per_h": speed}) for record, speed, _ in with_speeds(records)]
     got = [{key: row.get(key, "") for key in (wanted[0] if wanted else ())} for row in rows]
-    count.compare(f"{name}, rows", len(got), len(wanted))
+    count.same(f"{name}, rows", len(got), len(wanted))
     for one, other in zip(got, wanted):
         if one != other:
-            count.compare(name, {k: v for k, v in one.items() if v != other[k]}, {k: v for k, v in other.items() if v != one[k]})
-        count.compared += 1
+            count.same(name, {k: v for k, v in one.items() if v != other[k]}, {k: v for k, v in other.items() if v != one[k]})
+        count.count += 1
     runs = wanted_runs(records, lambda record, _: record["brake"] != "none")
     found = tables.interventions(table)
-    count.compare(f"{name}, interventions", [list(pair) for pair in zip(found["first_event"], found["last_event"])], runs)
+    count.same(f"{name}, interventions", [list(pair) for pair in zip(found["first_event"], found["last_event"])], runs)
     count.records += len(records)
     count.interventions += len(runs)
     return table
@@ -165,7 +160,7 @@ def compare_strays(count, name, journal, image):
     strays = plain_strays(image)
     wanted = [wanted_row(one, {"byte": str(one["byte"]), "slot": str((one["byte"] - 512) // 3072)}) for one in strays]
     rows = list(csv.DictReader(io.StringIO(tables.csv_text(tables.strays(journal)))))
-    count.compare(f"{name}, records of damaged blocks", rows, wanted)
+    count.same(f"{name}, records of damaged blocks", rows, wanted)
     count.strays.update(one["source"] for one in strays)
     if not strays:
         return
@@ -173,7 +168,7 @@ def compare_strays(count, name, journal, image):
     if count.strayed % EACH_PAGE == 1:
         count.pages += 1
         told = [[row[at] for at in (0, 1, 2, 3, 4, 5, 9)] for row in page_of(report.page(journal)).strays]
-        count.compare(f"{name}, damaged blocks on the page", told, [
+        count.same(f"{name}, damaged blocks on the page", told, [
             [row[key] or "?" for key in ("source", "slot", "byte", "block", "life", "event", "mode")] for row in wanted[:MOST_SHOWN]])
 
 
@@ -196,10 +191,10 @@ def compare_database(count, name, connection, journal, table, records):
             digits[key] = record["telegram"]
             for place, packet in enumerate(dict(record["decoded"]).get("packets", ())):
                 fields += [(*key, place, at, *pair) for at, pair in enumerate(dict(packet)["fields"])]
-    count.compare(f"{name}, database", rows, wanted)
-    count.compare(f"{name}, telegrams", {row[:2]: row[2] for row in connection.execute(
+    count.same(f"{name}, database", rows, wanted)
+    count.same(f"{name}, telegrams", {row[:2]: row[2] for row in connection.execute(
         "SELECT block, event, digits FROM telegram WHERE image = ?", [image])}, digits)
-    count.compare(f"{name}, fields", sorted(connection.execute(
+    count.same(f"{name}, fields", sorted(connection.execute(
         "SELECT block, event, packet, field, name, value FROM field WHERE image = ?", [image])), sorted(fields))
     count.telegrams += len(digits)
     return image
@@ -210,7 +205,7 @@ def compare_views(count, name, connection, image, records):
     for view, holds in (("brake_intervention", lambda record, _: record["brake"] != "none"), ("above_limit", is_above)):
         got = [list(row) for row in connection.execute(
             f"SELECT first_event, last_event FROM {view} WHERE image = ? ORDER BY first_event, last_event", [image])]
-        count.compare(f"{name}, {view}", got, sorted(wanted_runs(records, holds)))
+        count.same(f"{name}, {view}", got, sorted(wanted_runs(records, holds)))
 
 
 def is_no_image(path):
@@ -231,21 +226,21 @@ def images_agree(room, images, seed):
             try:
                 records, unreadable = plain_records(image, all_blocks)
             except Refused:
-                count.compare(name, is_no_image(path), True)
+                count.same(name, is_no_image(path), True)
                 continue
             name += ", all" if all_blocks else ""
             journal = reading.read(path, other_blocks=all_blocks, replay=True, strays=True)
             count.images += 1
             compare_strays(count, name, journal, image)
-            count.compare(f"{name}, unreadable", journal.unreadable, unreadable)
+            count.same(f"{name}, unreadable", journal.unreadable, unreadable)
             table = compare_table(count, name, journal, records)
             added = compare_database(count, name, connection, journal, table, records)
             if not all_blocks:
                 compare_views(count, name, connection, added, records)
-        count.compare("what stands beside a record", connection.execute(BESIDE).fetchall(), [])
+        count.same("what stands beside a record", connection.execute(BESIDE).fetchall(), [])
         faults = connection.execute("PRAGMA foreign_key_check").fetchall() + [
             row for row in connection.execute("PRAGMA integrity_check") if row != ("ok",)]
-        count.compare("the database", faults, [])
+        count.same("the database", faults, [])
         connection.close()
     return count.end()
 
@@ -302,19 +297,19 @@ def causes_agree(room):
         walk = walk_of(image)
         reasons, lines = plain_reasons(image), plain_lines(walk)
         table = tables.frame(journal)
-        count.compare(f"{name}, reasons", dict(table.loc[table["causes_not_known"].notna(), ["event", "causes_not_known"]].values), reasons)
+        count.same(f"{name}, reasons", dict(table.loc[table["causes_not_known"].notna(), ["event", "causes_not_known"]].values), reasons)
         got = {event: held for event, held in zip(table["event"], table["held"]) if held is not None}
         # each change is told, and the last event of each command; those and some others are asked of the plain program
         ends = {last for _, last in wanted_runs(records, lambda record, _: record["brake"] != "none")} - set(reasons)
         found = plain_causes(lines)
-        count.compare(f"{name}, events that are told", (found.keys() - set(reasons)) | ends <= set(got), True)
+        count.same(f"{name}, events that are told", (found.keys() - set(reasons)) | ends <= set(got), True)
         for event in ends | {event for event in got if event % EACH == 0}:
             found |= plain_causes(plain_lines(walk, event))
-        count.compare(f"{name}, causes", {event: got.get(event) for event in found if event not in reasons},
+        count.same(f"{name}, causes", {event: got.get(event) for event in found if event not in reasons},
                       {event: held for event, held in found.items() if event not in reasons})
         runs = tables.interventions(table)
         wanted = wanted_causes(records, reasons, got)
-        count.compare(f"{name}, causes of interventions", [
+        count.same(f"{name}, causes of interventions", [
             (first, sorted((one.cause, one.since) for one in held), reason)
             for first, held, reason in zip(runs["first_event"], runs["causes"], runs["causes_not_known"])], wanted)
         if database.add(connection, journal, table):
@@ -325,7 +320,7 @@ def causes_agree(room):
         unknown += sum(reason is not None for _, _, reason in wanted)
         met |= {cause for _, held, _ in wanted for cause, _ in held}
     connection.close()
-    print(f"lab: causes of {known} interventions, and {unknown} of which they aren't known: {count.compared} comparisons, {count.differ} differ")
+    print(f"lab: causes of {known} interventions, and {unknown} of which they aren't known: {count.count} comparisons, {count.differ} differ")
     few = known < LEAST_KNOWN or unknown < LEAST_UNKNOWN or len(met) < len(causes.CAUSES) - 1  # no image leads to System Failure
     few = few or len(tripped) < LEAST_TRIPS
     if few:
@@ -338,7 +333,7 @@ def trips_agree(count, name, lines, table, reasons):
     told = {event: (cause, None if at is pd.NA else int(at))
             for event, cause, at in zip(table["event"], table["trip_cause"], table["trip_cause_event"])}
     wanted = {line["event"]: (line["trip_cause"], line["trip_cause_event"]) for line in lines if line["event"] not in reasons}
-    count.compare(f"{name}, trips", {event: told.get(event) for event in wanted}, wanted)
+    count.same(f"{name}, trips", {event: told.get(event) for event in wanted}, wanted)
 
 
 def in_database(count, name, connection, journal, got, wanted):
@@ -348,10 +343,10 @@ def in_database(count, name, connection, journal, got, wanted):
     for event, cause, since in connection.execute(
             "SELECT event, cause, since_event FROM cause WHERE image = ?", [image]):
         rows.setdefault(event, {})[cause] = since
-    count.compare(f"{name}, causes in the database", rows, {event: held for event, held in got.items() if held})
+    count.same(f"{name}, causes in the database", rows, {event: held for event, held in got.items() if held})
     text = [(first, reason and f"not known: {reason}" or ", ".join(f"{cause} since {since}" for cause, since in sorted(
         held, key=lambda pair: (pair[1], pair[0])))) for first, held, reason in wanted]
-    count.compare(f"{name}, the view of interventions", connection.execute(
+    count.same(f"{name}, the view of interventions", connection.execute(
         "SELECT first_event, causes FROM brake_intervention WHERE image = ? ORDER BY first_event", [image]).fetchall(), text)
 
 
@@ -361,9 +356,9 @@ def words_agree(count, name, path):
     trip = re.compile(r"; the train was tripped: ([^()]*) \(event \d+, ([^()]*)\)")
     told = list(Run(["why"], path).lines())
     said = {pair for text in told for pair in line.findall(text)}
-    count.compare(f"{name}, words", said <= set(causes.CAUSES.values()), True)
+    count.same(f"{name}, words", said <= set(causes.CAUSES.values()), True)
     trips = {pair for text in told for pair in trip.findall(text)}
-    count.compare(f"{name}, words of trips", trips <= set(causes.TRIP_CAUSES.values()), True)
+    count.same(f"{name}, words of trips", trips <= set(causes.TRIP_CAUSES.values()), True)
     return trips
 
 

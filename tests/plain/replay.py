@@ -80,17 +80,18 @@ def text(value):
     return json.dumps(value, separators=(",", ":"))
 
 
-class Replay:
-    def __init__(self, is_json):
-        self.is_json, self.lines, self.is_whole = is_json, [], True
+class Walk:
+    """A walk over the blocks of an image. Each life is run again by the plain kernel from its power-up on, behind what the head before it tells.
+    Of each event `event` is called, with what it is left open for the next line, or `say` for a line of its own."""
+
+    def __init__(self):
+        self.lines, self.is_whole = [], True
         self.life, self.reason = None, "before_oldest_block"  # the plain life, or why there is none
         self.open = []  # life and number of each event that no line tells yet
         self.kept = None  # what the head of the block before tells
 
-    # ---- lines
-
-    def say(self, plain, **members):
-        self.lines.append(text(members) if self.is_json else plain)
+    def leave(self, life, number):
+        self.open.append((max(0, life), number))
 
     def tell(self):
         if self.open:
@@ -101,14 +102,6 @@ class Replay:
             else:
                 self.say(f"{where} can't be replayed: {REASONS[self.reason]}", **members, replay="not_replayed", reason=self.reason)
         self.open = []
-
-    def differ(self, where, members, kind, field, told, wanted):
-        self.tell()
-        self.is_whole = False
-        plain = f"{where} differs in {field}\n  journal: {text(told)}\n  kernel:  {text(wanted)}"
-        self.say(plain, **members, replay=kind, field=field, journal=told, kernel=wanted)
-
-    # ---- blocks
 
     def gap(self):
         self.tell()
@@ -127,12 +120,56 @@ class Replay:
         self.life = Life(kept, COLD[record["event"][1]]) if kept else None
 
     def record(self, block, at):
-        record, form = block["records"][at], block["format"]
-        life = block["lives"] - sum(later["event"][0] == "powerup" for later in block["records"][at + 1:])
+        record = block["records"][at]
         if record["event"][0] == "powerup":
             self.begin(block, at)
         elif self.life:
             self.life.take(*input_of(record["event"]))
+        self.event(block, record, block["lives"] - sum(later["event"][0] == "powerup" for later in block["records"][at + 1:]))
+
+    def head(self, block):
+        self.kept = kept_in(block)
+
+    def block(self, number, data):
+        block = read_block(data)
+        if block is None or block["number"] != number:
+            self.gap()
+            self.say(f"block {number} can't be read", block=number, replay="unreadable")
+            return
+        if self.kept and self.kept.events != block["records"][0]["number"]:
+            self.gap()
+        for at in range(len(block["records"])):
+            self.record(block, at)
+        self.head(block)
+
+    def over(self, data):
+        """Walks over an image; whether it isn't refused."""
+        slots = slots_in(data[:SECTOR_BYTES]) if len(data) >= SECTOR_BYTES else None
+        if slots is None or len(data) // SECTOR_BYTES != 1 + SLOT_SECTORS * slots:
+            return False
+        for number in run_of(data, slots):
+            at = SECTOR_BYTES * (1 + SLOT_SECTORS * (number % slots))
+            self.block(number, data[at:at + SECTOR_BYTES * SLOT_SECTORS])
+        self.tell()
+        return True
+
+
+class Replay(Walk):
+    def __init__(self, is_json):
+        super().__init__()
+        self.is_json = is_json
+
+    def say(self, plain, **members):
+        self.lines.append(text(members) if self.is_json else plain)
+
+    def differ(self, where, members, kind, field, told, wanted):
+        self.tell()
+        self.is_whole = False
+        plain = f"{where} differs in {field}\n  journal: {text(told)}\n  kernel:  {text(wanted)}"
+        self.say(plain, **members, replay=kind, field=field, journal=told, kernel=wanted)
+
+    def event(self, block, record, life):
+        form = block["format"]
         if self.life:
             wanted = record_of(self.life.kept().events - 1, record["event"], self.life.moment(), self.life.now.output, self.life.place())
             fields = RECORD_FIELDS if form > 1 else RECORD_FIELDS[:6]
@@ -143,7 +180,7 @@ class Replay:
                 self.differ(where, members, "record_differs", field, answer_object(record, form), answer_object(wanted, form))
                 self.life, self.reason = None, "behind_difference"
                 return
-        self.open.append((max(0, life), record["number"]))
+        self.leave(life, record["number"])
 
     def head(self, block):
         if self.life:
@@ -152,21 +189,9 @@ class Replay:
             if field:
                 where, members = f"life {block['lives']} head of block {block['number']}", dict(life=block["lives"], block=block["number"])
                 self.differ(where, members, "head_differs", field, kept_object(block), kept_object(wanted))
-        self.kept = kept_in(block)
-
-    def block(self, number, data):
-        block = read_block(data)
-        if block is None or block["number"] != number:
-            self.gap()
-            return self.say(f"block {number} can't be read", block=number, replay="unreadable")
-        if self.kept and self.kept.events != block["records"][0]["number"]:
-            self.gap()
-        for at in range(len(block["records"])):
-            self.record(block, at)
-        return self.head(block)
+        super().head(block)
 
     def end(self):
-        self.tell()
         if self.is_json:
             self.lines.append(text({"end": "nothing_differs" if self.is_whole else "differs_or_lost"}))
         else:
@@ -188,14 +213,8 @@ def run_of(data, slots):
 
 def replayed(data, is_json=False):
     """Status and text."""
-    slots = slots_in(data[:SECTOR_BYTES]) if len(data) >= SECTOR_BYTES else None
-    if slots is None or len(data) // SECTOR_BYTES != 1 + SLOT_SECTORS * slots:
-        return REFUSED, ""
     replay = Replay(is_json)
-    for number in run_of(data, slots):
-        at = SECTOR_BYTES * (1 + SLOT_SECTORS * (number % slots))
-        replay.block(number, data[at:at + SECTOR_BYTES * SLOT_SECTORS])
-    return replay.end()
+    return replay.end() if replay.over(data) else (REFUSED, "")
 
 
 def main(words):

@@ -5,17 +5,12 @@ one than before in its life. Events whose life can't be run again have one line 
 
     tests/plain/why.py [--json] IMAGE [EVENT]     prints what `etcs_lab why` prints, and ends with its status
 """
-import json
 import sys
 from pathlib import Path
 
 import output
-from disk import SECTOR_BYTES
-from items import Kept
-from journal import COLD, SLOT_SECTORS, kept_in, read_block, slots_in
-from life import Life
 from limit_reasons import KINDS, limit_cause
-from replay import REASONS, input_of, run_of
+from replay import Walk, text
 
 WHOLE, REFUSED, LOST = 0, 1, 4
 
@@ -56,10 +51,6 @@ class Reasons:
 
     def __init__(self, life, number):
         self.life, self.since, self.shown, self.trip = life, {}, None, None
-        self.note(number)
-
-    def take(self, event, number):
-        self.life.take(*input_of(event))
         self.note(number)
 
     def note(self, number):
@@ -107,78 +98,33 @@ class Reasons:
                 f"{allowed} cm" + "".join(causes) + f"; {says}: {decides.speed} m/h{place}{named} ({sections})")
 
 
-class Walk:
+class Why(Walk):
     """Of each event whose life is known its number, whether it has a line of its own, and what the line says in both forms; `lines` has with
     them, as events of no number, those that are left out and the blocks that can't be read."""
-
-    def __init__(self):
-        self.lines, self.told, self.kept = [], None, None
-        self.left, self.reason, self.is_whole = [], "before_oldest_block", True
 
     @property
     def events(self):
         return [line for line in self.lines if line[0] is not None]
 
     def say(self, line, **members):
-        self.lines.append((None, True, line, json.dumps(members, separators=(",", ":"))))
+        self.lines.append((None, True, line, text(members)))
 
-    def end_life(self):
-        if self.left:
-            (life, first), (_, last) = self.left[0], self.left[-1]
-            self.say(f"life {life} events {first}..{last} can't be replayed: {REASONS[self.reason]}",
-                     life=life, first_event=first, last_event=last, replay="not_replayed", reason=self.reason)
-        self.left = []
-
-    def gap(self):
-        self.end_life()
-        self.told = self.kept = None
-        self.reason, self.is_whole = "gap", False
-
-    def record(self, block, at):
-        record = block["records"][at]
-        number, event = record["number"], record["event"]
-        if event[0] == "powerup":
-            self.end_life()
-            if at and not self.told:
-                self.reason = "within_block"
-            if at:
-                kept = self.told and self.told.life.kept()
-            else:
-                kept = self.kept or (Kept() if number == 0 else None)
-            self.told = Reasons(Life(kept, COLD[event[1]]), number) if kept else None
-        elif self.told:
-            self.told.take(event, number)
-        if self.told:
-            members = json.dumps(self.told.members(number), separators=(",", ":"))
-            self.lines.append((number, self.told.is_new(), self.told.line(number), members))
-        else:
-            begun = sum(later["event"][0] == "powerup" for later in block["records"][at + 1:])
-            self.left.append((max(0, block["lives"] - begun), number))
-
-    def block(self, number, data):
-        block = read_block(data)
-        if block is None or block["number"] != number:
-            self.gap()
-            self.say(f"block {number} can't be read", block=number, replay="unreadable")
+    def event(self, block, record, life):
+        number = record["number"]
+        if not self.life:
+            self.leave(life, number)
             return
-        if self.kept and self.kept.events != block["records"][0]["number"]:
-            self.gap()
-        for at in range(len(block["records"])):
-            self.record(block, at)
-        self.kept = kept_in(block)
+        if record["event"][0] == "powerup":
+            self.reasons = Reasons(self.life, number)
+        else:
+            self.reasons.note(number)
+        self.lines.append((number, self.reasons.is_new(), self.reasons.line(number), text(self.reasons.members(number))))
 
 
 def walk_of(data):
     """The walk over an image; None where it is refused."""
-    slots = slots_in(data[:SECTOR_BYTES]) if len(data) >= SECTOR_BYTES else None
-    if slots is None or len(data) // SECTOR_BYTES != 1 + SLOT_SECTORS * slots:
-        return None
-    walk = Walk()
-    for number in run_of(data, slots):
-        at = SECTOR_BYTES * (1 + SLOT_SECTORS * (number % slots))
-        walk.block(number, data[at:at + SECTOR_BYTES * SLOT_SECTORS])
-    walk.end_life()
-    return walk
+    walk = Why()
+    return walk if walk.over(data) else None
 
 
 def walked(data):

@@ -37,25 +37,18 @@ import sys
 from functools import lru_cache
 
 from asking import Told, packed, signed
+from kernel_words import BRAKES, COLD, ITEMS, LEVELS, MODES, an_input
+from kernel_words import ALONE as ACTIONS
 
 SLOT_BYTES = 3_072
 MOST_BLOCKS = 4  # that are listed
-COLD = {"unknown": 0, "moved": 1, "not-moved": 2}
 CHOICES = {"old": 0, "new": 1, "ff": 2, "zeros": 3}
-MODES = {0: "FS", 1: "OS", 2: "SR", 3: "SH", 4: "UN", 6: "SB", 7: "TR", 8: "PT", 9: "SF"}
-LEVELS = ["0", "1", "-"]
-BRAKES = ["none", "service", "emergency"]
 KINDS = {1: "powerup", 2: "telegram", 3: "odometer", 4: "clock", 5: "driver"}
 
 # What is asked with no number, or with numbers alone.
 ALONE = {"flush": 3, "close": 4, "calls": 5, "default": 6, "run": 8, "less": 11, "keep": 12, "again": 13, "blocks": 21,
          "bytes": 24}
 NUMBERED = {"run-in": 9, "format": 10, "cut": 15, "fail": 16, "cut-any": 17, "fail-any": 18}
-
-# The driver's actions: codes, and what is confirmed or acknowledged.
-ACTIONS = {"start": 6, "choose-shunting": 7, "leave-shunting": 8, "override": 9, "close-desk": 11}
-CONFIRMED = {"identity": 1, "running-number": 2, "train-data": 3, "level": 4}
-ACKNOWLEDGED = {"trip": 1, "on-sight": 2, "shunting": 3, "level-0": 4}
 
 # Refusals by number.
 OPEN = {0: "opened", 1: "1 DeviceFault", 2: "2 NotFormatted", 3: "3 Damaged", 4: "4 NoMemory", 6: "6 WornOut",
@@ -67,11 +60,6 @@ SHOW = {1: "1 DeviceFault", 2: "2 NotFormatted", 3: "3 Damaged", 30: "no disk", 
         33: "| no block"}
 REFUSED = (1, 2, 3, 30)  # of these, those that are answered in place of all blocks
 CALLS = {0: "another number", 1: "as many as before", 30: "power is on"}
-
-
-def data(part):
-    """How many bytes there are, and the bytes, eight to a number."""
-    return [len(part), *packed(part)]
 
 
 # ---- what is asked
@@ -86,7 +74,7 @@ def questions(said):
         return ((NUMBERED[word], int(value)),)
     if word in ASKED:
         return tuple(map(tuple, ASKED[word](*value.split())))
-    return ((2, *an_input(word, value.split())),)
+    return ((2, *an_input(word, value)),)
 
 
 def openings(times, cold):
@@ -123,29 +111,6 @@ ASKED = {
     "kept": kept,
     "list": lambda: [[23, index] for index in range(MOST_BLOCKS + 1)],
 }
-
-
-def an_input(word, values):
-    if word == "hear":
-        return [2, *data(bytes.fromhex(values[0]))]
-    if word == "move":
-        return [3, int(values[0]) % 2**64, int(values[1]) if len(values) > 1 else 0]
-    return [4, int(values[0])] if word == "clock" else [5, *an_action(word, values)]
-
-
-def an_action(word, values):
-    if word == "enter-identity":
-        return [1, *data(" ".join(values).encode())]
-    if word == "enter-train-data":
-        return [3, *map(int, values)]
-    if word in ACTIONS:
-        return [ACTIONS[word]]
-    return {
-        "enter-running-number": lambda: [2, int(values[0])],
-        "choose-level": lambda: [4, int(values[0])],
-        "confirm": lambda: [5, CONFIRMED[values[0]]],
-        "acknowledge": lambda: [10, ACKNOWLEDGED[values[0]]],
-    }[word]()
 
 
 # ---- what is answered
@@ -258,55 +223,6 @@ def kept_words(item, told):
     if refusal:
         return SHOW[refusal]
     return {name: text(told) for name, text in ITEMS.items()}[item]
-
-
-def counts(told):
-    return "{} {}".format(*told.take(2))
-
-
-def trip(told):
-    return ["no", "yes"][told.take()]
-
-
-def identity(told):
-    size = told.take()
-    text = told.data(size, 2)
-    return text.hex() if size else "-"
-
-
-def running_number(told):
-    known, number = told.take(2)
-    return str(number) if known else "-"
-
-
-def train_data(told):
-    known, *train = told.take(6)
-    return " ".join(map(str, train)) if known else "-"
-
-
-STATUS = ["unknown", "valid", "invalid"]
-
-
-def level(told):
-    status, number = told.take(2)
-    return f"{STATUS[status]} {number}" if status else STATUS[status]
-
-
-def position(told):
-    status, country, group, distance = told.take(4)
-    return f"{STATUS[status]} {country} {group} {signed(distance)}" if status else STATUS[status]
-
-
-def national(told):
-    values = told.take(9)
-    for _ in ("override_time", "staff_responsible_distance"):
-        known, limit = told.take(2)
-        values.append(limit if known else "-")
-    return " ".join(map(str, [*values, "of", *(told.take() for _ in range(told.take()))]))
-
-
-ITEMS = {"counts": counts, "trip": trip, "identity": identity, "running-number": running_number,
-         "train-data": train_data, "level": level, "position": position, "national": national}
 
 
 # ---- the listing

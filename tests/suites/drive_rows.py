@@ -18,7 +18,8 @@ from unittest.mock import patch
 
 TOP = Path(__file__).resolve().parents[2]
 DRIVES = TOP / "drives"
-sys.path.insert(0, str(TOP / "python"))
+sys.path[:0] = [str(TOP / "python"), str(TOP / "tests")]
+from compared import Compared  # noqa: E402
 from gaknifur import cases, closed_loop, coverage, drive_words, drives, driving, playing, program  # noqa: E402
 from gaknifur.unit import Brake, FileMedium, Unit  # noqa: E402
 
@@ -72,15 +73,10 @@ def lab(*words, env=()):
     return done.returncode, done.stdout, done.stderr
 
 
-class Compared:
+class Driven(Compared):
     def __init__(self, room):
-        self.room, self.count, self.differ = room, 0, 0
-
-    def same(self, name, found, wanted):
-        self.count += 1
-        if found != wanted:
-            self.differ += 1
-            print(f"tests/suites/drive_rows.py: {name}:\n  found  {str(found)[:600]}\n  wanted {str(wanted)[:600]}")
+        super().__init__()
+        self.room = room
 
     def drive(self, path):
         """A drive, its files, and the same events by the program."""
@@ -181,7 +177,7 @@ def main(etcs, etcs_lab):
                 left.append(name)
                 print(f"tests/suites/drive_rows.py: not told: {name}")
     with tempfile.TemporaryDirectory() as folder:
-        compared = Compared(Path(folder))
+        compared = Driven(Path(folder))
         for path in sorted(DRIVES.glob("*.yaml")):
             if not cases.is_case_file(path):
                 compared.drive(path)

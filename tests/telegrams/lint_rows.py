@@ -5,7 +5,6 @@
 """
 import json
 import re
-import subprocess
 import sys
 import tempfile
 from pathlib import Path
@@ -13,11 +12,12 @@ from pathlib import Path
 import yaml
 
 TOP = Path(__file__).resolve().parents[2]
-sys.path[:0] = [str(TOP / "tests" / part) for part in ("plain", "hostile")]
+sys.path[:0] = [str(TOP / "tests" / part) for part in ("", "plain", "hostile")]
 
 import decoded
 import driver
 import program as plain_program
+from compared import Compared, loaded, run, status_of_full
 from items import Kept
 from life import Life
 from lint_faults import AGAIN, FAULTS, GOOD, GROUP, SCENARIO, SKIPPED, SPARE, STEP, TRIED, Key, group, scenario, shape
@@ -140,14 +140,6 @@ def again_objects(faults, names):
                    for place, at, first in names]
 
 
-def loaded(text):
-    """The value of a text, or that it is none."""
-    try:
-        return json.loads(text)
-    except ValueError:
-        return "no JSON: " + text
-
-
 def of_telegram(place, digits):
     data = bytes.fromhex(digits)
     try:
@@ -195,19 +187,13 @@ def advice_on(told):
     return found
 
 
-class Compared:
+class Lints(Compared):
     def __init__(self, etcs, lab, room):
-        self.etcs, self.lab, self.room, self.count, self.differ, self.positions = etcs, lab, room, 0, 0, 0
-
-    def same(self, name, found, wanted):
-        self.count += 1
-        if found != wanted:
-            self.differ += 1
-            print(f"{name}:\n  found  {found!r}\n  wanted {wanted!r}")
+        super().__init__()
+        self.etcs, self.lab, self.room, self.positions = etcs, lab, room, 0
 
     def run(self, words):
-        done = subprocess.run([*self.lab, *words], capture_output=True, text=True, stdin=subprocess.DEVNULL)
-        return done.stdout, done.stderr, done.returncode
+        return run(self.lab, words)
 
     def lint(self, told, found):
         """Both forms, one of a text in one line, and the other of one in many."""
@@ -225,13 +211,13 @@ class Compared:
         """The first fault is that for which the program `etcs run` refuses the scenario."""
         file = self.room / "changed.json"
         file.write_text(text)
-        done = subprocess.run([self.etcs, "run", str(file), str(self.room / "none")], capture_output=True, text=True, stdin=subprocess.DEVNULL)
+        played = run(self.etcs, ["run", file, self.room / "none"])[0]
         printed, said, status = self.run(["lint", "--json", str(file)])
-        if done.stdout == "device\n":
+        if played == "device\n":
             self.same(f"lint {text}", "fault" in printed, False)
             return False
         first = json.loads(printed.splitlines()[0])
-        self.same(f"lint {text}", (f"refused {first['fault']} {first['name']}\n", said, status), (done.stdout, "", 4))
+        self.same(f"lint {text}", (f"refused {first['fault']} {first['name']}\n", said, status), (played, "", 4))
         if first["name"] != "NotJson":
             self.positions += 1
             for line in map(json.loads, printed.splitlines()):
@@ -239,7 +225,6 @@ class Compared:
                 if "wanted" in line:
                     self.same(f"where {line['pointer']} is in {text}", told, position_in(text, as_told(line["pointer"], line["wanted"])))
         return True
-
 
     def again(self, text, faults, names):
         """Names that come again, in both forms; `etcs run` takes the text where it has no fault."""
@@ -249,8 +234,7 @@ class Compared:
         self.same(f"lint {text}", self.run(["lint", str(file)]), (again_people(faults, names), "", status))
         printed, said, ended = self.run(["lint", "--json", str(file)])
         self.same(f"lint --json {text}", ([loaded(line) for line in printed.splitlines()], said, ended), (again_objects(faults, names), "", status))
-        done = subprocess.run([self.etcs, "run", str(file), str(self.room / "none")], capture_output=True, text=True, stdin=subprocess.DEVNULL)
-        self.same(f"run {text}", done.stdout, "refused %d %s\n" % faults[0][1][:2] if faults else "device\n")
+        self.same(f"run {text}", run(self.etcs, ["run", file, self.room / "none"])[0], "refused %d %s\n" % faults[0][1][:2] if faults else "device\n")
 
     def limit(self, wanted, place, made):
         """The limits that a text tells are those of the program: no fault at them, and one behind them."""
@@ -266,7 +250,7 @@ class Compared:
 def main(words):
     etcs, lab = words[0], words[1:]
     with tempfile.TemporaryDirectory() as folder:
-        compared = Compared(etcs, lab, Path(folder))
+        compared = Lints(etcs, lab, Path(folder))
         for told, found in FAULTS + ADVICE:
             compared.lint(told, found)
         file = compared.room / "none.json"
@@ -287,8 +271,7 @@ def main(words):
         compared.same("no file", compared.run(["lint", str(compared.room / "nothing")])[::2], ("", 3))
         for more in ([], [str(file), "x"], ["--jso", str(file)]):
             compared.same(f"words {more}", compared.run(["lint", *more])[::2], ("", 2))
-        done = subprocess.run(["sh", "-c", 'exec "$@" >/dev/full', "sh", *lab, "lint", str(file)], capture_output=True, stdin=subprocess.DEVNULL)
-        compared.same("a full device", done.returncode, 1)
+        compared.same("a full device", status_of_full(lab, ["lint", file]), 1)
         numbers, image, faults, actions = Numbers(SEED), plain_program.Image(64), 0, 0
         for _ in range(RANDOM):
             told = Made(numbers, image).scenario()

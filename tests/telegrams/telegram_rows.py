@@ -8,14 +8,13 @@ finds. The bytes of an object are those that it was told of, up to and with the 
 """
 import json
 import random
-import subprocess
 import sys
 import tempfile
 from concurrent.futures import ThreadPoolExecutor
 from pathlib import Path
 
 TOP = Path(__file__).resolve().parents[2]
-sys.path[:0] = [str(TOP / "tests" / part) for part in ("plain", "events", "hostile")]
+sys.path[:0] = [str(TOP / "tests" / part) for part in ("", "plain", "events", "hostile")]
 
 import jsonschema
 
@@ -23,37 +22,12 @@ import decoded
 import faults
 import images
 import told
+from compared import Compared, loaded, run, status_of_full
 from named import WIDTH
 from random_inputs import headed, mutated
 
 RANDOM, SEED = 10_000, 2026
 LEAST = {"telegrams": 2_500, "refused": 2_500}
-
-
-class Compared:
-    """How many comparisons were made, and which differ."""
-
-    def __init__(self):
-        self.count = self.differ = 0
-
-    def same(self, name, found, wanted):
-        self.count += 1
-        if found != wanted:
-            self.differ += 1
-            print(f"{name}:\n  found  {found!r}\n  wanted {wanted!r}")
-
-
-def run(program, words, text=None):
-    done = subprocess.run([*program, *words], input=text, capture_output=True, text=True, stdin=None if text is not None else subprocess.DEVNULL)
-    return done.stdout, done.stderr, done.returncode
-
-
-def loaded(text):
-    """The value of a text, or that it is none."""
-    try:
-        return json.loads(text)
-    except ValueError:
-        return "no JSON: " + text
 
 
 def body_of(data, packet, at):
@@ -143,9 +117,7 @@ def compare_words(program, room, compared):
     compared.same("no digits", run(program, ["decode", "--json", "9"]), ('{"refused":{"name":"hex"}}\n', "", 1))
     compared.same("lines", run(program, ["decode", faults.GOOD_DIGITS]), (decoded.answer(bytes.fromhex(faults.GOOD_DIGITS)), "", 0))
     for words in (["telegram", str(file)], ["telegram", "--schema"], ["decode", "--json", faults.GOOD_DIGITS]):
-        line = " ".join(["exec", '"$@"', ">/dev/full"])
-        done = subprocess.run(["sh", "-c", line, "sh", *program, *words], capture_output=True, text=True, stdin=subprocess.DEVNULL)
-        compared.same(f"a full device {words}", done.returncode, 1)
+        compared.same(f"a full device {words}", status_of_full(program, words), 1)
 
 
 def names_in(schema):

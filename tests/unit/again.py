@@ -10,14 +10,14 @@ Of each example each request for memory is refused in turn.
 import json
 import os
 import re
-import subprocess
 import sys
 import tempfile
 from collections import Counter
 from pathlib import Path
 
 HERE = Path(__file__).resolve().parent
-sys.path[:0] = [str(HERE.parents[1] / part) for part in ("tests/plain", "tests/hostile", "tests/lab", "python")]
+sys.path[:0] = [str(HERE.parents[1] / part) for part in ("tests", "tests/plain", "tests/hostile", "tests/lab", "python")]
+from compared import Compared, run  # noqa: E402
 from gaknifur.lives import BrakeCause, LimitCause, TripCause  # noqa: E402
 from replay import replayed  # noqa: E402
 from replay_rows import altered, damaged, examples, formats, random_lives  # noqa: E402
@@ -40,8 +40,8 @@ def images():
 
 
 def printed(*words, **changes):
-    done = subprocess.run(list(map(str, words)), stdin=subprocess.DEVNULL, capture_output=True, timeout=120, env=os.environ | changes)
-    return done.returncode, [json.loads(line) for line in done.stdout.decode().splitlines()]
+    text, _, status = run(words[0], words[1:], env=os.environ | changes)
+    return status, [json.loads(line) for line in text.splitlines()]
 
 
 # The enums whose names are words of `reasons`: first number, file and variants.
@@ -117,16 +117,12 @@ def without_sections(members):
     return {key: value for key, value in members.items() if key not in LEFT_OUT}
 
 
-class Tried:
+class Tried(Compared):
     def __init__(self, lab, refuse, programs, folder):
+        super().__init__()
         self.lab, self.refuse, self.programs, self.image = lab, refuse, programs, Path(folder) / "image"
-        self.images = self.whys = self.differ = self.of_lab = self.refused = 0
+        self.images = self.whys = self.of_lab = self.refused = 0
         self.met = Counter()
-
-    def tell(self, text):
-        self.differ += 1
-        if self.differ <= 10:
-            print(text)
 
     def lives(self, name, data):
         status, text = replayed(data, True)

@@ -10,7 +10,6 @@ there, and has released just what `etcs run` had printed by then. Then both go o
 import json
 import os
 import random
-import struct
 import subprocess
 import sys
 from pathlib import Path
@@ -18,7 +17,8 @@ from pathlib import Path
 TOP = Path(__file__).resolve().parents[2]
 sys.path[:0] = [str(TOP / "tests/hostile"), str(TOP / "tests/plain"), str(TOP / "python")]
 
-from built import PROGRAM, Failures, built, room  # noqa: E402
+from built import PROGRAM, built, calls_of, room  # noqa: E402
+from compared import Compared  # noqa: E402
 from gaknifur import random_lives  # noqa: E402
 from program import inputs_of  # noqa: E402
 from random_inputs import headed, mutated  # noqa: E402
@@ -69,15 +69,7 @@ def recorded(record, image, words, text=""):
     ran = subprocess.run(list(map(str, words)), input=text, capture_output=True, env=env, text=True, timeout=60)
     if ran.stderr:
         raise SystemExit(f"{words}: {ran.stderr[:200]}")
-    data, at, calls = calls_file.read_bytes() if calls_file.exists() else b"", 0, []
-    while at < len(data):
-        kind, place, length = struct.unpack_from("<cQQ", data, at)
-        at += 17
-        body = data[at:at + length] if kind in b"wo" else b""
-        at += len(body)
-        if kind in b"wsdo":
-            calls.append((kind.decode(), place, body))
-    return ran.returncode, ran.stdout, calls
+    return ran.returncode, ran.stdout, [call for call in calls_of(calls_file) if call[0] in "wsdo"]
 
 
 def requests_of(calls):
@@ -165,7 +157,7 @@ class Pair:
 def main(words):
     life, *given = words
     count, seed = [int(word) for word in given] + [400, 2026][len(given):]
-    numbers, failures = random.Random(seed), Failures()
+    numbers, failures = random.Random(seed), Compared()
     with room() as name:
         pair = Pair(Path(life).resolve(), Path(name), built("record"), failures)
         for number in range(count):

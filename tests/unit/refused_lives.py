@@ -15,9 +15,11 @@ from pathlib import Path
 TOP = Path(__file__).resolve().parents[2]
 sys.path[:0] = [str(TOP / "tests/hostile"), str(TOP / "tests/plain"), str(TOP / "tests/rows")]
 
-from built import AUTHORITY, RESTRICTION, Failures  # noqa: E402
+from built import AUTHORITY, RESTRICTION  # noqa: E402
+from compared import Compared  # noqa: E402
 from onboard_lives import RINGS, Made  # noqa: E402
-from onboard_words import ACKNOWLEDGED, ACTIONS, COLD, CONFIRMED  # noqa: E402
+from kernel_words import ACKNOWLEDGED, COLD, CONFIRMED  # noqa: E402
+from kernel_words import ALONE as ACTIONS  # noqa: E402
 
 PENDING = 8
 ENTRIES = ["enter-identity A", "choose-level 1", "enter-train-data 20000 160000 70 0 15", "start"]
@@ -115,7 +117,7 @@ def image(prepare):
 
 
 def main(program):
-    failures, power_ups, inputs = Failures(), 0, 0
+    failures, power_ups, inputs = Compared(), 0, 0
     with tempfile.TemporaryDirectory() as folder:
         at = Path(folder) / "image"
         for name, prepare, life in lives():
@@ -126,7 +128,7 @@ def main(program):
             failures.unless(ran.returncode == 0 and not ran.stderr and found, f"{name}: status {ran.returncode} {ran.stdout[:800]} {ran.stderr[:400]}")
             if found:
                 power_ups, inputs = power_ups + int(found[1]), inputs + int(found[2])
-    return failures.end(f"memory refused to the unit: {power_ups} power-ups and {inputs} inputs in {failures.tried} lives")
+    return failures.end(f"memory refused to the unit: {power_ups} power-ups and {inputs} inputs in {failures.count} lives")
 
 
 if __name__ == "__main__":

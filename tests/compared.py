@@ -1,0 +1,58 @@
+"""What is compared with what is wanted, and runs of the programs."""
+import json
+import subprocess
+
+SHOWN = 20
+
+
+class Compared:
+    """How many comparisons were made, and how many of them differ; the first ones of these are printed."""
+
+    def __init__(self):
+        self.count = self.differ = 0
+
+    def same(self, name, found, wanted):
+        """Whether what was found is what is wanted."""
+        return self.unless(found == wanted, f"{name}:\n  found  {str(found)[:1500]}\n  wanted {str(wanted)[:1500]}")
+
+    def unless(self, holds, text):
+        """Whether it holds; else the text is told."""
+        self.count += 1
+        if not holds:
+            self.tell(text)
+        return holds
+
+    def tell(self, text):
+        """Tells a difference."""
+        self.differ += 1
+        if self.differ <= SHOWN:
+            print(text)
+
+    def end(self, what):
+        """Tells what was compared, and answers the exit status. Nothing compared is a failure too."""
+        print(f"{what}, {self.differ} failures")
+        return 1 if self.differ or not self.count else 0
+
+
+def run(program, words, text=None, **how):
+    """What a program prints, what it says, and its status; `text` stands on its standard input, and the program may have words of its own."""
+    first = program if isinstance(program, (list, tuple)) else [program]
+    given = {"stdin": subprocess.DEVNULL} if text is None else {"input": text.encode()}
+    try:
+        done = subprocess.run([*first, *map(str, words)], capture_output=True, timeout=60, **given, **how)
+    except subprocess.TimeoutExpired:
+        return "", "", "no end"
+    return done.stdout.decode(), done.stderr.decode(), done.returncode
+
+
+def status_of_full(program, words):
+    """The status of a program that can't write what it prints, since the device is full."""
+    return run(["sh", "-c", 'exec "$@" >/dev/full', "sh", *(program if isinstance(program, (list, tuple)) else [program])], words)[2]
+
+
+def loaded(text):
+    """The value of a text, or that it is none."""
+    try:
+        return json.loads(text)
+    except ValueError:
+        return "no JSON: " + text

@@ -24,7 +24,11 @@ pub fn released_by<S: Profile<CategorySpeeds>, G: Profile<Permille>>(
         return ahead.permitted(limit, None);
     };
     let stop = target(end.location, Mph::new(0).unwrap());
-    let (to_end, to_location) = ahead.permitted_for_either(limit, target(end.place, end.speed), stop);
+    let (to_end, to_location) = ahead.permitted_for_either(
+        limit,
+        target(end.place, end.speed),
+        stop,
+    );
     to_end.max(to_location.min(release_speed(end.release, national)))
 }
 

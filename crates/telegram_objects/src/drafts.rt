@@ -2,9 +2,9 @@
 //! the reader of packets: it reads the fields so far with zero bits behind them, in the length that suits it.
 
 use crate::faults::Ranges;
-use decoding::{FieldValue, fields_of_packet};
 use arrayvec::ArrayVec;
 use bits::{BitReader, BitWriter, Full, VariableName};
+use decoding::{FieldValue, fields_of_packet};
 use packet_coding::read_packet;
 use packets::{Packet, TELEGRAM_BYTES};
 use vars::{PacketLength, PacketNumber, ValidityDirection, Variable};

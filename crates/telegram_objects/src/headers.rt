@@ -2,10 +2,10 @@
 
 use crate::drafts::put;
 use crate::faults::{ObjectFault, Place, Ranges, Reason};
-use decoding::{FieldValue, fields_of_header};
 use crate::values::has_count;
 use arrayvec::ArrayVec;
 use bits::{BitWriter, Full};
+use decoding::{FieldValue, fields_of_header};
 use packets::TELEGRAM_BYTES;
 use serde_json::Value;
 use telegram::{Header, decode};

@@ -11,11 +11,11 @@ ghost use Rattle.telegram.specs.declared.message.Telegram.{Telegram};
 ghost use Rattle.telegram_objects.specs.Telling.{pair_of, pairs_of, without_length, TellsFields, TellsBits, TellsBody, TellsPacket, TellPackets, HasMembers, TellsHeader, TellsTelegram};
 
 use crate::bodies::body_at;
-use decoding::{FieldValue, fields_of_header, fields_of_packet};
 use crate::values::{
     agrees_at, has_count, has_number_at, has_only, is_number, is_text, items_of, list_at,
 };
 use bits::{BitWriter, Run};
+use decoding::{FieldValue, fields_of_header, fields_of_packet};
 use packets::{Packet, TELEGRAM_BYTES};
 use serde_json::Value;
 use telegram::{Header, Telegram};

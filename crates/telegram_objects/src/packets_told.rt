@@ -3,9 +3,9 @@
 use crate::bodies::body_at;
 use crate::drafts::{Draft, MOST_BITS, Next};
 use crate::faults::{ObjectFault, Place, Ranges, Reason};
-use decoding::FieldValue;
 use crate::values::{agrees_at, has_only, list_at, pair_in};
 use bits::VariableName;
+use decoding::FieldValue;
 use serde_json::Value;
 
 fn is_length(field: &FieldValue) -> bool {

@@ -17,10 +17,10 @@ ghost use Rattle.telegram_objects.specs.Widths.{HasWidth};
 ghost use Rattle.decoding.specs.declared.fields.FieldValue.{FieldValue as a_field};
 
 use crate::bodies::body_at;
-use decoding::{FieldValue, fields_of_header};
 use crate::values::{list_at, number_at, pair_in};
 use crate::widths::width_of;
 use bits::{BitReader, BitWriter};
+use decoding::{FieldValue, fields_of_header};
 use packets::TELEGRAM_BYTES;
 use serde_json::Value;
 use telegram::Header;

@@ -17,8 +17,8 @@ ghost use Rattle.decoding.specs.Fields.{header_fields, packet_fields};
 ghost use Rattle.telegram_objects.specs.Lines.{body_bytes, members_of, body_members, members_behind, packet_object, text_behind_header, line_of, refusal_line, AreSmall, HaveSmallFields};
 ghost use Rattle.telegram_objects.specs.Telling.{pair_of, TellsText};
 
-use decoding::{FieldValue, fields_of_header, fields_of_packet, name_of_fault, number_of_fault};
 use bits::{BitWriter, Run};
+use decoding::{FieldValue, fields_of_header, fields_of_packet, name_of_fault, number_of_fault};
 use packets::{Packet, TELEGRAM_BYTES};
 use pieces::{Form, Piece, write_pieces};
 use std::io;

@@ -1,4 +1,4 @@
--- The bits of fields, one after another (SUBSET-026, 7.5.1).
+-- The bits of fields, one after another, as they are spelled (SUBSET-026, 7.4.2).
 use Rattle.std.specs.Prelude.{ℕ, ◌+◌, Bool, List, [], ◌∷◌, ◌++◌}
 use Rattle.bits.specs.Bits.{number_bits}
 use Rattle.decoding.specs.declared.fields.FieldValue.{FieldValue}

@@ -37,5 +37,5 @@ rows test_disk 353
 rows test_blocks 741
 rows test_journal 1045
 rows test_onboard 34585
-rows test_kernel 653
+rows test_kernel 660
 exit $status

@@ -1,4 +1,5 @@
-"""The words of `./lab`: `table`, `database`, `report`, `check`, `build`, `test`, `coverage`, `drive`, `campaign`, `compare`."""
+"""The words of `./lab`: `table`, `database`, `report`, `check`, `build`, `test`, `coverage`, `lint`, `drive`, `campaign`,
+`compare`."""
 import argparse
 import hashlib
 import os
@@ -8,7 +9,7 @@ from collections.abc import Callable, Sequence
 from pathlib import Path
 from typing import NoReturn
 
-from . import campaign_words, check_words, coverage, drive_words, files, scenarios
+from . import campaign_words, check_words, coverage, drive_words, files, lint_words, scenarios
 from .last_net import caught, say
 from .program import DEVICE, NOT_WHOLE, REFUSED, WRONG_WORDS, Failed
 from .progress import Terminal
@@ -16,7 +17,7 @@ from .reading import Journal, Progress, read
 from .shown import shown
 
 NEXT = """\
-  0 made   1 refused: not formatted, no database of journals, a fault in a YAML file, or a test that failed
+  0 made   1 refused: not formatted, no database of journals, a fault in a YAML file, a test that failed, or a finding of lint
   2 wrong words   3 a file, etcs or etcs_lab   5 a fault of lab itself
   4 made, and something of an image is lost, damaged or contradicts, or the replay differs
 
@@ -81,6 +82,7 @@ def words() -> argparse.ArgumentParser:
     page.add_argument("--newest-first", action="store_true", help="the lives from the last one to the first")
     check_words.add_words(word)
     add_suites(word)
+    lint_words.add_words(word)
     drive_words.add_words(word)
     campaign_words.add_words(word)
     return lab
@@ -251,7 +253,7 @@ def tell_coverage(told: argparse.Namespace, progress: Progress) -> None:
 
 WORDS: dict[str, Callable[[argparse.Namespace, Progress], int | None]]
 WORDS = {"table": write_table, "database": write_database, "report": write_report, "build": write_scenario, "test": run_tests,
-         "coverage": tell_coverage, **check_words.WORDS, **drive_words.WORDS,
+         "coverage": tell_coverage, **check_words.WORDS, **lint_words.WORDS, **drive_words.WORDS,
          **campaign_words.WORDS}
 
 

@@ -65,21 +65,14 @@ class Job:
 
 def of_folder(folder: Path, slots: int) -> Iterator[Job]:
     """A job for each case file and each scenario below a folder, but for those that a case names."""
-    if not folder.is_dir():
-        raise Failed(f"{folder}: there is no such folder", DEVICE)
-    paths = sorted(path for path in folder.rglob("*") if path.suffix in (".yaml", ".yml", ".json") and path.is_file())
-    case_files = [path for path in paths if cases.is_case_file(path)]
-    named: set[Path] = set()
+    case_files, scenarios = cases.below(folder)
     for path in case_files:
         files = cases.files_of(path)
-        named.update(files)
         root = Path(os.path.commonpath([one.parent for one in files]))
         yield Job(shown(path.relative_to(folder).as_posix()), "case",
                   tuple((one.relative_to(root).as_posix(), one.read_bytes()) for one in files), slots)
-    for path in paths:
-        if path.suffix == ".json" and path.resolve() not in named:
-            yield Job(shown(path.relative_to(folder).as_posix()), "scenario",
-                      (("scenario.json", path.read_bytes()),), slots)
+    for path in scenarios:
+        yield Job(shown(path.relative_to(folder).as_posix()), "scenario", (("scenario.json", path.read_bytes()),), slots)
 
 
 def at_random(count: int, seed: int, slots: int) -> Iterator[Job]:

@@ -14,7 +14,7 @@ from typing import Any
 from . import drives, scenarios
 from .located import Value, documents, shortened
 from .mode_rows import mode_table, row_name
-from .program import Failed
+from .program import DEVICE, Failed
 from .words import INDICATIONS, MODES
 
 KINDS = ("powerup", "telegram", "odometer", "clock", "driver")
@@ -33,7 +33,9 @@ DRIVEN = ("train_place_cm", "train_place_m", "train_speed_m_per_h", "train_speed
 WITHIN = {"within_events": "event", "within_ms": "time_ms", "within_cm": "place_cm"}
 EXPECTED = ("note", "sections", "rule", "at", "expect", "row", "from", "until", "where", "always", "never", "after", *WITHIN)
 CASE = ("test_case", "feature", "sections", "rule", "starting_conditions", "lives")
-MORE = ("slots", "expected", "include", "telegrams", "parts")
+MORE = ("slots", "expected", "include", "telegrams", "parts", "shows")
+ADVICE, MOST_ITEM = "advice", 999
+"""What a case may say to show, beside items of docs/SAFETY.md: what `etcs_lab lint` advises."""
 END = "end"
 ROW = re.compile(r"([0-9]{1,4})(?: from ([A-Z]{2}))?")
 MOST_SLOTS, USUAL_SLOTS = 4096, 64
@@ -116,6 +118,8 @@ class Case:
     slots: int
     lives: list[Life]
     expected: list[Expected] = field(default_factory=list)
+    shows: list[Value] = field(default_factory=list)
+    """The items of docs/SAFETY.md that it is there to show, so that `lab lint` doesn't tell them."""
 
     @property
     def path(self) -> Path:
@@ -283,6 +287,15 @@ def slots_of(lives: list[Life]) -> int:
     return min(MOST_SLOTS, USUAL_SLOTS + needed)
 
 
+def shows_of(at: Value) -> list[Value]:
+    """The items that a case shows."""
+    found = at.elements()
+    for one in found:
+        if one.text() != ADVICE:
+            one.integer(1, MOST_ITEM)
+    return found
+
+
 def case_of(at: Value) -> Case:
     """The case of a document."""
     told = at.members(CASE, MORE)
@@ -291,7 +304,8 @@ def case_of(at: Value) -> Case:
     if not lives:
         raise told["lives"].fault("a case has at least one life")
     case = Case(at, told["test_case"].text(), told["feature"].text(), sections_of(told["sections"]), told["rule"].text(),
-                told["starting_conditions"].text(), told["slots"].integer(2, MOST_SLOTS) if "slots" in told else slots_of(lives), lives)
+                told["starting_conditions"].text(), told["slots"].integer(2, MOST_SLOTS) if "slots" in told else slots_of(lives), lives,
+                shows=shows_of(told["shows"]) if "shows" in told else [])
     marks = Counter(name for life in lives if life.scenario for name in life.scenario.marks)
     for name, times in marks.items():
         if times > 1:
@@ -334,6 +348,16 @@ def files_of(path: Path) -> list[Path]:
 def is_case_file(path: Path) -> bool:
     """Whether a file has test cases, by its name."""
     return path.name == "case.yaml" or path.name.endswith(".case.yaml")
+
+
+def below(folder: Path) -> tuple[list[Path], list[Path]]:
+    """The files of cases below a folder, and the scenarios in JSON that none of them names."""
+    if not folder.is_dir():
+        raise Failed(f"{folder}: there is no such folder", DEVICE)
+    paths = sorted(path for path in folder.rglob("*") if path.suffix in (".yaml", ".yml", ".json") and path.is_file())
+    case_files = [path for path in paths if is_case_file(path)]
+    named = {other for path in case_files for other in files_of(path)}
+    return case_files, [path for path in paths if path.suffix == ".json" and path.resolve() not in named]
 
 
 def derived(record: dict[str, Any]) -> dict[str, Any]:

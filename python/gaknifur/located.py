@@ -60,9 +60,26 @@ class Value:
         """The line where it begins, from 1 on."""
         return int(self.node.start_mark.line) + 1
 
+    @property
+    def column(self) -> int:
+        """The column where it begins, from 1 on."""
+        return int(self.node.start_mark.column) + 1
+
     def fault(self, said: str) -> BadFile:
         """The fault at this place."""
-        return BadFile(self.path, self.line, self.node.start_mark.column + 1, said)
+        return BadFile(self.path, self.line, self.column, said)
+
+    def inner(self, pointer: str) -> "Value":
+        """The value that a JSON pointer leads to; of one that leads nowhere, the last one on the way."""
+        at = self
+        for word in pointer.split("/")[1:]:
+            inner = at.entries() if at.is_mapping() else {}
+            if at.is_list():
+                inner = {str(number): value for number, value in enumerate(at.elements())}
+            if word not in inner:
+                break
+            at = inner[word]
+        return at
 
     def is_text(self) -> bool:
         """Whether it is a scalar."""

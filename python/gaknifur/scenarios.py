@@ -49,6 +49,8 @@ class Scenario:
     steps: list[dict[str, Any]] = field(default_factory=list)
     places: list[Value] = field(default_factory=list)
     """Where each step stands in the YAML."""
+    group_places: list[Value] = field(default_factory=list)
+    """Where each group stands in the YAML."""
     marks: dict[str, int] = field(default_factory=dict)
     """Of each mark how many events of the life come before it, the power-up not counted."""
     marked: dict[str, Value] = field(default_factory=dict)
@@ -214,6 +216,7 @@ class Builder:
         place = told_quantity(members["at"], "distance", 1, MOST_PLACE_CM)
         spacing = told_quantity(members["spacing"], "distance", 1, MOST_SPACING_CM) if "spacing" in members else 1
         self.balises += [place + number * spacing for number in range(len(balises))]
+        self.built.group_places.append(at)
         self.built.groups.append({"at": place, "spacing": spacing,
                                   "balises": [digits_of(balise, self.shared) for balise in balises]})
 

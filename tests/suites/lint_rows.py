@@ -1,0 +1,324 @@
+#!/usr/bin/env python3
+"""The checks of `./lab lint`: each finds a planted fault on a small track, with numbers that were worked out by hand, and nothing on the
+same track mended; what else the word prints, and its status; and what it finds in the suites, drives and examples.
+
+    tests/suites/lint_rows.py ETCS ETCS_LAB
+
+The formulas are those of docs/SAFETY.md. The train of the rows is 200 m long and brakes with 70 cm/s2 at once: 2,592 * 70 = 181,440.
+"""
+import json
+import os
+import re
+import shutil
+import subprocess
+import sys
+import tempfile
+from pathlib import Path
+
+TOP = Path(__file__).resolve().parents[2]
+sys.path.insert(0, str(TOP / "python"))
+from gaknifur import track_checks  # noqa: E402
+
+LEAST_ROWS, LEAST_ITEMS, LEAST_CASES = 41, 26, 160
+HEAD = """test_case: NAME
+feature: Lint
+sections: [3.13]
+rule: what is weak is found
+starting_conditions: as told
+include: common.yaml
+expected: [{note: it was played, at: end, expect: {event: {least: 1}}}]
+lives:
+"""
+PROFILE = "21: D_GRADIENT 0, Q_GDIR 1, G_A 0; 27: D_STATIC 0, V_STATIC 24, Q_FRONT 1"
+VALUES = ("3: D_VALIDNV 32767, V_NVSHUNT 6, V_NVSTFF 8, V_NVONSIGHT 6, V_NVUNFIT 20, V_NVREL 8, D_NVROLL 3, V_NVALLOWOVTRP 0, V_NVSUPOVTRP 6, "
+          "D_NVOVTRP 200, T_NVOVTRP 60, D_NVSTFF 32767")
+INSTALLED = "90007F80200140E0583FFFC0184062820001400300C83C01907FBFFF90A00F83FF80"
+
+
+def full(more, end=300):
+    """Full Supervision at a standstill by an authority of group 1/2, with more variables of packet 12 and more packets."""
+    return f'{{telegram: "NID_BG 2; 12: V_MAIN 24, L_ENDSECTION {end}{more}; {PROFILE}"}}, use: level_1, start'
+
+
+def link(group, at, reaction=1, accuracy=5):
+    return f"D_LINK {at}, NID_BG {group}, Q_LINKORIENTATION 1, Q_LINKREACTION {reaction}, Q_LOCACC {accuracy}"
+
+
+def eight(accuracy):
+    """Eight balises 3 m apart at 100 m, announced."""
+    balises = ", ".join(f'"NID_BG 3, N_PIG {number}, N_TOTAL 7"' for number in range(8))
+    return (f"{{groups: [{{at: 100 m, spacing: 3 m, balises: [{balises}]}}], "
+            f"steps: [{full(f'; 5: {link(3, 100, accuracy=accuracy)}', 1500)}, {{drive: 200 m at 30 km/h}}]}}")
+
+
+def areas(first_length, second):
+    return f"{{steps: [{full(f'; 80: D_MAMODE 100, M_MAMODE 0, V_MAMODE 6, L_MAMODE {first_length}, L_ACKMAMODE 0, D_MAMODE {second}, M_MAMODE 0, V_MAMODE 6, L_MAMODE 50, L_ACKMAMODE 0', 1500)}]}}"
+
+
+def drive(train):
+    return f"{{steps: [{full('')}], drive: {{train: {{acceleration: 0.5 m/s2, {train}}}, driver: {{heeds: limit}}, time_step: 1 s, lasts: 5 s}}}}"
+
+
+# Each row: its name; the items that are found, each with where and what has to be said; the life with the fault; what stands there once it
+# is mended, in place of what.
+ROWS = [
+    # Without its second balise the group closes at the first reading that is more than 13 m on: at 14 m.
+    ("timers_start_late", [(1, "/steps/4/telegram", ["closes 14 m behind", "N_PIG 1 "])],
+     "{steps: [use: staff, {telegram: \"NID_BG 7, N_TOTAL 1, M_DUP 1, Q_LINK 0; 12: V_MAIN 24, L_ENDSECTION 300, T_SECTIONTIMER 60, "
+     "D_SECTIONTIMERSTOPLOC 100\"}, {drive: 14 m at 10 km/h}]}", "N_TOTAL 1, M_DUP 1, ", ""),
+    ("timer_of_v_loa_starts_late", [(1, "/steps/4/telegram", ["closes 14 m behind"])],
+     "{steps: [use: staff, {telegram: \"NID_BG 7, N_TOTAL 1, M_DUP 1, Q_LINK 0; 12: V_MAIN 24, V_LOA 4, T_LOA 60, L_ENDSECTION 300\"}, "
+     "{drive: 14 m at 10 km/h}]}", "T_LOA 60", "T_LOA 1023"),
+    ("a_broken_group_is_lost", [(2, "/steps/4/telegram", ["group 1/7 of 2 balises", "packet 65;"])],
+     "{steps: [use: staff, {telegram: \"NID_BG 7, N_TOTAL 1, Q_LINK 1; 65: NID_TSR 1, D_TSR 0, L_TSR 50, Q_FRONT 1, V_TSR 4\"}, {drive: 3 m at 10 km/h}, "
+     "{telegram: \"NID_BG 7, N_PIG 1, N_TOTAL 1, Q_LINK 1\"}]}", "Q_LINK 1", "Q_LINK 0"),
+    ("linking_reaction_none", [(2, "/steps/0/telegram", ["group 1/3", "packet 65,", "Q_LINKREACTION 2"])],
+     "{groups: [{at: 400 m, balises: [\"NID_BG 3; 65: NID_TSR 1, D_TSR 100, L_TSR 50, Q_FRONT 1, V_TSR 8\"]}], "
+     f"steps: [{full(f'; 5: {link(3, 400, 2)}', 1500)}, {{drive: 400 m at 30 km/h}}]}}", "Q_LINKREACTION 2", "Q_LINKREACTION 1"),
+    ("trip_in_unfitted", [(3, "/steps/4/telegram", ["group 1/3", "400 m", "in UN"])],
+     f"{{steps: [use: unfitted, {{telegram: \"NID_BG 7; 5: {link(3, 400, 0)}\"}}, {{drive: 450 m at 30 km/h}}]}}", "Q_LINKREACTION 0", "Q_LINKREACTION 1"),
+    ("two_packets_3", [(4, "/steps/4/telegram", ["group 1/7 closes", "2 packets 3"])],
+     f"{{steps: [use: staff, {{telegram: \"NID_BG 7; {VALUES}; {VALUES}\"}}]}}", f"{VALUES}; {VALUES}", VALUES),
+    ("two_groups_with_packets_41_in_one_event", [(4, "/steps/6/telegram", ["group 1/7 and group 1/8 close", "2 packets 41"])],
+     "{steps: [use: staff, {telegram: \"NID_BG 7, N_TOTAL 1, M_DUP 1, Q_LINK 0; 41: D_LEVELTR 32767, M_LEVELTR 2, L_ACKLEVELTR 0\"}, "
+     "{drive: 5 m at 10 km/h}, {telegram: \"NID_BG 8; 41: D_LEVELTR 32767, M_LEVELTR 2, L_ACKLEVELTR 0\"}]}",
+     "NID_BG 8; 41: D_LEVELTR 32767, M_LEVELTR 2, L_ACKLEVELTR 0", "NID_BG 8"),
+    # At 100 m the uncertainty is 500 + 10,000 / 20 cm.
+    ("a_fix_leaves_old_places", [(5, "/steps/6/telegram", ["group 1/8", "at 100 m", "from 10 m to 5 m", "restriction 1 of group 1/7"])],
+     "{steps: [use: staff, {telegram: \"NID_BG 7; 65: NID_TSR 1, D_TSR 50, L_TSR 100, Q_FRONT 1, V_TSR 7\"}, {drive: 100 m at 30 km/h}, "
+     "{telegram: \"NID_BG 8\"}]}", "NID_BG 7; 65", f"NID_BG 7; 5: {link(8, 100)}; 65"),
+    ("a_long_train_in_shunting", [(6, "/steps/7/driver", ["a train of 1200 m enters SH", "restriction 1;"])],
+     "{steps: [choose_level: 1, enter_identity: A, enter_train_data: {length: 1200 m, maximum: 160 km/h, deceleration: 0.7 m/s2}, start, "
+     "{telegram: \"NID_BG 7; 65: NID_TSR 1, D_TSR 0, L_TSR 2000, Q_FRONT 1, V_TSR 8\"}, {drive: 1500 m at 30 km/h}, {drive: 0 m at 0 km/h}, "
+     "choose_shunting]}", "1200 m", "1000 m"),
+    ("v_main_0_alone", [(7, "/steps/0/telegram", ["V_MAIN 0", "300 m ahead", "used in SB"])],
+     f"{{steps: [{full('').replace('V_MAIN 24', 'V_MAIN 0')}]}}", "V_MAIN 0", "V_MAIN 24"),
+    ("a_gap_between_areas", [(8, "/steps/0/telegram", ["150 m are left, from 150 m on"])], areas(50, 200), "D_MAMODE 200", "D_MAMODE 50"),
+    ("shunting_over_a_restriction", [(8, "/steps/4/telegram", ["restriction 1 of 20 km/h", "30 km/h"])],
+     "{steps: [use: shunting, {telegram: \"NID_BG 7; 65: NID_TSR 1, D_TSR 0, L_TSR 50, Q_FRONT 1, V_TSR 4\"}]}", "V_TSR 4", "V_TSR 6"),
+    ("shunting_with_a_slow_train", [(8, "/steps/3/driver", ["a train of 25 km/h", "30 km/h"])],
+     "{steps: [choose_level: 1, enter_identity: A, enter_train_data: {length: 200 m, maximum: 25 km/h, deceleration: 0.7 m/s2}, choose_shunting]}",
+     "25 km/h", "30 km/h"),
+    ("an_override_without_end", [(9, "/steps/4/telegram", ["T_NVOVTRP 255 of group 1/7"])],
+     f"{{steps: [use: staff, {{telegram: \"NID_BG 7; {VALUES.replace('T_NVOVTRP 60', 'T_NVOVTRP 255')}\"}}]}}", "T_NVOVTRP 255", "T_NVOVTRP 60"),
+    # At 350 m the maximum safe front is at 35,000 + 500 + 1,750 cm: the area at 400 m has been asked about since 300 m.
+    ("an_area_in_place_of_another", [(10, "/steps/6/telegram", ["On Sight area at 450 m", "the one at 400 m"])],
+     "{steps: [telegram: on_sight, use: level_1, start, {drive: 350 m at 20 km/h}, "
+     "{telegram: \"NID_BG 7; 80: D_MAMODE 100, M_MAMODE 0, V_MAMODE 6, L_MAMODE 300, L_ACKMAMODE 100\"}]}", "D_MAMODE 100,", "D_MAMODE 50,"),
+    # In 5 s a train runs 30,000 * 5 / 36 = 4,166 cm.
+    ("areas_within_5_s", [(8, "/steps/0/telegram", ["20 m are left"]), (11, "/steps/0/telegram", ["begin 40 m apart", "30 km/h"])],
+     areas(20, 40), "D_MAMODE 40", "D_MAMODE 20"),
+    ("areas_farther_apart", [(8, "/steps/0/telegram", ["22 m are left"])], areas(20, 42), "D_MAMODE 42", "D_MAMODE 20"),
+    ("backward_with_speed_0", [(12, "/steps/4/drive", ["1.5 m backward"])],
+     "{steps: [use: staff, {drive: -1.5 m at 0 km/h}]}", "at 0 km/h", "at 1 km/h"),
+    # (20,000 * 120,000 + 100,000,000) / 181,440 = 13,778.7 cm.
+    ("a_danger_point_within_the_margin", [(14, "/steps/0/telegram", ["lies 137 m behind", "120 km/h with 70 cm/s2", "137.79 m"])],
+     f"{{steps: [{full(', D_DP 137, V_RELEASEDP 126')}]}}", "D_DP 137", "D_DP 138"),
+    # 10 per mille downhill take 9.81 cm/s2, rounded up: 2,500,000,000 / (2,592 * 60) = 16,075.1, and in 1 s 10,000 / 36 = 277.8 cm.
+    ("a_margin_on_a_slope", [(14, "/steps/3/telegram", ["lies 163 m behind", "60 cm/s2 and 1000 ms", "163.54 m"])],
+     "{steps: [choose_level: 1, enter_identity: A, enter_train_data: {length: 200 m, maximum: 160 km/h, deceleration: 0.7 m/s2, reaction: 1 s}, "
+     "{telegram: \"NID_BG 2; 12: V_MAIN 24, L_ENDSECTION 300, D_DP 163, V_RELEASEDP 126; 21: D_GRADIENT 0, Q_GDIR 0, G_A 10; "
+     "27: D_STATIC 0, V_STATIC 24, Q_FRONT 1\"}]}", "D_DP 163", "D_DP 164"),
+    ("an_overlap_within_the_margin", [(14, "/steps/0/telegram", ["the overlap", "lies 100 m behind", "137.79 m"])],
+     f"{{steps: [{full(', D_STARTOL 0, T_OL 60, D_OL 100, V_RELEASEOL 3')}]}}", "D_OL 100", "D_OL 138"),
+    ("a_release_speed_above_v_loa", [(15, "/steps/0/telegram", ["danger point of group 1/2 is 40 km/h", "60 s", "V_LOA, 5 km/h"])],
+     f"{{steps: [{full(', D_DP 500, V_RELEASEDP 127').replace('V_MAIN 24', 'V_MAIN 24, V_LOA 1, T_LOA 60')}]}}", "V_RELEASEDP 127", "V_RELEASEDP 1"),
+    ("a_danger_point_behind_an_overlap", [(15, "/steps/0/telegram", ["60 s", "150 m at 40 km/h", "200 m at 15 km/h"])],
+     f"{{steps: [{full(', D_DP 150, V_RELEASEDP 8, D_STARTOL 0, T_OL 60, D_OL 200, V_RELEASEOL 3')}]}}", "V_RELEASEDP 8", "V_RELEASEDP 3"),
+    ("an_override_that_ends", [(15, "/steps/9/clock", ["from 30 km/h to 40 km/h"])],
+     f"{{steps: [{{telegram: \"NID_BG 9; {VALUES}\"}}, telegram: authority, use: level_1, start, {{drive: 0 m at 0 km/h}}, {{clock: 1 s}}, override, "
+     "{clock: 61 s}]}", "V_NVSTFF 8", "V_NVSTFF 6"),
+    # 500 + 150,000 / 20 = 8,000; twice that and 100,000,000 / 181,440 = 551.1 cm.
+    ("creeping_to_a_danger_point", [(16, "/steps/0/telegram", ["lies 165 m behind", "may be 80 m", "165.52 m"])],
+     f"{{steps: [{full(', D_DP 165, V_RELEASEDP 126', 1500)}]}}", "D_DP 165", "D_DP 166"),
+    # A group 100 m before the end, to 5 m: 500 + 500 + 10,000 / 20 = 1,500, and 2 * 1,500 + 552 cm.
+    ("creeping_behind_a_group", [(14, "/steps/0/telegram", ["35 m", "137.79 m"]), (16, "/steps/0/telegram", ["lies 35 m", "may be 15 m", "35.52 m"])],
+     f"{{steps: [{full(f', D_DP 35, V_RELEASEDP 126; 5: {link(3, 1400)}', 1500)}]}}", "D_DP 35", "D_DP 138"),
+    ("train_data_better_than_the_train", [(27, "/drive", ["70 cm/s2", "brakes with 60"])], drive("service: 0.6 m/s2"), "0.6 m/s2", "0.7 m/s2"),
+    ("a_reaction_that_is_not_entered", [(27, "/drive", ["0 ms", "500 ms", "within 1000 ms"])],
+     drive("service: 0.7 m/s2, reaction: 500 ms, build_up: 1 s"), ", reaction: 500 ms, build_up: 1 s", ""),
+    # The group is 21 m long: 2,100 - 500 - (10,000 + 2,100) / 20 = 995 cm.
+    ("a_group_longer_than_its_accuracy", [(31, "/steps/0/telegram", ["21 m long", "Q_LOCACC 9 m", "11.05 m, 9.95 m are left", "Q_LOCACC 21"])],
+     eight(9), "Q_LOCACC 9", "Q_LOCACC 21"),
+    ("a_group_that_a_wrong_odometer_misses", [(31, "/steps/0/telegram", ["21 m long", "Q_LOCACC 10 m", "reads too much", "Q_LOCACC 21"])],
+     eight(10), "Q_LOCACC 10", "Q_LOCACC 21"),
+    # 1,300 and the longest reading, 10,000 cm, are more than 63 m. With readings of 50 m they are just as much.
+    ("a_group_that_closes_by_the_path", [(31, "/steps/0/telegram", ["0 m long", "up to 113 m", "Q_LOCACC 63 m", "each 50 m"])],
+     "{groups: [{at: 100 m, balises: [\"NID_BG 3, N_TOTAL 1, M_DUP 1\"]}], "
+     f"steps: [{full(f'; 5: {link(3, 100, accuracy=63)}', 1500)}, {{drive: 50 m at 30 km/h}}, {{drive: 50 m at 30 km/h}}, {{drive: 100 m at 30 km/h}}]}}",
+     "{drive: 100 m at 30 km/h}", "{drive: 50 m at 30 km/h}"),
+    # At 1,000 m the uncertainty is 500 + 100,000 / 20 cm.
+    ("a_place_that_no_fix_moves", [(32, "/groups/0/balises/0", ["group 1/7", "restriction 1", "by 55 m", "group 1/4"])],
+     "{groups: [{at: 1000 m, balises: [\"NID_BG 7, Q_LINK 0; 65: NID_TSR 1, D_TSR 100, L_TSR 200, Q_FRONT 1, V_TSR 2\"]}, "
+     "{at: 1050 m, balises: [\"NID_BG 4\"]}], " f"steps: [{full(f'; 5: {link(7, 1000)}, {link(4, 50)}', 1500)}, {{drive: 1060 m at 5 km/h}}]}}",
+     "Q_LINK 0", "Q_LINK 1"),
+    # (50,000 ^ 2 - 20,000 ^ 2) / 181,440 = 11,574.1 cm.
+    ("a_restriction_in_staff_responsible", [(33, "/steps/4/telegram", ["restriction 1 at 100 m", "SR", "from 40 km/h to 20 km/h", "115.75 m"])],
+     "{steps: [use: staff, {telegram: \"NID_BG 7; 65: NID_TSR 1, D_TSR 100, L_TSR 50, Q_FRONT 1, V_TSR 4\"}, {drive: 120 m at 20 km/h}]}",
+     "V_TSR 4", "V_TSR 7"),
+    # (110,000 ^ 2 - 20,000 ^ 2) / 181,440 = 64,484.1 cm.
+    ("a_restriction_in_unfitted", [(33, "/steps/4/telegram", ["UN", "from 100 km/h to 20 km/h", "644.85 m"])],
+     "{steps: [use: unfitted, {telegram: \"NID_BG 7; 65: NID_TSR 1, D_TSR 100, L_TSR 50, Q_FRONT 1, V_TSR 4\"}, {drive: 120 m at 20 km/h}]}",
+     "V_TSR 4", "V_TSR 19"),
+    ("a_slow_shunting_area", [(35, "/steps/0/telegram", ["at 400 m", "V_MAMODE 10 km/h", "V_NVSHUNT, 30 km/h"])],
+     f"{{steps: [{full('; 80: D_MAMODE 400, M_MAMODE 1, V_MAMODE 2, L_MAMODE 300, L_ACKMAMODE 100', 1500)}]}}", "V_MAMODE 2", "V_MAMODE 6"),
+    ("an_odometer_beyond_the_formula", [(36, "/drive", ["94.9 %"])], drive("service: 0.7 m/s2, odometer: 94.9 %"), "94.9 %", "95 %"),
+    ("an_overlap_without_end", [(37, "/steps/0/telegram", ["T_OL 1023"])],
+     f"{{steps: [{full(', D_STARTOL 0, T_OL 1023, D_OL 200, V_RELEASEOL 3')}]}}", "T_OL 1023", "T_OL 60"),
+    ("a_slope_shorter_than_the_train", [(38, "/steps/0/telegram", ["-20 per mille over 199 m", "from 100 m", "a train of 200 m"])],
+     f"{{steps: [{full('', 500).replace('G_A 0', 'G_A 0, D_GRADIENT 100, Q_GDIR 0, G_A 20, D_GRADIENT 199, Q_GDIR 1, G_A 0')}]}}",
+     "D_GRADIENT 199", "D_GRADIENT 200"),
+    ("a_packet_3_of_an_installed_track", [("advice", "/steps/4/telegram", ["2 WrongLength"]), (39, "/steps/4/telegram", ["176 bits, and 147"])],
+     f'{{steps: [use: staff, {{telegram: "{INSTALLED}"}}]}}', INSTALLED, f"NID_BG 7; {VALUES}"),
+    ("an_authority_in_level_0", [(40, "/steps/4/telegram", ["group 1/7", "level 0"])],
+     f"{{steps: [use: unfitted, {{telegram: \"NID_BG 7; 12: V_MAIN 24, L_ENDSECTION 300; {PROFILE}\"}}]}}",
+     "NID_BG 7; ", "NID_BG 7; 41: D_LEVELTR 300, M_LEVELTR 2, L_ACKLEVELTR 0; "),
+    ("a_country_without_values", [(41, "/steps/5/telegram", ["group 2/9", "country 2", "for 1;"])],
+     f"{{steps: [use: staff, {{telegram: \"NID_BG 7; {VALUES}\"}}, {{telegram: \"NID_C 2, NID_BG 9\"}}]}}",
+     "D_VALIDNV 32767,", "D_VALIDNV 32767, NID_C 2,"),
+]
+
+
+def lab(env, *words, cwd=None):
+    """A run of `./lab lint`."""
+    return subprocess.run([TOP / "lab", "lint", *map(str, words)], capture_output=True, text=True, env=env, cwd=cwd)
+
+
+def found_in(env, *words):
+    """What a run finds, by the names of the cases."""
+    found = {}
+    done = lab(env, *words, "--json")
+    for line in done.stdout.splitlines():
+        told = json.loads(line)
+        found.setdefault(told["case"], []).append(told)
+    return found, done
+
+
+def is_told(told, wanted):
+    item, pointer, texts = wanted
+    said = json.dumps(told)
+    return told.get("safety", "advice") == item and told["pointer"] == pointer and all(text in said for text in texts)
+
+
+def check_rows(env, wrong):
+    """Each row finds what it has to and nothing else, and nothing once it is mended."""
+    with tempfile.TemporaryDirectory() as room:
+        shutil.copy(TOP / "suites/common.yaml", room)
+        text = []
+        for name, _, life, old, new in ROWS:
+            if life.count(old) < 1:
+                wrong.append(f"{name}: \"{old}\" isn't there")
+            for which, one in (("fault", life), ("mended", life.replace(old, new))):
+                text.append(HEAD.replace("NAME", f"{name}.{which}") + "  - " + one + "\n")
+        Path(room, "rows.case.yaml").write_text("---\n".join(text))
+        found, done = found_in(env, room)
+        if done.returncode != 1 or "fault of lab" in done.stderr:
+            wrong.append(f"status {done.returncode}: {done.stderr}")
+        for name, wanted, *_ in ROWS:
+            there = found.get(f"{name}.fault", [])
+            if len(there) != len(wanted) or not all(is_told(one, other) for one, other in zip(there, wanted)):
+                wrong.append(f"{name}: wanted {wanted}, found {there}")
+            if f"{name}.mended" in found:
+                wrong.append(f"{name}: mended, and there is {found[f'{name}.mended']}")
+            lines = {told["line"] for told in there}
+            at = [number for number, line in enumerate("---\n".join(text).splitlines(), 1) if line == f"test_case: {name}.fault"][0]
+            if any(not at < line < at + 30 for line in lines):
+                wrong.append(f"{name}: lines {lines}, and the case begins in {at}")
+
+
+SCENARIO = """{"groups": [],
+ "steps": [
+  {"driver": [1, "A"]}, {"driver": [4, 1]}, {"driver": [3, 20000, 160000, 70, 0, 15]}, {"driver": [6]},
+  {"drive": [-150, 0]},
+  {"driver": [7]}, {"driver": [7]}
+]}
+"""
+# Line and column of what is found in it: the backward reading, and the second choice of Shunting, which the first one left nothing of.
+PLACES = [("advice", 5, 31, "/steps/6/driver"), (12, 4, 13, "/steps/4/drive")]
+EXAMPLES = {
+    "power_cut/restart.json": [("advice", f"/steps/{number}/driver") for number in (1, 2, 3, 4)],  # a second life, judged as a first one
+    "staff_responsible/scenario.json": [(33, "/groups/0/balises/0")],
+    "trip/scenario.json": [("advice", "/steps/10/driver")],
+}
+
+
+def item_and_place(told):
+    return told.get("safety", "advice"), told["pointer"]
+
+
+def check_words(env, wrong):
+    """Places in JSON, faults first, what is left out, words of cases, and each status."""
+    def wanted(name, holds, done):
+        if not holds:
+            wrong.append(f"{name}: status {done.returncode}: {done.stdout} {done.stderr}")
+
+    with tempfile.TemporaryDirectory() as room:
+        path = Path(room, "s.json")
+        path.write_text(SCENARIO)
+        done = lab(env, "s.json", "--json", cwd=room)
+        told = [json.loads(line) for line in done.stdout.splitlines()]
+        wanted("places", [(one.get("safety", "advice"), one["line"], one["column"], one["pointer"]) for one in told] == PLACES
+               and done.returncode == 1 and all(one["file"] == "s.json" and one["case"] is None for one in told), done)
+        done = lab(env, "s.json", cwd=room)
+        wanted("lines", re.fullmatch(r"s.json:5:31: /steps/6/driver: the kernel doesn't accept .*\n"
+                                     r"s.json:4:13: SAFETY 12: /steps/4/drive: 1.5 m backward are read with speed 0, .*\. Do: .*\n", done.stdout), done)
+        done = lab(env, "s.json", "--without", "12", "--without", "advice", cwd=room)
+        wanted("without", (done.returncode, done.stdout) == (0, ""), done)
+        path.write_text(SCENARIO.replace("[-150, 0]", "[-15000, 0]"))
+        done = lab(env, "s.json", cwd=room)
+        wanted("faults first", done.returncode == 1 and done.stdout.startswith("s.json:4:13: /steps/4/drive: refused 3 OutOfRange; wanted: ")
+               and len(done.stdout.splitlines()) == 1, done)
+        path.write_text("{")
+        done = lab(env, "s.json", cwd=room)
+        wanted("no JSON", done.returncode == 1 and "refused 1 NotJson" in done.stdout, done)
+        for name, words, status in (("wrong item", ["s.json", "--without", "13"], 2), ("no word", [], 2), ("another word", ["s.json", "--jsn"], 2),
+                                    ("no file", ["t.json"], 3), ("an empty folder", ["empty"], 3)):
+            Path(room, "empty").mkdir(exist_ok=True)
+            done = lab(env, *words, cwd=room)
+            wanted(name, done.returncode == status and done.stderr and not done.stdout, done)
+        case = Path(room, "x.case.yaml")
+        shutil.copy(TOP / "suites/common.yaml", room)
+        text = HEAD.replace("NAME", "x") + "  - {steps: [use: staff, {drive: -1.5 m at 0 km/h}]}\n"
+        for shows, status, said in (("", 1, "SAFETY 12: "), ("shows: [12]\n", 0, ""), ("shows: [12, 33]\n", 1, "says that it shows 33, and nothing of it is found"),
+                                    ("shows: [0]\n", 1, None), ("shows: [all]\n", 1, None)):
+            case.write_text(shows + text)
+            done = lab(env, case.name, cwd=room)
+            wanted(f"a case with {shows!r}", done.returncode == status and (bool(done.stderr) and not done.stdout if said is None else (said in done.stdout) and
+                   bool(done.stdout) == bool(said)), done)
+        Path(room, "s.yaml").write_text("include: common.yaml\nsteps:\n  - use: staff\n  - drive: -1.5 m at 0 km/h\n")
+        done = lab(env, "s.yaml", cwd=room)
+        wanted("a scenario in YAML", done.returncode == 1 and done.stdout.startswith("s.yaml:4:5: SAFETY 12: /steps/4/drive: "), done)
+
+
+def check_own(env, wrong):
+    """Nothing in the suites and drives but what their cases say to show; of the examples what is told above."""
+    done = lab(env, TOP / "suites", TOP / "drives")
+    if done.returncode or done.stdout:
+        wrong.append(f"suites and drives: status {done.returncode}: {done.stdout} {done.stderr}")
+    done = lab(env, TOP / "examples", "--json")
+    found = {}
+    for line in done.stdout.splitlines():
+        told = json.loads(line)
+        found.setdefault(Path(told["file"]).relative_to(TOP / "examples").as_posix(), []).append(item_and_place(told))
+    if found != EXAMPLES:
+        wrong.append(f"examples: {found}")
+
+
+def main(etcs, lab_program):
+    env = {**os.environ, "GAKNIFUR_ETCS": str(Path(etcs).resolve()), "GAKNIFUR_ETCS_LAB": str(Path(lab_program).resolve())}
+    wrong = []
+    check_rows(env, wrong)
+    check_words(env, wrong)
+    check_own(env, wrong)
+    for one in wrong:
+        print(f"tests/suites/lint_rows.py: {one}")
+    items = {item for _, wanted, *_ in ROWS for item, *_ in wanted} - {"advice"}
+    untried = sorted(set(track_checks.ITEMS) - items)
+    cases = sum(path.read_text().count("test_case:") for folder in ("suites", "drives") for path in (TOP / folder).glob("*case.yaml"))
+    print(f"tests/suites/lint_rows.py: {len(ROWS)} tracks with a fault and mended, of {len(items)} items; untried items: {untried}; "
+          f"{cases} cases of suites and drives; {len(wrong)} wrong")
+    return 0 if not wrong and not untried and len(ROWS) >= LEAST_ROWS and len(items) >= LEAST_ITEMS and cases >= LEAST_CASES else 1
+
+
+if __name__ == "__main__":
+    sys.exit(main(*sys.argv[1:]))

@@ -28,4 +28,5 @@ export GAKNIFUR_ETCS_UNIT=$(realpath "$prefix")/lib/libetcs_unit.so
 status=0
 /usr/bin/python3 "$top/tests/suites/drive_rows.py" "$etcs" "$lab" || status=1
 ETCS=$etcs ETCS_LAB=$lab /usr/bin/python3 "$top/tests/pages.py" CLOSED_LOOP || status=1
+GAKNIFUR_ETCS=$etcs GAKNIFUR_ETCS_LAB=$lab "$top/lab" lint "$top/drives" || { status=1; echo "lab lint finds more in drives/ than the cases say to show"; }
 exit $status

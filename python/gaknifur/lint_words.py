@@ -17,6 +17,7 @@ from .located import Value, document
 from .messages import Known, walk
 from .program import DEVICE, REFUSED, Failed, Run
 from .reading import Json, Progress, parsed
+from .shown import shown
 from .track_checks import Finding, Judged
 
 Word = Callable[[str, str, str], argparse.ArgumentParser]
@@ -53,25 +54,33 @@ class Line:
         """The item that a case would say to show."""
         return str(self.said["safety"]) if "safety" in self.said else cases.ADVICE
 
+    @property
+    def place(self) -> Json:
+        """File, line and column."""
+        if self.at:
+            return {"file": str(self.at.path), "line": self.at.line, "column": self.at.column}
+        return {"file": str(self.subject.path), "line": self.said.get("line"), "column": self.said.get("column")}
+
     def for_people(self) -> str:
         """A line for people."""
-        place = f"{self.at.path}:{self.at.line}:{self.at.column}" if self.at else str(self.subject.path)
+        place = ":".join(str(one) for one in self.place.values() if one is not None)
         of_case = f"{self.subject.case}: " if self.subject.case else ""
-        return f"{place}: {of_case}{self.text}"
+        return f"{shown(place)}: {of_case}{shown(self.text)}"
 
     def as_json(self) -> str:
         """An object on a line."""
-        place: Json = {"file": str(self.at.path if self.at else self.subject.path), "line": self.at.line if self.at else None,
-                       "column": self.at.column if self.at else None, "case": self.subject.case, "life": self.life,
-                       "pointer": self.pointer}
-        return json.dumps(place | {name: value for name, value in self.said.items() if name not in place}, ensure_ascii=False)
+        told = self.place | {"case": self.subject.case, "life": self.life, "pointer": self.pointer}
+        return json.dumps(told | {name: value for name, value in self.said.items() if name not in told}, ensure_ascii=False)
 
 
 # ---- where
 
-def located(life: Life, pointer: str) -> Value | None:
-    """Where a pointer of a life leads: in the YAML, else in the JSON; None where that can't be read so."""
+def located(life: Life, pointer: str, is_told: bool = False) -> Value | None:
+    """Where a pointer of a life leads: in the YAML, else in the JSON; None where that can't be read so, or `etcs_lab lint` told
+    line and column."""
     if life.scenario is None:
+        if is_told:
+            return None
         assert life.path is not None
         try:
             return document(life.path).inner(pointer)
@@ -139,8 +148,8 @@ def lines_of(subject: Subject) -> Iterator[Line]:
         for told in advice(life):
             is_faulty = is_faulty or "fault" in told
             if not is_of_a_fresh_life(told, life, number):
-                yield Line(subject, number if subject.case else None, told["pointer"], located(life, told["pointer"]), told,
-                           advice_text(told))
+                yield Line(subject, number if subject.case else None, told["pointer"], located(life, told["pointer"], True),
+                           told, advice_text(told))
     if not is_faulty:
         yield from safety_of(subject, lives)
 

@@ -111,19 +111,26 @@ def timers_that_start_late(judged: Judged) -> Iterator[Finding]:
                           "send authorities with timers by groups that are whole at their last balise")
 
 
+def announced(judged: Judged, message: Message) -> Link | None:
+    """How a group was announced, also where that was missed while the group was being read."""
+    lost = {one.read.event: one.link for one in judged.walked.lost}
+    return message.link or next((lost[read.event] for read in message.reads if read.event in lost), None)
+
+
 @item(2)
 def lost_without_a_sign(judged: Judged) -> Iterator[Finding]:
     """A restriction that a broken group takes away without a sign."""
     for message in judged.walked.messages:
         there = sorted({packet.number for packet in message.own if packet.number in RESTRICTING})
         told = f"packet{'s' if len(there) > 1 else ''} {', '.join(map(str, there))}"
-        if there and message.is_linked and message.link is None and message.size > 1 and (
+        link = announced(judged, message)
+        if there and message.is_linked and link is None and message.size > 1 and (
                 message.is_broken or not message.before.links):
             yield Finding(2, message.pointer, f"group {message.name} of {message.size} balises has Q_LINK 1, isn't announced and sends "
                           f"{told}; where it is broken, that is lost without a brake or a sign",
                           "announce it with a reaction, or send it with Q_LINK 0")
-        if there and message.link and message.link.reaction == NONE:
-            yield Finding(2, message.link.pointer, f"group {message.name}, which sends {told}, is announced with Q_LINKREACTION 2; where "
+        if there and link and link.reaction == NONE:
+            yield Finding(2, link.pointer, f"group {message.name}, which sends {told}, is announced with Q_LINKREACTION 2; where "
                           "it is missed or broken, nothing brakes", "announce it with Q_LINKREACTION 1 or 0")
 
 
@@ -171,10 +178,9 @@ def announce_it(length_cm: int, longest_cm: int, is_by_path: bool) -> str:
 @item(31)
 def missed_while_it_is_read(judged: Judged) -> Iterator[Finding]:
     """An announced group that is longer than its accuracy."""
-    lost = {one.read.event: one.link for one in judged.walked.lost}
     longest = judged.walked.longest_cm
     for message in judged.walked.messages:
-        link = message.link or next((lost[read.event] for read in message.reads if read.event in lost), None)
+        link = announced(judged, message)
         if link is None or message.is_broken:
             continue
         is_by_path = bool(message.unread) or any(read.header["M_DUP"] for read in message.reads)

@@ -19,7 +19,7 @@ TOP = Path(__file__).resolve().parents[2]
 sys.path.insert(0, str(TOP / "python"))
 from gaknifur import track_checks  # noqa: E402
 
-LEAST_ROWS, LEAST_ITEMS, LEAST_CASES = 41, 26, 160
+LEAST_ROWS, LEAST_ITEMS, LEAST_CASES = 48, 26, 160
 HEAD = """test_case: NAME
 feature: Lint
 sections: [3.13]
@@ -176,6 +176,29 @@ ROWS = [
     ("a_country_without_values", [(41, "/steps/5/telegram", ["group 2/9", "country 2", "for 1;"])],
      f"{{steps: [use: staff, {{telegram: \"NID_BG 7; {VALUES}\"}}, {{telegram: \"NID_C 2, NID_BG 9\"}}]}}",
      "D_VALIDNV 32767,", "D_VALIDNV 32767, NID_C 2,"),
+    # Without a movement the uncertainty stays as it is; a restriction of 10 m ends before the minimum safe front, at 90 m.
+    ("a_fix_that_takes_no_uncertainty", [(5, "/steps/6/telegram", ["from 10 m to 5 m"])],
+     "{steps: [use: staff, {telegram: \"NID_BG 7; 65: NID_TSR 1, D_TSR 50, L_TSR 100, Q_FRONT 1, V_TSR 7\"}, {drive: 100 m at 30 km/h}, "
+     "{telegram: \"NID_BG 8\"}]}", "100 m at 30 km/h", "0 m at 0 km/h"),
+    ("a_fix_beyond_a_restriction", [(5, "/steps/6/telegram", ["restriction 1 of group 1/7"])],
+     "{steps: [use: staff, {telegram: \"NID_BG 7; 65: NID_TSR 1, D_TSR 50, L_TSR 100, Q_FRONT 1, V_TSR 7\"}, {drive: 100 m at 30 km/h}, "
+     "{telegram: \"NID_BG 8\"}]}", "L_TSR 100", "L_TSR 10"),
+    # Behind the only group that was announced a group of two balises counts as one that isn't.
+    ("a_group_behind_an_announced_one", [(2, "/groups/1/balises/0", ["group 1/7 of 2 balises"])],
+     "{groups: [{at: 100 m, balises: [\"NID_BG 3\"]}, {at: 103 m, spacing: 3 m, balises: [\"NID_BG 7, N_TOTAL 1, Q_LINK 1; 65: NID_TSR 1, D_TSR 0, "
+     "L_TSR 50, Q_FRONT 1, V_TSR 8\", \"NID_BG 7, N_PIG 1, N_TOTAL 1, Q_LINK 1\"]}], "
+     f"steps: [{full(f'; 5: {link(3, 100)}', 1500)}, {{drive: 110 m at 30 km/h}}]}}", "N_TOTAL 1, Q_LINK 1", "N_TOTAL 1, Q_LINK 0"),
+    ("an_area_that_a_mode_deleted", [(10, "/steps/6/telegram", ["On Sight area at 450 m"])],
+     "{steps: [telegram: on_sight, use: level_1, start, {drive: 350 m at 20 km/h}, "
+     "{telegram: \"NID_BG 7; 80: D_MAMODE 100, M_MAMODE 0, V_MAMODE 6, L_MAMODE 300, L_ACKMAMODE 100\"}]}",
+     "at 20 km/h}, ", "at 20 km/h}, {drive: 0 m at 0 km/h}, override, "),
+    # (20,000 * 60,000 + 100,000,000) / 181,440 = 7,164.9 cm.
+    ("a_margin_by_v_main", [(14, "/steps/0/telegram", ["from 60 km/h", "71.65 m"])],
+     f"{{steps: [{full(', D_DP 71, V_RELEASEDP 126').replace('V_MAIN 24', 'V_MAIN 12')}]}}", "D_DP 71", "D_DP 72"),
+    ("an_authority_that_is_not_used", [(14, "/steps/4/telegram", ["lies 50 m behind"])],
+     "{steps: [use: staff, {telegram: \"NID_BG 7; 12: V_MAIN 24, L_ENDSECTION 300, D_DP 50, V_RELEASEDP 126\"}]}", "use: staff", "use: shunting"),
+    ("a_v_loa_without_end", [(15, "/steps/0/telegram", ["V_LOA, 5 km/h"])],
+     f"{{steps: [{full(', D_DP 500, V_RELEASEDP 127').replace('V_MAIN 24', 'V_MAIN 24, V_LOA 1, T_LOA 60')}]}}", "T_LOA 60", "T_LOA 1023"),
 ]
 
 

@@ -1,9 +1,11 @@
 -- Blocks of an image beside what the kernel answers (this project's profile). Blocks are numbered from 1; lists of
--- blocks and of events have the newest first, records of a block the oldest.
-use Rattle.std.specs.Prelude.{◌≡◌, ℕ, ◌+◌, ◌-◌, ◌^◌, ◌<◌, ◌≤◌, List, [], ◌∷◌, length, Option, Some, None}
+-- blocks have the newest first, records of a block the oldest. It is said of each story that may stand before a life, of
+-- this unit's own events or not: whatever the head before it tells, there is one behind which just that is kept
+-- (`story_by`), so that a verdict on an altered head is one too.
+use Rattle.std.specs.Prelude.{◌≡◌, ℕ, ◌+◌, ◌-◌, ◌^◌, ◌<◌, ◌≤◌, List, [], ◌∷◌, length, Some}
 use Rattle.blocks.specs.declared.block.Block.{Block}
-use Rattle.events.specs.declared.input.Event.{Event}
 use Rattle.events.specs.declared.kept.Kept.{Kept}
+use Rattle.kernel.specs.Lives.{Story, number_at}
 use Rattle.mode_table.specs.declared.statuses.Cold.{Cold}
 use Rattle.replaying.specs.Comparing.{KeptDiffersIn}
 use Rattle.replaying.specs.Following.{behind, AreAnswers, IsFirst, IsBehind, head_behind}
@@ -11,43 +13,40 @@ use Rattle.replaying.specs.ReplayState.{ReplayState, StandsBehind}
 use Rattle.image_calls.specs.Images.{Holds}
 use Rattle.image_calls.specs.declared.images.Ring.{Ring}
 use Rattle.image_calls.specs.Links.{first_word}
-use Rattle.image_calls.specs.Runs.{AreHeld, events_of}
+use Rattle.image_calls.specs.Runs.{AreHeld, behind_all}
 use Rattle.image_calls.specs.declared.checking.Difference.{Difference}
 use Rattle.image_calls.specs.declared.checking.Difference.TheVariants as a_difference
 
--- behind these events the same is kept, as far as a power-up by this word leaves it, and they are as many
-abbrev pub IsBehindBy : Option Cold → Kept → List Event → Type 0
-IsBehindBy None kept events = ⊥
-IsBehindBy (Some word) kept events = IsBehind kept word events
-
--- each record of a block is the kernel's answer behind these events, and its head tells what the kernel keeps then
-abbrev pub Agrees : Block → List Event → Type 0
-Agrees b events = AreAnswers b.format events b.records.items × (b.kept ≡ head_behind b.format (behind b.records.items events))
+-- each record of a block is the kernel's answer behind this story, and its head tells what the kernel keeps then
+abbrev pub Agrees : Block → Story → Type 0
+Agrees b story = AreAnswers b.format story b.records.items × (b.kept ≡ head_behind b.format (behind b.records.items story))
 
 -- it is so of each, with those before it
-abbrev pub AllAgree : List Block → List Event → Type 0
-AllAgree [] events = Unit {0}
-AllAgree (b ∷ bs) events = AllAgree bs events × Agrees b (events_of bs events)
+abbrev pub AllAgree : List Block → Story → Type 0
+AllAgree [] story = Unit {0}
+AllAgree (b ∷ bs) story = AllAgree bs story × Agrees b (behind_all bs story)
 
 -- the first difference of a block: of its records, and then of its head
-abbrev pub DiffersAs : Difference → Block → List Event → Type 0
-DiffersAs (a_difference.Record found) b events = IsFirst b.format events b.records.items found.index found.field found.answer
-DiffersAs (a_difference.Head found) b events = AreAnswers b.format events b.records.items
-    × (found.kept ≡ head_behind b.format (behind b.records.items events)) × KeptDiffersIn found.field b.kept found.kept
+abbrev pub DiffersAs : Difference → Block → Story → Type 0
+DiffersAs (a_difference.Record found) b story = IsFirst b.format story b.records.items found.index found.field found.answer
+DiffersAs (a_difference.Head found) b story = AreAnswers b.format story b.records.items
+    × (found.kept ≡ head_behind b.format (behind b.records.items story)) × KeptDiffersIn found.field b.kept found.kept
 
 -- a record that differs is one of the block
 abbrev pub IsWithin : Difference → Block → Type 0
 IsWithin (a_difference.Record found) b = found.index < length b.records.items
 IsWithin (a_difference.Head found) b = Unit {0}
 
--- All blocks of a life agree, behind any events behind which the same was kept.
+-- All blocks of a life agree, which begins with a power-up by this word, behind any story behind which the same was kept.
 pub record AllAgreed (bytes : List ℕ) (ring : Ring) (first last : ℕ) (begin : Block) (kept : Kept) : Type 0 where
   pub walked : List Block
   pub held : AreHeld bytes ring last walked
   pub counted : first + length walked ≡ last + 1
-  pub agree : (p : List Event) → IsBehindBy (first_word begin.records.items) kept p → length (events_of walked p) < 2 ^ 64 → AllAgree walked p
+  pub word : Cold
+  pub word_is : first_word begin.records.items ≡ Some word
+  pub agree : (story : Story) → IsBehind kept word story → number_at (behind_all walked story) < 2 ^ 64 → AllAgree walked story
 
--- The blocks before this one agree, and it differs so.
+-- The blocks of such a life before this one agree, and it differs so.
 pub record FirstDiffers (bytes : List ℕ) (ring : Ring) (first last : ℕ) (begin : Block) (kept : Kept) (number : ℕ) (its : Block) (what : Difference) : Type 0 where
   pub from : first ≤ number
   pub within : number ≤ last
@@ -56,17 +55,19 @@ pub record FirstDiffers (bytes : List ℕ) (ring : Ring) (first last : ℕ) (beg
   pub before : List Block
   pub are_held : AreHeld bytes ring (number - 1) before
   pub counted : first + length before ≡ number
-  pub differs : (p : List Event) → IsBehindBy (first_word begin.records.items) kept p → length (events_of (its ∷ before) p) < 2 ^ 64
-      → AllAgree before p × DiffersAs what its (events_of before p)
+  pub word : Cold
+  pub word_is : first_word begin.records.items ≡ Some word
+  pub differs : (story : Story) → IsBehind kept word story → number_at (behind_all (its ∷ before) story) < 2 ^ 64
+      → AllAgree before story × DiffersAs what its (behind_all before story)
 
 -- ---- the same behind the first block of a life
 
--- All blocks behind the first one agree, behind any events behind which the replay stands.
+-- All blocks behind the first one agree, behind any story behind which the replay stands.
 pub record AllFollow (bytes : List ℕ) (ring : Ring) (first last : ℕ) (replay : ReplayState) : Type 0 where
   pub walked : List Block
   pub held : AreHeld bytes ring last walked
   pub counted : first + length walked ≡ last
-  pub agree : (s : List Event) → StandsBehind s replay → length (events_of walked s) < 2 ^ 64 → AllAgree walked s
+  pub agree : (story : Story) → StandsBehind story replay → number_at (behind_all walked story) < 2 ^ 64 → AllAgree walked story
 
 -- Those before this one agree, and it differs so.
 pub record OneDiffers (bytes : List ℕ) (ring : Ring) (first last : ℕ) (replay : ReplayState) (number : ℕ) (its : Block) (what : Difference) : Type 0 where
@@ -77,5 +78,5 @@ pub record OneDiffers (bytes : List ℕ) (ring : Ring) (first last : ℕ) (repla
   pub before : List Block
   pub are_held : AreHeld bytes ring (number - 1) before
   pub counted : first + length before + 1 ≡ number
-  pub differs : (s : List Event) → StandsBehind s replay → length (events_of (its ∷ before) s) < 2 ^ 64
-      → AllAgree before s × DiffersAs what its (events_of before s)
+  pub differs : (story : Story) → StandsBehind story replay → number_at (behind_all (its ∷ before) story) < 2 ^ 64
+      → AllAgree before story × DiffersAs what its (behind_all before story)

@@ -1,19 +1,19 @@
 -- Why an event was answered so, as C is told it (this project's profile). Events are numbered from 0, blocks from 1;
--- speeds are metres per hour, distances and places centimetres; lists of events have the newest first.
+-- speeds are metres per hour, distances and places centimetres; lists of blocks have the newest first.
 use Rattle.std.specs.Prelude.{◌≡◌, ◌⊎◌, ℕ, ◌+◌, ◌-◌, ◌^◌, min, nat_lt, if◌then◌else◌, List, [], ◌∷◌, length, take, Option, Some, None, is_some}
 use Rattle.blocks.specs.Codes.{brake_number}
 use Rattle.blocks.specs.declared.block.Block.{Block}
-use Rattle.events.specs.declared.input.Event.{Event}
 use Rattle.events.specs.declared.kept.Kept.{Kept}
 use Rattle.events.specs.declared.output.Output.{Output}
 use Rattle.examination.specs.Lost.{first_event_of}
 use Rattle.kernel.specs.Brake.{rolled_backward}
-use Rattle.kernel.specs.Lives.{life_of}
-use Rattle.kernel.specs.Output.{output_after}
+use Rattle.kernel.specs.Lives.{Story, past_at}
+use Rattle.kernel.specs.Output.{output_at}
 use Rattle.limit_causes.specs.Causes.{IsLimitCause}
 use Rattle.limit_causes.specs.declared.cause.LimitCause.{LimitCause}
 use Rattle.mode_control.specs.History.{tracks}
 use Rattle.mode_control.specs.Sentences.{values_of}
+use Rattle.mode_table.specs.declared.statuses.Cold.{Cold}
 use Rattle.reasons.specs.LimitWords.{limit_told}
 use Rattle.reasons.specs.Runs.{runs_of}
 use Rattle.reasons.specs.Told.{Reasoned}
@@ -32,7 +32,7 @@ use Rattle.image_calls.specs.Beginnings.{IsKeptBefore, IsUnknownBefore}
 use Rattle.image_calls.specs.Links.{first_word, Begins}
 use Rattle.image_calls.specs.KeptItems.{or_zero, flag_of}
 use Rattle.image_calls.specs.WhyNumbers.{place_or_zero, since_of, holds_of, trip_cause_told, trip_event_told, limit_number}
-use Rattle.image_calls.specs.Runs.{AreHeld, IsLeft, events_of, RanTo}
+use Rattle.image_calls.specs.Runs.{AreHeld, IsLeft, behind_all, RanTo}
 use Rattle.image_calls.specs.declared.telling.EtcsWhy.{EtcsWhy}
 
 -- as C sees it
@@ -57,15 +57,17 @@ why_with event output runs trip backward allowed speed limit = record {
   reserved = 0 ∷ 0 ∷ 0 ∷ 0 ∷ 0 ∷ [];
 }
 
--- the answer to the last of these events, which has this number, where this is told of what decides the limit
-abbrev pub why_of : ℕ → List Event → LimitTold → EtcsWhy
-why_of event events limit = why_with event (output_after events) (runs_of events) (trip_of events)
-    (min (rolled_backward (life_of events)) (2 ^ 64 - 1)) (values_of (life_of events)).roll (speed_of (tracks (life_of events).entries)) limit
+-- the answer to the last event of this story, which has this number, where this is told of what decides the limit
+abbrev pub why_of : ℕ → Story → LimitTold → EtcsWhy
+why_of event story limit =
+    let life = (past_at story).life in
+    why_with event (output_at story) (runs_of story) (trip_of story)
+    (min (rolled_backward life) (2 ^ 64 - 1)) (values_of life).roll (speed_of (tracks life.entries)) limit
 
--- all that is told is of these events
-abbrev pub TellsWhy : ℕ → List Event → EtcsWhy → Type 0
-TellsWhy event events told = (cause : LimitCause) × IsLimitCause (life_of events) (output_after events).limit cause
-    × (told ≡ why_of event events (limit_told (output_after events).limit cause))
+-- all that is told is of this story
+abbrev pub TellsWhy : ℕ → Story → EtcsWhy → Type 0
+TellsWhy event story told = (cause : LimitCause) × IsLimitCause (past_at story).life (output_at story).limit cause
+    × (told ≡ why_of event story (limit_told (output_at story).limit cause))
 
 -- the place of the record of this event in a block, from 0 on
 abbrev pub place_in : Block → ℕ → Option ℕ
@@ -91,8 +93,8 @@ pub record IsKnown (bytes : List ℕ) (ring : Ring) (number index : ℕ) (life :
   pub kept_is : IsKeptBefore bytes ring first (first_event_of begin) kept
   pub ran : RanTo bytes ring first number index begin kept life output
 
--- Why the record at this place of the block was answered so is told: said of any events behind which the same is kept as
--- before the life's power-up, and then those of the life's blocks up to the record.
+-- Why the record at this place of the block was answered so is told: said of any story behind which the same is kept as
+-- before the life's power-up, and then the events of the life's blocks up to the record.
 pub record Explained (bytes : List ℕ) (ring : Ring) (number index event : ℕ) (told : EtcsWhy) : Type 0 where
   pub first : ℕ
   pub begins : Begins bytes ring first number
@@ -105,8 +107,10 @@ pub record Explained (bytes : List ℕ) (ring : Ring) (number index event : ℕ)
   pub before : List Block
   pub are_held : AreHeld bytes ring (number - 1) before
   pub counted : first + length before ≡ number
-  pub so : (p : List Event) → IsLeft (first_word begin.records.items) kept p
-      → TellsWhy event (behind (take (index + 1) its.records.items) (events_of before p)) told
+  pub word : Cold
+  pub word_is : first_word begin.records.items ≡ Some word
+  pub so : (story : Story) → IsLeft word kept story
+      → TellsWhy event (behind (take (index + 1) its.records.items) (behind_all before story)) told
 
 -- it is told, or the life can't be run again, or memory was refused
 abbrev pub Explains : List ℕ → Ring → ℕ → ℕ → ℕ → EtcsWhy → EtcsWhy → Answer → Type 0

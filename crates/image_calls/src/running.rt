@@ -1,14 +1,15 @@
 //! A life that is run again over the blocks of an image.
-ghost use Rattle.std.specs.Prelude.{◌≡◌, ℕ, ◌+◌, ◌*◌, ◌<◌, ◌≤◌, List, length, take, IfOk, MatchOption};
+ghost use Rattle.std.specs.Prelude.{◌≡◌, ℕ, ◌+◌, ◌*◌, ◌<◌, ◌≤◌, List, length, Some, None, IfOk, MatchOption};
 ghost use Rattle.blocks.specs.FirstSector.{most_slots};
 ghost use Rattle.blocks.specs.Heads.{last_number};
 ghost use Rattle.blocks.specs.declared.block.Block.{Block};
-ghost use Rattle.events.specs.declared.input.Event.{Event};
+ghost use Rattle.kernel.specs.Lives.{Story};
+ghost use Rattle.mode_table.specs.declared.statuses.Cold.{Cold};
 ghost use Rattle.replaying.specs.Following.{behind};
 ghost use Rattle.image_calls.specs.ImageDisk.{sectors_in};
 ghost use Rattle.image_calls.specs.Images.{Holds};
 ghost use Rattle.image_calls.specs.Links.{first_word, GoesOn};
-ghost use Rattle.image_calls.specs.Runs.{AreHeld, IsLeft, events_of, IsAt};
+ghost use Rattle.image_calls.specs.Runs.{AreHeld, IsLeft, behind_all, IsAt};
 
 use crate::images::Ring;
 use crate::links::read;
@@ -25,7 +26,7 @@ pub(crate) fn follow_all(
     output: Output,
     records: &[BlockRecord],
 ) -> Result<Output, NoMemory>
-    ensures { IfOk result (λ last. (s : List Event) → IsAt s life.old output → IsAt (behind records.now s) life.new last) }
+    ensures { IfOk result (λ last. (story : Story) → IsAt story life.old output → IsAt (behind records.now story) life.new last) }
 {
     let Some((told, rest)) = records.split_first() else {
         return Ok(output);
@@ -42,7 +43,8 @@ pub(crate) fn begin_all(
     records: &[BlockRecord],
 ) -> Result<Option<(Reasoning, Output)>, NoMemory>
     ensures { IfOk result (λ it. MatchOption it (first_word records.now ≡ None)
-        (λ at. (p : List Event) → IsLeft (first_word records.now) kept.now p → IsAt (behind records.now p) at.0 at.1)) }
+        (λ at. (word : Cold) × (first_word records.now ≡ Some word)
+        × ((story : Story) → IsLeft word kept.now story → IsAt (behind records.now story) at.0 at.1))) }
 {
     let Some((told, rest)) = records.split_first() else {
         return Ok(None);
@@ -71,7 +73,7 @@ pub(crate) fn run_on(
     requires order { first ≤ last }
     requires held { (n : ℕ) → first < n → n ≤ last → GoesOn image.now ring n }
     ensures { IfOk result (λ it. (walked : List Block) × AreHeld image.now ring last walked × (first + length walked ≡ last)
-        × ((s : List Event) → IsAt s life.old output → IsAt (events_of walked s) life.new it)) }
+        × ((story : Story) → IsAt story life.old output → IsAt (behind_all walked story) life.new it)) }
 {
     let mut answer = output;
     let mut block = Block::blank();

@@ -1,7 +1,7 @@
 //! Why an event was answered so, as C gets it.
-ghost use Rattle.std.specs.Prelude.{◌≡◌, List};
-ghost use Rattle.events.specs.declared.input.Event.{Event};
-ghost use Rattle.kernel.specs.Output.{output_after};
+ghost use Rattle.std.specs.Prelude.{◌≡◌};
+ghost use Rattle.kernel.specs.Lives.{Story};
+ghost use Rattle.kernel.specs.Output.{output_at};
 ghost use Rattle.reasons.specs.Told.{Reasons};
 ghost use Rattle.image_calls.specs.Whys.{TellsWhy, why_with};
 
@@ -91,7 +91,7 @@ fn why_with(
 
 /// What a life tells of its last event, which has this number and this answer.
 pub(crate) fn why_told(event: u64, life: &Reasoning, output: Output) -> EtcsWhy
-    ensures { (events : List Event) → Reasons events life.now → output ≡ output_after events → TellsWhy event events result }
+    ensures { (story : Story) → Reasons story life.now → output ≡ output_at story → TellsWhy event story result }
 {
     let state = life.state();
     let cause = life.limit_cause();

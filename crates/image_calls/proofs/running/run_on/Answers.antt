@@ -1,11 +1,11 @@
 use Rattle.std.proofs.Common.{◌≡◌, ◌+◌, ◌-◌, ℕ, List, [], ◌∷◌, subst, arith}
 use Rattle.blocks.specs.declared.records.BlockRecord.{BlockRecord}
 use Rattle.replaying.specs.Following.{behind}
-use Rattle.image_calls.specs.Runs.{AreHeld, IsAt, events_of}
+use Rattle.image_calls.specs.Runs.{AreHeld, IsAt, behind_all}
 use Rattle.image_calls.proofs.running.run_on.Goals as goal
 
 pub loop-number-init : goal.loop-number-init
-loop-number-init c = record { walked = []; held = tt; counted = omega arith; at = λ s at. at }
+loop-number-init c = record { walked = []; held = tt; counted = omega arith; at = λ story at. at }
 
 pub read-requires-clause-held : goal.read-requires-clause-held
 read-requires-clause-held c =
@@ -20,6 +20,6 @@ loop-number-preserved c =
       walked = c.read.new.block ∷ before.walked;
       held = (c.read.ensures, subst (λ (n : ℕ). AreHeld c.args.image.now c.args.ring n before.walked) same before.held);
       counted = omega (arith, before.counted);
-      at = λ s is. subst (λ (rs : List BlockRecord). IsAt (behind rs (events_of before.walked s)) c.follow_all.new.life c.in_ok-answer.answer) c.as_slice.ensures.value
-          (c.in_ok-answer.ensures (events_of before.walked s) (before.at s is));
+      at = λ story is. subst (λ (rs : List BlockRecord). IsAt (behind rs (behind_all before.walked story)) c.follow_all.new.life c.in_ok-answer.answer) c.as_slice.ensures.value
+          (c.in_ok-answer.ensures (behind_all before.walked story) (before.at story is));
     }

@@ -1,22 +1,24 @@
 use Rattle.std.proofs.Common.{◌∙◌, ap, sym, subst}
 use Rattle.events.specs.declared.output.Output.{Output}
-use Rattle.kernel.specs.StandsFor.{StandsFor}
+use Rattle.kernel.specs.Lives.{past_at}
+use Rattle.kernel.specs.StandsFor.{StandsAt}
 use Rattle.reasons.specs.LimitWords.{limit_told}
 use Rattle.track_store.specs.Segments.{profile_kept}
 use Rattle.image_calls.specs.Whys.{why_with}
 use Rattle.image_calls.proofs.telling.why_told.Goals as goal
 
 pub returns : goal.returns
-returns c = λ events stands output.
-    let knows = subst (λ k. StandsFor profile_kept profile_kept k events) (sym c.state-state.ensures) stands.knows in
+returns c = λ story stands output.
+    let life = (past_at story).life in
+    let knows = subst (λ k. StandsAt profile_kept profile_kept k (past_at story)) (sym c.state-state.ensures) stands.knows in
     let cause = c.limit_cause-cause.result in
-    let runs = c.runs.ensures events stands in
-    let trip = c.trip.ensures events stands in
-    let backward = c.rolled_backward.ensures events knows in
-    let allowed = c.allowed_backward.ensures events knows in
-    let speed = c.speed.ensures events knows in
+    let runs = c.runs.ensures story stands in
+    let trip = c.trip.ensures story stands in
+    let backward = c.rolled_backward.ensures life knows.life_is in
+    let allowed = c.allowed_backward.ensures life knows.life_is in
+    let speed = c.speed.ensures life knows.life_is in
     let limit = c.limit_told.ensures ∙ ap (λ (o : Output). limit_told o.limit cause) output in (
       cause,
-      c.limit_cause-cause.ensures events stands,
+      c.limit_cause-cause.ensures story stands,
       c.why_with.ensures ∙ (λ i. why_with c.args.event (output i) (runs i) (trip i) (backward i) (allowed i) (speed i) (limit i)),
     )

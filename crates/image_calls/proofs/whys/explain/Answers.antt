@@ -18,6 +18,8 @@ returns c =
         before = known.ran.before;
         are_held = known.ran.are_held;
         counted = known.ran.counted;
-        so = λ p left. c.why_told.ensures _ (known.ran.at p left).0 (known.ran.at p left).1;
+        word = known.ran.word;
+        word_is = known.ran.word_is;
+        so = λ story left. c.why_told.ensures _ (known.ran.at story left).0 (known.ran.at story left).1;
       },
     )

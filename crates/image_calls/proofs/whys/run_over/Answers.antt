@@ -1,10 +1,10 @@
-use Rattle.std.proofs.Common.{◌+◌, List, [], ◌∷◌, ◌++◌, take, subst, sym, arith}
+use Rattle.std.proofs.Common.{◌∙◌, ◌+◌, List, [], ◌∷◌, ◌++◌, take, ap, subst, sym, arith}
 use Rattle.blocks.specs.declared.records.BlockRecord.{BlockRecord}
-use Rattle.events.specs.declared.input.Event.{Event}
+use Rattle.kernel.specs.Lives.{Story}
 use Rattle.image_calls.specs.Links.{first_word}
 use Rattle.replaying.specs.Following.{behind}
-use Rattle.image_calls.specs.Runs.{IsAt, IsLeft}
-use Rattle.image_calls.proofs.Walked.{events_before, held_before, length_before}
+use Rattle.image_calls.specs.Runs.{IsAt}
+use Rattle.image_calls.proofs.Walked.{behind_before, held_before, length_before}
 use Rattle.image_calls.proofs.whys.run_over.Goals as goal
 
 pub returns : goal.returns
@@ -18,11 +18,12 @@ returns c =
       before = ran.1 ++ begin ∷ [];
       are_held = held_before _ _ _ c.args.first ran.1 begin ran.3 c.requires.begun ran.4;
       counted = omega (arith, c.requires.order, ran.4, length_before ran.1 begin);
-      at = λ p left.
-          let kept = subst (λ (rs : List BlockRecord). IsLeft (first_word rs) c.args.kept.now p) (sym c.as_slice.ensures.value) left in
-          let at = subst (λ (rs : List BlockRecord). IsAt (behind rs p) c.in-Some.begun.0 c.in-Some.begun.1) c.as_slice.ensures.value (begun p kept) in
-          subst (λ (s : List Event). IsAt (behind (take (c.args.index + 1) ran.0.records.items) s) c.run_rest.new.life c.in_ok-last.last) (sym (events_before ran.1 begin p))
-          (ran.5 (behind begin.records.items p) at);
+      word = begun.0;
+      word_is = sym (ap first_word c.as_slice.ensures.value) ∙ begun.1;
+      at = λ story left.
+          let at = subst (λ (rs : List BlockRecord). IsAt (behind rs story) c.in-Some.begun.0 c.in-Some.begun.1) c.as_slice.ensures.value (begun.2 story left) in
+          subst (λ (s : Story). IsAt (behind (take (c.args.index + 1) ran.0.records.items) s) c.run_rest.new.life c.in_ok-last.last) (sym (behind_before ran.1 begin story))
+          (ran.5 (behind begin.records.items story) at);
     }
 
 pub returns-in_default : goal.returns-in_default

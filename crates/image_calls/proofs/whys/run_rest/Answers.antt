@@ -1,7 +1,7 @@
 use Rattle.std.proofs.Common.{List, subst, arith}
 use Rattle.blocks.specs.declared.records.BlockRecord.{BlockRecord}
 use Rattle.replaying.specs.Following.{behind}
-use Rattle.image_calls.specs.Runs.{IsAt, events_of}
+use Rattle.image_calls.specs.Runs.{IsAt, behind_all}
 use Rattle.image_calls.proofs.whys.run_rest.Goals as goal
 
 pub read-requires-clause-held : goal.read-requires-clause-held
@@ -17,6 +17,6 @@ returns c =
       c.read.ensures,
       ran.1,
       ran.2,
-      λ s is. subst (λ (rs : List BlockRecord). IsAt (behind rs (events_of ran.0 s)) c.follow_all.new.life c.in_ok-last-2.last) c.up_to.ensures
-          (c.in_ok-last-2.ensures (events_of ran.0 s) (ran.3 s is)),
+      λ story is. subst (λ (rs : List BlockRecord). IsAt (behind rs (behind_all ran.0 story)) c.follow_all.new.life c.in_ok-last-2.last) c.up_to.ensures
+          (c.in_ok-last-2.ensures (behind_all ran.0 story) (ran.3 story is)),
     )

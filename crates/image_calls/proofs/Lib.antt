@@ -1,4 +1,5 @@
 pub mod Checked
+pub mod Counting
 pub mod Places
 pub mod Reading
 pub mod Refusing

@@ -1,5 +1,5 @@
 -- Blocks that were walked over, with one before them.
-use Rattle.std.proofs.Common.{◌≡◌, ℕ, suc, ◌+◌, ◌-◌, ◌≤◌, List, [], ◌∷◌, ◌++◌, length, take, refl, ap, sym, arith, subst}
+use Rattle.std.proofs.Common.{◌≡◌, ℕ, suc, ◌+◌, ◌-◌, List, [], ◌∷◌, ◌++◌, length, take, refl, ap, sym, arith, subst}
 use Rattle.blocks.specs.declared.block.Block.{Block}
 use Rattle.blocks.specs.declared.records.BlockRecord.{BlockRecord}
 use Rattle.kernel.specs.Lives.{Story, onward, number_at}
@@ -39,10 +39,6 @@ first_taken [] k =
 first_taken (told ∷ rest) k =
     let one : k + 1 ≡ suc k = omega arith in
     ap (λ (n : ℕ). first_word (take n (told ∷ rest))) one
-
-pub number_grows : (walked : List Block) (story : Story) → number_at story ≤ number_at (behind_all walked story)
-number_grows [] story = omega arith
-number_grows (b ∷ bs) story = omega (arith, number_grows bs story, behind_number b.records.items (behind_all bs story))
 
 pub agree_before : (walked : List Block) (first : Block) (story : Story) → AllAgree walked (behind first.records.items story) → Agrees first story
     → AllAgree (walked ++ first ∷ []) story

@@ -44,7 +44,7 @@ pub record AllAgreed (bytes : List ℕ) (ring : Ring) (first last : ℕ) (begin 
   pub counted : first + length walked ≡ last + 1
   pub word : Cold
   pub word_is : first_word begin.records.items ≡ Some word
-  pub agree : (story : Story) → IsBehind kept word story → number_at (behind_all walked story) < 2 ^ 64 → AllAgree walked story
+  pub agree : (story : Story) → IsBehind kept word story → AllAgree walked story
 
 -- The blocks of such a life before this one agree, and it differs so.
 pub record FirstDiffers (bytes : List ℕ) (ring : Ring) (first last : ℕ) (begin : Block) (kept : Kept) (number : ℕ) (its : Block) (what : Difference) : Type 0 where
@@ -57,8 +57,7 @@ pub record FirstDiffers (bytes : List ℕ) (ring : Ring) (first last : ℕ) (beg
   pub counted : first + length before ≡ number
   pub word : Cold
   pub word_is : first_word begin.records.items ≡ Some word
-  pub differs : (story : Story) → IsBehind kept word story → number_at (behind_all (its ∷ before) story) < 2 ^ 64
-      → AllAgree before story × DiffersAs what its (behind_all before story)
+  pub differs : (story : Story) → IsBehind kept word story → AllAgree before story × DiffersAs what its (behind_all before story)
 
 -- ---- the same behind the first block of a life
 

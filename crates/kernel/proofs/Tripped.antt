@@ -1,8 +1,7 @@
 -- An event has a cause of a trip exactly where it enters Trip.
-use Rattle.std.proofs.Common.{◌≡◌, Bool, true, false, not, ◌&&◌, cond, refl, sym, ◌∙◌, List, ◌∷◌}
+use Rattle.std.proofs.Common.{◌≡◌, Bool, true, false, not, ◌&&◌, cond, refl, sym, ◌∙◌}
 use Rattle.std.specs.Prelude.{is_some, None, Some, unwrap_or}
 use Rattle.units.specs.Stretches.{Span}
-use Rattle.events.specs.declared.input.Event.{Event}
 use Rattle.events.specs.declared.input.Event.TheVariants.{PowerUp, Input}
 use Rattle.mode_table.specs.declared.mode.Mode.{Mode}
 use Rattle.mode_table.specs.declared.mode.Mode.TheVariants.{FullSupervision, OnSight, StaffResponsible, Shunting, Unfitted, StandBy, Trip, PostTrip, SystemFailure}
@@ -11,7 +10,7 @@ use Rattle.mode_table.specs.Rows.{next_mode}
 use Rattle.mode_control.specs.Conditions.{conditions}
 use Rattle.mode_control.specs.History.{mode_of}
 use Rattle.mode_control.specs.Life.{Life, grown}
-use Rattle.mode_control.specs.Sentences.{changed, train_in}
+use Rattle.mode_control.specs.Sentences.{train_in}
 use Rattle.mode_control.specs.Tripping.{row_where, seen_by}
 use Rattle.kernel.specs.Lives.{life_of}
 use Rattle.kernel.specs.Trips.{TripsHaveCauses}

@@ -17,7 +17,7 @@ MODES = {Mode.FULL_SUPERVISION: "FS", Mode.ON_SIGHT: "OS", Mode.STAFF_RESPONSIBL
          Mode.UNFITTED: "UN", Mode.STAND_BY: "SB", Mode.TRIP: "TR", Mode.POST_TRIP: "PT", Mode.SYSTEM_FAILURE: "SF"}
 BEFORE = Output(0, Mode.STAND_BY, Level.INVALID, Brake.EMERGENCY, 0, Indication.NOT_REVALIDATED)
 """What holds until the first output: the power-up's is never released."""
-BRAKES = {Brake.NONE: "none", Brake.SERVICE: "service", Brake.EMERGENCY: "emergency"}
+BRAKES = {brake: brake.name.lower() for brake in Brake}
 CM_PER_S = 36
 """One cm/s is so many m/h."""
 CONFIRMS = {1: Action.CONFIRM_IDENTITY, 2: Action.CONFIRM_RUNNING_NUMBER, 3: Action.CONFIRM_TRAIN_DATA, 4: Action.CONFIRM_LEVEL}

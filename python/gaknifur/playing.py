@@ -15,9 +15,10 @@ from .driving import Driven
 from .mode_rows import Table
 from .program import REFUSED, Failed
 from .reading import Journal, Json, read
+from .unit import Indication
 
 RELEASED = re.compile(r"event (\d+) mode (\w\w) level (\d|-) brake (\w+) limit (\d+) ind (\d+)")
-BITS = {"on_sight": 1, "shunting": 2, "level_0": 4, "trip": 8, "overridden": 16, "not_revalidated": 32, "overspeed": 64}
+BITS = {name.lower(): int(sign) for name, sign in Indication.__members__.items()}
 
 
 Keep = Callable[[bytes], None]

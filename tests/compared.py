@@ -35,7 +35,8 @@ class Compared:
 
 
 def run(program, words, text=None, **how):
-    """What a program prints, what it says, and its status; `text` stands on its standard input, and the program may have words of its own."""
+    """What a program prints, what it says, and its status; `text` stands on its standard input, and the program may
+    have words of its own."""
     first = program if isinstance(program, (list, tuple)) else [program]
     given = {"stdin": subprocess.DEVNULL} if text is None else {"input": text.encode()}
     try:
@@ -47,7 +48,8 @@ def run(program, words, text=None, **how):
 
 def status_of_full(program, words):
     """The status of a program that can't write what it prints, since the device is full."""
-    return run(["sh", "-c", 'exec "$@" >/dev/full', "sh", *(program if isinstance(program, (list, tuple)) else [program])], words)[2]
+    first = program if isinstance(program, (list, tuple)) else [program]
+    return run(["sh", "-c", 'exec "$@" >/dev/full', "sh", *first], words)[2]
 
 
 def loaded(text):

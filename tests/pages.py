@@ -1,12 +1,13 @@
 #!/usr/bin/env python3
-"""Runs the commands of pages of docs/ in their order, each page in a folder of its own, and compares what each prints, on both streams, with what
-stands below it.
+"""Runs the commands of pages of docs/ in their order, each page in a folder of its own, and compares what each prints,
+on both streams, with what stands below it.
 
     tests/pages.py [--write] PAGE..    as LABORATORY. With --write what is printed takes the place of what stands there
 
-A command stands after `$ `, indented by four or in a block of `console`; lines after `> `, or after a backslash, go on with it. A block of C or Python
-becomes the file of the HOME that the line above it names. The folder has what the repository has at its top, and as ./etcs and ./etcs_lab the
-programs that $ETCS and $ETCS_LAB name, else those of the gate.
+A command stands after `$ `, indented by four or in a block of `console`; lines after `> `, or after a backslash, go on
+with it. A block of C or Python becomes the file of the HOME that the line above it names. The folder has what the
+repository has at its top, and as ./etcs and ./etcs_lab the programs that $ETCS and $ETCS_LAB name, else those of the
+gate.
 """
 import os
 import re
@@ -16,8 +17,9 @@ import tempfile
 from pathlib import Path
 
 TOP = Path(__file__).resolve().parents[1]
-PROGRAMS = {name: Path(os.environ.get(name.upper()) or TOP / f"crates/{name}/out/{name}").resolve() for name in ("etcs", "etcs_lab")}
-COMMANDS = {"INVESTIGATING": 38, "LABORATORY": 27, "TESTING_A_TRAIN": 49, "CLOSED_LOOP": 13, "EMBEDDING": 17}
+PROGRAMS = {name: Path(os.environ.get(name.upper()) or TOP / f"crates/{name}/out/{name}").resolve()
+            for name in ("etcs", "etcs_lab")}
+COMMANDS = {"INVESTIGATING": 38, "LABORATORY": 28, "TESTING_A_TRAIN": 49, "CLOSED_LOOP": 13, "EMBEDDING": 17}
 """How many commands a page has, at least."""
 COMMAND = re.compile(r"^(    |)\$ ((?:.*\\\n)*.*\n(?:\1> .*\n)*)((?:(?!\1\$ |```)\1.*\n)*)", re.MULTILINE)
 FILE = re.compile(r"`~/([\w.]+)`:\n+```(?:c|python)\n(.*?)^```$", re.DOTALL | re.MULTILINE)
@@ -46,8 +48,8 @@ class Page:
         """Runs a command, and answers it with what it prints."""
         indent, words, wanted = found.groups()
         command = re.sub(rf"^{indent}> ", "", words, flags=re.MULTILINE)
-        done = subprocess.run(["bash", "-c", command], cwd=self.room, env=self.environment, stdin=subprocess.DEVNULL, capture_output=True,
-                              text=True, timeout=300)
+        done = subprocess.run(["bash", "-c", command], cwd=self.room, env=self.environment, stdin=subprocess.DEVNULL,
+                              capture_output=True, text=True, timeout=300)
         printed = (done.stdout + done.stderr).replace(str(self.home), "~").replace(f"{self.room}/", "")
         printed = "".join(f"{indent}{line}".rstrip() + "\n" for line in printed.splitlines())
         self.compared += 1

@@ -1,7 +1,7 @@
 """Balise telegrams as the plain kernel uses them (SUBSET-026, chapters 7 and 8; packet 3 in this project's order).
 
-`read(data)` gives the telegram that some bytes carry, or None where they carry none. Each value is the number that stands in
-the bits (`decoded.py`); what it means is said where it is used.
+`read(data)` gives the telegram that some bytes carry, or None where they carry none. Each value is the number that
+stands in the bits (`decoded.py`); what it means is said where it is used.
 """
 from dataclasses import dataclass, field
 from types import SimpleNamespace
@@ -61,7 +61,8 @@ def national_values(fields, packet):
         "V_NVSHUNT V_NVSTFF V_NVONSIGHT V_NVUNFIT V_NVREL")
     packet.roll, packet.override_allowed, packet.override_speed, packet.override_distance = fields.all(
         "D_NVROLL V_NVALLOWOVTRP V_NVSUPOVTRP D_NVOVTRP")
-    packet.override_time_s, packet.staff_responsible_distance = fields.all("T_NVOVTRP D_NVSTFF")  # 255 and 32767 have no end
+    # 255 and 32767 have no end
+    packet.override_time_s, packet.staff_responsible_distance = fields.all("T_NVOVTRP D_NVSTFF")
 
 
 def link(fields):
@@ -69,7 +70,8 @@ def link(fields):
     country, = fields.optional("Q_NEWCOUNTRY", "NID_C") or (None,)  # else that of the element before
     number, nominal, reaction, accuracy_m = fields.all("NID_BG Q_LINKORIENTATION Q_LINKREACTION Q_LOCACC")
     # (nominal: 1; reaction: 0 trip, 1 service brake, 2 none)
-    return SimpleNamespace(distance=distance, country=country, number=number, nominal=nominal, reaction=reaction, accuracy_m=accuracy_m)
+    return SimpleNamespace(distance=distance, country=country, number=number, nominal=nominal, reaction=reaction,
+                           accuracy_m=accuracy_m)
 
 
 def linking(fields, packet):
@@ -78,7 +80,9 @@ def linking(fields, packet):
 
 def section(fields, name="L_SECTION"):
     """A section with its timer: its time in seconds, and where it stops behind the section's entry."""
-    return SimpleNamespace(length=fields.take(name), timer=fields.optional("Q_SECTIONTIMER", "T_SECTIONTIMER D_SECTIONTIMERSTOPLOC"))
+    length = fields.take(name)
+    timer = fields.optional("Q_SECTIONTIMER", "T_SECTIONTIMER D_SECTIONTIMERSTOPLOC")
+    return SimpleNamespace(length=length, timer=timer)
 
 
 def authority(fields, packet):
@@ -88,7 +92,8 @@ def authority(fields, packet):
     packet.end_timer = fields.optional("Q_ENDTIMER", "T_ENDTIMER D_ENDTIMERSTARTLOC")
     packet.danger_point = fields.optional("Q_DANGERPOINT", "D_DP V_RELEASEDP")
     overlap = fields.optional("Q_OVERLAP", "D_STARTOL T_OL D_OL V_RELEASEOL")
-    packet.overlap = SimpleNamespace(**dict(zip(("start", "time_s", "distance", "release"), overlap))) if overlap else None
+    names = "start", "time_s", "distance", "release"
+    packet.overlap = SimpleNamespace(**dict(zip(names, overlap))) if overlap else None
 
 
 def gradient(fields):
@@ -123,7 +128,8 @@ def level_transition(fields, packet):
 
 
 def restriction(fields, packet):
-    packet.number, packet.start, packet.length, packet.front, packet.speed = fields.all("NID_TSR D_TSR L_TSR Q_FRONT V_TSR")
+    packet.number, packet.start, packet.length, packet.front, packet.speed = fields.all(
+        "NID_TSR D_TSR L_TSR Q_FRONT V_TSR")
 
 
 def revocation(fields, packet):

@@ -313,7 +313,7 @@ class Table:
 
 
 def settings_of() -> dict[str, str]:
-    """The programs, by their SHA-256. A script that would compile the sources for each call is refused."""
+    """The programs, by their SHA-256. One that is neither named nor proved is refused."""
     found = {}
     for name in ("etcs", "etcs_lab"):
         path = program.built(name)

@@ -1,22 +1,17 @@
 """The programs `etcs_lab` and `etcs`. No other module starts a process.
 
 `$GAKNIFUR_ETCS_LAB` and `$GAKNIFUR_ETCS` name the programs. Without them the scripts of this repository are asked, once
-a process, whether there is a proved program of these sources: then that is run. Else the scripts are, which compile the
-sources at each call and say that a run isn't of the proved build.
+a process, whether there is a proved program of these sources: then that is run. Else the one is that a script compiles of
+the sources, unproved, and keeps; it says so on standard error.
 """
 import functools
 import os
-import re
-import shutil
 import subprocess
-import sys
 import tempfile
 from collections.abc import Iterator, Sequence
 from pathlib import Path
 
 WHOLE, REFUSED, WRONG_WORDS, DEVICE, NOT_WHOLE = range(5)
-UNPROVED = "this run is not of the proved build"
-told_once: set[str] = set()
 
 
 class Failed(Exception):
@@ -44,75 +39,33 @@ def proved(script: Path) -> Path | None:
     return script.parent / "crates" / script.name / "out" / script.name
 
 
+@functools.cache
+def tried(script: Path) -> Path:
+    """The program that a script compiles of the sources, unproved, where it hasn't done so before. It says so on standard
+    error."""
+    done = subprocess.run([script, "--tried"], stdin=subprocess.DEVNULL, stdout=subprocess.PIPE)
+    if done.returncode:
+        raise Failed(f"there is no {script.name} that can be run", DEVICE)
+    return Path(os.fsdecode(done.stdout.removesuffix(b"\n")))
+
+
 def find(name: str = "etcs_lab") -> str:
-    """The path of a program; of its script, where there is none."""
+    """The path of a program."""
     if told := os.environ.get(f"GAKNIFUR_{name.upper()}"):
         return told
-    return str(proved(script(name)) or script(name))
+    return str(proved(script(name)) or tried(script(name)))
 
 
-def is_built(name: str) -> bool:
-    """Whether a program is there already. Where it isn't, its script compiles the sources at each call."""
+def is_proved(name: str) -> bool:
+    """Whether a program is named, or there is a proved one of these sources."""
     return bool(os.environ.get(f"GAKNIFUR_{name.upper()}")) or proved(script(name)) is not None
 
 
 def built(name: str) -> Path:
-    """The file of a program that is there already. A script that would compile the sources at each call is refused."""
-    if not is_built(name):
+    """The file of a program that is named or proved. Another one is refused."""
+    if not is_proved(name):
         raise Failed(f"there is no proved {name} of these sources; ./{name} --prove makes it", REFUSED)
     return Path(find(name))
-
-
-def note_slow(name: str) -> None:
-    """Says once, before its first call, that a program isn't there, and that each call will compile the sources."""
-    if name not in told_once:
-        told_once.add(name)
-        if not is_built(name):
-            print(f"lab: there is no proved {name} of these sources, so each call of it compiles them, for about a minute; "
-                  f"./{name} --prove makes it once", file=sys.stderr)
-
-
-def note_unproved(said: Sequence[str]) -> None:
-    """Says once that a run wasn't of the proved build."""
-    for line in said:
-        if UNPROVED in line and line not in told_once:
-            told_once.add(line)
-            print(line, file=sys.stderr)
-
-
-prepared: dict[tuple[str, ...], tuple[int, list[str], list[str]]] = {}
-"""Of words of `etcs_lab` that it was run on beforehand, the status, the lines that it printed, and what it said."""
-CASE = re.compile(r"case=(\d+) run=ended status=(\d+) .*")
-
-
-def prepare(image: Path, runs: Sequence[Sequence[str]]) -> None:
-    """Where `etcs_lab` would be compiled at each call, compiles it once and runs it on all these words. A run that doesn't
-    come to its end is left to a call of its own."""
-    if is_built("etcs_lab") or shutil.which("rt") is None or "\n" in str(image.absolute()):
-        return
-    words = [(*one, "--", str(image.absolute())) for one in runs]
-    with tempfile.TemporaryDirectory() as room:
-        for number, one in enumerate(words, 1):
-            Path(room, f"{number}.args").write_bytes(os.fsencode("".join(f"{word}\n" for word in one)))
-            Path(room, str(number)).touch()
-        done = subprocess.run(["rt", "try", "--cases", room], cwd=Path(find()).parent / "crates" / "etcs_lab", stdin=subprocess.DEVNULL,
-                              capture_output=True, text=True, encoding="utf-8", errors="replace")
-    printed: dict[str, list[str]] = {}
-    lines: list[str] = []
-    for line in done.stdout.splitlines():
-        if line.startswith("== "):
-            lines = printed.setdefault(line.removeprefix("== "), [])
-        else:
-            lines.append(line)
-    said: list[str] = []
-    for line in done.stderr.splitlines():
-        if line.startswith("etcs_lab: "):
-            said.append(line)
-        elif found := CASE.fullmatch(line):
-            prepared[words[int(found[1]) - 1]] = int(found[2]), printed.get(found[1], []), said
-        if line.startswith("case="):
-            said = []
-    note_unproved([f"etcs_lab: {UNPROVED}, which ./etcs_lab --prove makes"])
 
 
 class Run:
@@ -126,11 +79,6 @@ class Run:
 
     def lines(self) -> Iterator[str]:
         """The lines of standard output."""
-        if found := prepared.pop(tuple(self.words[1:]), None):
-            self.status, printed, self.said = found
-            yield from printed
-            return
-        note_slow("etcs_lab")
         with tempfile.TemporaryFile() as errors:
             try:
                 with subprocess.Popen(self.words, stdin=subprocess.DEVNULL, stdout=subprocess.PIPE, stderr=errors,
@@ -142,7 +90,6 @@ class Run:
                 raise Failed(f"{self.words[0]}: {error.strerror}", DEVICE) from error
             errors.seek(0)
             self.said = os.fsdecode(errors.read()).split("\n")[:-1]
-        note_unproved(self.said)
 
     def last_said(self) -> str:
         """The last line on standard error, without the program's name and the image."""
@@ -158,14 +105,12 @@ class Run:
 def etcs(*words: str) -> tuple[int, list[str]]:
     """The status of a run of `etcs`, and the lines that it prints."""
     path = find("etcs")
-    note_slow("etcs")
     try:
         done = subprocess.run([path, *words], stdin=subprocess.DEVNULL, capture_output=True, text=True, encoding="utf-8",
                               errors="replace")
     except OSError as error:
         raise Failed(f"{path}: {error.strerror}", DEVICE) from error
     said = done.stderr.splitlines()
-    note_unproved(said)
     printed = done.stdout.splitlines()
     if not printed and (done.returncode < 0 or done.returncode > DEVICE):
         raise Failed(f"etcs {words[0]} ended with status {done.returncode}{': ' + said[-1] if said else ''}", REFUSED)

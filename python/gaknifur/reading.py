@@ -6,7 +6,7 @@ from dataclasses import dataclass, field
 from pathlib import Path
 from typing import Any
 
-from .program import DEVICE, NOT_WHOLE, REFUSED, WHOLE, Failed, Run, prepare
+from .program import DEVICE, NOT_WHOLE, REFUSED, WHOLE, Failed, Run
 from .shown import shown
 
 Json = dict[str, Any]
@@ -199,7 +199,6 @@ def read(path: str | Path, other_blocks: bool = False, replay: bool = False, why
     if not path.exists():
         raise Failed(f"{path}: there is no such file", DEVICE)
     progress("examination", 0, 0)
-    prepare(path, [["examine", "--json"], listing(other_blocks, strays), *([["replay", "--json"]] if replay else []), *([["why", "--json"]] if why else [])])
     journal = Journal(path, examine(path))
     tell_events(journal, other_blocks, strays, progress)
     if replay and journal.refusal is None:

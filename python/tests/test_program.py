@@ -1,15 +1,13 @@
 """Reading what a stand-in of `etcs_lab` prints."""
 import hashlib
-import io
 import json
 import os
 import tempfile
 import unittest
-from contextlib import redirect_stderr
 from pathlib import Path
 from unittest.mock import patch
 
-from gaknifur.program import Failed, Run, built, etcs, prepare
+from gaknifur.program import Failed, built, etcs
 from gaknifur.reading import Journal, read
 
 from .samples import journal, line, record
@@ -93,33 +91,28 @@ class Reading(unittest.TestCase):
 
 
 class Unproved(unittest.TestCase):
-    """A script that would compile the sources at each call."""
+    """A script that compiles the sources, since no program is proved."""
 
-    def test_is_compiled_once(self) -> None:
+    def test_is_asked_once_a_process(self) -> None:
         with tempfile.TemporaryDirectory() as folder:
             top = Path(folder)
-            (top / "crates" / "etcs_lab").mkdir(parents=True)
-            for name, text in (("etcs_lab", "#!/bin/sh\nexit 1\n"), ("rt", RT)):
-                (top / name).write_text(text)
-                (top / name).chmod(0o755)
-            image = top / "image"
-            with patch.dict(os.environ, {"PATH": f"{top}:{os.environ['PATH']}"}), patch("gaknifur.program.find", lambda: str(top / "etcs_lab")), \
-                    patch("gaknifur.program.is_built", lambda name: False), redirect_stderr(io.StringIO()):
-                prepare(image, [["examine", "--json"], ["events"], ["replay"]])
-                first, second = Run(["examine", "--json"], image), Run(["events"], image)
-                self.assertEqual((list(first.lines()), first.status), (["{1}"], 0))
-                self.assertEqual((list(second.lines()), second.status, second.last_said()), (["{2}", "{3}"], 4, "lost"))
-                # the third did not come to its end: it is run by itself
-                third = Run(["replay"], image)
-                self.assertEqual((list(third.lines()), third.status), ([], 1))
+            for path, text in ((top / "etcs", f"#!/bin/sh\necho \"$@\" >>{top}/asked\n[ \"$1\" = --tried ] && echo {top}/compiled\n"),
+                               (top / "compiled", "#!/bin/sh\necho ran \"$@\"\n")):
+                path.write_text(text)
+                path.chmod(0o755)
+            with patch.dict(os.environ), patch("gaknifur.program.script", lambda name: top / name):
+                os.environ.pop("GAKNIFUR_ETCS", None)
+                self.assertEqual([etcs("decode", str(number)) for number in range(3)], [(0, [f"ran decode {number}"]) for number in range(3)])
+                self.assertRaisesRegex(Failed, "no proved etcs", built, "etcs")
+            self.assertEqual((top / "asked").read_text(), "--is-proved\n--tried\n")
 
-    def test_is_told_once(self) -> None:
-        said = io.StringIO()
-        with patch("gaknifur.program.told_once", set()), patch("gaknifur.program.find", lambda name: "/bin/echo"), \
-                patch("gaknifur.program.is_built", lambda name: False), redirect_stderr(said):
-            self.assertEqual([etcs("a"), etcs("b")], [(0, ["a"]), (0, ["b"])])
-        self.assertEqual(said.getvalue(), "lab: there is no proved etcs of these sources, so each call of it compiles them, for about "
-                         "a minute; ./etcs --prove makes it once\n")
+    def test_that_compiles_nothing(self) -> None:
+        with tempfile.TemporaryDirectory() as folder, patch.dict(os.environ), \
+                patch("gaknifur.program.script", lambda name: Path(folder, name)):
+            os.environ.pop("GAKNIFUR_ETCS", None)
+            Path(folder, "etcs").write_text("#!/bin/sh\nexit 2\n")
+            Path(folder, "etcs").chmod(0o755)
+            self.assertRaisesRegex(Failed, "no etcs that can be run", etcs, "decode", "90")
 
 
 class Proved(unittest.TestCase):
@@ -138,18 +131,6 @@ class Proved(unittest.TestCase):
                 self.assertEqual([etcs("decode", str(number)) for number in range(3)], [(0, [f"ran decode {number}"]) for number in range(3)])
                 self.assertEqual(built("etcs"), top / "crates/etcs/out/etcs")
             self.assertEqual((top / "asked").read_text(), "--is-proved\n")
-
-
-RT = """#!/bin/sh
-[ "$1 $2" = "try --cases" ] && [ "$(sed -n 3p "$3/1.args")" != "" ] || exit 9
-printf '== 1\n{1}\n== 2\n{2}\n{3}\n== 3\n{4}\n'
-cat 1>&2 <<'END'
-case=1 run=ended status=0 runners=1 proved=no
-etcs_lab: lost
-case=2 run=ended status=4 runners=1 proved=no
-case=3 run=no-answer proved=no
-END
-"""
 
 
 if __name__ == "__main__":

@@ -1,21 +1,19 @@
 -- What is put of a telegram, part after part, spells it.
-use Rattle.std.proofs.Common.{◌≡◌, ℕ, ◌/◌, ◌%◌, ◌^◌, ◌<◌, ◌≤◌, Bool, false, List, [], ◌∷◌, ◌++◌, length, take, replicate, refl, sym, ap, ◌∙◌, arith, length-append}
+use Rattle.std.proofs.Common.{◌≡◌, ℕ, ◌/◌, ◌%◌, ◌^◌, ◌<◌, ◌≤◌, Bool, false, List, [], ◌∷◌, ◌++◌, length, take, replicate, refl, sym, ap, ◌∙◌, arith}
 use Rattle.std.proofs.lemmas.List.{take_at}
 use Rattle.std.proofs.lemmas.Nat.{div-add-mod'}
 use Rattle.bits.specs.Bits.{bits_of, number_bits}
 use Rattle.bits.specs.Layout.{Spells}
 use Rattle.bits.specs.Names.{name_text}
-use Rattle.bits.proofs.Bytes.{length-bits_of}
 use Rattle.bits.proofs.Numbers.{number_bits-low}
 use Rattle.packets.specs.declared.packet.Packet.{Packet}
 use Rattle.serde_json.specs.Data.{unsigned, Data, number}
 use Rattle.serde_json.specs.Find.{get}
 use Rattle.std.specs.Prelude.{Some}
-use Rattle.telegram.specs.Sequences.{length_of_all}
 use Rattle.telegram.specs.Telegrams.{header, Carries, SpellsPackets, SpellsTelegram}
 use Rattle.telegram.specs.declared.header.Header.{Header}
 use Rattle.telegram.specs.declared.message.Telegram.{Telegram}
-use Rattle.telegram.proofs.Lengths.{found-header, next_is_packet, end_mark, length-telegram}
+use Rattle.telegram.proofs.Lengths.{found-header, next_is_packet, end_mark}
 use Rattle.decoding.specs.Fields.{header_fields}
 use Rattle.telegram_objects.specs.Fields.{fields_bits, fields_size}
 use Rattle.telegram_objects.specs.Laying.{Lays, SameVariables}

@@ -20,7 +20,8 @@ fn life_of(alloc: Global, scenario: &Scenario) -> Result<PlayedLife, ScenarioFau
 // Says the fault of a scenario, as `etcs run` does.
 fn refused<R: Eprint>(rt: &R, path: &str, fault: ScenarioFault) -> Status {
     let number = fault.number();
-    let _ = eprintln!(rt; "etcs_lab: {path}: refused {number} {fault}");
+    let name = path.escape_debug();
+    let _ = eprintln!(rt; "etcs_lab: {name}: refused {number} {fault}");
     Status::Refused
 }
 

@@ -30,9 +30,10 @@ impl Status {
     }
 }
 
-/// Says on standard error what failed.
+/// Says on standard error what failed. Signs of a name that can't be seen are escaped.
 pub(crate) fn fail<R: Eprint>(rt: &R, what: &str, path: &str, status: Status) -> Status {
-    let _ = eprintln!(rt; "etcs_lab: {path}: {what}");
+    let name = path.escape_debug();
+    let _ = eprintln!(rt; "etcs_lab: {name}: {what}");
     status
 }
 

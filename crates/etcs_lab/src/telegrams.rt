@@ -35,7 +35,8 @@ fn refused<R: Eprint>(rt: &R, path: &str, fault: &ObjectFault) -> Status {
     if let Reason::NoMemory = fault.reason {
         return no_memory(rt, path);
     }
-    let _ = eprintln!(rt; "etcs_lab: {path}: {fault}");
+    let name = path.escape_debug();
+    let _ = eprintln!(rt; "etcs_lab: {name}: {fault}");
     Status::Refused
 }
 

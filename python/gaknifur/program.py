@@ -95,7 +95,8 @@ class Run:
         """The last line on standard error, without the program's name and the image."""
         if not self.said:
             return f"etcs_lab ended with status {self.status}"
-        return self.said[-1].removeprefix("etcs_lab: ").removeprefix(f"{self.image}: ")
+        escaped = self.image.translate({ord(sign): f"\\{sign}" for sign in "\\'\""})
+        return self.said[-1].removeprefix("etcs_lab: ").removeprefix(f"{escaped}: ")
 
     def failed(self, image: Path) -> Failed:
         """The error of a run that didn't do what was asked."""

@@ -81,6 +81,12 @@ class Reading(unittest.TestCase):
         self.says("examine", [{}], 1, f"etcs_lab: {self.image}: is not a formatted image\n")
         self.assertRaisesRegex(Failed, "image: is not a formatted image$", self.read)
 
+    def test_a_name_with_signs_that_are_escaped(self) -> None:
+        self.image = self.image.with_name("it's")
+        self.image.write_bytes(b"image")
+        self.says("examine", [{}], 1, f"etcs_lab: {self.image.parent}/it\\'s: is not a formatted image\n")
+        self.assertRaisesRegex(Failed, "/it's: is not a formatted image$", self.read)
+
     def test_a_file_that_changes(self) -> None:
         self.image.write_bytes(b"other")
         self.assertRaisesRegex(Failed, "changed while it was read", self.read)

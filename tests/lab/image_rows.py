@@ -119,6 +119,8 @@ def compare_files(program, etcs, room, compared):
     for word in ("examine", "events", "replay", "check", "why"):
         for path, sentence in kinds:
             compared.same(f"{word} {path}", run(program, [word, path], **nobody), ("", f"etcs_lab: {path}: {sentence}\n", 3))
+        compared.same(f"{word} of a name with signs that can't be seen", run(program, [word, "a\u202e\n\x1b[31m"]),
+                      ("", "etcs_lab: a\\u{202e}\\n\\u{1b}[31m: there is no such file\n", 3))
         with open(good, "rb") as held:
             fcntl.flock(held, fcntl.LOCK_EX)
             compared.same(f"{word} of a locked file", run(program, [word, str(good)]), ("", f"etcs_lab: {good}: another program writes it\n", 3))

@@ -1,6 +1,6 @@
 #!/usr/bin/env python3
 """The checks of `./lab lint`: each finds a planted fault on a small track, with numbers that were worked out by hand, and nothing on the
-same track mended; what else the word prints, and its status; and what it finds in the suites, drives and examples.
+same track mended; what else the word prints, and its status; and what it finds in the suites and examples.
 
     tests/suites/lint_rows.py ETCS ETCS_LAB
 
@@ -19,7 +19,7 @@ TOP = Path(__file__).resolve().parents[2]
 sys.path.insert(0, str(TOP / "python"))
 from gaknifur import track_checks  # noqa: E402
 
-LEAST_ROWS, LEAST_ITEMS, LEAST_CASES = 48, 26, 180
+LEAST_ROWS, LEAST_ITEMS, LEAST_CASES = 48, 26, 178
 HEAD = """test_case: NAME
 feature: Lint
 sections: [3.13]
@@ -314,10 +314,11 @@ def check_words(env, wrong):
 
 
 def check_own(env, wrong):
-    """Nothing in the suites and drives but what their cases say to show; of the examples what is told above."""
-    done = lab(env, TOP / "suites", TOP / "drives")
+    """Nothing in the suites but what their cases say to show; of the examples what is told above. Those of drives/ take the unit's library: tests/drive.sh
+    looks at them."""
+    done = lab(env, TOP / "suites")
     if done.returncode or done.stdout:
-        wrong.append(f"suites and drives: status {done.returncode}: {done.stdout} {done.stderr}")
+        wrong.append(f"suites: status {done.returncode}: {done.stdout} {done.stderr}")
     done = lab(env, TOP / "examples", "--json")
     found = {}
     for line in done.stdout.splitlines():
@@ -337,9 +338,9 @@ def main(etcs, lab_program):
         print(f"tests/suites/lint_rows.py: {one}")
     items = {item for _, wanted, *_ in ROWS for item, *_ in wanted} - {"advice"}
     untried = sorted(set(track_checks.ITEMS) - items)
-    cases = sum(path.read_text().count("test_case:") for folder in ("suites", "drives") for path in (TOP / folder).glob("*case.yaml"))
+    cases = sum(path.read_text().count("test_case:") for path in (TOP / "suites").glob("*case.yaml"))
     print(f"tests/suites/lint_rows.py: {len(ROWS)} tracks with a fault and mended, of {len(items)} items; untried items: {untried}; "
-          f"{cases} cases of suites and drives; {len(wrong)} wrong")
+          f"{cases} cases of suites; {len(wrong)} wrong")
     return 0 if not wrong and not untried and len(ROWS) >= LEAST_ROWS and len(items) >= LEAST_ITEMS and cases >= LEAST_CASES else 1
 
 

@@ -226,7 +226,13 @@ def seeds(r):
     yield [*ENTERED, *told, "flush"]
     for reaction in (0, 1_000):
         yield [*track(restricted=RESTRICTIONS, speeds=25, grades=25, reaction=reaction), "clock 1000"]
-    for _ in range(BATCH - 5):
+    for grades, step, reaction in ((660, 2, 0), (600, 1, 10_000), (480, 3, 1_000)):
+        yield [*backwards(RESTRICTIONS, grades, step, reaction), "odometer 1 50000"]
+    yield [*backwards(RESTRICTIONS, 660), "clock 1000"]
+    yield [*backwards(RESTRICTIONS, 600), "flush"]
+    for reaction in (0, 10_000):
+        yield [*backwards(RESTRICTIONS, 630, 2, reaction, turns=True), "odometer 1 50000"]
+    for _ in range(BATCH - 12):
         yield [*ENTERED, *(telegram(r) for _ in range(r.randrange(1, 8))), "action 7", *(any_line(r) for _ in range(r.randrange(4, 20)))]
 
 
@@ -540,6 +546,31 @@ def track(restricted=0, speeds=1, grades=1, reaction=0):
         lines.append(heard(5 + first // 10, [(65, [*whole, ("NID_TSR", 255), ("D_TSR", 2 + 2 * at), ("L_TSR", 1), ("Q_FRONT", 0),
                                                    ("V_TSR", 29 - at % 2)]) for at in range(first, min(restricted, first + 10))]))
     return [*lines, "action 7", "odometer 1 50000", "odometer 1 50000", "odometer 1 50000"]
+
+
+def backwards(restricted, grades, step=2, reaction=0, turns=False):
+    """Full Supervision with brakes that hardly act, so many gradients ahead, one every so many metres, and so many restrictions: stops behind
+    them, one every metre, told from the farthest to the nearest; or by turns one such and one before all gradients, each 5 km/h slower."""
+    def heard(group, packets):
+        return ("telegram", dict(zip(HEADER, (0, 0, 0, 255, 1, group, 1))), packets)
+    whole = [("Q_DIR", 2), ("Q_SCALE", 1)]
+    lines = [*ENTERED, f"train 20000 160000 1 {reaction} 15"]
+    lines.append(heard(2, [(12, [*whole, ("V_MAIN", 120), ("V_LOA", 0), ("T_LOA", 1023), ("N_ITER", 0), ("L_ENDSECTION", 32_767),
+                                 ("Q_SECTIONTIMER", 0), ("Q_ENDTIMER", 0), ("Q_DANGERPOINT", 0), ("Q_OVERLAP", 0)]),
+                           (27, whole + listed([[("D_STATIC", 0), ("V_STATIC", 120), ("Q_FRONT", 0), ("N_ITER", 0)]]))]))
+    firsts, restrictions = range(0, grades, 30), range(0, restricted, 10)
+    for group, first in enumerate(firsts, 3):
+        lines.append(heard(group, [(21, whole + listed([[("D_GRADIENT", first * step if at == first else step), ("Q_GDIR", 1), ("G_A", at % 2)]
+                                                        for at in range(first, min(grades, first + 30))]))]))
+    for group, first in enumerate(restrictions, 3 + len(firsts)):
+        lines.append(heard(group, [restricted_at(whole, grades * step + restricted - at, 0) if at % 2 or not turns else
+                                   restricted_at(whole, 1 + restricted - at, max(1, 31 - at // 2))
+                                   for at in range(first, min(restricted, first + 10))]))
+    return [*lines, "action 7", "odometer 1 50000", "odometer 1 50000"]
+
+
+def restricted_at(head, metres, speed):
+    return (65, [*head, ("NID_TSR", 255), ("D_TSR", metres), ("L_TSR", 1), ("Q_FRONT", 0), ("V_TSR", speed)])
 
 
 def more():

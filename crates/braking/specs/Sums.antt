@@ -13,6 +13,10 @@ abbrev pub ActsBy : ℤ → ℕ → ℤ → ℤ → ℕ → Type 0
 ActsBy front reaction to place speed =
     (front +ℤ pos (reaction_way reaction speed)) <ℤ to → (front +ℤ pos (reaction_way reaction speed)) ≤ℤ place
 
+-- .. at each speed up to one
+abbrev pub ActsUpTo : ℤ → ℕ → ℤ → ℤ → ℕ → Type 0
+ActsUpTo front reaction to place speed = (v : ℕ) → v ≤ speed → ActsBy front reaction to place v
+
 -- a stretch begins where the brakes act at a speed, and ends at a target, or before it where it takes off enough
 pub record IsSummedBefore (front : ℤ) (gradient : ℤ → Option ℤ) (brakes : Brakes) (target : Target) (speed : ℕ) (sum : Summed) : Type 0 where
   pub summed : IsSummed gradient brakes.deceleration sum

@@ -126,9 +126,9 @@ impl<'a, P: Profile<Permille>> Approach<'a, P> {
         self.keep(sum);
     }
 
-    // Whether the speed so far fits a target, as is known without a sum: it is no greater than the target's, or the
-    // train can stop before it.
-    fn surely_fits(&self, target: &Target) -> bool
+    /// Whether the speed so far fits a target, as is known without a sum: it is no greater than the target's, or the
+    /// train can stop before it.
+    pub fn surely_fits(&self, target: &Target) -> bool
         ensures fits { IsTrue result → IsTrue (fits self.now.front (P.value self.now.gradient) self.now.brakes target.now self.now.speed) }
         ensures braking { result ≡ false → target.now.speed < self.now.speed }
     {
@@ -141,12 +141,12 @@ impl<'a, P: Profile<Permille>> Approach<'a, P> {
         }
     }
 
-    // Keeps what was summed, and where the train can stop by that.
+    // Keeps what was summed last, and where the train can stop by that.
     fn keep(&mut self, sum: Summed)
         requires { IsSummed (P.value self.old.gradient) self.old.brakes.deceleration sum }
         ensures { self.new ≡ self.old }
     {
-        self.summed = self.summed.farther(sum);
+        self.summed = sum;
         if stops_within(self.front, self.speed, self.brakes, &sum) {
             self.stop = Some(sum.to);
         }

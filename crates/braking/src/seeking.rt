@@ -1,7 +1,7 @@
 //! The search for the greatest speed that fits a target.
 ghost use Rattle.std.specs.Prelude.{◌≡◌, ◌+◌, ◌-◌, ◌^◌, ◌<◌, ◌≤◌, true, false, MatchOption};
 ghost use Rattle.braking.specs.Braking.{fits, greatest, IsSummed};
-ghost use Rattle.braking.specs.Sums.{ActsBy, IsSummedWhole, IsRoot};
+ghost use Rattle.braking.specs.Sums.{ActsUpTo, IsSummedWhole, IsRoot};
 
 use crate::Target;
 use crate::speeds::{brakes_act, lacking, summed_before};
@@ -63,7 +63,8 @@ fn sought<P: Profile<Permille>>(
     halved(front, low, high, limit, target, gradient, brakes, sum)
 }
 
-// The greatest speed that fits a target, between one that fits and one that doesn't.
+// The greatest speed that fits a target, between one that fits and one that doesn't. What is summed from where the brakes
+// act at the least speed that is known not to fit is carried on, so that the gradients behind aren't gone through again.
 fn halved<P: Profile<Permille>>(
     front: Cm,
     low: Mph,
@@ -82,17 +83,21 @@ fn halved<P: Profile<Permille>>(
 {
     let mut low = low;
     let mut high = high;
+    let mut sum = *sum;
     while let Some(middle) = halfway(low, high) {
-        if fits_before(front, middle, target, gradient, brakes, sum) {
+        let (fits, begun) = fits_before(front, middle, target, gradient, brakes, &sum);
+        if fits {
             low = middle;
         } else {
             high = middle;
+            sum = begun;
         }
     }
     low
 }
 
-// Whether a speed fits a target, where it is known what the last stretch before the target takes off.
+// Whether a speed fits a target, where it is known what the last stretch before the target takes off; and what the
+// stretch takes off that begins where the brakes act at that speed, if that is before the target.
 fn fits_before<P: Profile<Permille>>(
     front: Cm,
     speed: Mph,
@@ -100,20 +105,23 @@ fn fits_before<P: Profile<Permille>>(
     gradient: &P,
     brakes: &Brakes,
     sum: &Summed,
-) -> bool
+) -> (bool, Summed)
     requires summed { IsSummed (P.value gradient.now) brakes.now.deceleration sum.now }
     requires to { sum.now.to ≡ target.now.place }
-    requires acts { ActsBy front brakes.now.reaction target.now.place sum.now.from speed }
-    ensures { result ≡ fits front (P.value gradient.now) brakes.now target.now speed }
+    requires acts { ActsUpTo front brakes.now.reaction target.now.place sum.now.from speed }
+    ensures fits { result.0 ≡ fits front (P.value gradient.now) brakes.now target.now speed }
+    ensures summed { IsSummed (P.value gradient.now) brakes.now.deceleration result.1 }
+    ensures to { result.1.to ≡ target.now.place }
+    ensures acts { ActsUpTo front brakes.now.reaction target.now.place result.1.from speed }
 {
     if speed <= target.speed {
-        return true;
+        return (true, *sum);
     }
     match brakes_act(front, reaction_way(brakes.reaction, speed), target.place) {
-        None => false,
+        None => (false, *sum),
         Some(start) => {
-            let sum = sum.begun(gradient, brakes.deceleration, start);
-            lacking(speed, target.speed) <= sum.taken_off
+            let begun = sum.begun(gradient, brakes.deceleration, start);
+            (lacking(speed, target.speed) <= begun.taken_off, begun)
         }
     }
 }

@@ -99,12 +99,4 @@ impl Summed {
             near: self.near,
         }
     }
-
-    /// The one of the two that goes farther ahead.
-    pub fn farther(self, other: Summed) -> Summed
-        ensures { (gradient : ℤ → Option ℤ) → (deceleration : ℕ) → IsSummed gradient deceleration self → IsSummed gradient deceleration other
-            → IsSummed gradient deceleration result }
-    {
-        if other.to < self.to { self } else { other }
-    }
 }

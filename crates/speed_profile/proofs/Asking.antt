@@ -12,7 +12,7 @@ use Rattle.braking.proofs.Approaching.{lowered_by_none, lowered_by_one, lowered_
 use Rattle.braking.proofs.Greatest.{greatest_is}
 use Rattle.braking.proofs.Slower.{slower_fits}
 use Rattle.speed_profile.specs.Ahead.{permitted_by}
-use Rattle.speed_profile.specs.Targets.{AskTheSame, AskNothing, AskTheSameBeyond, Left, Tells}
+use Rattle.speed_profile.specs.Targets.{AskTheSame, AskTheSameOf, AskNothing, AskTheSameBeyond, Left, Tells}
 use Rattle.speed_profile.proofs.Members.{in_left, in_right, in_either}
 use Rattle.speed_profile.proofs.Farther.{IsNoNearer, farther_fits}
 
@@ -95,6 +95,18 @@ joined some others some' others' h k front gradient brakes v =
 pub one_more : (t : Target) (some others : List Target) → AskTheSame some others → AskTheSame (t ∷ some) (t ∷ others)
 one_more t some others h = joined (t ∷ []) some (t ∷ []) others (same (t ∷ [])) h
 
+swapped : (a b c : Bool) → (a && (b && c)) ≡ (b && (a && c))
+swapped true b c = refl
+swapped false true c = refl
+swapped false false c = refl
+
+-- one among others may as well come first
+pub moved : (t : Target) (some others : List Target) → AskTheSame (some ++ (t ∷ others)) (t ∷ (some ++ others))
+moved t [] others = same (t ∷ others)
+moved t (x ∷ some) others front gradient brakes v =
+    one_more x (some ++ (t ∷ others)) (t ∷ (some ++ others)) (moved t some others) front gradient brakes v
+    ∙ swapped (fits front gradient brakes x v) (fits front gradient brakes t v) (fits_all front gradient brakes (some ++ others) v)
+
 pub nothing_more : (targets : List Target) → AskTheSame (targets ++ []) targets
 nothing_more targets front gradient brakes v =
     let cases : (b : Bool) → (b && true) ≡ b = elim [ true ↦ refl | false ↦ refl ] in
@@ -149,6 +161,12 @@ module _ {G : Type 0} (value : G → ℤ → Option ℤ) where
       lowered_by (value course.gradient) some course ≡ lowered_by (value course.gradient) others course
   lowered_same some others course h =
       ap (λ (test : ℕ → Bool). at_speed course (greatest test course.speed)) (λ i v. h course.front (value course.gradient) course.brakes v i)
+
+  pub lowered_of : (some others : List Target) (course : Course G) → AskTheSameOf (value course.gradient) course some others →
+      lowered_by (value course.gradient) some course ≡ lowered_by (value course.gradient) others course
+  lowered_of some others course h =
+      ap (at_speed course) (greatest_same (fits_all course.front (value course.gradient) course.brakes some)
+      (fits_all course.front (value course.gradient) course.brakes others) course.speed h)
 
   -- one whose speed fits them all keeps it
   pub lowered_fitting : (targets : List Target) (course : Course G) →

@@ -8,7 +8,7 @@ ghost use Rattle.speed_profile.specs.Ahead.{targets_ahead, permitted_ahead, sett
 ghost use Rattle.speed_profile.specs.Targets.{AskTheSame, Tells};
 ghost use Rattle.speed_profile.specs.Track.{speeds_along};
 
-use crate::starts::stop_at;
+use crate::nearest::{lower_by_rest, lower_by_speeds};
 use crate::{Bounds, CategorySpeeds, Targets, Track};
 use braking::{Approach, Brakes, Target};
 use track_store::Profile;
@@ -69,8 +69,7 @@ impl<'a, S: Profile<CategorySpeeds>, G: Profile<Permille>> Ahead<'a, S, G> {
         Targets::new(self.front, self.bounds, self.track, last)
     }
 
-    // The approach to all of them. Where the train can come to a stop before the static speeds that are left, it fits
-    // these.
+    // The approach to all of them.
     fn approach(&self, limit: Mph, last: Option<Target>) -> Approach<'a, G>
         ensures { result ≡ lowered_by (G.value self.now.gradient.now)
             (targets_ahead self.now.front self.now.bounds.now (speeds_along S.value self.now.track.now) ++ listed last)
@@ -78,15 +77,8 @@ impl<'a, S: Profile<CategorySpeeds>, G: Profile<Permille>> Ahead<'a, S, G> {
     {
         let mut approach = Approach::new(self.front, limit, self.gradient, self.brakes);
         let mut targets = self.targets(last);
-        while let Some(target) = targets.next() {
-            approach.lower(&target);
-            let Some(place) = targets.speeds_from() else {
-                continue;
-            };
-            if approach.fits(&stop_at(place)) {
-                targets.skip_speeds();
-            }
-        }
+        lower_by_speeds(&mut approach, &mut targets);
+        lower_by_rest(&mut approach, &mut targets);
         approach
     }
 }

@@ -5,6 +5,7 @@
 mod ahead;
 mod limit;
 mod limiting;
+mod nearest;
 mod short_speed;
 mod starts;
 mod targets;

@@ -12,12 +12,13 @@ loop-middle-init g c = record {
   within = c.requires.within;
   low_fits = c.requires.fits;
   high_fails = c.requires.fails;
+  summed = c.requires.whole.summed;
+  to = c.requires.whole.to;
+  acts = λ v below acts. omega (arith, ints, clamps, acts, c.requires.whole.from, way_less c.args.brakes.now.reaction c.args.limit v (omega (arith, below, c.requires.within)));
 }
 
-pub fits_before-requires-clause-acts : goal.fits_before-requires-clause-acts
-fits_before-requires-clause-acts g c = λ acts.
-    let less : c.in-Some.middle ≤ c.args.limit = omega (arith, c.in-Some.ensures, c.loop-middle.invariant.within) in
-    omega (arith, ints, clamps, acts, c.requires.whole.from, way_less c.args.brakes.now.reaction c.args.limit c.in-Some.middle less)
+pub fits_before-fits-requires-clause-acts : goal.fits_before-fits-requires-clause-acts
+fits_before-fits-requires-clause-acts g c = λ v below. c.loop-middle.invariant.acts v (omega (arith, below, c.in-Some.ensures))
 
 pub returns : goal.returns
 returns g c =

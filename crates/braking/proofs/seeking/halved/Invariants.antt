@@ -1,14 +1,18 @@
 use Rattle.std.proofs.Common.{◌≡◌, ◌≤◌, ◌-◌, true, false}
-use Rattle.braking.specs.Braking.{fits}
+use Rattle.braking.specs.Braking.{fits, IsSummed}
+use Rattle.braking.specs.Sums.{ActsUpTo}
 use Rattle.braking.proofs.seeking.halved.Given as goal
 
--- a speed that fits, and one that doesn't
+-- a speed that fits, and one that doesn't; and what is summed from where the brakes act at that one, or behind
 abbrev pub invariant-loop-middle : goal.invariant-loop-middle
 invariant-loop-middle g l = record {
   ordered : l.low ≤ l.high;
   within : l.high ≤ l.fn.limit;
   low_fits : fits l.front (g.P.Profile.value l.gradient) l.brakes l.target l.low ≡ true;
   high_fails : fits l.front (g.P.Profile.value l.gradient) l.brakes l.target l.high ≡ false;
+  summed : IsSummed (g.P.Profile.value l.gradient) l.brakes.deceleration l.sum;
+  to : l.sum.to ≡ l.target.place;
+  acts : ActsUpTo l.front l.brakes.reaction l.target.place l.sum.from l.high;
 }
 
 abbrev pub decreases-loop-middle : goal.decreases-loop-middle

@@ -9,7 +9,7 @@ invariant_of-self g c =
     let summed : IsSummed (value c.self.inside.gradient.now) c.self.inside.brakes.now.deceleration c.args.sum =
     summed_inside value _ c.args.self.now c.args.sum c.self.view_is c.requires in
     record {
-      sum = c.farther-self-inside.ensures (value c.self.inside.gradient.now) c.self.inside.brakes.now.deceleration c.self.invariant.sum summed;
+      sum = summed;
       fitting = stopping_fits c.self.inside.front (value c.self.inside.gradient.now) c.self.inside.brakes.now c.self.inside.speed c.args.sum summed
           (c.stops_within.ensures c.if-stops_within.true);
     }

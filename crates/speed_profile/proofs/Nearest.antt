@@ -1,0 +1,103 @@
+-- The targets that are held, and what they ask.
+use Rattle.std.proofs.Common.{◌≡◌, ℕ, zero, suc, ◌<◌, ◌≤◌, ℤ, List, [], ◌∷◌, ◌++◌, length, Bool, true, false, refl, ap, sym, ◌∙◌, arith}
+use Rattle.std.specs.Prelude.{Option, None, Some, ◌&&◌, replicate, slice_index_or, slice_set}
+use Rattle.track_store.specs.Profiles.{listed}
+use Rattle.braking.specs.declared.target.Target.{Target}
+use Rattle.braking.specs.Braking.{fits, fits_all}
+use Rattle.braking.specs.Approaches.{Course, lowered, lowered_by}
+use Rattle.braking.proofs.Approaching.{lowered_by_one}
+use Rattle.braking.proofs.Slower.{slower_fits}
+use Rattle.speed_profile.specs.Targets.{AskTheSame, AskTheSameOf, AskNothing, held}
+use Rattle.speed_profile.proofs.Asking.{same, back, through, joined, moved, nothing_more, lowered_same, lowered_of}
+use Rattle.speed_profile.proofs.Farther.{IsNoNearer, farther_fits}
+
+pub none_held : (n : ℕ) → held (replicate n None) ≡ []
+none_held zero = refl
+none_held (suc n) = none_held n
+
+-- one in the place of another that asks for less, with one more
+pub held_set : (places : List (Option Target)) (i : ℕ) (none : Option Target) (kept t : Target) → i < length places →
+    AskTheSame (kept ∷ []) (listed (slice_index_or places i none) ++ (t ∷ [])) →
+    AskTheSame (held (slice_set places i (Some kept))) (t ∷ held places)
+held_set [] i none kept t within h = absurd (omega (arith, within))
+held_set (place ∷ places) zero none kept t within h =
+    let here = listed place in
+    let rest = held places in
+    through ((kept ∷ []) ++ rest) ((here ++ (t ∷ [])) ++ rest) (t ∷ (here ++ rest)) (joined (kept ∷ []) rest (here ++ (t ∷ [])) rest h (same rest))
+    (joined (here ++ (t ∷ [])) rest (t ∷ here) rest (through (here ++ (t ∷ [])) (t ∷ (here ++ [])) (t ∷ here) (moved t here [])
+    (joined (t ∷ []) (here ++ []) (t ∷ []) here (same (t ∷ [])) (nothing_more here))) (same rest))
+held_set (place ∷ places) (suc i) none kept t within h =
+    let here = listed place in
+    let rest = held places in
+    let more = held (slice_set places i (Some kept)) in
+    through (here ++ more) (here ++ (t ∷ rest)) (t ∷ (here ++ rest))
+    (joined here more here (t ∷ rest) (same here) (held_set places i none kept t (omega (arith, within)) h))
+    (moved t here rest)
+
+-- one that is no nearer and asks for no lower speed asks nothing more
+both_fit : (a b : Bool) → (a ≡ true → b ≡ true) → (a && true) ≡ (a && (b && true))
+both_fit false b h = refl
+both_fit true b h = sym (ap (λ (x : Bool). x && true) (h refl))
+
+pub farther_asks : (near far : Target) → IsNoNearer near far → AskTheSame (near ∷ []) (near ∷ far ∷ [])
+farther_asks near far h front gradient brakes v =
+    both_fit (fits front gradient brakes near v) (fits front gradient brakes far v) (farther_fits front gradient brakes near far v h)
+
+pub nearer_asks : (near far : Target) → IsNoNearer near far → AskTheSame (near ∷ []) (far ∷ near ∷ [])
+nearer_asks near far h =
+    through (near ∷ []) (near ∷ far ∷ []) (far ∷ near ∷ []) (farther_asks near far h) (moved far (near ∷ []) [])
+
+module _ {G : Type 0} (value : G → ℤ → Option ℤ) where
+  -- what is held with one more, and others behind it
+  pub lowered_held : (now old others : List Target) (t : Target) (course : Course G) → AskTheSame now (t ∷ old) →
+      lowered_by (value course.gradient) (now ++ others) course ≡ lowered_by (value course.gradient) (t ∷ (old ++ others)) course
+  lowered_held now old others t course h =
+      lowered_same value (now ++ others) (t ∷ (old ++ others)) course (joined now others (t ∷ old) others h (same others))
+
+  -- one more behind what is held
+  pub lowered_behind : (old before after : List Target) (t : Target) (course : Course G) → AskTheSame before (t ∷ after) →
+      lowered_by (value course.gradient) (t ∷ (old ++ after)) course ≡ lowered_by (value course.gradient) (old ++ before) course
+  lowered_behind old before after t course h =
+      lowered_same value (t ∷ (old ++ after)) (old ++ before) course
+      (through (t ∷ (old ++ after)) (old ++ (t ∷ after)) (old ++ before)
+      (back (old ++ (t ∷ after)) (t ∷ (old ++ after)) (moved t old after))
+      (joined old (t ∷ after) old before (same old) (back before (t ∷ after) h)))
+
+  -- .. where nothing is left
+  pub lowered_at_end : (old left : List Target) (course : Course G) → AskNothing left →
+      lowered_by (value course.gradient) old course ≡ lowered_by (value course.gradient) (old ++ left) course
+  lowered_at_end old left course none =
+      lowered_same value old (old ++ left) course
+      (through old (old ++ []) (old ++ left) (back (old ++ []) old (nothing_more old))
+      (joined old [] old left (same old) (back left [] none)))
+
+  -- ---- of a train on its way
+
+  pub of_all : (some others : List Target) (course : Course G) → AskTheSame some others → AskTheSameOf (value course.gradient) course some others
+  of_all some others course h v below = h course.front (value course.gradient) course.brakes v
+
+  pub of_through : (some middle others : List Target) (course : Course G) → AskTheSameOf (value course.gradient) course some middle →
+      AskTheSameOf (value course.gradient) course middle others → AskTheSameOf (value course.gradient) course some others
+  of_through some middle others course h k v below = h v below ∙ k v below
+
+  pub of_more : (t : Target) (some others : List Target) (course : Course G) → AskTheSameOf (value course.gradient) course some others →
+      AskTheSameOf (value course.gradient) course (t ∷ some) (t ∷ others)
+  of_more t some others course h v below = λ i. fits course.front (value course.gradient) course.brakes t v && h v below i
+
+  -- one that its speed fits asks nothing of it
+  pub of_passed : (t : Target) (before after : List Target) (course : Course G) → AskTheSame before (t ∷ after) →
+      fits course.front (value course.gradient) course.brakes t course.speed ≡ true → AskTheSameOf (value course.gradient) course before after
+  of_passed t before after course h fit v below =
+      let all : Bool = fits_all course.front (value course.gradient) course.brakes after v in
+      let here = slower_fits course.front (value course.gradient) course.brakes t course.speed v below fit in
+      h course.front (value course.gradient) course.brakes v ∙ ap (λ (b : Bool). b && all) here
+
+  -- where only one asks something
+  pub lowered_alone : (t : Target) (all behind left : List Target) (old new : Course G) →
+      AskTheSameOf (value old.gradient) old all (t ∷ behind) → AskTheSameOf (value old.gradient) old behind left → AskNothing left →
+      new ≡ lowered (value old.gradient) t old → new ≡ lowered_by (value old.gradient) all old
+  lowered_alone t all behind left old new h k none is =
+      let alone : AskTheSameOf (value old.gradient) old all (t ∷ []) =
+      of_through all (t ∷ behind) (t ∷ []) old h
+      (of_more t behind [] old (of_through behind left [] old k (of_all left [] old none))) in
+      lowered_by_one value t old new is ∙ sym (lowered_of value all (t ∷ []) old alone)

@@ -1,0 +1,151 @@
+//! An approach to all targets ahead, which goes through each gradient a few times at most, in whatever order they come.
+ghost use Rattle.std.specs.Prelude.{◌≡◌, List, ◌∷◌, [], ◌++◌, None, false, length, IsTrue, IfSome};
+ghost use Rattle.track_store.specs.Profiles.{listed};
+ghost use Rattle.braking.specs.declared.target.Target.{Target as TargetAsked};
+ghost use Rattle.braking.specs.Approaches.{lowered_by};
+ghost use Rattle.speed_profile.specs.Targets.{AskNothing, AskTheSame, AskTheSameOf, held};
+
+use crate::starts::stop_at;
+use crate::{CategorySpeeds, Targets};
+use braking::{Approach, Target};
+use track_store::Profile;
+use units::Permille;
+
+/// One step of a speed, in metres per hour.
+const STEP: u32 = 5_000;
+
+/// How many steps there are up to the greatest speed.
+const STEPS: usize = 120;
+
+/// Lowers the speed of an approach for the static speeds, which come the nearest first. Where the train can come to a
+/// stop before those that are left, it fits these.
+pub fn lower_by_speeds<'a, S: Profile<CategorySpeeds>, G: Profile<Permille>>(
+    approach: &mut Approach<'a, G>,
+    targets: &mut Targets<'a, S>,
+)
+    ensures { lowered_by (G.value approach.new.gradient) targets.new.targets approach.new
+        ≡ lowered_by (G.value approach.old.gradient) targets.old.targets approach.old }
+{
+    while let Some(target) = targets.next() {
+        approach.lower(&target);
+        let Some(place) = targets.speeds_from() else {
+            return;
+        };
+        if approach.fits(&stop_at(place)) {
+            targets.skip_speeds();
+            return;
+        }
+    }
+}
+
+/// Lowers the speed of an approach for all targets that are left, in whatever order they come.
+pub fn lower_by_rest<'a, S: Profile<CategorySpeeds>, G: Profile<Permille>>(
+    approach: &mut Approach<'a, G>,
+    targets: &mut Targets<'a, S>,
+)
+    ensures { approach.new ≡ lowered_by (G.value approach.old.gradient) targets.old.targets approach.old }
+{
+    let Some(first) = next_to_brake_for(approach, targets) else {
+        return;
+    };
+    match next_to_brake_for(approach, targets) {
+        None => approach.lower(&first),
+        Some(second) => lower_by_nearest(approach, targets, &first, &second),
+    }
+}
+
+// The next target that the speed so far isn't known to fit.
+fn next_to_brake_for<'a, S: Profile<CategorySpeeds>, G: Profile<Permille>>(
+    approach: &Approach<'a, G>,
+    targets: &mut Targets<'a, S>,
+) -> Option<Target>
+    ensures asked { AskTheSameOf (G.value approach.now.gradient) approach.now targets.old.targets (listed result ++ targets.new.targets) }
+    ensures none { result ≡ None → AskNothing targets.new.targets }
+{
+    while let Some(target) = targets.next() {
+        if !approach.surely_fits(&target) {
+            return Some(target);
+        }
+    }
+    None
+}
+
+// Lowers the speed for two targets and for those that are left. Of those of one speed only the nearest is gone to, and
+// the fastest first: a slower one that is no farther ahead decides alone, so that those that decide lie farther and
+// farther ahead, and what lies between is summed once.
+#[inline(never)]
+fn lower_by_nearest<'a, S: Profile<CategorySpeeds>, G: Profile<Permille>>(
+    approach: &mut Approach<'a, G>,
+    targets: &mut Targets<'a, S>,
+    first: &Target,
+    second: &Target,
+)
+    ensures { approach.new ≡ lowered_by (G.value approach.old.gradient) (first.now ∷ second.now ∷ targets.old.targets) approach.old }
+{
+    let mut nearest = [None; STEPS + 1];
+    take(approach, &mut nearest, first);
+    take(approach, &mut nearest, second);
+    while let Some(target) = targets.next() {
+        take(approach, &mut nearest, &target);
+    }
+    lower_each(approach, &nearest);
+}
+
+// Holds a target, or lowers the speed for it at once.
+fn take<'a, G: Profile<Permille>>(
+    approach: &mut Approach<'a, G>,
+    nearest: &mut [Option<Target>],
+    target: &Target,
+)
+    requires { length nearest.old ≡ 121 }
+    ensures length { length nearest.new ≡ 121 }
+    ensures asked { (others : List TargetAsked) → lowered_by (G.value approach.new.gradient) (held nearest.new ++ others) approach.new
+        ≡ lowered_by (G.value approach.old.gradient) (target.now ∷ (held nearest.old ++ others)) approach.old }
+{
+    if !hold(nearest, target) {
+        approach.lower(target);
+    }
+}
+
+// Holds a target in the place of its step, where it asks for all that the one there does, or that one for all that it
+// does; else false, and nothing changes.
+fn hold(nearest: &mut [Option<Target>], target: &Target) -> bool
+    requires { length nearest.old ≡ 121 }
+    ensures length { length nearest.new ≡ 121 }
+    ensures held { IsTrue result → AskTheSame (held nearest.new) (target.now ∷ held nearest.old) }
+    ensures left { result ≡ false → nearest.new ≡ nearest.old }
+{
+    let step = STEPS - (target.speed.get() / STEP) as usize;
+    match more_asking(&nearest[step], target) {
+        Some(kept) => {
+            nearest[step] = Some(kept);
+            true
+        }
+        None => false,
+    }
+}
+
+// The one of two targets that asks for all that the other one does, if one does.
+fn more_asking(known: &Option<Target>, target: &Target) -> Option<Target>
+    ensures { IfSome result (λ kept. AskTheSame (kept ∷ []) (listed known.now ++ (target.now ∷ []))) }
+{
+    match known {
+        Some(known) if known.place <= target.place && known.speed <= target.speed => Some(*known),
+        Some(known) if known.place < target.place || known.speed < target.speed => None,
+        _ => Some(*target),
+    }
+}
+
+// Lowers the speed for each that is held.
+fn lower_each<'a, G: Profile<Permille>>(
+    approach: &mut Approach<'a, G>,
+    nearest: &[Option<Target>],
+)
+    ensures { approach.new ≡ lowered_by (G.value approach.old.gradient) (held nearest.now) approach.old }
+{
+    for place in nearest {
+        if let Some(target) = place {
+            approach.lower(target);
+        }
+    }
+}

@@ -102,7 +102,7 @@ swapped false false c = refl
 
 -- one among others may as well come first
 pub moved : (t : Target) (some others : List Target) → AskTheSame (some ++ (t ∷ others)) (t ∷ (some ++ others))
-moved t [] others = same (t ∷ others)
+moved t [] others front gradient brakes v = refl
 moved t (x ∷ some) others front gradient brakes v =
     one_more x (some ++ (t ∷ others)) (t ∷ (some ++ others)) (moved t some others) front gradient brakes v
     ∙ swapped (fits front gradient brakes x v) (fits front gradient brakes t v) (fits_all front gradient brakes (some ++ others) v)

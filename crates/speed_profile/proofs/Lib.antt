@@ -1,7 +1,7 @@
 pub mod Members
 pub mod Farther
 pub mod Asking
-pub mod Nearest
+pub mod Held
 pub mod Starting
 pub mod There
 pub mod Covering

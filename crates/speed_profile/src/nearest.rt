@@ -1,5 +1,5 @@
 //! An approach to all targets ahead, which goes through each gradient a few times at most, in whatever order they come.
-ghost use Rattle.std.specs.Prelude.{◌≡◌, List, ◌∷◌, [], ◌++◌, None, false, length, IsTrue, IfSome};
+ghost use Rattle.std.specs.Prelude.{◌≡◌, ◌≤◌, ◌≤ℤ◌, List, ◌∷◌, [], ◌++◌, None, false, length, IsTrue, IfSome};
 ghost use Rattle.track_store.specs.Profiles.{listed};
 ghost use Rattle.braking.specs.declared.target.Target.{Target as TargetAsked};
 ghost use Rattle.braking.specs.Approaches.{lowered_by};
@@ -129,23 +129,40 @@ fn hold(nearest: &mut [Option<Target>], target: &Target) -> bool
 fn more_asking(known: &Option<Target>, target: &Target) -> Option<Target>
     ensures { IfSome result (λ kept. AskTheSame (kept ∷ []) (listed known.now ++ (target.now ∷ []))) }
 {
-    match known {
-        Some(known) if known.place <= target.place && known.speed <= target.speed => Some(*known),
-        Some(known) if known.place < target.place || known.speed < target.speed => None,
-        _ => Some(*target),
+    let Some(known) = known else {
+        return Some(*target);
+    };
+    if is_no_nearer(known, target) {
+        return Some(*known);
     }
+    if is_no_nearer(target, known) {
+        return Some(*target);
+    }
+    None
+}
+
+// Whether a target is no nearer than another one, and asks for no lower speed.
+fn is_no_nearer(near: &Target, far: &Target) -> bool
+    ensures place { IsTrue result → near.now.place ≤ℤ far.now.place }
+    ensures speed { IsTrue result → near.now.speed ≤ far.now.speed }
+{
+    near.place <= far.place && near.speed <= far.speed
 }
 
 // Lowers the speed for each that is held.
-fn lower_each<'a, G: Profile<Permille>>(
-    approach: &mut Approach<'a, G>,
-    nearest: &[Option<Target>],
-)
+fn lower_each<'a, G: Profile<Permille>>(approach: &mut Approach<'a, G>, nearest: &[Option<Target>])
     ensures { approach.new ≡ lowered_by (G.value approach.old.gradient) (held nearest.now) approach.old }
 {
     for place in nearest {
-        if let Some(target) = place {
-            approach.lower(target);
-        }
+        lower_if_held(approach, place);
+    }
+}
+
+// Lowers the speed for one, if there is one.
+fn lower_if_held<'a, G: Profile<Permille>>(approach: &mut Approach<'a, G>, place: &Option<Target>)
+    ensures { approach.new ≡ lowered_by (G.value approach.old.gradient) (listed place.now) approach.old }
+{
+    if let Some(target) = place {
+        approach.lower(target);
     }
 }

@@ -2,7 +2,7 @@ use Rattle.std.proofs.Common.{◌≡◌, ◌∷◌, ◌++◌, List, ap, sym, ◌
 use Rattle.braking.specs.declared.target.Target.{Target}
 use Rattle.braking.specs.Approaches.{lowered_by}
 use Rattle.speed_profile.specs.Targets.{held}
-use Rattle.speed_profile.proofs.Nearest.{none_held, lowered_behind, lowered_at_end}
+use Rattle.speed_profile.proofs.Held.{none_held, lowered_behind, lowered_at_end}
 use Rattle.speed_profile.proofs.nearest.lower_by_nearest.Goals as goal
 
 pub loop-target-preserved : goal.loop-target-preserved
@@ -12,8 +12,8 @@ loop-target-preserved g c =
     let before = c.loop-target.targets.targets in
     let after = c.next.new.self.targets in
     record {
-      length = c.take-3.ensures.length;
-      asked = c.take-3.ensures.asked after
+      length = c.take-in-Some.ensures.length;
+      asked = c.take-in-Some.ensures.asked after
           ∙ lowered_behind value (held c.loop-target.nearest) before after c.in-Some.target old c.in-Some.ensures.steps
           ∙ c.loop-target.invariant.asked;
     }

@@ -48,6 +48,6 @@ pub returns : goal.returns
 returns g c =
     let gradient = g.G.Profile.value in
     let now = c.loop-target.approach in
-    lowered_nothing gradient c.next.new.self.targets now c.in_default.ensures.steps.1.0
+    lowered_nothing gradient c.next.new.self.targets now c.in_default.ensures.steps.1
     ∙ sym (lowered_nothing gradient c.loop-target.targets.targets now c.in_default.ensures.steps.0)
     ∙ c.loop-target.invariant

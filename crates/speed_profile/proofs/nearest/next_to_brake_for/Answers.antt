@@ -1,6 +1,6 @@
 use Rattle.std.proofs.Common.{◌∷◌, []}
 use Rattle.speed_profile.proofs.Asking.{back, through}
-use Rattle.speed_profile.proofs.Nearest.{of_all, of_through, of_passed}
+use Rattle.speed_profile.proofs.Held.{of_all, of_through, of_passed}
 use Rattle.speed_profile.proofs.nearest.next_to_brake_for.Goals as goal
 
 pub returns-then-not-surely_fits-clause-asked : goal.returns-then-not-surely_fits-clause-asked
@@ -9,7 +9,7 @@ returns-then-not-surely_fits-clause-asked g c =
     let course = c.args.approach.now in
     let before = c.loop-target.targets.targets in
     let told = c.in-Some.target ∷ c.next.new.self.targets in
-    of_through value c.args.targets.old.targets before told course c.loop-target.invariant (of_all value before told course c.in-Some.ensures.steps)
+    of_through value c.args.targets.now.targets before told course c.loop-target.invariant (of_all value before told course c.in-Some.ensures.steps)
 
 pub loop-target-preserved : goal.loop-target-preserved
 loop-target-preserved g c =
@@ -17,7 +17,7 @@ loop-target-preserved g c =
     let course = c.args.approach.now in
     let before = c.loop-target.targets.targets in
     let after = c.next.new.self.targets in
-    of_through value c.args.targets.old.targets before after course c.loop-target.invariant
+    of_through value c.args.targets.now.targets before after course c.loop-target.invariant
     (of_passed value c.in-Some.target before after course c.in-Some.ensures.steps (c.surely_fits.ensures.fits c.if-not-surely_fits.false))
 
 pub returns-clause-asked : goal.returns-clause-asked
@@ -26,5 +26,5 @@ returns-clause-asked g c =
     let course = c.args.approach.now in
     let before = c.loop-target.targets.targets in
     let after = c.next.new.self.targets in
-    of_through value c.args.targets.old.targets before after course c.loop-target.invariant
-    (of_all value before after course (through before [] after c.in_default.ensures.steps.0 (back after [] c.in_default.ensures.steps.1.0)))
+    of_through value c.args.targets.now.targets before after course c.loop-target.invariant
+    (of_all value before after course (through before [] after c.in_default.ensures.steps.0 (back after [] c.in_default.ensures.steps.1)))

@@ -5,10 +5,10 @@ use Rattle.track_store.specs.Profiles.{listed}
 use Rattle.braking.specs.declared.target.Target.{Target}
 use Rattle.braking.specs.Braking.{fits, fits_all}
 use Rattle.braking.specs.Approaches.{Course, lowered, lowered_by}
-use Rattle.braking.proofs.Approaching.{lowered_by_one}
+use Rattle.braking.proofs.Approaching.{lowered_from, lowered_by_none, lowered_by_one, lowered_by_more}
 use Rattle.braking.proofs.Slower.{slower_fits}
 use Rattle.speed_profile.specs.Targets.{AskTheSame, AskTheSameOf, AskNothing, held}
-use Rattle.speed_profile.proofs.Asking.{same, back, through, joined, moved, nothing_more, lowered_same, lowered_of}
+use Rattle.speed_profile.proofs.Asking.{same, equal, back, through, joined, moved, nothing_more, lowered_same, lowered_of}
 use Rattle.speed_profile.proofs.Farther.{IsNoNearer, farther_fits}
 
 pub none_held : (n : ℕ) → held (replicate n None) ≡ []
@@ -16,22 +16,22 @@ none_held zero = refl
 none_held (suc n) = none_held n
 
 -- one in the place of another that asks for less, with one more
-pub held_set : (places : List (Option Target)) (i : ℕ) (none : Option Target) (kept t : Target) → i < length places →
-    AskTheSame (kept ∷ []) (listed (slice_index_or places i none) ++ (t ∷ [])) →
+pub held_set : (places : List (Option Target)) (i : ℕ) (other : Option Target) (kept t : Target) → i < length places →
+    AskTheSame (kept ∷ []) (listed (slice_index_or places i other) ++ (t ∷ [])) →
     AskTheSame (held (slice_set places i (Some kept))) (t ∷ held places)
-held_set [] i none kept t within h = absurd (omega (arith, within))
-held_set (place ∷ places) zero none kept t within h =
+held_set [] i other kept t within h = absurd (omega (arith, within))
+held_set (place ∷ places) zero other kept t within h =
     let here = listed place in
     let rest = held places in
     through ((kept ∷ []) ++ rest) ((here ++ (t ∷ [])) ++ rest) (t ∷ (here ++ rest)) (joined (kept ∷ []) rest (here ++ (t ∷ [])) rest h (same rest))
     (joined (here ++ (t ∷ [])) rest (t ∷ here) rest (through (here ++ (t ∷ [])) (t ∷ (here ++ [])) (t ∷ here) (moved t here [])
     (joined (t ∷ []) (here ++ []) (t ∷ []) here (same (t ∷ [])) (nothing_more here))) (same rest))
-held_set (place ∷ places) (suc i) none kept t within h =
+held_set (place ∷ places) (suc i) other kept t within h =
     let here = listed place in
     let rest = held places in
     let more = held (slice_set places i (Some kept)) in
     through (here ++ more) (here ++ (t ∷ rest)) (t ∷ (here ++ rest))
-    (joined here more here (t ∷ rest) (same here) (held_set places i none kept t (omega (arith, within)) h))
+    (joined here more here (t ∷ rest) (same here) (held_set places i other kept t (omega (arith, within)) h))
     (moved t here rest)
 
 -- one that is no nearer and asks for no lower speed asks nothing more
@@ -46,6 +46,22 @@ farther_asks near far h front gradient brakes v =
 pub nearer_asks : (near far : Target) → IsNoNearer near far → AskTheSame (near ∷ []) (far ∷ near ∷ [])
 nearer_asks near far h =
     through (near ∷ []) (near ∷ far ∷ []) (far ∷ near ∷ []) (farther_asks near far h) (moved far (near ∷ []) [])
+
+-- of one that is held, if there is one, and another one
+with_known : (known : Option Target) (asked : List Target) (t kept : Target) → asked ≡ listed known → AskTheSame (kept ∷ []) (asked ++ (t ∷ [])) →
+    AskTheSame (kept ∷ []) (listed known ++ (t ∷ []))
+with_known known asked t kept is h =
+    through (kept ∷ []) (asked ++ (t ∷ [])) (listed known ++ (t ∷ [])) h
+    (equal (asked ++ (t ∷ [])) (listed known ++ (t ∷ [])) (ap (λ (some : List Target). some ++ (t ∷ [])) is))
+
+pub alone_asks : (known : Option Target) (t : Target) → known ≡ None → AskTheSame (t ∷ []) (listed known ++ (t ∷ []))
+alone_asks known t is = with_known known [] t t (sym (ap listed is)) (same (t ∷ []))
+
+pub known_asks : (known : Option Target) (k t : Target) → known ≡ Some k → IsNoNearer k t → AskTheSame (k ∷ []) (listed known ++ (t ∷ []))
+known_asks known k t is h = with_known known (k ∷ []) t k (sym (ap listed is)) (farther_asks k t h)
+
+pub told_asks : (known : Option Target) (k t : Target) → known ≡ Some k → IsNoNearer t k → AskTheSame (t ∷ []) (listed known ++ (t ∷ []))
+told_asks known k t is h = with_known known (k ∷ []) t t (sym (ap listed is)) (nearer_asks t k h)
 
 module _ {G : Type 0} (value : G → ℤ → Option ℤ) where
   -- what is held with one more, and others behind it
@@ -101,3 +117,12 @@ module _ {G : Type 0} (value : G → ℤ → Option ℤ) where
       of_through all (t ∷ behind) (t ∷ []) old h
       (of_more t behind [] old (of_through behind left [] old k (of_all left [] old none))) in
       lowered_by_one value t old new is ∙ sym (lowered_of value all (t ∷ []) old alone)
+
+  -- ---- of what is held
+
+  pub lowered_place : (place : Option Target) (others : List Target) (old new : Course G) →
+      new ≡ lowered_by (value old.gradient) (listed place) old →
+      lowered_by (value new.gradient) others new ≡ lowered_by (value old.gradient) (listed place ++ others) old
+  lowered_place None others old new is = lowered_from value others new old (is ∙ lowered_by_none value old)
+  lowered_place (Some t) others old new is =
+      lowered_by_more value t others old new (is ∙ sym (lowered_by_one value t old (lowered (value old.gradient) t old) refl))

@@ -1,6 +1,6 @@
 -- The targets that are held, and what they ask.
-use Rattle.std.proofs.Common.{◌≡◌, ℕ, zero, suc, ◌<◌, ◌≤◌, ℤ, List, [], ◌∷◌, ◌++◌, length, Bool, true, false, refl, ap, sym, ◌∙◌, arith}
-use Rattle.std.specs.Prelude.{Option, None, Some, ◌&&◌, replicate, slice_index_or, slice_set}
+use Rattle.std.proofs.Common.{◌≡◌, ℕ, zero, suc, ◌<◌, ℤ, List, [], ◌∷◌, ◌++◌, length, Bool, true, false, refl, ap, sym, ◌∙◌, arith}
+use Rattle.std.specs.Prelude.{Option, None, Some, ◌&&◌, slice_index_or, slice_set}
 use Rattle.track_store.specs.Profiles.{listed}
 use Rattle.braking.specs.declared.target.Target.{Target}
 use Rattle.braking.specs.Braking.{fits, fits_all}
@@ -10,10 +10,6 @@ use Rattle.braking.proofs.Slower.{slower_fits}
 use Rattle.speed_profile.specs.Targets.{AskTheSame, AskTheSameOf, AskNothing, held}
 use Rattle.speed_profile.proofs.Asking.{same, equal, back, through, joined, moved, nothing_more, lowered_same, lowered_of}
 use Rattle.speed_profile.proofs.Farther.{IsNoNearer, farther_fits}
-
-pub none_held : (n : ℕ) → held (replicate n None) ≡ []
-none_held zero = refl
-none_held (suc n) = none_held n
 
 -- one in the place of another that asks for less, with one more
 pub held_set : (places : List (Option Target)) (i : ℕ) (other : Option Target) (kept t : Target) → i < length places →

@@ -1,8 +1,6 @@
-use Rattle.std.proofs.Common.{◌≡◌, ◌∷◌, ◌++◌, List, ap, sym, ◌∙◌}
-use Rattle.braking.specs.declared.target.Target.{Target}
-use Rattle.braking.specs.Approaches.{lowered_by}
+use Rattle.std.proofs.Common.{◌∙◌}
 use Rattle.speed_profile.specs.Targets.{held}
-use Rattle.speed_profile.proofs.Held.{none_held, lowered_behind, lowered_at_end}
+use Rattle.speed_profile.proofs.Held.{lowered_behind, lowered_at_end}
 use Rattle.speed_profile.proofs.nearest.lower_by_nearest.Goals as goal
 
 pub loop-target-preserved : goal.loop-target-preserved

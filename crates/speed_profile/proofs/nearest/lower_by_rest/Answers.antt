@@ -1,4 +1,4 @@
-use Rattle.std.proofs.Common.{◌≡◌, ◌∷◌, refl, sym, ◌∙◌}
+use Rattle.std.proofs.Common.{◌∷◌, sym, ◌∙◌}
 use Rattle.speed_profile.proofs.Asking.{lowered_of, lowered_nothing}
 use Rattle.speed_profile.proofs.Held.{of_more, of_through, lowered_alone}
 use Rattle.speed_profile.proofs.nearest.lower_by_rest.Goals as goal

@@ -60,11 +60,13 @@ fn sought<P: Profile<Permille>>(
     };
     let most = sum.begun(gradient, brakes.deceleration, start);
     let high = above(root(target.speed, most.taken_off, limit), limit);
-    halved(front, low, high, limit, target, gradient, brakes, sum)
+    let (_, last) = fits_before(front, high, target, gradient, brakes, sum);
+    halved(front, low, high, limit, target, gradient, brakes, &last)
 }
 
-// The greatest speed that fits a target, between one that fits and one that doesn't. What is summed from where the brakes
-// act at the least speed that is known not to fit is carried on, so that the gradients behind aren't gone through again.
+// The greatest speed that fits a target, between one that fits and one that doesn't, where it is known what the stretch
+// takes off from where the brakes act at the latter. That is carried on to each lesser speed that doesn't fit, so that
+// the gradients ahead of there aren't gone through again.
 fn halved<P: Profile<Permille>>(
     front: Cm,
     low: Mph,
@@ -78,7 +80,9 @@ fn halved<P: Profile<Permille>>(
     requires within { high ≤ limit }
     requires fits { fits front (P.value gradient.now) brakes.now target.now low ≡ true }
     requires fails { fits front (P.value gradient.now) brakes.now target.now high ≡ false }
-    requires whole { IsSummedWhole front (P.value gradient.now) brakes.now target.now limit sum.now }
+    requires summed { IsSummed (P.value gradient.now) brakes.now.deceleration sum.now }
+    requires to { sum.now.to ≡ target.now.place }
+    requires acts { ActsUpTo front brakes.now.reaction target.now.place sum.now.from high }
     ensures { result ≡ greatest (fits front (P.value gradient.now) brakes.now target.now) limit }
 {
     let mut low = low;

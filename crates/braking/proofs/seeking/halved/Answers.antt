@@ -1,7 +1,6 @@
 use Rattle.std.proofs.Common.{◌≤◌, ◌+◌, inr, sym, arith}
-use Rattle.std.proofs.lemmas.Int.{ints, clamps}
 use Rattle.braking.specs.Braking.{fits}
-use Rattle.braking.proofs.Slower.{faster_fails, slower_than, way_less}
+use Rattle.braking.proofs.Slower.{faster_fails, slower_than}
 use Rattle.braking.proofs.Greatest.{greatest_is}
 use Rattle.braking.proofs.seeking.halved.Goals as goal
 
@@ -12,9 +11,9 @@ loop-middle-init g c = record {
   within = c.requires.within;
   low_fits = c.requires.fits;
   high_fails = c.requires.fails;
-  summed = c.requires.whole.summed;
-  to = c.requires.whole.to;
-  acts = λ v below acts. omega (arith, ints, clamps, acts, c.requires.whole.from, way_less c.args.brakes.now.reaction c.args.limit v (omega (arith, below, c.requires.within)));
+  summed = c.requires.summed;
+  to = c.requires.to;
+  acts = c.requires.acts;
 }
 
 pub fits_before-fits-requires-clause-acts : goal.fits_before-fits-requires-clause-acts

@@ -1,6 +1,7 @@
-use Rattle.std.proofs.Common.{ℤ, pos, ◌+ℤ◌, ◌≤ℤ◌, ◌<ℤ◌, ◌≡◌, true, false, refl, arith}
-use Rattle.std.proofs.lemmas.Int.{ints, by_lt_z}
+use Rattle.std.proofs.Common.{◌≤◌, ℤ, pos, ◌+ℤ◌, ◌≤ℤ◌, ◌<ℤ◌, ◌≡◌, true, false, refl, arith}
+use Rattle.std.proofs.lemmas.Int.{ints, clamps, by_lt_z}
 use Rattle.brakes.specs.Brakes.{reaction_way}
+use Rattle.braking.proofs.Slower.{way_less}
 use Rattle.braking.proofs.Bounding.{starts_sooner, root_fits, late_greatest, next_fails}
 use Rattle.braking.proofs.seeking.sought.Goals as goal
 
@@ -37,3 +38,8 @@ halved-requires-clause-fails g c =
     c.root-low.result c.root-low.ensures c.begun-most.result c.root.result c.above-high.result (omega (arith, ints, acts, way)) c.begun-most.ensures.summed
     (omega (arith, ints, c.begun-most.ensures.from, c.in-Some.ensures.value, way)) (omega (arith, ints, c.begun-most.ensures.to, c.requires.whole.to))
     c.root.ensures c.above-high.ensures.next c.above-high.ensures.last c.requires.fails
+
+pub fits_before-last-requires-clause-acts : goal.fits_before-last-requires-clause-acts
+fits_before-last-requires-clause-acts g c = λ v below acts.
+    let less : v ≤ c.args.limit = omega (arith, below, c.above-high.ensures.within) in
+    omega (arith, ints, clamps, acts, c.requires.whole.from, way_less c.args.brakes.now.reaction c.args.limit v less)

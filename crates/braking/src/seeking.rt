@@ -27,20 +27,18 @@ pub fn permitted_before<P: Profile<Permille>>(
 {
     let Some(sum) = summed_before(front, limit, target, gradient, brakes, summed) else {
         let none = Summed::none(target.place);
-        return (
-            sought(front, limit, target, gradient, brakes, &none),
-            *summed,
-        );
+        return sought(front, limit, target, gradient, brakes, &none);
     };
     if lacking(limit, target.speed) <= sum.taken_off {
         return (limit, sum);
     }
-    (sought(front, limit, target, gradient, brakes, &sum), sum)
+    sought(front, limit, target, gradient, brakes, &sum)
 }
 
 // The greatest speed below one that doesn't fit a target, where it is known what the stretch from where the brakes act
-// at that one takes off. The speed whose brakes acted there and took off just so much fits, and so would a greater one
-// only as far as they act sooner: at most what they take off from where they act at the lower one.
+// at that one takes off, and what was summed last. The speed whose brakes acted there and took off just so much fits,
+// and so would a greater one only as far as they act sooner: at most what they take off from where they act at the lower
+// one.
 fn sought<P: Profile<Permille>>(
     front: Cm,
     limit: Mph,
@@ -48,15 +46,16 @@ fn sought<P: Profile<Permille>>(
     gradient: &P,
     brakes: &Brakes,
     sum: &Summed,
-) -> Mph
+) -> (Mph, Summed)
     requires faster { target.now.speed < limit }
     requires fails { fits front (P.value gradient.now) brakes.now target.now limit ≡ false }
     requires whole { IsSummedWhole front (P.value gradient.now) brakes.now target.now limit sum.now }
-    ensures { result ≡ greatest (fits front (P.value gradient.now) brakes.now target.now) limit }
+    ensures speed { result.0 ≡ greatest (fits front (P.value gradient.now) brakes.now target.now) limit }
+    ensures summed { IsSummed (P.value gradient.now) brakes.now.deceleration result.1 }
 {
     let low = root(target.speed, sum.taken_off, limit);
     let Some(start) = brakes_act(front, reaction_way(brakes.reaction, low), target.place) else {
-        return low;
+        return (low, *sum);
     };
     let most = sum.begun(gradient, brakes.deceleration, start);
     let high = above(root(target.speed, most.taken_off, limit), limit);
@@ -76,14 +75,15 @@ fn halved<P: Profile<Permille>>(
     gradient: &P,
     brakes: &Brakes,
     sum: &Summed,
-) -> Mph
+) -> (Mph, Summed)
     requires within { high ≤ limit }
     requires fits { fits front (P.value gradient.now) brakes.now target.now low ≡ true }
     requires fails { fits front (P.value gradient.now) brakes.now target.now high ≡ false }
     requires summed { IsSummed (P.value gradient.now) brakes.now.deceleration sum.now }
     requires to { sum.now.to ≡ target.now.place }
     requires acts { ActsUpTo front brakes.now.reaction target.now.place sum.now.from high }
-    ensures { result ≡ greatest (fits front (P.value gradient.now) brakes.now target.now) limit }
+    ensures speed { result.0 ≡ greatest (fits front (P.value gradient.now) brakes.now target.now) limit }
+    ensures summed { IsSummed (P.value gradient.now) brakes.now.deceleration result.1 }
 {
     let mut low = low;
     let mut high = high;
@@ -97,7 +97,7 @@ fn halved<P: Profile<Permille>>(
             sum = begun;
         }
     }
-    low
+    (low, sum)
 }
 
 // Whether a speed fits a target, where it is known what the last stretch before the target takes off; and what the

@@ -19,10 +19,13 @@ loop-middle-init g c = record {
 pub fits_before-fits-requires-clause-acts : goal.fits_before-fits-requires-clause-acts
 fits_before-fits-requires-clause-acts g c = λ v below. c.loop-middle.invariant.acts v (omega (arith, below, c.in-Some.ensures))
 
-pub returns : goal.returns
-returns g c =
+pub returns-clause-speed : goal.returns-clause-speed
+returns-clause-speed g c =
     let kept = c.loop-middle.invariant in
     let none : c.loop-middle.high ≤ c.loop-middle.low + 1 = rw c.in_default.is at c.halfway.ensures in
     sym (greatest_is (fits c.args.front (g.P.Profile.value c.args.gradient.now) c.args.brakes.now c.args.target.now) c.loop-middle.low c.args.limit
     (omega (arith, kept.ordered, kept.within)) (inr kept.low_fits)
     (λ k above below. faster_fails c.args.front (g.P.Profile.value c.args.gradient.now) c.args.brakes.now c.args.target.now k c.loop-middle.high (omega arith) kept.high_fails))
+
+pub returns-clause-summed : goal.returns-clause-summed
+returns-clause-summed g c = c.loop-middle.invariant.summed

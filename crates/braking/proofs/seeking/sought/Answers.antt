@@ -5,8 +5,8 @@ use Rattle.braking.proofs.Slower.{way_less}
 use Rattle.braking.proofs.Bounding.{starts_sooner, root_fits, late_greatest, next_fails}
 use Rattle.braking.proofs.seeking.sought.Goals as goal
 
-pub returns-in_default : goal.returns-in_default
-returns-in_default g c =
+pub returns-in_default-clause-speed : goal.returns-in_default-clause-speed
+returns-in_default-clause-speed g c =
     let place : ℤ = c.args.target.now.place in
     let start : ℤ = c.args.front +ℤ pos (reaction_way c.args.brakes.now.reaction c.root-low.result) in
     let late : place ≤ℤ start =
@@ -43,3 +43,6 @@ pub fits_before-last-requires-clause-acts : goal.fits_before-last-requires-claus
 fits_before-last-requires-clause-acts g c = λ v below acts.
     let less : v ≤ c.args.limit = omega (arith, below, c.above-high.ensures.within) in
     omega (arith, ints, clamps, acts, c.requires.whole.from, way_less c.args.brakes.now.reaction c.args.limit v less)
+
+pub returns-in_default-clause-summed : goal.returns-in_default-clause-summed
+returns-in_default-clause-summed g c = c.requires.whole.summed

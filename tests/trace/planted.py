@@ -1,0 +1,260 @@
+#!/usr/bin/env python3
+"""Whether tools/trace --check tells of each fault that is planted in a copy of what it reads: of each its own line. An
+unaltered copy passes.
+
+    tests/trace/planted.py
+"""
+import shutil
+import subprocess
+import sys
+import tempfile
+from pathlib import Path
+
+TOP = Path(__file__).resolve().parents[2]
+WHOLE = (
+    "README.md",
+    "crates.txt",
+    ".ci/run",
+    "docs",
+    "include",
+    "suites",
+    "drives",
+    "tools",
+    "python/gaknifur",
+    "tests/rows",
+    "tests/programs",
+    "tests/suites.sh",
+)
+LEAST = 24
+
+# Each plant: the file, what stands there, what is put in its place, and what has to be told.
+PLANTS = (
+    (
+        "a removed row",
+        "tests/rows/test_kernel.row",
+        "row two section timers\n",
+        "row two other timers\n",
+        'there is no row "two section timers"',
+    ),
+    (
+        "a renamed clause of a promise",
+        "crates/kernel/src/steps.rt",
+        "ensures output {",
+        "ensures outcome {",
+        "kernel::step has no clause output",
+    ),
+    (
+        "a section without a case",
+        "suites/chapter_3.case.yaml",
+        "sections: [3.8.3]",
+        "sections: [3.8.4]",
+        "the section 3.8.3 has no test case",
+    ),
+    (
+        "a renamed definition",
+        "crates/authority/specs/Authority.antt",
+        "abbrev pub taken_back :",
+        "abbrev pub put_back :",
+        "crates/authority/specs/Authority.antt has no definition taken_back",
+    ),
+    (
+        "a renamed call",
+        "crates/reader/src/listings.rt",
+        "pub fn listing<",
+        "pub fn lists<",
+        "there is no public call reader::listing",
+    ),
+    (
+        "an edit that is gone",
+        "crates/restriction/must-fail/revokes_number_255.edit",
+        None,
+        None,
+        "there is no must-fail edit revokes_number_255",
+    ),
+    (
+        "an edit that nobody names",
+        "crates/authority/must-fail/another.edit",
+        None,
+        "file: src/laws.rt\nold: pub fn timers_start()\nnew: x\n",
+        "no requirement names the must-fail edit another",
+    ),
+    (
+        "a renamed law",
+        "crates/safety_laws/src/modes.rt",
+        "pub fn trip_is_left(",
+        "pub fn trip_is_ended(",
+        "there is no law safety_laws.trip_is_left",
+    ),
+    (
+        "a law that nobody names",
+        "crates/safety_laws/src/modes.rt",
+        "/// A law: System Failure",
+        "/// A law: it is so.\npub fn is_so()\n{}\n\n/// A law: System Failure",
+        "no requirement names the law safety_laws.is_so",
+    ),
+    (
+        "a promise without a requirement",
+        "README.md",
+        "\n## The premises\n",
+        "\n- That it is blue.\n\n## The premises\n",
+        'no requirement is of the promise "That it is blue.',
+    ),
+    (
+        "a promise that names another clause",
+        "README.md",
+        "`Onboard::accept` (`accepted`)",
+        "`Onboard::accept` (`quiet`)",
+        "README.md names `quiet` in P-1",
+    ),
+    (
+        "a clause that a promise names no more",
+        "README.md",
+        "covers `run` from",
+        "covers `ran` from",
+        "P-13 names run, and README.md doesn't",
+    ),
+    (
+        "a premise that is gone",
+        "README.md",
+        "- **Memory is there.**",
+        "- **Room is there.**",
+        'README.md has 0 sentences that begin "Memory is there"',
+    ),
+    (
+        "a premise without an identity",
+        "README.md",
+        "- **Memory is there.**",
+        "- **Room is there.**",
+        'the premise "Room is there.',
+    ),
+    ("an item that is gone", "docs/SAFETY.md", "\n12. **Backward", "\n12. Backward", "docs/SAFETY.md has no item 12"),
+    (
+        "an item that names what isn't there",
+        "docs/SAFETY.md",
+        "(`waiting` in",
+        "(`waits` in",
+        "item 4 names `waits` of national.InForce",
+    ),
+    (
+        "a refusal with another number",
+        "crates/reader/src/errors.rt",
+        "Damaged = 32",
+        "Damaged = 35",
+        "docs/REFUSALS.md has ListingError Damaged with 32",
+    ),
+    (
+        "a refusal without a row",
+        "include/etcs_unit.h",
+        "ETCS_UNIT_CLOCK_BACK = 11,",
+        "ETCS_UNIT_CLOCK_BACK = 11,\n    ETCS_UNIT_LATE = 14,",
+        "docs/REFUSALS.md has no row for etcs_unit_status LATE",
+    ),
+    (
+        "a section without a requirement",
+        "docs/CONFORMANCE.md",
+        "| 3.9 | infill | left out",
+        "| 3.9 | infill | standard",
+        "has the section 3.9, and no requirement",
+    ),
+    (
+        "a constant of no definition",
+        "docs/CONFORMANCE.md",
+        "`mark_behind`",
+        "`mark_before`",
+        "names `mark_before` of track_picture",
+    ),
+    (
+        "a gap without a reason",
+        "docs/requirements.yaml",
+        "    - crates: layouts blocks ring journal onboard\n      why: words",
+        "    - crates: layouts blocks journal onboard\n      why: words",
+        "definitions of crates/ring are of no requirement",
+    ),
+    (
+        "a test that the gate doesn't run",
+        ".ci/run",
+        '(tests/why.sh)" tests/why.sh',
+        '(tests/why.sh)" true',
+        ".ci/run doesn't run tests/why.sh",
+    ),
+    (
+        "a requirement that nothing tries",
+        "docs/requirements.yaml",
+        'rows: ["decode: No packets, and six bits that are free.", "programs: decode by hand"]',
+        "rows: []",
+        "O-decode-1 has none of rows",
+    ),
+)
+ALONE = (  # planted by itself: the page is compared where nothing else is wrong
+    (
+        "a page that is out of date",
+        "docs/TRACE.md",
+        "## Counts",
+        "## Count",
+        "docs/TRACE.md isn't what the sources give: run tools/trace",
+    ),
+)
+
+
+def copy(top):
+    """A copy of what the tool reads."""
+    for name in WHOLE:
+        source, target = TOP / name, top / name
+        target.parent.mkdir(parents=True, exist_ok=True)
+        if source.is_dir():
+            shutil.copytree(source, target, ignore=shutil.ignore_patterns("__pycache__", "*.png", "out"))
+        else:
+            shutil.copy2(source, target)
+    for script in (TOP / "tests").glob("*.sh"):
+        shutil.copy2(script, top / "tests" / script.name)
+    for crate in (TOP / "crates").iterdir():
+        for part in ("src", "specs", "must-fail"):
+            if (crate / part).is_dir():
+                shutil.copytree(crate / part, top / "crates" / crate.name / part)
+
+
+def plant(top, path, old, new):
+    """Puts a fault into the copy."""
+    file = top / path
+    if old is None and new is None:
+        file.unlink()
+    elif old is None:
+        file.write_text(new, encoding="utf-8")
+    else:
+        text = file.read_text(encoding="utf-8")
+        if old not in text and new not in text:
+            sys.exit(f"tests/trace/planted.py: {path} doesn't have {old!r}: mend the plant")
+        file.write_text(text.replace(old, new, 1), encoding="utf-8")
+
+
+def checked(top):
+    """What the tool tells of the copy."""
+    return subprocess.run([top / "tools/trace", "--check"], capture_output=True, text=True, check=False)
+
+
+def main():
+    wrong, told = [], 0
+    with tempfile.TemporaryDirectory() as folder:
+        top = Path(folder)
+        copy(top)
+        if (run := checked(top)).returncode:
+            sys.exit(f"tests/trace/planted.py: an unaltered copy doesn't pass:\n{run.stdout}{run.stderr}")
+        for plants in (ALONE, PLANTS):
+            for _, path, old, new, _ in plants:
+                plant(top, path, old, new)
+            run = checked(top)
+            wrong += [
+                f"{name} isn't told: {says}"
+                for name, *_, says in plants
+                if run.returncode != 1 or says not in run.stdout
+            ]
+            told += len(plants)
+    print(
+        "\n".join(wrong + ([run.stdout, run.stderr] if wrong else []))
+        or f"trace: each of {told} planted faults is told"
+    )
+    return 1 if wrong or told < LEAST else 0
+
+
+if __name__ == "__main__":
+    sys.exit(main())

@@ -1,0 +1,72 @@
+"""What was tried: rows of questions with their answers, and test cases with the sections that they are about."""
+import re
+from dataclasses import dataclass
+from pathlib import Path
+
+from gaknifur import cases, coverage
+from gaknifur.located import documents
+from tracing.sources import Place
+
+ROWS = {
+    "": "tests/rows/test_kernel.row",
+    "programs": "tests/programs",
+    **{
+        name: f"tests/rows/test_{name}.row"
+        for name in ("parts", "decode", "modes", "onboard", "blocks", "journal", "disk")
+    },
+}
+TITLE = re.compile(r"^(?:row |case |# )?(.*)$")
+
+
+@dataclass
+class TestCase:
+    """A test case: its sections, the sentence that it tests, and the items of SAFETY.md that it shows."""
+
+    name: str
+    rule: str
+    sections: set
+    shows: set
+    place: Place
+
+
+def titles():
+    """Of each file of rows its lines, without what marks a title, and where each stands."""
+    found = {}
+    for prefix, path in ROWS.items():
+        files = sorted(Path(path).glob("*.row")) if Path(path).is_dir() else [Path(path)]
+        found[prefix] = [
+            (TITLE.match(line)[1], Place(str(file), number))
+            for file in files
+            for number, line in enumerate(file.read_text(encoding="utf-8").splitlines(), 1)
+            if prefix or line.startswith("row ")
+        ]
+    return found
+
+
+def row(known, name):
+    """Where a row stands that a requirement names; None where it doesn't. One of the kernel is named whole."""
+    prefix, _, title = name.partition(": ")
+    if prefix in known and title:
+        return next((place for text, place in known[prefix] if text.startswith(title)), None)
+    return next((place for text, place in known[""] if text == name), None)
+
+
+def test_case(at):
+    """The head of a case. Its steps aren't read here: that takes the program."""
+    told = at.members(cases.CASE, cases.MORE)
+    sections = set(cases.sections_of(told["sections"]))
+    for one in told["expected"].elements() if "expected" in told else []:
+        more = one.entries()
+        sections |= set(cases.sections_of(more["sections"])) if "sections" in more else set()
+    shows = {one.text() for one in told["shows"].elements()} if "shows" in told else set()
+    return TestCase(told["test_case"].text(), told["rule"].text(), sections, shows, Place(str(at.path), at.line))
+
+
+def test_cases():
+    """The cases of suites/ and drives/."""
+    return [
+        test_case(at)
+        for folder in ("suites", "drives")
+        for path in coverage.files(Path(folder))
+        for at in documents(path)
+    ]

@@ -1,0 +1,125 @@
+"""What the pages say, where it stands there: promises and premises, items, refusals, and the sections of CONFORMANCE.
+
+A sentence that a page has stands there alone; requirements name it by its number or by its first words.
+"""
+import re
+from dataclasses import dataclass, field
+from pathlib import Path
+
+from gaknifur import coverage
+from gaknifur.mode_rows import table_rows
+from tracing.sources import Place
+
+NAME = re.compile(r"`([^`]+)`")
+ITEM = re.compile(r"^(\d+)\. \*\*(.+?)\*\*(.*?)(?=^\d+\. \*\*|^## |\Z)", re.M | re.S)
+DEFINED = re.compile(r"((?:`\w+`(?:, | and )?)+)\s+in\s+`crates/(\w+)/specs/([\w/]+)\.antt`")
+VARIANT = re.compile(r"^ {4}([A-Z]\w*)(?: = (\d+))?,", re.M)
+STATUS = re.compile(r"^ {4}ETCS_(?:UNIT|FILE)_(\w+) = (\d+),?", re.M)
+
+
+@dataclass
+class Said:
+    """A sentence of a page, where it stands, and what it names in backticks."""
+
+    key: str
+    text: str
+    place: Place
+    names: list = field(default_factory=list)
+
+
+def read(path):
+    """A page."""
+    return Path(path).read_text(encoding="utf-8")
+
+
+def line_of(text, at):
+    """The number of the line of a place in a text."""
+    return text.count("\n", 0, at) + 1
+
+
+def plain(text):
+    """A text on one line, links and marks of style left out."""
+    return re.sub(r"\[([^\]]*)\]\([^)]*\)", r"\1", " ".join(text.split())).replace("**", "")
+
+
+def blocks(path, heading):
+    """The paragraphs and the items of lists below a heading of a page, each with the line where it begins."""
+    found, is_inside, is_new = [], False, True
+    for number, line in enumerate(read(path).splitlines(), 1):
+        if line.startswith("## "):
+            is_inside = line == f"## {heading}"
+        elif is_inside and not line.strip():
+            is_new = True
+        elif is_inside:
+            item = re.match(r"(\d+\.|-) ", line)
+            if is_new or item:
+                found.append((number, []))
+            found[-1][1].append(line[item.end() :] if item else line)
+            is_new = False
+    said = [(number, " ".join(" ".join(lines).split())) for number, lines in found]
+    return [Said(plain(one), plain(one), Place(path, number), NAME.findall(one)) for number, one in said]
+
+
+def items():
+    """The items of SAFETY.md by number, with the definitions that each names."""
+    path, found = "docs/SAFETY.md", {}
+    text = read(path)
+    for one in ITEM.finditer(text):
+        body = " ".join(one[3].split())
+        defined = [
+            (f"{crate}.{file.replace('/', '.')}", name)
+            for names, crate, file in DEFINED.findall(body)
+            for name in NAME.findall(names)
+        ]
+        found[int(one[1])] = (Said(one[1], plain(one[2]).rstrip("."), Place(path, line_of(text, one.start()))), defined)
+    return found
+
+
+def refusals():
+    """The rows of REFUSALS.md that have a number: what refuses, number, name and meaning."""
+    path, found, title, head, types = "docs/REFUSALS.md", [], "", [], []
+    for number, line in enumerate(read(path).splitlines(), 1):
+        if line.startswith("#"):
+            title = line.lstrip("# ")
+        if not line.startswith("|"):
+            head = []
+            continue
+        cells = [cell.strip() for cell in line.strip("|").split(" | ")]
+        head = head or cells
+        if head[0] != "Number" or not cells[0].isdigit():
+            continue
+        if head[2] == "Where":
+            named = [one.split("::") for one in NAME.findall(cells[2])]
+            types = [one[-1] for one in named if one[0] != "LiveError"] or types
+        elif title == "The unit from C":
+            types = ["etcs_unit_status" if len(head) == 5 else "etcs_file_answer"]
+        said = cells[2] if len(head) == 3 else cells[3]
+        found += [
+            (kind, int(cells[0]), cells[1], Said(f"{kind} {cells[0]}", plain(said), Place(path, number)))
+            for kind in types
+        ]
+    return found
+
+
+def variants(kind, path):
+    """The names of an enum in a source, each with its number where it has one."""
+    text = read(path)
+    begin = text.index(f"enum {kind} {{")
+    found = (STATUS if path.endswith(".h") else VARIANT).findall(text[begin : text.index("\n}", begin)])
+    return {name: int(number) if number else None for name, number in found}
+
+
+def sections():
+    """The sections of CONFORMANCE.md that the product has something of, and those that it leaves out."""
+    return coverage.sections()
+
+
+def questions():
+    """The rows of "In one sentence each" and of the constants of CONFORMANCE.md: sentence, definitions, crates."""
+    text = read("docs/CONFORMANCE.md")
+    for heading, at in (("In one sentence each", 2), ("Constants of this profile", 2)):
+        for cells in table_rows(text, heading):
+            for part in cells[at].split(";"):
+                names, crate = NAME.findall(part), part.rsplit(",", 1)[-1].strip()
+                if names and re.fullmatch(r"\w+", crate):
+                    yield cells[0], names, crate

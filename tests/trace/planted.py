@@ -23,7 +23,7 @@ WHOLE = (
     "python/gaknifur",
     "tests/rows",
     "tests/programs",
-    "tests/suites.sh",
+    "tests/plain/law_rows.py",
 )
 LEAST = 24
 

@@ -51,6 +51,12 @@ def row(known, name):
     return next((place for text, place in known[""] if text == name), None)
 
 
+def tried_laws():
+    """The laws that tests/plain/law_rows.py tries behind each event of the kernel's rows."""
+    text = Path("tests/plain/law_rows.py").read_text(encoding="utf-8")
+    return set(re.findall(r"(\w+): [\d_]+", text[text.index("\nLEAST = {") :]))
+
+
 def test_case(at):
     """The head of a case. Its steps aren't read here: that takes the program."""
     told = at.members(cases.CASE, cases.MORE)

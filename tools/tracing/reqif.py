@@ -1,5 +1,6 @@
 """The requirements as ReqIF 1.2 (OMG formal/16-07-01), which tools for requirements read: an object for each
-requirement and each premise, relations from requirements to what they rest on, and one specification in the order of the parts.
+requirement, law and premise, relations from requirements to what they rest on, and one specification in the order of
+the parts.
 
 Identifiers are made of identities, so that a later export is taken for the same objects.
 """
@@ -66,8 +67,12 @@ def spec_object(parent, identity, values, when):
 
 
 def relations(reader):
-    """Which requirement rests on which premise or promise."""
-    return [(it.identity, other) for it in reader.requirements for other in (*it.rests_on, *it.premises)]
+    """Which requirement rests on which promise, law or premise."""
+    return [
+        (it.identity, other)
+        for it in reader.requirements
+        for other in (*it.rests_on, *(f"L-{name}" for name in it.laws), *it.premises)
+    ]
 
 
 def hierarchy(parent, identity, title, ones, when):
@@ -115,7 +120,7 @@ def document(reader):
     chapters = {**PARTS, "premises": "Premises"}
     for part, title in chapters.items():
         spec_object(objects, f"part-{part}", [("ReqIF.ForeignID", f"part-{part}"), ("ReqIF.Text", title)], when)
-    for it in reader.requirements:
+    for it in (*reader.requirements, *reader.laws):
         spec_object(objects, it.identity, zip(FIELDS, cells(it, reader)), when)
     for name, (text, by, place) in reader.premises.items():
         spec_object(
@@ -139,7 +144,7 @@ def document(reader):
         ones = (
             list(reader.premises)
             if part == "premises"
-            else [it.identity for it in reader.requirements if it.part == part]
+            else [it.identity for it in (*reader.requirements, *reader.laws) if it.part == part]
         )
         hierarchy(below, part, title, ones, when)
     xml.indent(root, " ")

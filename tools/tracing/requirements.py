@@ -41,6 +41,8 @@ class Requirement:
     cases: list = field(default_factory=list)
     premises: list = field(default_factory=list)
     rests_on: list = field(default_factory=list)
+    is_for: list = field(default_factory=list)
+    """Of a law, the requirements that name it."""
     unnamed: list = field(default_factory=list)
     words: list = field(default_factory=list)
     why_none: dict = field(default_factory=dict)
@@ -51,7 +53,7 @@ class Reader:
 
     def __init__(self, sources):
         self.sources, self.faults = sources, []
-        self.requirements, self.premises, self.not_promised, self.alone = [], {}, [], {}
+        self.requirements, self.premises, self.not_promised, self.alone, self.laws = [], {}, [], {}, []
         self.titles, self.cases = evidence.titles(), evidence.test_cases()
         self.sections = pages.sections()
         self.by_item = {}
@@ -119,7 +121,7 @@ class Reader:
             if place is None:
                 self.fault(
                     one,
-                    f"there is no row \"{one.text()}\" in "
+                    f'there is no row "{one.text()}" in '
                     f"{evidence.ROWS.get(one.text().partition(': ')[0], evidence.ROWS[''])}"
                     ": name the one that shows it now",
                 )
@@ -351,6 +353,17 @@ class Reader:
             if name not in there:
                 self.fault(at, f"docs/REFUSALS.md has {kind} {name}, and the source doesn't")
 
+    def read_laws(self):
+        """The laws, each as a requirement of its own: its sentence stands where it is declared."""
+        tried = evidence.tried_laws()
+        for name, (said, place) in self.sources.laws.items():
+            it = Requirement(f"L-{name}", "laws", said, "own", place, laws=[name])
+            it.cited = self.by_item.get(name.replace(".", "::"), [])
+            it.definitions = sorted({one for clause in it.cited for one in clause.names})
+            it.tests = ["tests/run.sh"] if name.split(".")[1] in tried else []
+            it.is_for = [one.identity for one in self.requirements if name in one.laws]
+            self.laws.append(it)
+
     def read_alone(self, at):
         """Why definitions or clauses of a crate are of no requirement."""
         for kind in ("definitions", "clauses"):
@@ -374,6 +387,7 @@ class Reader:
         self.read_safety(told["safety"])
         self.read_refusals(told["refusals"])
         self.read_alone(told["alone"])
+        self.read_laws()
         twice = [one for one, count in Counter(it.identity for it in self.requirements).items() if count > 1]
         self.faults += [f"{PAGE}: {one} stands twice: give the later one a number of its own" for one in twice]
         known = {it.identity for it in self.requirements}

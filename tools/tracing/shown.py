@@ -12,6 +12,7 @@ PARTS = {
     "own": "Beyond both",
     "safety": "Items of SAFETY.md",
     "refusals": "Refusals",
+    "laws": "Laws",
 }
 COLUMNS = (
     "identity",
@@ -73,7 +74,7 @@ def table(heads, rows):
 def counts(reader):
     """How many requirements of each part have what."""
     for part, title in PARTS.items():
-        mine = [it for it in reader.requirements if it.part == part]
+        mine = [it for it in (*reader.requirements, *reader.laws) if it.part == part]
         has = (
             lambda it: it.definitions,
             lambda it: it.cited or it.found,
@@ -146,9 +147,9 @@ def page(reader, gaps, held, cited):
         ),
     )
     yield "\n" + wrapped(
-        "A definition is of a requirement where one names it, or names what rests on it; so is a clause that one names, "
-        "or that names the definitions of one, or else what rests on these. Rows that no requirement names are run all "
-        "the same."
+        "A definition is of a requirement where one names it, or names what rests on it; so is a clause that one "
+        "names, or that names the definitions of one, or else what rests on these. Rows that no requirement names are "
+        "run all the same."
     )
     many = sum(1 for it in reader.requirements if it.part == "sections")
     yield "\n" + wrapped(
@@ -203,6 +204,8 @@ def told(it, reader):
         yield f"  premise      {name}, for {reader.premises[name][1]}: {reader.premises[name][0].split('. ')[0]}"
     for name in it.rests_on:
         yield f"  rests on     {name}"
+    for name in it.is_for:
+        yield f"  is for       {name}"
     for name, why in it.why_none.items():
         yield f"  no {name:<9} {why}"
 
@@ -255,7 +258,7 @@ def as_csv(reader):
     out = io.StringIO()
     writer = csv.writer(out, lineterminator="\n")
     writer.writerow(COLUMNS)
-    writer.writerows(cells(it, reader) for it in reader.requirements)
+    writer.writerows(cells(it, reader) for it in (*reader.requirements, *reader.laws))
     return out.getvalue()
 
 
@@ -279,7 +282,7 @@ def entries(reader):
     def add(kind, name, text, place, it):
         found[kind].setdefault(name, (text, place, []))[2].append(it)
 
-    for it in reader.requirements:
+    for it in (*reader.requirements, *reader.laws):
         for one in it.definitions:
             add("definition", ".".join(one), "", reader.sources.place(one), it)
         for one in dict.fromkeys([*map(str, it.cited), *map(str, it.found)]):
@@ -321,8 +324,9 @@ def held_by(it):
     for title, texts in (("Tests", it.tests), ("None of", [f"{name}: {why}" for name, why in it.why_none.items()])):
         if texts:
             yield f"<dt>{title}</dt><dd>{html.escape('; '.join(texts))}</dd>"
-    if it.rests_on:
-        yield f"<dt>Rests on</dt><dd>{', '.join(link('r', one) for one in it.rests_on)}</dd>"
+    for title, others in (("Rests on", it.rests_on), ("Is for", it.is_for)):
+        if others:
+            yield f"<dt>{title}</dt><dd>{', '.join(link('r', one) for one in others)}</dd>"
 
 
 def as_html(reader):
@@ -331,13 +335,13 @@ def as_html(reader):
     yield '<!DOCTYPE html>\n<html lang="en">\n<head>\n<meta charset="utf-8">'
     yield "<title>What is required, and what holds it</title>"
     yield f"<style>\n{style}</style>\n</head>\n<body>\n<h1>What is required, and what holds it</h1>"
-    yield '<p class="sub">Written by tools/trace. Links to sources lead there where this page lies in the top folder.</p>'
+    yield '<p class="sub">Written by tools/trace. Links to sources hold where it lies in the top folder.</p>'
     yield "<p>" + " · ".join(link("part", part, title) for part, title in PARTS.items()) + " · " + " · ".join(
         link("part", kind, f"{kind}s") for kind in entries(reader)
     ) + "</p>"
     for part, title in PARTS.items():
         yield f'<h2 id="part-{part}">{title}</h2>'
-        for it in (one for one in reader.requirements if one.part == part):
+        for it in (one for one in (*reader.requirements, *reader.laws) if one.part == part):
             name, by = html.escape(it.identity), html.escape(f", for {it.by} to do" if it.by else "")
             yield f'<h3 id="r-{name}">{name}</h3><p>{html.escape(it.says)} <i>{it.kind}{by}</i> {source(it.place)}</p>'
             yield f"<dl>{''.join(held_by(it))}</dl>"

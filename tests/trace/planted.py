@@ -25,7 +25,7 @@ WHOLE = (
     "tests/programs",
     "tests/plain/law_rows.py",
 )
-LEAST = 24
+LEAST = 29
 
 # Each plant: the file, what stands there, what is put in its place, and what has to be told.
 PLANTS = (
@@ -178,6 +178,21 @@ PLANTS = (
         ".ci/run doesn't run tests/why.sh",
     ),
     (
+        "a claim of a promise that isn't there",
+        "docs/assurance.yaml",
+        "of: [P-6]",
+        "of: [P-66]",
+        "G6 names P-66, which isn't there",
+    ),
+    ("a promise of no claim", "docs/assurance.yaml", "of: [P-6]", "of: [P-66]", "no claim is of the promise P-6"),
+    (
+        "a claim that rests on nothing",
+        "docs/assurance.yaml",
+        "of: [P-4]",
+        "of: []",
+        "G4 rests on nothing",
+    ),
+    (
         "a requirement that nothing tries",
         "docs/requirements.yaml",
         'rows: ["decode: No packets, and six bits that are free.", "programs: decode by hand"]',
@@ -185,13 +200,27 @@ PLANTS = (
         "O-decode-1 has none of rows",
     ),
 )
-ALONE = (  # planted by itself: the page is compared where nothing else is wrong
+ALONE = (  # planted by themselves: pages are compared where nothing else is wrong
     (
         "a page that is out of date",
         "docs/TRACE.md",
         "## Counts",
         "## Count",
         "docs/TRACE.md isn't what the sources give: run tools/trace",
+    ),
+    (
+        "a case that is out of date",
+        "docs/ASSURANCE.md",
+        "## The premises",
+        "## The premise",
+        "docs/ASSURANCE.md isn't what the sources give: run tools/trace",
+    ),
+    (
+        "a picture of an older case",
+        "docs/assurance.yaml",
+        "short: The journal never fills",
+        "short: The ring never fills",
+        "docs/pictures/assurance.svg is of an older case",
     ),
 )
 

@@ -364,6 +364,10 @@ class Reader:
             it.is_for = [one.identity for one in self.requirements if name in one.laws]
             self.laws.append(it)
 
+    def laws_said(self, name):
+        """The sentence of a law."""
+        return self.sources.laws[name][0]
+
     def read_alone(self, at):
         """Why definitions or clauses of a crate are of no requirement."""
         for kind in ("definitions", "clauses"):

@@ -4,6 +4,7 @@ unaltered copy passes.
 
     tests/trace/planted.py
 """
+import re
 import shutil
 import subprocess
 import sys
@@ -25,7 +26,7 @@ WHOLE = (
     "tests/programs",
     "tests/plain/law_rows.py",
 )
-LEAST = 29
+LEAST = 30
 
 # Each plant: the file, what stands there, what is put in its place, and what has to be told.
 PLANTS = (
@@ -185,13 +186,7 @@ PLANTS = (
         "G6 names P-66, which isn't there",
     ),
     ("a promise of no claim", "docs/assurance.yaml", "of: [P-6]", "of: [P-66]", "no claim is of the promise P-6"),
-    (
-        "a claim that rests on nothing",
-        "docs/assurance.yaml",
-        "of: [P-4]",
-        "of: []",
-        "G4 rests on nothing",
-    ),
+    ("a claim that rests on nothing", "docs/assurance.yaml", "of: [P-4]", "of: []", "G4 rests on nothing"),
     (
         "a requirement that nothing tries",
         "docs/requirements.yaml",
@@ -221,6 +216,13 @@ ALONE = (  # planted by themselves: pages are compared where nothing else is wro
         "short: The journal never fills",
         "short: The ring never fills",
         "docs/pictures/assurance.svg is of an older case",
+    ),
+    (
+        "a review of a definition that changed",
+        "crates/mode_table/specs/Rows.antt",
+        "from FS TR (λ c. c.trip)",
+        "from FS SB (λ c. c.trip)",
+        "A, of B, 2026-12-01, **outdated**",
     ),
 )
 
@@ -261,11 +263,26 @@ def checked(top):
     return subprocess.run([top / "tools/trace", "--check"], capture_output=True, text=True, check=False)
 
 
+def review(top):
+    """Puts a review of a section into the copy, as it would be kept, and has its page written."""
+    printed = subprocess.run(
+        [top / "tools/review", "--sheets", "4.6"], capture_output=True, text=True, check=True
+    ).stdout
+    digest = re.search(r"<code>([0-9a-f]{64})</code>", printed)[1]
+    said = f"sheet: 4.6\ndigest: {digest}\nreviewer: A, of B\ncopy: one\ndate: 2026-12-01\noutcome: agrees\n"
+    (top / "docs/reviews/4.6.yaml").write_text(said, encoding="utf-8")
+    subprocess.run([top / "tools/trace"], capture_output=True, check=True)
+    page = (top / "docs/reviews/README.md").read_text(encoding="utf-8")
+    return "[agrees](4.6.yaml), A, of B, 2026-12-01 |" in page
+
+
 def main():
     wrong, told = [], 0
     with tempfile.TemporaryDirectory() as folder:
         top = Path(folder)
         copy(top)
+        if not review(top):
+            sys.exit("tests/trace/planted.py: a review that was made doesn't stand on its page")
         if (run := checked(top)).returncode:
             sys.exit(f"tests/trace/planted.py: an unaltered copy doesn't pass:\n{run.stdout}{run.stderr}")
         for plants in (ALONE, PLANTS):

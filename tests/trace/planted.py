@@ -22,11 +22,9 @@ WHOLE = (
     "drives",
     "tools",
     "python/gaknifur",
-    "tests/rows",
-    "tests/programs",
-    "tests/plain/law_rows.py",
+    "tests",
 )
-LEAST = 30
+LEAST = 32
 
 # Each plant: the file, what stands there, what is put in its place, and what has to be told.
 PLANTS = (
@@ -185,6 +183,20 @@ PLANTS = (
         "of: [P-66]",
         "G6 names P-66, which isn't there",
     ),
+    (
+        "a number that its runner doesn't have",
+        "docs/TESTS.md",
+        "2,732 rows",
+        "2,733 rows",
+        '"parts: 2,733 rows" isn\'t what tests/rows.sh has: it has 2,732',
+    ),
+    (
+        "a number that nothing holds",
+        "docs/TESTS.md",
+        "## Requirements\n",
+        "## Requirements\n\nIt tries 77 images.\n",
+        "nothing holds the number in",
+    ),
     ("a promise of no claim", "docs/assurance.yaml", "of: [P-6]", "of: [P-66]", "no claim is of the promise P-6"),
     ("a claim that rests on nothing", "docs/assurance.yaml", "of: [P-4]", "of: []", "G4 rests on nothing"),
     (
@@ -236,8 +248,6 @@ def copy(top):
             shutil.copytree(source, target, ignore=shutil.ignore_patterns("__pycache__", "*.png", "out"))
         else:
             shutil.copy2(source, target)
-    for script in (TOP / "tests").glob("*.sh"):
-        shutil.copy2(script, top / "tests" / script.name)
     for crate in (TOP / "crates").iterdir():
         for part in ("src", "specs", "must-fail"):
             if (crate / part).is_dir():

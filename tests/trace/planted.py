@@ -24,7 +24,7 @@ WHOLE = (
     "python/gaknifur",
     "tests",
 )
-LEAST = 32
+LEAST = 33
 
 # Each plant: the file, what stands there, what is put in its place, and what has to be told.
 PLANTS = (
@@ -154,6 +154,13 @@ PLANTS = (
         "| 3.9 | infill | left out",
         "| 3.9 | infill | standard",
         "has the section 3.9, and no requirement",
+    ),
+    (
+        "a sentence of the standard in a section that has none",
+        "docs/CONFORMANCE.md",
+        "| 7.4.2, packet 255 | end mark | standard: eight bits alone",
+        "| 7.4.2, packet 255 | end mark | profile: eight bits alone",
+        "R-7.4.2.p255-1 is of the standard",
     ),
     (
         "a constant of no definition",

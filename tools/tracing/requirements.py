@@ -202,6 +202,12 @@ class Reader:
                     Place(str(PAGE), one.line),
                     section=name,
                 )
+                if it.kind == "standard" and name in here and "standard" not in here[name].here:
+                    self.fault(
+                        told["kind"],
+                        f"{identity} is of the standard, and docs/CONFORMANCE.md has nothing of {name} as the standard has it: "
+                        "make it profile, or mend the page",
+                    )
                 short = name.replace(" packet ", ".p").replace(" all others", ".others")
                 if not identity.startswith(f"R-{short}-"):
                     self.fault(one, f"{identity} stands at the section {name}: its name begins R-{short}-")

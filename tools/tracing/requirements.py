@@ -205,8 +205,8 @@ class Reader:
                 if it.kind == "standard" and name in here and "standard" not in here[name].here:
                     self.fault(
                         told["kind"],
-                        f"{identity} is of the standard, and docs/CONFORMANCE.md has nothing of {name} as the standard has it: "
-                        "make it profile, or mend the page",
+                        f"{identity} is of the standard, and docs/CONFORMANCE.md has nothing of {name} as the standard "
+                        "has it: make it profile, or mend the page",
                     )
                 short = name.replace(" packet ", ".p").replace(" all others", ".others")
                 if not identity.startswith(f"R-{short}-"):

@@ -259,6 +259,8 @@ def copy(top):
         for part in ("src", "specs", "must-fail"):
             if (crate / part).is_dir():
                 shutil.copytree(crate / part, top / "crates" / crate.name / part)
+        if (crate / "README.md").is_file():
+            shutil.copy2(crate / "README.md", top / "crates" / crate.name)
 
 
 def plant(top, path, old, new):

@@ -101,6 +101,21 @@ def refusals():
     return found
 
 
+def texts(heading):
+    """The rows of a table of REFUSALS.md that begin with a text: a name made of it, the text, and what it means."""
+    path, title, is_head, found = "docs/REFUSALS.md", "", True, []
+    for number, line in enumerate(read(path).splitlines(), 1):
+        if line.startswith("#"):
+            title, is_head = line.lstrip("# "), True
+        if title == heading and line.startswith("| "):
+            cells = [cell.strip() for cell in line.strip("|").split(" | ")]
+            name = "-".join(re.findall(r"\w+", cells[0]))
+            if not is_head:
+                found.append((name, cells[0], Said(name, plain(cells[1]), Place(path, number))))
+            is_head = False
+    return found
+
+
 def variants(kind, path):
     """The names of an enum in a source, each with its number where it has one."""
     text = read(path)

@@ -336,7 +336,10 @@ class Reader:
             if kind not in named:
                 self.faults.append(f"{said.place}: the refusals of {kind} have no requirement: add them to {PAGE}")
         for kind, one in named.items():
-            told = one.members(("source",), HELD)
+            told = one.members((), ("source", "heading", *HELD))
+            if "heading" in told:
+                self.read_texts(kind, told)
+                continue
             if not Path(told["source"].text()).is_file():
                 self.fault(told["source"], f"{told['source'].text()} isn't there: name the source that declares {kind}")
                 continue
@@ -346,6 +349,16 @@ class Reader:
                 self.hold(
                     Requirement(f"E-{kind}-{number}", "refusals", f"{name}: {said.text}", "own", said.place), told
                 )
+
+    def read_texts(self, kind, told):
+        """The refusals of a table whose rows begin with a text."""
+        rows = pages.texts(told["heading"].text())
+        if not rows:
+            self.fault(
+                told["heading"], f"docs/REFUSALS.md has no table under {told['heading'].text()}: name its heading"
+            )
+        for name, text, said in rows:
+            self.hold(Requirement(f"E-{kind}-{name}", "refusals", f"{text}: {said.text}", "own", said.place), told)
 
     def compare_variants(self, kind, at, rows):
         """The page has each name of the enum with its number, and no other."""

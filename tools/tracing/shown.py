@@ -92,7 +92,7 @@ def grouped(told):
     """Identities with one reason on one line, those of a type of refusals as one."""
     found = defaultdict(list)
     for it, why in told:
-        name = it.identity.rsplit("-", 1)[0] + "-.." if it.part == "refusals" else it.identity
+        name = "-".join(it.identity.split("-")[:2]) + "-.." if it.part == "refusals" else it.identity
         if name not in found[why]:
             found[why].append(name)
     return [(", ".join(names), why) for why, names in found.items()]

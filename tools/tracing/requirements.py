@@ -13,6 +13,7 @@ from tracing import evidence, pages
 from tracing.sources import Place
 
 PAGE = Path("docs/requirements.yaml")
+CONDITIONS = Path("docs/INTEGRATION.md")
 PARTS = ("introductions", "sections", "promises", "premises", "not_promised", "own", "safety", "refusals", "alone")
 HELD = ("defined", "clauses", "laws", "edits", "rows", "tests", "premises", "rests_on", "words", "unnamed", "why_none")
 KINDS = ("standard", "profile", "own")
@@ -225,7 +226,7 @@ class Reader:
         """Requirements that stand on a page, by their first words, and the sentences of the page both ways."""
         left = {one.key: one for one in said}
         for identity, one in at.entries().items():
-            told = one.members(("begins",), ("by", *HELD))
+            told = one.members(("begins",), ("by", "conditions", *HELD))
             begins = told["begins"].text()
             found = [key for key in left if key.startswith(begins)]
             if len(found) != 1:
@@ -269,11 +270,22 @@ class Reader:
                 at, f"{it.identity} names {name}, and README.md doesn't: name it there, or list its law under unnamed"
             )
 
+    def conditions(self, at):
+        """Conditions for integrators, each of which has to stand on their page in these words."""
+        text = CONDITIONS.read_text(encoding="utf-8") if CONDITIONS.is_file() else ""
+        for one in at.elements():
+            if not re.search(rf"(?<!\w){re.escape(one.text())}(?!\w)", text):
+                self.fault(one, f"{CONDITIONS} has no condition {one.text()}: name the one that there is now")
+            yield one.text()
+
     def read_premises(self, at, introductions):
         """The premises of the top README."""
 
         def make(identity, _, told, said):
-            self.premises[identity] = (said.text, told["by"].text() if "by" in told else "", said.place)
+            by = told["by"].text() if "by" in told else ""
+            conditions = list(self.conditions(told["conditions"])) if "conditions" in told else []
+            by += f" (conditions {', '.join(conditions)})" if conditions else ""
+            self.premises[identity] = (said.text, by, said.place)
             if "by" not in told:
                 self.fault(told["begins"], f"{identity} doesn't say who has to meet it: add by")
 

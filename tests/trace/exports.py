@@ -3,8 +3,8 @@
 
     tests/trace/exports.py
 
-The elements of ReqIF 1.2 (OMG formal/16-07-01), with what each has to have and may have, were written down from its
-description. Neither the schema of OMG nor a reader of the format is among Debian's packages, so none was tried:
+The elements of ReqIF 1.2 (OMG formal/16-07-01), with what each has to have and may have, were written down from
+memory. Neither the schema of OMG nor a reader of the format is among Debian's packages, so none was tried:
 `xmllint --noout --schema reqif.xsd FILE` does it where the schema is there.
 """
 import csv

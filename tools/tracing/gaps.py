@@ -47,14 +47,16 @@ def held_clauses(reader):
 
 
 def each(reader):
-    """Each definition and each clause that is of no requirement."""
-    definitions, clauses = held_definitions(reader), held_clauses(reader)
-    yield from (
-        f"definition  {'.'.join(one)}  {reader.sources.place(one)}"
-        for one in sorted(reader.sources.names)
-        if one not in definitions
+    """Each definition and each clause that is of no requirement, and how many these are."""
+    held, cited = held_definitions(reader), held_clauses(reader)
+    definitions = [one for one in sorted(reader.sources.names) if one not in held]
+    clauses = [one for one in reader.sources.clauses if id(one) not in cited]
+    yield from (f"definition  {'.'.join(one)}  {reader.sources.place(one)}" for one in definitions)
+    yield from (f"clause      {one}  {one.place}" for one in clauses)
+    yield (
+        f"{len(definitions)} of {len(reader.sources.names)} definitions, and {len(clauses)} of "
+        f"{len(reader.sources.clauses)} clauses of public calls, are of no requirement"
     )
-    yield from (f"clause      {one}  {one.place}" for one in reader.sources.clauses if id(one) not in clauses)
 
 
 def check_alone(gaps, reader, kind, counts):

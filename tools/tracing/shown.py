@@ -99,18 +99,19 @@ def grouped(told):
 
 
 def of_crates(reader, gaps, kind):
-    """Crates with so many of a kind that are of no requirement, by reason."""
+    """The crates that have some of a kind of no requirement, by reason. Numbers are for `--gaps`: they change with
+    each definition, and this page isn't to."""
     found = defaultdict(list)
-    for crate, count in gaps.alone[kind].items():
+    for crate in gaps.alone[kind]:
         found[
             " ".join(reader.alone[kind][crate][0].split()) if crate in reader.alone[kind] else "no reason is told"
-        ].append(f"`{crate}` {count}")
+        ].append(f"`{crate}`")
     return [(", ".join(crates), why) for why, crates in found.items()]
 
 
-def page(reader, gaps, held, cited):
+def page(reader, gaps):
     """The page docs/TRACE.md."""
-    sources, there = reader.sources, len(reader.sources.names)
+    sources = reader.sources
     yield HEAD
     yield "## Counts\n"
     yield from table(
@@ -133,8 +134,6 @@ def page(reader, gaps, held, cited):
     yield from table(
         ("Of all", "", "of a requirement"),
         (
-            ("definitions", there, len(held)),
-            ("clauses of public calls", len(sources.clauses), cited),
             ("laws", len(sources.laws), len({name for it in reader.requirements for name in it.laws})),
             ("must-fail edits", len(sources.edits), len({name for it in reader.requirements for name in it.edits})),
             ("test cases", len(reader.cases), len({one.name for it in reader.requirements for one in it.cases})),
@@ -172,7 +171,7 @@ def page_of_gaps(reader, gaps):
     yield "\n" + wrapped(f"Left out by the product ([CONFORMANCE.md](CONFORMANCE.md)): {'; '.join(gaps.left_out)}.")
     for kind in ("definitions", "clauses"):
         yield f"\n## {kind.capitalize()} of no requirement\n"
-        yield from table(("Crates, and how many", "Why"), of_crates(reader, gaps, kind))
+        yield from table(("Crates", "Why"), of_crates(reader, gaps, kind))
 
 
 # ---- lines for one name

@@ -5,7 +5,7 @@ use Rattle.events.specs.declared.input.Event.{Event}
 use Rattle.events.specs.declared.input.Event.TheVariants.{PowerUp, Input}
 use Rattle.events.specs.declared.kept.Kept.{Kept}
 use Rattle.events.specs.declared.output.Output.{Output}
-use Rattle.kernel.specs.Lives.{Story, onward, past_at, left_by}
+use Rattle.kernel.specs.Lives.{Story, onward}
 use Rattle.lives.specs.declared.visit.Unknown.{Unknown}
 use Rattle.reasons.specs.Told.{Reasoned}
 use Rattle.why_lines.specs.Courses.{AddsEvent, AddsNext, Powers, Begins, left_out, unknown_behind}

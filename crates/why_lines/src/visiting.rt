@@ -119,7 +119,8 @@ fn tell_one<W: Write>(
     output: &Output,
     out: &mut W,
 ) -> Result<(), LateError>
-    ensures { OnOk result (TellsOne course.old.life event output.now course.old course.new (W.contents out.old) (W.contents out.new)) }
+    ensures { OnOk result (TellsOne course.old.life event output.now course.old course.new
+        (W.contents out.old) (W.contents out.new)) }
 {
     let Some(life) = &course.life else {
         return Ok(());
@@ -138,7 +139,8 @@ fn tell<W: Write>(
     output: &Option<Output>,
     out: &mut W,
 ) -> Result<(), LateError>
-    ensures { OnOk result (Tells output.now seen.now.life seen.now.record.now.number course.old course.new (W.contents out.old) (W.contents out.new)) }
+    ensures { OnOk result (Tells output.now seen.now.life seen.now.record.now.number course.old course.new
+        (W.contents out.old) (W.contents out.new)) }
 {
     match output {
         Some(output) => tell_one(course, seen.record.number, output, out),
@@ -191,12 +193,7 @@ impl<W: Write> Visit<W> for Course {
         tell(self, seen, &output, out)
     }
 
-    fn goes_on(
-        &mut self,
-        alloc: Global,
-        seen: &Seen<'_>,
-        out: &mut W,
-    ) -> Result<(), LateError> {
+    fn goes_on(&mut self, alloc: Global, seen: &Seen<'_>, out: &mut W) -> Result<(), LateError> {
         let output = follow(alloc, self, &seen.record.event)?;
         tell(self, seen, &output, out)
     }

@@ -1,4 +1,4 @@
-use Rattle.std.proofs.Common.{◌≡◌, Some, refl, sym, subst}
+use Rattle.std.proofs.Common.{Some, refl, sym, subst}
 use Rattle.events.specs.declared.input.Event.{Event}
 use Rattle.why_lines.specs.Following.{PowersUp}
 use Rattle.why_lines.specs.declared.course.Course.{Course}

@@ -1,4 +1,4 @@
-use Rattle.std.proofs.Common.{◌≡◌, Option, Some, refl, sym, subst}
+use Rattle.std.proofs.Common.{Option, Some, refl, sym, subst}
 use Rattle.reasons.specs.Told.{Reasoned}
 use Rattle.why_lines.specs.Following.{TellsOne}
 use Rattle.why_lines.specs.declared.course.Course.{Course}

@@ -1,4 +1,4 @@
-use Rattle.std.proofs.Common.{◌≡◌, subst}
+use Rattle.std.proofs.Common.{subst}
 use Rattle.std.proofs.lemmas.Result.{on_ok_weaker}
 use Rattle.why_lines.specs.Following.{IsBegun}
 use Rattle.why_lines.specs.declared.course.Course.{Course}

@@ -5,19 +5,19 @@ use crate::status::{Status, fail, unwritten};
 use std::fs::File;
 use std::io::Write;
 use std::rt::Files;
-use why_lines::{Form, WhyError, tell_why};
+use why_lines::{Form, WalkError, tell_why};
 
 // Says why an image was not gone through to its end.
-fn stopped<R: Eprint>(rt: &R, path: &str, error: WhyError) -> Status {
+fn stopped<R: Eprint>(rt: &R, path: &str, error: WalkError) -> Status {
     let (what, status) = match error {
-        WhyError::DeviceFault => ("can't be read", Status::Device),
-        WhyError::NotFormatted => ("is not a formatted image", Status::Refused),
-        WhyError::Damaged => (
+        WalkError::DeviceFault => ("can't be read", Status::Device),
+        WalkError::NotFormatted => ("is not a formatted image", Status::Refused),
+        WalkError::Damaged => (
             "has not the size that its first sector tells",
             Status::Refused,
         ),
-        WhyError::NoMemory => ("can't be replayed: memory is refused", Status::Refused),
-        WhyError::Write => return unwritten(rt, path),
+        WalkError::NoMemory => ("can't be replayed: memory is refused", Status::Refused),
+        WalkError::Write => return unwritten(rt, path),
     };
     fail(rt, what, path, status)
 }

@@ -2,3 +2,5 @@ pub mod Counting
 pub mod Living
 pub mod OneMore
 pub mod Releasing
+pub mod Same
+pub mod RunTold

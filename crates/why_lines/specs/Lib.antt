@@ -1,6 +1,8 @@
 pub mod Lines
-pub mod Walks
 pub mod Played
 pub mod Ends
 pub mod Images
 pub mod Playing
+pub mod Courses
+pub mod Following
+pub mod Walks

@@ -3,6 +3,7 @@
 -- have the newest first.
 use Rattle.std.specs.Prelude.{ℕ, ◌-◌, ◌^◌, ℤ, min, Option, List, [], ◌∷◌, ◌++◌, codes, decimal, flat_map}
 use Rattle.std.specs.Fmt.{signed_decimal}
+use Rattle.events.specs.declared.output.Output.{Output}
 use Rattle.kernel.specs.Brake.{rolled_backward}
 use Rattle.kernel.specs.Lives.{Story, past_at}
 use Rattle.kernel.specs.Output.{estimate_in, uncertainty_in}
@@ -44,19 +45,22 @@ abbrev pub played_line_of : Answer → Played → List Told → Option TripTold 
 played_line_of answer played told trip decides =
     played_text answer played ++ (flat_map (cause_text Json) told ++ last_text Json trip decides)
 
--- ---- the answer to the last event of a story, whose output was released
+-- ---- the answer to the last event of a story
 
-abbrev pub answer_of : Story → Release → Answer
-answer_of story one = record {
-  event = one.number;
-  brake = one.output.brake;
-  limit = one.output.limit;
+abbrev pub answer_in : Story → ℕ → Output → Answer
+answer_in story event output = record {
+  event = event;
+  brake = output.brake;
+  limit = output.limit;
   speed = speed_of (tracks (past_at story).life.entries);
   backward = min (rolled_backward (past_at story).life) (2 ^ 64 - 1);
   allowed = (values_of (past_at story).life).roll;
 }
 
--- .. and what is told of it beside, where it comes from this step of the scenario
+abbrev pub answer_of : Story → Release → Answer
+answer_of story one = answer_in story one.number one.output
+
+-- .. and what is told of it beside, where its output was released and it comes from this step of the scenario
 abbrev pub played_of : Story → Release → ℕ → Played
 played_of story one step = record {
   step = step;

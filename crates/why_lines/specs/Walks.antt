@@ -1,42 +1,18 @@
--- Why a journal was not walked to its end (this project's profile).
-use Rattle.std.specs.Prelude.{◌≡◌, ◌≢◌, ◌⊎◌, ℕ, ◌+◌, ◌*◌, List, Bool, true, false, Result, Ok, Err, Some, None}
-use Rattle.blocks.specs.FirstSector.{slots_told}
-use Rattle.ring.specs.Slots.{IsFormatted}
-use Rattle.why_lines.specs.declared.errors.WhyError.{WhyError}
-use Rattle.why_lines.specs.declared.errors.WhyError.TheVariants as an_error
+-- All that is told of the events of an image, and why they were answered so (this project's profile; docs/FORMAT.md).
+use Rattle.std.specs.Prelude.{◌≡◌, ℕ, Option, List}
+use Rattle.std.specs.Io.KnownBytes.{Appends}
+use Rattle.lives.specs.Walks.{IsWalked}
+use Rattle.pieces.specs.declared.piece.Form.{Form}
+use Rattle.why_lines.specs.Courses.{begun, left_text, AddsStep}
+use Rattle.why_lines.specs.declared.course.Course.{Course}
+use Rattle.why_lines.specs.declared.walk.Walked.{Walked}
 
--- whether the device failed
-abbrev pub is_device : WhyError → Bool
-is_device an_error.DeviceFault = true
-is_device an_error.NotFormatted = false
-is_device an_error.Damaged = false
-is_device an_error.Write = false
-is_device an_error.NoMemory = false
-
-abbrev pub walk_failed : {T : Type 0} → Result T WhyError → Bool
-walk_failed (Ok x) = false
-walk_failed (Err e) = is_device e
-
--- the first sector is that of an image of some slots, and the disk has the sectors for them
-abbrev pub IsImageOf : ℕ → List ℕ → Type 0
-IsImageOf sectors first = (slots : ℕ) × IsFormatted sectors slots first
-
--- what an error says of the first sector and the size of the disk
-abbrev pub IsRefusal : ℕ → List ℕ → WhyError → Type 0
-IsRefusal sectors first an_error.DeviceFault = Unit {0}
-IsRefusal sectors first an_error.NotFormatted = (sectors ≡ 0) ⊎ (slots_told first ≡ None)
-IsRefusal sectors first an_error.Damaged = (slots : ℕ) × (slots_told first ≡ Some slots) × (sectors ≢ 1 + 6 * slots)
-IsRefusal sectors first an_error.Write = ⊥
-IsRefusal sectors first an_error.NoMemory = ⊥
-
--- an error that may come behind the first sector
-abbrev pub IsLate : WhyError → Type 0
-IsLate an_error.DeviceFault = Unit {0}
-IsLate an_error.NotFormatted = ⊥
-IsLate an_error.Damaged = ⊥
-IsLate an_error.Write = Unit {0}
-IsLate an_error.NoMemory = Unit {0}
-
--- why a walk stopped: for the first sector, or later, on an image
-abbrev pub IsCause : ℕ → List ℕ → WhyError → Type 0
-IsCause sectors first e = IsRefusal sectors first e ⊎ (IsLate e × IsImageOf sectors first)
+-- What a writer holds grew by what is told of each step of an image, from the oldest block that is retained on, and by
+-- what is left at the end.
+pub record TellsWhy {W : Type 0} (contents : W → Option (List ℕ)) (only : Option ℕ) (form : Form) (sectors : ℕ) (image : ℕ → List ℕ) (old new : W) (walked : Walked) : Type 0 where
+  pub last : Course
+  pub mid : W
+  pub steps : IsWalked (λ step c out next after. AddsStep step c next (contents out) (contents after)) sectors image (begun only form) old last mid
+  pub left : Appends (contents mid) (contents new) (left_text last)
+  pub lines_are : walked.lines ≡ last.lines
+  pub whole_is : walked.is_whole ≡ last.is_whole

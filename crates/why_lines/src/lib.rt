@@ -9,12 +9,13 @@ mod errors;
 mod lines;
 mod played;
 mod playing;
-mod steps;
 mod telling;
+mod visiting;
 mod walk;
 
-pub use errors::{PlayError, WhyError};
+pub use errors::PlayError;
 pub use lines::{Answer, Told, told_of, write_line};
+pub use lives::WalkError;
 pub use onboard::{FlushError, LiveError, OpenError};
 pub use pieces::Form;
 pub use played::{Played, write_played_line};

@@ -7,12 +7,13 @@ ghost use Rattle.why_lines.specs.Images.{IsEmpty};
 ghost use Rattle.why_lines.specs.Playing.{released_in, IsPlayed, PlayEnds};
 
 use crate::ends::{first_pieces, last_pieces};
-use crate::errors::{LateError, PlayError};
+use crate::errors::PlayError;
 use crate::played::write_text;
 use crate::telling::tell_released;
 use disk::Memory;
 use events::Step;
 use journal::format;
+use lives::LateError;
 use mode_table::Cold;
 use onboard::{LiveError, Released, live};
 use std::alloc::Global;

@@ -10,10 +10,10 @@ ghost use Rattle.reasons.specs.Told.{Reasons};
 ghost use Rattle.why_lines.specs.Playing.{input_steps, IsLine, AreLines};
 
 use crate::ends::step_from;
-use crate::errors::LateError;
 use crate::played::write_one;
 use crate::playing::PlayedLife;
 use events::{Event, Input, Kept, Step};
+use lives::LateError;
 use onboard::Released;
 use reasons::Reasoning;
 use std::alloc::Global;

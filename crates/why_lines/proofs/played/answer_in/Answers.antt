@@ -2,7 +2,7 @@ use Rattle.std.proofs.Common.{sym, subst}
 use Rattle.kernel.specs.Lives.{past_at}
 use Rattle.kernel.specs.StandsFor.{StandsAt}
 use Rattle.track_store.specs.Segments.{profile_kept}
-use Rattle.why_lines.proofs.played.answer_of.Goals as goal
+use Rattle.why_lines.proofs.played.answer_in.Goals as goal
 
 pub returns : goal.returns
 returns c story stands =

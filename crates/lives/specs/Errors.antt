@@ -1,0 +1,42 @@
+-- Why a walk over an image did not come to its end (this project's profile).
+use Rattle.std.specs.Prelude.{◌≡◌, ◌≢◌, ◌⊎◌, ℕ, ◌+◌, ◌*◌, List, Bool, true, false, Result, Ok, Err, Some, None}
+use Rattle.blocks.specs.FirstSector.{slots_told}
+use Rattle.ring.specs.Slots.{IsFormatted}
+use Rattle.lives.specs.declared.errors.WalkError.{WalkError}
+use Rattle.lives.specs.declared.errors.WalkError.TheVariants as an_error
+
+-- whether the device failed
+abbrev pub is_device : WalkError → Bool
+is_device an_error.DeviceFault = true
+is_device an_error.NotFormatted = false
+is_device an_error.Damaged = false
+is_device an_error.Write = false
+is_device an_error.NoMemory = false
+
+abbrev pub walk_failed : {T : Type 0} → Result T WalkError → Bool
+walk_failed (Ok x) = false
+walk_failed (Err e) = is_device e
+
+-- the first sector is that of an image of some slots, and the disk has the sectors for them
+abbrev pub IsImageOf : ℕ → List ℕ → Type 0
+IsImageOf sectors first = (slots : ℕ) × IsFormatted sectors slots first
+
+-- what an error says of the first sector and the size of the disk
+abbrev pub IsRefusal : ℕ → List ℕ → WalkError → Type 0
+IsRefusal sectors first an_error.DeviceFault = Unit {0}
+IsRefusal sectors first an_error.NotFormatted = (sectors ≡ 0) ⊎ (slots_told first ≡ None)
+IsRefusal sectors first an_error.Damaged = (slots : ℕ) × (slots_told first ≡ Some slots) × (sectors ≢ 1 + 6 * slots)
+IsRefusal sectors first an_error.Write = ⊥
+IsRefusal sectors first an_error.NoMemory = ⊥
+
+-- an error that may come behind the first sector
+abbrev pub IsLate : WalkError → Type 0
+IsLate an_error.DeviceFault = Unit {0}
+IsLate an_error.NotFormatted = ⊥
+IsLate an_error.Damaged = ⊥
+IsLate an_error.Write = Unit {0}
+IsLate an_error.NoMemory = Unit {0}
+
+-- why a walk stopped: for the first sector, or later, on an image
+abbrev pub IsCause : ℕ → List ℕ → WalkError → Type 0
+IsCause sectors first e = IsRefusal sectors first e ⊎ (IsLate e × IsImageOf sectors first)

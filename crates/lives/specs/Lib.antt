@@ -1,0 +1,3 @@
+pub mod Errors
+pub mod Steps
+pub mod Walks

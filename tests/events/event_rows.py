@@ -131,6 +131,24 @@ def markup_row(run):
     return wrong
 
 
+def body_row(run):
+    """By hand: packets 44, which is skipped, with so many bits of 101010101 behind its head, as hexadecimal digits padded with zero bits."""
+    header = "1" "0010000" "0" "000" "000" "00" "11111111" "0000000001" "00000000000010" "1"
+    wrong = 0
+    for digits in ("", "80", "A8", "AA", "AA80"):
+        count = {"": 0, "80": 1, "A8": 5, "AA": 8, "AA80": 9}[digits]
+        bits = header + "00101100" "10" + f"{23 + count:013b}" + "101010101"[:count] + "11111111"
+        data = int(bits.ljust(-(-len(bits) // 8) * 8, "0"), 2).to_bytes(-(-len(bits) // 8), "big")
+        _, out = run(slots_of([(1, blocks.data_of(blocks.block(3, 1, 1, 1, [blocks.entry(0, ("telegram", data))])))], 2), False)
+        wanted = (f'"packets":[{{"packet":44,"fields":[["NID_PACKET",44],["Q_DIR",2],["L_PACKET",{23 + count}]],'
+                  f'"skipped_bits":{count},"body":"{digits}"}}],"bits":{81 + count}}}}}')
+        if not out.splitlines()[1].endswith(wanted):
+            print(f"a body of {count} bits:\n  told   {out.splitlines()[1]}\n  wanted {wanted}")
+            wrong += 1
+    print(f"events: 5 bodies of packets by hand, {wrong} differ")
+    return wrong
+
+
 def main(words):
     count = Count()
     if words[0] == "--images":
@@ -160,7 +178,7 @@ def main(words):
         for name, image in all_images(rings, seed):
             for all_blocks in (False, True):
                 count.compare(f"{name}, {'all' if all_blocks else 'journal'}", *run(image, all_blocks), image, all_blocks)
-        wrong = markup_row(run) + by_hand_rows(run)
+        wrong = markup_row(run) + by_hand_rows(run) + body_row(run)
     return 1 if count.end() or wrong else 0
 
 

@@ -30,27 +30,12 @@ RANDOM, SEED = 10_000, 2026
 LEAST = {"telegrams": 2_500, "refused": 2_500}
 
 
-def body_of(data, packet, at):
-    """The body of a packet that is skipped, which begins behind so many bits: its bits in digits, padded with zero bits to whole bytes."""
-    bits = "".join(f"{byte:08b}" for byte in data)[at + 23:at + dict(packet["fields"])["L_PACKET"]]
-    padded = bits + "0" * (-len(bits) % 8)
-    return "".join(f"{int(padded[i:i + 8], 2):02X}" for i in range(0, len(padded), 8))
-
-
 def told_of(data):
-    """What is to be told of bytes: the object of the events of an image, with the bodies of the packets that are skipped."""
-    pairs = told.telegram_told(data)
-    if pairs[0][0] == "refused":
-        return {"refused": dict(pairs[0][1])}
-    value = dict(pairs)
-    value["header"] = dict(value["header"])
-    packets, at = [], 50
-    for packet in map(dict, value["packets"]):
-        if "skipped_bits" in packet:
-            packet["body"] = body_of(data, packet, at)
-        at += dict(packet["fields"])["L_PACKET"]
-        packets.append(packet)
-    return value | {"packets": packets}
+    """What is to be told of bytes: the object of the events of an image."""
+    value = dict(told.telegram_told(data))
+    if "refused" in value:
+        return {"refused": dict(value["refused"])}
+    return value | {"header": dict(value["header"]), "packets": list(map(dict, value["packets"]))}
 
 
 def spelled(data, bits):

@@ -12,7 +12,7 @@ use Rattle.telegram.specs.Sequences.{length_of_all}
 use Rattle.telegram.specs.Telegrams.{header_bits}
 use Rattle.telegram.specs.declared.message.Telegram.{Telegram}
 use Rattle.decoding.specs.Fields.{header_fields}
-use Rattle.telegram_objects.specs.Lines.{members_of, packet_object, text_behind_header, line_of}
+use Rattle.telegram_objects.specs.Lines.{members_of, packet_object, text_behind_header, object_of}
 use Rattle.telegram_objects.specs.Telling.{pair_of, pairs_of}
 use Rattle.decoding.specs.declared.fields.FieldValue.{FieldValue}
 use Rattle.telegram_objects.proofs.PlainNames.{plain_name}
@@ -62,14 +62,14 @@ pub packet_text : (n : ℕ) (fields : List FieldValue) (ms : Members)
 unfolding escape_byte
 packet_text n fields ms = refl
 
-line_parts : (m i d : List ℕ) → (codes "{\"header\":{" ++ m) ++ (codes ",\"packets\":[" ++ (i ++ (codes ",\"bits\":" ++ (d ++ codes "}\n"))))
-    ≡ (codes "{\"header\":{" ++ (m ++ (codes ",\"packets\":[" ++ (i ++ (codes ",\"bits\":" ++ (d ++ codes "}")))))) ++ codes "\n"
-line_parts m i d = simp append_assoc
+object_parts : (m i d : List ℕ) → (codes "{\"header\":{" ++ m) ++ (codes ",\"packets\":[" ++ (i ++ (codes ",\"bits\":" ++ (d ++ codes "}"))))
+    ≡ codes "{\"header\":{" ++ (m ++ (codes ",\"packets\":[" ++ (i ++ (codes ",\"bits\":" ++ (d ++ codes "}")))))
+object_parts m i d = append_assoc (codes "{\"header\":{") m (codes ",\"packets\":[" ++ (i ++ (codes ",\"bits\":" ++ (d ++ codes "}"))))
 
-pub line_text : (t : Telegram) → (codes "{\"header\":{" ++ members_text false (members_of (header_fields t.header))) ++ text_behind_header t ≡ line_of t
+pub object_text : (t : Telegram) → (codes "{\"header\":{" ++ members_text false (members_of (header_fields t.header))) ++ text_behind_header t ≡ object_of t
 unfolding escape_byte
-line_text t =
-    line_parts (members_text false (members_of (header_fields t.header))) (items_text false (items_of (map packet_object t.packets.items))) (decimal (header_bits + 8 + length_of_all t.packets.items))
+object_text t =
+    object_parts (members_text false (members_of (header_fields t.header))) (items_text false (items_of (map packet_object t.packets.items))) (decimal (header_bits + 8 + length_of_all t.packets.items))
 
 front_parts : (a d rest : List ℕ) → (a ++ (codes "{\"packet\":" ++ (d ++ codes ",\"fields\":["))) ++ rest ≡ a ++ (codes "{\"packet\":" ++ (d ++ (codes ",\"fields\":[" ++ rest)))
 front_parts a d rest = simp append_assoc

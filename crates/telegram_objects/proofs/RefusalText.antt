@@ -4,7 +4,7 @@ use Rattle.json.specs.Print.{escape_byte, escape}
 use Rattle.decoding.specs.Refusals.{number_of_fault, name_of_fault}
 use Rattle.telegram.specs.declared.fault.TelegramFault.{TelegramFault}
 use Rattle.telegram.specs.declared.fault.TelegramFault.TheVariants as a_fault
-use Rattle.telegram_objects.specs.Lines.{refusal_line}
+use Rattle.telegram_objects.specs.Lines.{refusal_of}
 
 plain_fault : (e : TelegramFault) → escape (name_of_fault e) ≡ name_of_fault e
 unfolding escape_byte
@@ -18,12 +18,12 @@ plain_fault a_fault.NotBalise = refl
 plain_fault a_fault.NoEnd = refl
 plain_fault a_fault.TooLong = refl
 
-refusal_parts : (d n : List ℕ) → codes "{\"refused\":{\"number\":" ++ (d ++ (codes ",\"name\":\"" ++ (n ++ codes "\"}}\n")))
-    ≡ (codes "{\"refused\":" ++ ((codes "{\"number\":" ++ (d ++ (codes ",\"name\":\"" ++ ((n ++ 34 ∷ []) ++ 125 ∷ [])))) ++ 125 ∷ [])) ++ codes "\n"
+refusal_parts : (d n : List ℕ) → codes "{\"refused\":{\"number\":" ++ (d ++ (codes ",\"name\":\"" ++ (n ++ codes "\"}}")))
+    ≡ codes "{\"refused\":" ++ ((codes "{\"number\":" ++ (d ++ (codes ",\"name\":\"" ++ ((n ++ 34 ∷ []) ++ 125 ∷ [])))) ++ 125 ∷ [])
 refusal_parts d n = simp append_assoc
 
-pub refusal_text : (e : TelegramFault) → codes "{\"refused\":{\"number\":" ++ (decimal (number_of_fault e) ++ (codes ",\"name\":\"" ++ (name_of_fault e ++ codes "\"}}\n"))) ≡ refusal_line e
+pub refusal_text : (e : TelegramFault) → codes "{\"refused\":{\"number\":" ++ (decimal (number_of_fault e) ++ (codes ",\"name\":\"" ++ (name_of_fault e ++ codes "\"}}"))) ≡ refusal_of e
 unfolding escape_byte
 refusal_text e =
     refusal_parts (decimal (number_of_fault e)) (name_of_fault e)
-    ∙ ap (λ (n : List ℕ). (codes "{\"refused\":" ++ ((codes "{\"number\":" ++ (decimal (number_of_fault e) ++ (codes ",\"name\":\"" ++ ((n ++ 34 ∷ []) ++ 125 ∷ [])))) ++ 125 ∷ [])) ++ codes "\n") (sym (plain_fault e))
+    ∙ ap (λ (n : List ℕ). codes "{\"refused\":" ++ ((codes "{\"number\":" ++ (decimal (number_of_fault e) ++ (codes ",\"name\":\"" ++ ((n ++ 34 ∷ []) ++ 125 ∷ [])))) ++ 125 ∷ [])) (sym (plain_fault e))

@@ -1,5 +1,5 @@
--- The line that tells a telegram: its object in JSON with no space (RFC 8259), the members in this order, and the end
--- of the line (SUBSET-026, 8.4.2; the object: this project's profile).
+-- The object that tells a telegram, in JSON with no space (RFC 8259), the members in this order; and its line
+-- (SUBSET-026, 8.4.2; the object: this project's profile).
 use Rattle.std.specs.Prelude.{ℕ, zero, suc, ◌+◌, ◌-◌, ◌*◌, ◌/◌, ◌^◌, ◌<◌, List, [], ◌∷◌, ◌++◌, Bool, false, length, map, take, drop, replicate, codes, decimal}
 use Rattle.std.specs.List.{AllByRecursion}
 use Rattle.bits.specs.Bits.{number as number_of_bits}
@@ -64,10 +64,13 @@ telegram_object t =
 -- the packets of a telegram and how many bits it has, as they stand behind its header
 abbrev pub text_behind_header : Telegram → List ℕ
 text_behind_header t =
-    codes ",\"packets\":[" ++ (items_text false (items_of (map packet_object t.packets.items)) ++ (codes ",\"bits\":" ++ (decimal (header_bits + 8 + length_of_all t.packets.items) ++ codes "}\n")))
+    codes ",\"packets\":[" ++ (items_text false (items_of (map packet_object t.packets.items)) ++ (codes ",\"bits\":" ++ (decimal (header_bits + 8 + length_of_all t.packets.items) ++ codes "}")))
+
+abbrev pub object_of : Telegram → List ℕ
+object_of t = compact_text (telegram_object t)
 
 abbrev pub line_of : Telegram → List ℕ
-line_of t = compact_text (telegram_object t) ++ codes "\n"
+line_of t = object_of t ++ codes "\n"
 
 -- ---- why bytes carry no telegram
 
@@ -76,8 +79,11 @@ abbrev pub refusal_object : TelegramFault → Data
 refusal_object e =
     object (member (codes "refused") (object (member (codes "number") (number (unsigned (number_of_fault e))) (member (codes "name") (string (name_of_fault e)) no_members))) no_members)
 
+abbrev pub refusal_of : TelegramFault → List ℕ
+refusal_of e = compact_text (refusal_object e)
+
 abbrev pub refusal_line : TelegramFault → List ℕ
-refusal_line e = compact_text (refusal_object e) ++ codes "\n"
+refusal_line e = refusal_of e ++ codes "\n"
 
 -- ---- numbers that JSON readers keep whole
 

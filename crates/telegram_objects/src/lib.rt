@@ -22,4 +22,4 @@ pub use faults::{ObjectFault, Place, Ranges, Reason};
 pub use repeated::RepeatedName;
 pub use schema::SCHEMA;
 pub use spelling::{bytes_of, bytes_of_text};
-pub use text::write_answer;
+pub use text::{write_answer, write_object};

@@ -1,4 +1,4 @@
-//! A telegram as an object on a line.
+//! A telegram as an object, and that on a line.
 ghost use Rattle.std.specs.Prelude.{◌≡◌, ◌^◌, ◌<◌, ◌≤◌, ℕ, List, [], ◌∷◌, ◌++◌, true, false, length, map, codes, decimal, OnOk, IfOk, IsTrue};
 ghost use Rattle.std.specs.Io.KnownBytes.{Appends};
 ghost use Rattle.bits.specs.Names.{name_text};
@@ -14,7 +14,7 @@ ghost use Rattle.telegram.specs.Telegrams.{Carries, RefusesBytes};
 ghost use Rattle.telegram.specs.declared.fault.TelegramFault.{TelegramFault as a_fault};
 ghost use Rattle.telegram.specs.declared.message.Telegram.{Telegram as a_telegram};
 ghost use Rattle.decoding.specs.Fields.{header_fields, packet_fields};
-ghost use Rattle.telegram_objects.specs.Lines.{body_bytes, members_of, body_members, members_behind, packet_object, text_behind_header, line_of, refusal_line, AreSmall, HaveSmallFields};
+ghost use Rattle.telegram_objects.specs.Lines.{body_bytes, members_of, body_members, members_behind, packet_object, text_behind_header, object_of, refusal_of, line_of, refusal_line, AreSmall, HaveSmallFields};
 ghost use Rattle.telegram_objects.specs.Telling.{pair_of, TellsText};
 
 use bits::{BitWriter, Run};
@@ -203,12 +203,12 @@ fn write_header<W: Write>(header: &Header, out: &mut W) -> io::Result<()>
 }
 
 fn end_pieces(bits: u64) -> [Piece; 3]
-    ensures { texts Json result ≡ codes ",\"bits\":" ++ (decimal bits ++ codes "}\n") }
+    ensures { texts Json result ≡ codes ",\"bits\":" ++ (decimal bits ++ codes "}") }
 {
     [
         Piece::Same(",\"bits\":"),
         Piece::Number(bits),
-        Piece::Same("}\n"),
+        Piece::Same("}"),
     ]
 }
 
@@ -222,9 +222,9 @@ fn write_list<W: Write>(telegram: &Telegram<'_>, out: &mut W) -> io::Result<()>
     write_pieces(Form::Json, &end_pieces(telegram.bits()), out)
 }
 
-fn write_object<W: Write>(telegram: &Telegram<'_>, out: &mut W) -> io::Result<()>
+fn write_telegram<W: Write>(telegram: &Telegram<'_>, out: &mut W) -> io::Result<()>
     requires { length_of_all telegram.now.packets.items ≤ 832 }
-    ensures { OnOk result (Appends (W.contents out.old) (W.contents out.new) (line_of telegram.now) × AreSmall (header_fields telegram.now.header) × HaveSmallFields telegram.now.packets.items) }
+    ensures { OnOk result (Appends (W.contents out.old) (W.contents out.new) (object_of telegram.now) × AreSmall (header_fields telegram.now.header) × HaveSmallFields telegram.now.packets.items) }
 {
     write_header(&telegram.header, out)?;
     write_list(telegram, out)
@@ -232,26 +232,26 @@ fn write_object<W: Write>(telegram: &Telegram<'_>, out: &mut W) -> io::Result<()
 
 // Writes why bytes carry no telegram.
 fn write_refusal<W: Write>(fault: TelegramFault, out: &mut W) -> io::Result<()>
-    ensures { OnOk result (Appends (W.contents out.old) (W.contents out.new) (refusal_line fault)) }
+    ensures { OnOk result (Appends (W.contents out.old) (W.contents out.new) (refusal_of fault)) }
 {
     let number = number_of_fault(fault);
     let name = name_of_fault(fault);
-    writeln!(
+    write!(
         out,
         "{{\"refused\":{{\"number\":{number},\"name\":\"{name}\"}}}}"
     )
 }
 
-/// Writes the telegram that bytes carry as an object on a line, and answers true; or why they carry none, and answers
-/// false. The error is that of a write.
-pub fn write_answer<W: Write>(bytes: &[u8], out: &mut W) -> io::Result<bool>
-    ensures told { IfOk result (λ told. IsTrue told → (t : a_telegram) × Carries bytes.now t × TellsText (line_of t) t × Appends (W.contents out.old) (W.contents out.new) (line_of t)) }
-    ensures refused { IfOk result (λ told. told ≡ false → (e : a_fault) × RefusesBytes e bytes.now × Appends (W.contents out.old) (W.contents out.new) (refusal_line e)) }
+/// Writes the telegram that bytes carry as an object, and answers true; or why they carry none, and answers false. The
+/// error is that of a write.
+pub fn write_object<W: Write>(bytes: &[u8], out: &mut W) -> io::Result<bool>
+    ensures told { IfOk result (λ told. IsTrue told → (t : a_telegram) × Carries bytes.now t × TellsText (line_of t) t × Appends (W.contents out.old) (W.contents out.new) (object_of t)) }
+    ensures refused { IfOk result (λ told. told ≡ false → (e : a_fault) × RefusesBytes e bytes.now × Appends (W.contents out.old) (W.contents out.new) (refusal_of e)) }
 {
     let mut telegram = Telegram::new();
     match decode_into(bytes, &mut telegram) {
         Ok(()) => {
-            write_object(&telegram, out)?;
+            write_telegram(&telegram, out)?;
             Ok(true)
         }
         Err(fault) => {
@@ -259,4 +259,14 @@ pub fn write_answer<W: Write>(bytes: &[u8], out: &mut W) -> io::Result<bool>
             Ok(false)
         }
     }
+}
+
+/// Writes what `write_object` does on a line of its own.
+pub fn write_answer<W: Write>(bytes: &[u8], out: &mut W) -> io::Result<bool>
+    ensures told { IfOk result (λ told. IsTrue told → (t : a_telegram) × Carries bytes.now t × TellsText (line_of t) t × Appends (W.contents out.old) (W.contents out.new) (line_of t)) }
+    ensures refused { IfOk result (λ told. told ≡ false → (e : a_fault) × RefusesBytes e bytes.now × Appends (W.contents out.old) (W.contents out.new) (refusal_line e)) }
+{
+    let told = write_object(bytes, out)?;
+    out.write_all(b"\n")?;
+    Ok(told)
 }

@@ -1,12 +1,12 @@
-use Rattle.telegram_objects.proofs.LinesTell.{line_tells}
-use Rattle.decoding.proofs.Lengths.{packets_short}
+use Rattle.std.proofs.KnownBytes.{Appends-trans}
 use Rattle.telegram_objects.proofs.text.write_answer.Goals as goal
 
-pub write_object-requires : goal.write_object-requires
-write_object-requires g c = packets_short _ _ c.in-Ok.ensures.ok
+pub returns-in_ok-write_all-clause-told : goal.returns-in_ok-write_all-clause-told
+returns-in_ok-write_all-clause-told g c = λ h.
+    let told = c.in_ok-write_object.ensures.told h in
+    (told.0, told.1, told.2, Appends-trans _ _ _ _ _ told.3 c.in_ok-write_all.ensures.bytes)
 
-pub returns-in_ok-write_object-in-Ok-clause-told : goal.returns-in_ok-write_object-in-Ok-clause-told
-returns-in_ok-write_object-in-Ok-clause-told g c = λ h.
-    let written = c.in_ok-write_object-in-Ok.ensures in
-    let carried = c.in-Ok.ensures.ok in
-    (c.decode_into.new.telegram, carried, line_tells _ _ carried written.1 written.2, written.0)
+pub returns-in_ok-write_all-clause-refused : goal.returns-in_ok-write_all-clause-refused
+returns-in_ok-write_all-clause-refused g c = λ h.
+    let refused = c.in_ok-write_object.ensures.refused h in
+    (refused.0, refused.1, Appends-trans _ _ _ _ _ refused.2 c.in_ok-write_all.ensures.bytes)

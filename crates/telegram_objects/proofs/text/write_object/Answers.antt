@@ -1,8 +1,12 @@
-use Rattle.std.proofs.lemmas.Result.{on_ok_weaker}
-use Rattle.telegram_objects.proofs.PieceTexts.{appended, line_text}
+use Rattle.telegram_objects.proofs.LinesTell.{line_tells}
+use Rattle.decoding.proofs.Lengths.{packets_short}
 use Rattle.telegram_objects.proofs.text.write_object.Goals as goal
 
-pub returns : goal.returns
-returns g c =
-    let head = c.in_ok-write_header.ensures in
-    on_ok_weaker c.write_list.result (λ list. (appended _ _ _ _ _ _ head.0 list.0 (line_text c.args.telegram.now), head.1, list.1)) c.write_list.ensures
+pub write_telegram-requires : goal.write_telegram-requires
+write_telegram-requires g c = packets_short _ _ c.in-Ok.ensures.ok
+
+pub returns-in_ok-write_telegram-in-Ok-clause-told : goal.returns-in_ok-write_telegram-in-Ok-clause-told
+returns-in_ok-write_telegram-in-Ok-clause-told g c = λ h.
+    let written = c.in_ok-write_telegram-in-Ok.ensures in
+    let carried = c.in-Ok.ensures.ok in
+    (c.decode_into.new.telegram, carried, line_tells _ _ carried written.1 written.2, written.0)

@@ -3,15 +3,14 @@
 import argparse
 import hashlib
 import os
-import subprocess
 import sys
 from collections.abc import Callable, Sequence
 from pathlib import Path
 from typing import NoReturn
 
-from . import campaign_words, check_words, coverage, drive_words, files, lint_words, scenarios
+from . import campaign_words, check_words, coverage, drive_words, files, lint_words, scenarios, seal_words
 from .last_net import caught, say
-from .program import DEVICE, NOT_WHOLE, REFUSED, WRONG_WORDS, Failed
+from .program import DEVICE, NOT_WHOLE, REFUSED, WRONG_WORDS, Failed, version
 from .progress import Terminal
 from .reading import Journal, Progress, read
 from .shown import shown
@@ -39,8 +38,7 @@ class Version(argparse.Action):
 
     def __call__(self, parser: argparse.ArgumentParser, *told: object) -> NoReturn:
         """Prints it, and ends."""
-        tool = Path(__file__).resolve().parents[2] / "tools" / "version"
-        print(f"lab {subprocess.run([tool], stdin=subprocess.DEVNULL, capture_output=True, text=True).stdout.strip()}")
+        print(f"lab {version()}")
         print("not proved: the package is tested")
         parser.exit()
 
@@ -81,6 +79,7 @@ def words() -> argparse.ArgumentParser:
     add_force(page)
     page.add_argument("--newest-first", action="store_true", help="the lives from the last one to the first")
     check_words.add_words(word)
+    seal_words.add_words(word)
     add_suites(word)
     lint_words.add_words(word)
     drive_words.add_words(word)
@@ -253,7 +252,7 @@ def tell_coverage(told: argparse.Namespace, progress: Progress) -> None:
 
 WORDS: dict[str, Callable[[argparse.Namespace, Progress], int | None]]
 WORDS = {"table": write_table, "database": write_database, "report": write_report, "build": write_scenario, "test": run_tests,
-         "coverage": tell_coverage, **check_words.WORDS, **lint_words.WORDS, **drive_words.WORDS,
+         "coverage": tell_coverage, **check_words.WORDS, **seal_words.WORDS, **lint_words.WORDS, **drive_words.WORDS,
          **campaign_words.WORDS}
 
 

@@ -4,19 +4,24 @@ What is made is a new file. In place of one that is there it comes only with `--
 file which this package made before, as its first bytes tell (`Kind`). An image is never written over, whatever its name
 is. A file is written beside its name and synced, and takes the name once it is whole.
 """
+import contextlib
+import fcntl
 import os
 import secrets
+import shutil
 import sqlite3
 import stat
-from collections.abc import Callable, Iterable
+from collections.abc import Callable, Iterable, Iterator
 from dataclasses import dataclass
 from pathlib import Path
+from typing import BinaryIO
 from urllib.parse import quote
 
+from . import layout
 from .program import DEVICE, REFUSED, Failed
 from .shown import shown
 
-IMAGE_MARK = b"ETCSJRU1"
+IMAGE_MARK = layout.MARK
 """What an image begins with (docs/FORMAT.md)."""
 FIRST_BYTES = 4096
 SQLITE, SQLITE_ID = b"SQLite format 3\0", slice(68, 72)
@@ -77,6 +82,26 @@ def standing(path: Path) -> os.stat_result | None:
         return None
     except OSError as error:
         raise Failed(f"{path}: {error.strerror}", DEVICE) from error
+
+
+def open_to_read(path: Path) -> BinaryIO:
+    """A regular file or a device of blocks, opened to be read alone, under the shared lock that etcs_lab takes: no unit runs on
+    it meanwhile."""
+    try:
+        descriptor = os.open(path, os.O_RDONLY | os.O_NONBLOCK | os.O_CLOEXEC)
+    except OSError as error:
+        raise Failed(f"{path}: {error.strerror}", DEVICE) from error
+    try:
+        mode = os.fstat(descriptor).st_mode
+        if not stat.S_ISREG(mode) and not stat.S_ISBLK(mode):
+            raise Failed(f"{path}: is no regular file and no device of blocks", DEVICE)
+        fcntl.flock(descriptor, fcntl.LOCK_SH | fcntl.LOCK_NB)
+        return open(descriptor, "rb")
+    except BaseException as error:
+        os.close(descriptor)
+        if isinstance(error, BlockingIOError):
+            raise Failed(f"{path}: another program writes it", DEVICE) from error
+        raise
 
 
 def bytes_of(path: Path, most: int | None = None) -> bytes:
@@ -194,6 +219,43 @@ def sync_folder(folder: Path) -> None:
 def write_new(path: Path, data: bytes) -> None:
     """Makes a file that isn't there yet; FileExistsError where it is."""
     put(Path(os.path.realpath(path)), data, None)
+
+
+def sync_file(path: Path) -> None:
+    """Returns when the system says that all of a file is kept."""
+    descriptor = os.open(path, os.O_RDONLY | os.O_NOFOLLOW | os.O_CLOEXEC)
+    try:
+        os.fsync(descriptor)
+    finally:
+        os.close(descriptor)
+
+
+@contextlib.contextmanager
+def new_folder(path: Path) -> Iterator[Path]:
+    """A folder that is filled beside its name, and takes the name once all in it is whole and synced. Nothing may stand under
+    the name. Where it can't be filled, nothing of it stays."""
+    if standing(path) is not None or path.is_symlink():
+        raise refused(path, "is there; a folder that isn't there yet is made")
+    real = Path(os.path.realpath(path))
+    beside = real.with_name(f".lab-{os.getpid()}-{secrets.token_hex(8)}")
+    try:
+        beside.mkdir()
+        yield beside
+        for folder, _, names in os.walk(beside, topdown=False):
+            for name in names:
+                os.chmod(Path(folder, name), 0o444)
+                sync_file(Path(folder, name))
+            sync_folder(Path(folder))
+        try:
+            real.mkdir()
+        except FileExistsError as error:
+            raise refused(path, "is there since a moment ago; nothing takes its place") from error
+        os.replace(beside, real)
+        sync_folder(real.parent)
+    except OSError as error:
+        raise Failed(f"{path}: {error.strerror}", DEVICE) from error
+    finally:
+        shutil.rmtree(beside, ignore_errors=True)
 
 
 def is_there(path: Path, inputs: Iterable[Path] = ()) -> bool:

@@ -28,6 +28,7 @@ import numpy as np
 import pandas as pd
 
 from . import actions, causes
+from .layout import SECTOR, SLOT_SECTORS
 from .reading import Journal, Json
 from .words import INDICATIONS
 
@@ -44,7 +45,6 @@ OF_KIND = {
                "maximum_m_per_h", "category", "deceleration_cm_per_s2", "reaction_ms")}
 """Those of one kind of event."""
 HEADER = ("NID_C", "NID_BG", "N_PIG", "N_TOTAL", "M_DUP", "M_MCOUNT", "Q_LINK")
-SECTOR, SLOT_SECTORS = 512, 6
 SHOWS = tuple(f"shows_{name}" for name in INDICATIONS)
 
 

@@ -8,7 +8,7 @@ from collections.abc import Callable, Sequence
 from pathlib import Path
 from typing import NoReturn
 
-from . import campaign_words, check_words, coverage, difference_words, drive_words, files, lint_words, scenarios, seal_words
+from . import archive_words, campaign_words, check_words, coverage, difference_words, drive_words, files, lint_words, scenarios, seal_words
 from .last_net import caught, say
 from .program import DEVICE, NOT_WHOLE, REFUSED, WRONG_WORDS, Failed, version
 from .progress import Terminal
@@ -81,6 +81,7 @@ def words() -> argparse.ArgumentParser:
     check_words.add_words(word)
     seal_words.add_words(word)
     difference_words.add_words(word)
+    archive_words.add_words(word)
     add_suites(word)
     lint_words.add_words(word)
     drive_words.add_words(word)
@@ -253,7 +254,7 @@ def tell_coverage(told: argparse.Namespace, progress: Progress) -> None:
 
 WORDS: dict[str, Callable[[argparse.Namespace, Progress], int | None]]
 WORDS = {"table": write_table, "database": write_database, "report": write_report, "build": write_scenario, "test": run_tests,
-         "coverage": tell_coverage, **check_words.WORDS, **seal_words.WORDS, **difference_words.WORDS, **lint_words.WORDS, **drive_words.WORDS,
+         "coverage": tell_coverage, **check_words.WORDS, **seal_words.WORDS, **difference_words.WORDS, **archive_words.WORDS, **lint_words.WORDS, **drive_words.WORDS,
          **campaign_words.WORDS}
 
 

@@ -167,16 +167,17 @@ def write(out: Out, data: str | bytes, inputs: Iterable[Path] = ()) -> None:
         raise Failed(f"{out.path}: {error.strerror}", DEVICE) from error
 
 
-def put(path: Path, data: bytes, before: os.stat_result | None) -> None:
-    """Writes a file beside its name, and gives it the name: a new one where nothing stood there (FileExistsError where
-    something does now), else in place of what did."""
+@contextlib.contextmanager
+def filled(path: Path, before: os.stat_result | None = None) -> Iterator[BinaryIO]:
+    """A file that is filled beside its name, and gets the name once it is whole and synced: a new one where nothing stood there
+    (FileExistsError where something does now), else in place of what did."""
     beside = path.with_name(f".lab-{os.getpid()}-{secrets.token_hex(8)}")
     descriptor = os.open(beside, os.O_WRONLY | os.O_CREAT | os.O_EXCL | os.O_CLOEXEC, 0o666)
     try:
         with open(descriptor, "wb") as file:
             if before is not None:
                 os.fchmod(descriptor, stat.S_IMODE(before.st_mode))
-            file.write(data)
+            yield file
             file.flush()
             os.fsync(descriptor)
         if before is None:
@@ -186,6 +187,26 @@ def put(path: Path, data: bytes, before: os.stat_result | None) -> None:
         sync_folder(path.parent)
     finally:
         beside.unlink(missing_ok=True)
+
+
+def put(path: Path, data: bytes, before: os.stat_result | None) -> None:
+    """Makes a file of these bytes."""
+    with filled(path, before) as file:
+        file.write(data)
+
+
+@contextlib.contextmanager
+def new_file(path: Path) -> Iterator[BinaryIO]:
+    """A file that nothing stands in the place of, whole or not at all, for what memory needn't hold at once."""
+    if standing(path) is not None or path.is_symlink():
+        raise refused(path, "is there; a file that isn't there yet is made")
+    try:
+        with filled(Path(os.path.realpath(path))) as file:
+            yield file
+    except FileExistsError as error:
+        raise refused(path, "is there since a moment ago; nothing writes over it") from error
+    except OSError as error:
+        raise Failed(f"{path}: {error.strerror}", DEVICE) from error
 
 
 def name_new(beside: Path, path: Path) -> None:

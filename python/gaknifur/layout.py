@@ -2,8 +2,8 @@
 which `etcs_lab` tells."""
 SECTOR, SLOT_SECTORS = 512, 6
 SLOT = SECTOR * SLOT_SECTORS
-MARK, GATE_MARK = b"ETCSJRU1", b"ETCSGATE"
-VERSION, MOST_SLOTS, MOST_NUMBER = 2, 1_048_576, 2**40
+MARK, GATE_MARK, ARCHIVE_MARK = b"ETCSJRU1", b"ETCSGATE", b"ETCSKEPT"
+VERSION, ARCHIVE_VERSION, LEAST_SLOTS, MOST_SLOTS, MOST_NUMBER = 2, 1, 2, 1_048_576, 2**40
 CLOSED = bytes(SECTOR)
 """A gate that is closed."""
 
@@ -13,11 +13,16 @@ def first_sector(slots: int) -> bytes:
     return (MARK + VERSION.to_bytes(4, "big") + slots.to_bytes(4, "big")).ljust(SECTOR, b"\0")
 
 
+def archive_sector() -> bytes:
+    """The first sector of an archive of blocks."""
+    return (ARCHIVE_MARK + ARCHIVE_VERSION.to_bytes(4, "big")).ljust(SECTOR, b"\0")
+
+
 def slots_told(first: bytes) -> int | None:
     """How many slots a first sector tells; None where it is none."""
     slots = int.from_bytes(first[12:16], "big")
     is_one = len(first) >= SECTOR and first.startswith(MARK) and int.from_bytes(first[8:12], "big") in (1, VERSION) and not any(first[16:SECTOR])
-    return slots if is_one and 2 <= slots <= MOST_SLOTS else None
+    return slots if is_one and LEAST_SLOTS <= slots <= MOST_SLOTS else None
 
 
 def slot_at(slot: int) -> int:

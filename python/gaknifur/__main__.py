@@ -61,6 +61,7 @@ def words() -> argparse.ArgumentParser:
     table.add_argument("out", metavar="OUT.csv", nargs="?", type=Path, help="the file; else standard output")
     which = table.add_mutually_exclusive_group()
     add_all(which)
+    add_times(table)
     which.add_argument("--damaged", action="store_true", help="in place of these the records of blocks that are damaged or in "
                        "a wrong slot, each with its slot and byte; nothing else vouches for them")
     add_force(table)
@@ -69,6 +70,7 @@ def words() -> argparse.ArgumentParser:
     data.add_argument("images", metavar="IMAGE", nargs="+", type=Path)
     data.add_argument("out", metavar="OUT.db", type=Path)
     add_all(data)
+    add_times(data)
     page = word("report", "writes a page with charts into one HTML file",
                 "The page asks nothing of the network and has no script.")
     page.add_argument("image", metavar="IMAGE", type=Path)
@@ -77,6 +79,7 @@ def words() -> argparse.ArgumentParser:
     page.add_argument("--to", dest="last", metavar="WHERE", help="the same")
     page.add_argument("--life", metavar="N", type=int, help="this life alone")
     add_force(page)
+    add_times(page)
     page.add_argument("--newest-first", action="store_true", help="the lives from the last one to the first")
     check_words.add_words(word)
     seal_words.add_words(word)
@@ -117,6 +120,12 @@ def add_all(parser: argparse._ActionsContainer) -> None:
                         help="also the records of readable blocks that aren't of the journal; `source` tells them apart")
 
 
+def add_times(parser: argparse.ArgumentParser) -> None:
+    """The words for marks of the time of day."""
+    parser.add_argument("--times", metavar="FILE", type=Path, help="marks of the time of day; else IMAGE.times, where it is there")
+    parser.add_argument("--drift", metavar="PPM", type=int, help="by how many millionths the unit's clock runs off at most; else 100")
+
+
 def add_force(parser: argparse.ArgumentParser) -> None:
     """The word for files that are there."""
     parser.add_argument("--force", action="store_true", help="write over files that lab made; nothing writes over others")
@@ -126,9 +135,20 @@ def note(journal: Journal) -> int:
     """Says that an image isn't whole, or that the replay differs; answers the status."""
     from . import brief
     found = brief.faults(journal)
+    if journal.times is not None:
+        for fault in journal.times.faults():
+            say(f"{journal.times.path}: {fault}")
     if found:
         say(f"{journal.path}: {'; '.join(found)}")
     return NOT_WHOLE if found else 0
+
+
+def take_times(journal: Journal, told: argparse.Namespace) -> None:
+    """Takes the marks of the time of day that are named, or lie beside the image."""
+    from . import times
+    path = times.beside(journal.path, told.times)
+    if path is not None:
+        journal.times = times.Times.of(journal, path, times.DRIFT_PPM if told.drift is None else told.drift)
 
 
 def write(out: files.Out | None, text: str, source: Path) -> None:
@@ -152,6 +172,7 @@ def write_table(told: argparse.Namespace, progress: Progress) -> int:
     out = out_of(told, files.TABLE, told.image)
     journal = read(told.image, other_blocks=told.other_blocks, replay=True, why=not told.damaged, progress=progress,
                    strays=told.damaged)
+    take_times(journal, told)
     from . import tables
     write(out, tables.csv_text(tables.strays(journal) if told.damaged else tables.frame(journal)), told.image)
     return note(journal)
@@ -160,10 +181,13 @@ def write_table(told: argparse.Namespace, progress: Progress) -> int:
 def write_database(told: argparse.Namespace, progress: Progress) -> int:
     """The word `database`."""
     from . import database, tables
+    if told.times is not None and len(told.images) > 1:
+        raise Failed("--times is of one image; the others have their marks beside them", WRONG_WORDS)
     connection, status = database.open_database(told.out, told.images), 0
     try:
         for image in told.images:
             journal = read(image, other_blocks=told.other_blocks, replay=True, why=True, progress=progress)
+            take_times(journal, told)
             progress("database", 0, 0)
             if not database.add(connection, journal, tables.frame(journal)):
                 say(f"{image}: is in the database already")
@@ -179,6 +203,7 @@ def write_report(told: argparse.Namespace, progress: Progress) -> int:
     extent = Extent(bound(told.first) if told.first else None, bound(told.last) if told.last else None, told.life)
     out = out_of(told, files.REPORT, told.image)
     journal = read(told.image, replay=True, why=True, progress=progress, strays=True)
+    take_times(journal, told)
     from . import report
     write(out, report.page(journal, extent, progress, told.newest_first), told.image)
     return note(journal)

@@ -8,7 +8,6 @@ are joined to one image of a larger ring.
 An archive is a file of blocks, each as it lies in its slot, behind a first sector (docs/FORMAT.md). It is appended to alone, and
 synced. What is kept are blocks behind their own gates; whether one can be read `etcs_lab` says.
 """
-import fcntl
 import os
 import stat
 import tempfile
@@ -86,56 +85,23 @@ class Ring:
             behind = number
 
 
-class Archive:
-    """A file of blocks that is appended to, under a lock of its own. A new file is made; what is there and is no archive stays."""
+class Archive(files.Appended):
+    """A file of blocks that is appended to."""
 
     def __init__(self, path: str | Path) -> None:
-        self.path = Path(path)
-        try:
-            if files.standing(self.path) is None:
-                files.write_new(self.path, layout.archive_sector())
-        except FileExistsError:
-            pass
-        self.descriptor = os.open(path, os.O_RDWR | os.O_NONBLOCK | os.O_CLOEXEC)
-        try:
-            fcntl.flock(self.descriptor, fcntl.LOCK_EX | fcntl.LOCK_NB)
-            size = os.lseek(self.descriptor, 0, os.SEEK_END)
-            if os.pread(self.descriptor, layout.SECTOR, 0) != layout.archive_sector():
-                raise Failed(f"{path}: is there, and is no archive of blocks", REFUSED)
-            self.count = (size - layout.SECTOR) // layout.SLOT
-            os.ftruncate(self.descriptor, layout.slot_at(self.count))  # a part of a block, of which power was lost; its slot still has it
-            self.behind: int | None = None
-            """Behind which block an image's are new; None until the image was looked at."""
-        except BaseException as error:
-            self.close()
-            if isinstance(error, BlockingIOError):
-                raise Failed(f"{path}: another program writes it", DEVICE) from error
-            raise
+        super().__init__(Path(path), layout.archive_sector(), "an archive of blocks")
+        self.drop(layout.slot_at(self.count))  # a part of a block; its slot still has it
+        self.behind: int | None = None
+        """Behind which block an image's are new; None until the image was looked at."""
 
-    def __enter__(self) -> Self:
-        return self
-
-    def __exit__(self, kind: type[BaseException] | None, error: BaseException | None, trace: TracebackType | None) -> None:
-        self.close()
-
-    def close(self) -> None:
-        """Gives the lock back."""
-        os.close(self.descriptor)
+    @property
+    def count(self) -> int:
+        """How many blocks it has."""
+        return (self.size - layout.SECTOR) // layout.SLOT
 
     def entry(self, place: int) -> bytes:
         """The bytes of an entry."""
-        return os.pread(self.descriptor, layout.SLOT, layout.slot_at(place)) if 0 <= place < self.count else b""
-
-    def append(self, data: bytes) -> None:
-        """Appends a block. `sync` has to follow."""
-        done = 0
-        while done < layout.SLOT:
-            done += os.pwrite(self.descriptor, data[done:], layout.slot_at(self.count) + done)
-        self.count += 1
-
-    def sync(self) -> None:
-        """Returns when the system says that all is kept."""
-        os.fsync(self.descriptor)
+        return self.read(layout.slot_at(place), layout.SLOT) if 0 <= place < self.count else b""
 
     def keep(self, image: str | Path) -> int:
         """Appends what an image holds that is newer, and syncs; answers how many blocks that were."""

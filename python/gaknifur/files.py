@@ -14,7 +14,8 @@ import stat
 from collections.abc import Callable, Iterable, Iterator
 from dataclasses import dataclass
 from pathlib import Path
-from typing import BinaryIO
+from types import TracebackType
+from typing import BinaryIO, Self
 from urllib.parse import quote
 
 from . import layout
@@ -289,6 +290,62 @@ def is_there(path: Path, inputs: Iterable[Path] = ()) -> bool:
     if any(read is not None and is_same(found, read) for read in map(standing, inputs)):
         raise refused(path, "is a file that is read here")
     return True
+
+
+class Appended:
+    """A file that is appended to alone, under a lock of its own, and that begins with some bytes. A new one is made; what is there
+    and begins with others stays as it is."""
+
+    def __init__(self, path: Path, first: bytes, name: str) -> None:
+        self.path = path
+        with contextlib.suppress(FileExistsError):
+            if standing(path) is None:
+                write_new(path, first)
+        try:
+            self.descriptor = os.open(path, os.O_RDWR | os.O_NONBLOCK | os.O_CLOEXEC)
+        except OSError as error:
+            raise Failed(f"{path}: {error.strerror}", DEVICE) from error
+        try:
+            fcntl.flock(self.descriptor, fcntl.LOCK_EX | fcntl.LOCK_NB)
+            self.size = os.lseek(self.descriptor, 0, os.SEEK_END)
+            if self.read(0, len(first)) != first:
+                raise refused(path, f"is there, and is not {name}")
+        except BaseException as error:
+            self.close()
+            if isinstance(error, BlockingIOError):
+                raise Failed(f"{path}: another program writes it", DEVICE) from error
+            raise
+
+    def __enter__(self) -> Self:
+        return self
+
+    def __exit__(self, kind: type[BaseException] | None, error: BaseException | None, trace: TracebackType | None) -> None:
+        self.close()
+
+    def close(self) -> None:
+        """Gives the lock back."""
+        os.close(self.descriptor)
+
+    def read(self, at: int, size: int) -> bytes:
+        """Bytes that are there."""
+        return os.pread(self.descriptor, size, at)
+
+    def drop(self, size: int) -> None:
+        """Drops what stands behind so many bytes: a part of what was being appended where power was lost."""
+        if size < self.size:
+            os.ftruncate(self.descriptor, size)
+            self.size = size
+
+    def append(self, data: bytes) -> None:
+        """Appends. `sync` has to follow."""
+        done = 0
+        while done < len(data):
+            done += os.pwrite(self.descriptor, data[done:], self.size + done)
+        self.size += done
+
+    def sync(self) -> None:
+        """Returns when the system says that all is kept."""
+        os.fsync(self.descriptor)
 
 
 # ---- databases

@@ -20,6 +20,7 @@ from . import bag, files, layout, program, signing
 from .program import DEVICE, NOT_WHOLE, REFUSED, WHOLE, Failed, Run
 from .reading import Json, Progress, parsed, read, silent
 from .shown import shown
+from .times import DRIFT_PPM, Times
 
 IMAGE, SEAL, PARTS, TIMES = "image", "seal.json", "digests.csv", "image.times"
 WORDS = {"examine.json": ["examine", "--json"], "events.jsonl": ["events", "--all"], "replay.jsonl": ["replay", "--json"],
@@ -38,6 +39,7 @@ class Sealing:
     by: str | None = None
     medium: str | None = None
     times: Path | None = None
+    drift_ppm: int = DRIFT_PPM
     keys: list[signing.Key] = field(default_factory=list)
 
 
@@ -123,9 +125,12 @@ def parts_text(data: Path) -> str:
     return out.getvalue()
 
 
-def draw(data: Path, name: str, times: Path | None, progress: Progress) -> None:
+def draw(data: Path, name: str, drift_ppm: int, progress: Progress) -> None:
     """Makes table, database and report of a bag's image, which they call by the name that it had."""
+    times = data / TIMES
     journal = read(data / IMAGE, replay=True, why=True, progress=progress, strays=True)
+    if times.is_file():
+        journal.times = Times.of(journal, times, drift_ppm)
     journal.path = Path(name)
     from . import database, report, tables
     table = tables.frame(journal)
@@ -167,9 +172,10 @@ def seal(image: Path, folder: Path, how: Sealing, progress: Progress = silent) -
         told = tell(data)
         is_told = told["examine.json"]["status"] in (WHOLE, NOT_WHOLE)
         if is_told:
-            draw(data, name, how.times, progress)
+            draw(data, name, how.drift_ppm, progress)
         found = {"version": VERSION, "sealed_at": now(), "by": shown(how.by or who()), "medium": how.medium and shown(how.medium),
                  "image": {"name": name, "bytes": (data / IMAGE).stat().st_size, **digests}, "etcs_lab": told, "tools": tools(),
+                 "times": {"file": TIMES, "drift_ppm": how.drift_ppm} if how.times else None,
                  "signed_by": [{"kind": key.kind, "key": key.told()} for key in how.keys]}
         (data / SEAL).write_text(json.dumps(found, indent=1, ensure_ascii=False) + "\n", encoding="utf-8")
         progress("digests", 0, 0)

@@ -20,6 +20,8 @@ def add_words(word: Word) -> None:
     seal.add_argument("--medium", metavar="TEXT", help="from which medium the image was read")
     seal.add_argument("--ssh-key", metavar="FILE", help="signs by this key of OpenSSH (ssh-keygen -Y sign)")
     seal.add_argument("--gpg-key", metavar="NAME", help="signs by this key of OpenPGP (gpg)")
+    seal.add_argument("--times", metavar="FILE", type=Path, help="marks of the time of day; else IMAGE.times, where it is there")
+    seal.add_argument("--drift", metavar="PPM", type=int, help="by how many millionths the unit's clock runs off at most; else 100")
     verify = word("verify", "says what a bag of evidence shows, and what of it isn't as it was sealed",
                   "Status 0 where each file is as it was sealed and nothing that is named is missing, else 1.")
     verify.add_argument("folder", metavar="FOLDER", type=Path)
@@ -30,9 +32,10 @@ def add_words(word: Word) -> None:
 
 def seal_image(told: argparse.Namespace, progress: Progress) -> int:
     """The word `seal`."""
-    from . import seal, signing
+    from . import seal, signing, times
     keys = [signing.Key(kind, name) for kind, name in (("ssh", told.ssh_key), ("openpgp", told.gpg_key)) if name]
-    found = seal.seal(told.image, told.folder, seal.Sealing(told.by, told.medium, None, keys), progress)
+    how = seal.Sealing(told.by, told.medium, times.beside(told.image, told.times), times.DRIFT_PPM if told.drift is None else told.drift, keys)
+    found = seal.seal(told.image, told.folder, how, progress)
     sys.stdout.write(f"sealed {found['image']['name']}, {found['image']['bytes']} bytes, by {found['by']}\n"
                      f"sha256 {found['image']['sha256']}\n")
     return 0

@@ -238,7 +238,7 @@ def whole_bag(count, room, image):
         return os_open(path, flags, *more, **named)
 
     with patch("os.open", noted):
-        found = seal.seal(image, room / "bag", seal.Sealing("one", "a medium", None, keys(room)))
+        found = seal.seal(image, room / "bag", seal.Sealing("one", "a medium", keys=keys(room)))
     count.same("the image was opened once, to be read", (opened, image.read_bytes()), ([os.O_RDONLY], data))
     count.same("the copy", (room / "bag/data/image").read_bytes(), data)
     count.same("what it told", (found["by"], found["medium"], found["image"]["bytes"]), ("one", "a medium", len(data)))

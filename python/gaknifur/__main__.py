@@ -5,6 +5,7 @@ import hashlib
 import os
 import sys
 from collections.abc import Callable, Sequence
+from importlib.util import find_spec
 from pathlib import Path
 from typing import NoReturn
 
@@ -58,13 +59,20 @@ def words() -> argparse.ArgumentParser:
     table = word("table", "prints a row for each record of the journal, as CSV",
                  "Units stand in the names of the columns; nothing stands where nothing is known.")
     table.add_argument("image", metavar="IMAGE", type=Path)
-    table.add_argument("out", metavar="OUT.csv", nargs="?", type=Path, help="the file; else standard output")
+    table.add_argument("out", metavar="OUT.csv|OUT.xlsx", nargs="?", type=Path,
+                       help="the file, a workbook where its name ends in .xlsx; else standard output")
     which = table.add_mutually_exclusive_group()
     add_all(which)
     add_times(table)
     which.add_argument("--damaged", action="store_true", help="in place of these the records of blocks that are damaged or in "
                        "a wrong slot, each with its slot and byte; nothing else vouches for them")
     add_force(table)
+    line = word("timeline", "writes the events for other programs: Timesketch's CSV, or JSON Lines",
+                "Of OUT.csv each event has a time of day, by marks beside the journal; OUT.jsonl has all events.")
+    line.add_argument("image", metavar="IMAGE", type=Path)
+    line.add_argument("out", metavar="OUT.csv|OUT.jsonl", nargs="?", type=Path, help="the file; else JSON Lines on standard output")
+    add_times(line)
+    add_force(line)
     data = word("database", "adds images to an SQLite database",
                 "A database that isn't there is made. An image that is in it already, by its SHA-256, is left as it is.")
     data.add_argument("images", metavar="IMAGE", nargs="+", type=Path)
@@ -151,10 +159,10 @@ def take_times(journal: Journal, told: argparse.Namespace) -> None:
         journal.times = times.Times.of(journal, path, times.DRIFT_PPM if told.drift is None else told.drift)
 
 
-def write(out: files.Out | None, text: str, source: Path) -> None:
+def write(out: files.Out | None, text: str | bytes, source: Path) -> None:
     """Writes to a file, or to standard output."""
     if out is None:
-        sys.stdout.write(text)
+        sys.stdout.write(text if isinstance(text, str) else text.decode())
         sys.stdout.flush()
     else:
         files.write(out, text, [source])
@@ -169,12 +177,35 @@ def out_of(told: argparse.Namespace, kind: files.Kind, source: Path) -> files.Ou
 
 def write_table(told: argparse.Namespace, progress: Progress) -> int:
     """The word `table`. (pandas, and matplotlib of a report, take a second to load, which other words needn't.)"""
-    out = out_of(told, files.TABLE, told.image)
+    is_book = told.out is not None and told.out.suffix == ".xlsx"
+    if is_book and not find_spec("openpyxl"):
+        raise Failed("openpyxl is missing; tools/python installs it by Debian's packages", DEVICE)
+    out = out_of(told, files.WORKBOOK if is_book else files.TABLE, told.image)
     journal = read(told.image, other_blocks=told.other_blocks, replay=True, why=not told.damaged, progress=progress,
                    strays=told.damaged)
     take_times(journal, told)
-    from . import tables
-    write(out, tables.csv_text(tables.strays(journal) if told.damaged else tables.frame(journal)), told.image)
+    from . import tables, timeline
+    table = tables.strays(journal) if told.damaged else tables.frame(journal)
+    says = [f"sha256 {journal.sha256}", *([journal.times.says()] if journal.times else [])]
+    write(out, timeline.workbook(tables.written(table), says) if is_book else tables.csv_text(table), told.image)
+    return note(journal)
+
+
+def write_timeline(told: argparse.Namespace, progress: Progress) -> int:
+    """The word `timeline`."""
+    if told.out is not None and told.out.suffix not in (".csv", ".jsonl"):
+        raise Failed(f"{told.out}: its name ends in .csv or .jsonl", WRONG_WORDS)
+    out = out_of(told, files.TIMELINE, told.image)
+    journal = read(told.image, progress=progress)
+    take_times(journal, told)
+    from . import timeline
+    if told.out is not None and told.out.suffix == ".csv":
+        text, left = timeline.as_csv(journal)
+        if left:
+            say(f"{journal.path}: {left} events have no time of day and are left out")
+    else:
+        text = timeline.as_json(journal)
+    write(out, text, told.image)
     return note(journal)
 
 
@@ -278,7 +309,7 @@ def tell_coverage(told: argparse.Namespace, progress: Progress) -> None:
 
 
 WORDS: dict[str, Callable[[argparse.Namespace, Progress], int | None]]
-WORDS = {"table": write_table, "database": write_database, "report": write_report, "build": write_scenario, "test": run_tests,
+WORDS = {"table": write_table, "timeline": write_timeline, "database": write_database, "report": write_report, "build": write_scenario, "test": run_tests,
          "coverage": tell_coverage, **check_words.WORDS, **seal_words.WORDS, **difference_words.WORDS, **archive_words.WORDS, **lint_words.WORDS, **drive_words.WORDS,
          **campaign_words.WORDS}
 

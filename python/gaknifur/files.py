@@ -6,11 +6,13 @@ is. A file is written beside its name and synced, and takes the name once it is 
 """
 import contextlib
 import fcntl
+import io
 import os
 import secrets
 import shutil
 import sqlite3
 import stat
+import zipfile
 from collections.abc import Callable, Iterable, Iterator
 from dataclasses import dataclass
 from pathlib import Path
@@ -30,6 +32,10 @@ WAIT_SECONDS = 60.0
 """How long a database is waited for that another program writes to."""
 
 
+MAKER = "gaknifur lab"
+"""The maker that pages, pictures and workbooks tell."""
+
+
 @dataclass(frozen=True)
 class Kind:
     """A kind of file, and whether bytes, those of a whole file or its first ones, are of one that this package made."""
@@ -38,6 +44,15 @@ class Kind:
     is_own: Callable[[bytes], bool]
     is_whole: bool = False
     """Whether all bytes are asked, and not the first ones alone."""
+
+
+def is_workbook(data: bytes) -> bool:
+    """Whether the bytes of an archive are those of a workbook that this package made."""
+    try:
+        with zipfile.ZipFile(io.BytesIO(data)) as told:
+            return b">%s</dc:creator>" % MAKER.encode() in told.read("docProps/core.xml")
+    except (zipfile.BadZipFile, KeyError, OSError, ValueError):
+        return False
 
 
 def beginning(name: str, *marks: bytes) -> Kind:
@@ -50,11 +65,11 @@ def holding(name: str, beginning: bytes, mark: bytes) -> Kind:
     return Kind(name, lambda data: data.startswith(beginning) and mark in data)
 
 
-MAKER = "gaknifur lab"
-"""The maker that pages and pictures tell."""
 TABLE = beginning("a table", b"block,event,life,stretch,kind,time_ms,mode,", b"source,slot,byte,block,event,life,kind,")
 DRIVE_TABLE = beginning("a table of a drive", b"time_ms,first_event,event,place_cm,speed_m_per_h,")
 CAMPAIGN_TABLE = beginning("a table of a campaign", b"name,job_sha256,kind,ended,image_sha256,")
+WORKBOOK = Kind("a workbook", lambda data: data.startswith(b"PK") and is_workbook(data), is_whole=True)
+TIMELINE = beginning("a timeline", b"datetime,timestamp_desc,message,timestamp,uncertainty_ms,image,", b'{"datetime": ')
 REPORT = holding("a report", b"<!DOCTYPE html>\n", b'<meta name="generator" content="%s">' % MAKER.encode())
 SVG = holding("a picture", b"<?xml", b"<dc:title>%s</dc:title>" % MAKER.encode())
 PNG = holding("a picture", b"\x89PNG\r\n\x1a\n", b"tEXtSoftware\0%s" % MAKER.encode())

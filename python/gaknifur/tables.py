@@ -239,8 +239,12 @@ def strays(journal: Journal) -> pd.DataFrame:
     return pd.DataFrame({name: pd.Series(values, dtype=object) for name, values in columns.items()})
 
 
+def written(table: pd.DataFrame) -> pd.DataFrame:
+    """The table as it is written, without the columns `decoded`, `held`, `trip` and `why`."""
+    return table.drop(columns=["decoded", "held", "trip", "why"], errors="ignore")
+
+
 def csv_text(table: pd.DataFrame) -> str:
-    """The table as comma-separated values, without the columns `decoded`, `held`, `trip` and `why`; nothing stands where
-    nothing is known."""
-    text: str = table.drop(columns=["decoded", "held", "trip", "why"], errors="ignore").to_csv(index=False, lineterminator="\n")
+    """The table as comma-separated values; nothing stands where nothing is known."""
+    text: str = written(table).to_csv(index=False, lineterminator="\n")
     return text

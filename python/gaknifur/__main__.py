@@ -1,5 +1,5 @@
-"""The words of `./lab`: `table`, `database`, `report`, `check`, `build`, `test`, `coverage`, `lint`, `drive`, `campaign`,
-`compare`."""
+"""The words of `./lab`: `table`, `timeline`, `database`, `report`, `check`, `seal`, `verify`, `diff`, `join`, `follow`, `build`,
+`test`, `coverage`, `lint`, `drive`, `campaign`, `compare`."""
 import argparse
 import hashlib
 import os

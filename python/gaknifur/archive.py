@@ -234,6 +234,8 @@ def is_readable(number: int, data: bytes) -> bool:
 def choose(found: Joined, number: int, place: Place) -> None:
     """Takes a further block where there is none of its number yet, or it can be read and the one that is there can't."""
     other = found.chosen.setdefault(number, place)
+    if other is place:
+        return
     there, here = other.read(), place.read()
     if there[layout.SECTOR:] == here[layout.SECTOR:]:
         return

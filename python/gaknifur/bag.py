@@ -73,8 +73,10 @@ def read_manifest(folder: Path, name: str, faults: list[str]) -> Digests:
     """The digests that a manifest tells. What is no line of one is a fault."""
     told: Digests = {}
     try:
-        text = (folder / name).read_bytes().decode("utf-8")
+        text = (folder / name).read_bytes().decode("utf-8") if (folder / name).is_file() else None
     except (OSError, UnicodeDecodeError):
+        text = None
+    if text is None:
         faults.append(f"{name}: is missing, or can't be read")
         return told
     for number, line in enumerate(text.split("\n")[:-1] if text.endswith("\n") else text.split("\n"), 1):

@@ -202,7 +202,7 @@ def seal_of(folder: Path, found: Shown) -> Json | None:
     """What `seal.json` of a bag tells; None, and a fault, where it is none."""
     name = f"{bag.PAYLOAD}/{SEAL}"
     try:
-        told = json.loads((folder / name).read_text(encoding="utf-8"))
+        told = json.loads((folder / name).read_text(encoding="utf-8")) if (folder / name).is_file() else {}
         if told["version"] == VERSION and {"sealed_at", "by", "image", "etcs_lab", "tools", "signed_by"} <= set(told):
             return dict(told)
     except (OSError, ValueError, TypeError, KeyError):
@@ -237,7 +237,8 @@ def check_contents(data: Path, told: Json, found: Shown) -> None:
 
 def check_signatures(folder: Path, told: Json, trust: signing.Trust, found: Shown) -> None:
     """What signatures show."""
-    for kind, seen in signing.signatures(folder, trust).items():
+    found_signatures = signing.signatures(folder, trust)
+    for kind, seen in found_signatures.items():
         said = [one["key"] for one in told["signed_by"] if one["kind"] == kind]
         if seen.is_there and not said:
             found.faults.append(f"{seen.name}: {SEAL} tells no such signature")
@@ -251,8 +252,8 @@ def check_signatures(folder: Path, told: Json, trust: signing.Trust, found: Show
             (found.shown if seen.signer else found.not_shown).append(seen.told)
     if not told["signed_by"]:
         found.not_shown.append("who sealed it: the bag isn't signed, so whoever altered it could have closed it anew")
-        if trust.asks_for_signature:
-            found.faults.append("the bag isn't signed")
+    if trust.asks_for_signature and not any(seen.signer for seen in found_signatures.values()):
+        found.faults.append("the bag isn't signed by anybody who is named")
 
 
 def verify(folder: Path, trust: signing.Trust) -> Shown:

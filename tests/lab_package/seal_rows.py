@@ -143,6 +143,8 @@ def others():
     def link_folder(folder):
         (folder / "data/linked").symlink_to(folder.parent)
     yield "a link to a folder", link_folder, "data/linked"
+    for name in ("bagit.txt", "data/seal.json", "manifest-sha512.txt", "tagmanifest-sha256.txt"):
+        yield f"a pipe in place of {name}", lambda folder, name=name: [(folder / name).unlink(), os.mkfifo(folder / name)], name
     yield "a pipe", lambda folder: os.mkfifo(folder / "data/pipe"), "data/pipe"
     for name in ("manifest-sha256.txt", "manifest-sha512.txt", "tagmanifest-sha256.txt", "tagmanifest-sha512.txt"):
         def edit(folder, change, name=name):
@@ -253,7 +255,8 @@ def whole_bag(count, room, image):
     seen = seal.verify(room / "bag", Trust())
     count.same("the bag, where nobody is trusted", (seen.faults, len(seen.shown), len(seen.not_shown)), ([], 4, 4))
     seen = seal.verify(room / "bag", trust(room, "other"))
-    count.same("the bag, where others are trusted", sorted(line.split(":")[0] for line in seen.faults), sorted(LATER))
+    count.same("the bag, where others are trusted", sorted(line.split(":")[0] for line in seen.faults),
+               sorted([*LATER, "the bag isn't signed by anybody who is named"]))
     events = [json.loads(line) for line in (room / "bag/data/events.jsonl").open()]
     rows = [line.split(",") for line in (room / "bag/data/digests.csv").read_text().splitlines()]
     count.same("digests of parts", [row[0] for row in rows[1:]], ["image"] + ["slot"] * 16 + ["record"] * sum("event" in one for one in events))
@@ -288,7 +291,11 @@ def at_the_edges(count, room, image):
         count.same(f"{name}: sealed", (told["etcs_lab"]["examine.json"]["status"], seen.faults), (status, []))
         count.same(f"{name}: a report", (room / f"bag-{name}/data/report.html").exists(), status == 4)
     unsigned = seal.verify(room / "bag-cut", trust(room))
-    count.same("not signed", [line.split(":")[0] for line in unsigned.faults], ["the bag isn't signed", signing.ANSWER])
+    count.same("not signed", [line.split(":")[0] for line in unsigned.faults], ["the bag isn't signed by anybody who is named", signing.ANSWER])
+    seal.seal(image, room / "bag-ssh", seal.Sealing(keys=keys(room)[:1]))
+    for name, trusted, wanted in (("signers", Trust(signers=room / "signers-one"), []), ("both", Trust(room / "signers-one", room / "one.gpg"), []),
+                                  ("keyring", Trust(keyring=room / "one.gpg"), ["the bag isn't signed by anybody who is named"])):
+        count.same(f"signed by OpenSSH alone, {name} named", seal.verify(room / "bag-ssh", trusted).faults, wanted)
 
 
 def main(words):

@@ -1,6 +1,7 @@
 """What is implausible in records."""
 import random
 import unittest
+from collections.abc import Callable
 
 from gaknifur import plausible
 from gaknifur.plausible import Thresholds, judge
@@ -101,6 +102,37 @@ class Movement(unittest.TestCase):
         self.assertIn("jump", words(told))
         self.assertNotIn("jump", words(told, Thresholds(jump_m_per_h=20_000)))
         self.assertIn("20000 m/h", Thresholds(jump_m_per_h=20_000).text())
+
+
+class Altered(unittest.TestCase):
+    """What is told of drives that were altered within the limits."""
+
+    def told(self, alter: Callable[[random.Random, list[Json]], None], count: int = 40) -> int:
+        """How many of some drives are told, each altered in one way."""
+        numbers, found = random.Random(1), 0
+        for _ in range(count):
+            records = drive(usual(numbers, 400))
+            alter(numbers, records)
+            found += bool(words(records))
+        return found
+
+    def test_counts(self) -> None:
+        def one(numbers: random.Random, records: list[Json]) -> None:
+            chosen = numbers.choice([record for record in records if record.get("speed_m_per_h")])
+            chosen["speed_m_per_h"] = numbers.randrange(1, 160_000)
+
+        def all_lower(numbers: random.Random, records: list[Json]) -> None:
+            for record in records:
+                if "speed_m_per_h" in record:
+                    record["speed_m_per_h"] = record["speed_m_per_h"] * 7 // 10
+
+        def an_hour(numbers: random.Random, records: list[Json]) -> None:
+            for record in records[numbers.randrange(100, 700):]:
+                record["time_ms"] += 3_600_000
+
+        self.assertEqual(self.told(lambda numbers, records: None), 0)
+        for alter, least in ((one, 30), (all_lower, 36), (an_hour, 34)):
+            self.assertGreaterEqual(self.told(alter), least, alter.__name__)
 
 
 class Groups(unittest.TestCase):

@@ -2,7 +2,8 @@
  *
  *     kept FOLDER    what each call answers, on files that it makes in this folder
  *     kept FOLDER CYCLES EVERY    a drive of so many cycles of 2 s in a ring of 64 slots, whose blocks are kept each EVERY cycles:
- *                                 FOLDER/image, FOLDER/archive, FOLDER/times; it prints the number of the last event */
+ *                                 FOLDER/image, FOLDER/archive, FOLDER/times; it prints the number of the last event
+ *     kept IMAGE ARCHIVE          keeps what an image holds, twice; it prints how many blocks that were */
 #include "etcs_file.h"
 
 #include <stdio.h>
@@ -144,7 +145,25 @@ static void answers(const char *folder) {
     etcs_file_close(&file, &unit);
 }
 
+/* No flush is made, so the image stays as it is. */
+static void keeps(const char *image, const char *path) {
+    etcs_unit unit = {0};
+    etcs_file file = {0};
+    etcs_archive archive = {0};
+    uint64_t count = 0, again = 0;
+    wants("the image doesn't open", etcs_file_open(&file, image, &unit, ETCS_COLD_UNKNOWN) == ETCS_FILE_OK);
+    wants("the archive doesn't open", etcs_archive_open(&archive, path) == ETCS_FILE_OK);
+    wants("nothing is kept", etcs_archive_keep(&archive, &file, &count) == ETCS_FILE_OK && etcs_archive_keep(&archive, &file, &again) == ETCS_FILE_OK);
+    etcs_archive_close(&archive);
+    etcs_file_close(&file, &unit);
+    printf("%llu %llu\n", (unsigned long long)count, (unsigned long long)again);
+}
+
 int main(int count, char **words) {
+    if (count == 3)
+        keeps(words[1], words[2]);
+    if (count == 3)
+        return failures ? 1 : 0;
     if (count == 4)
         return drives(words[1], strtoul(words[2], NULL, 10), strtoul(words[3], NULL, 10));
     if (count != 2)

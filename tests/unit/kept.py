@@ -3,23 +3,28 @@
 
     tests/unit/kept.py ETCS_LAB KEPT..    the programs of kept.c; the first one drives for two hours, the others for some minutes
 
+Over pseudo-random rings, with closed gates, older images that are put back and archives that a loss of power cut, each archive is byte by
+byte the one that the package in Python keeps (`tests/lab_package/join_rows.py` tries that one).
+
 Of the image alone no replay is possible, and of image and archive together it agrees from the first event on; `etcs_lab why` tells why
 the train brakes behind the last one. The archive has each block once, in its order. The marks are read by the package, and tell the
 time of day of the last moment.
 """
 import json
 import os
+import random
 import subprocess
 import sys
 import tempfile
 from pathlib import Path
 
 TOP = Path(__file__).resolve().parents[2]
-sys.path[:0] = [str(TOP / part) for part in ("python", "tests")]
+sys.path[:0] = [str(TOP / part) for part in ("python", "tests", "tests/plain", "tests/lab", "tests/lab_package")]
 
 from compared import Compared, run  # noqa: E402
 from gaknifur import archive, times  # noqa: E402
 from gaknifur.reading import Journal  # noqa: E402
+from join_rows import SLOT, journal, write  # noqa: E402
 
 CYCLES, FEW, EVERY = 3_600, 200, 60
 CYCLE_MS, BEGUN_MS = 2_000, 1_772_359_200_000
@@ -55,6 +60,29 @@ def drive(rows, lab, program, cycles, room):
     rows.unless(utc == BEGUN_MS + CYCLE_MS * cycles and off <= 50 + 60 + 1, f"{name}: the last moment was at {utc}, give or take {off} ms")
 
 
+def beside(rows, programs, room, count):
+    """Archives that are kept in C and in Python, of the same images."""
+    told, numbers = journal(), random.Random(4)
+    for number in range(count):
+        slots, program = numbers.choice((2, 3, 4, 8, 64)), programs[number % len(programs)]
+        paths, image, newest, lives = [room / f"python-{number}", room / f"c-{number}"], room / "image", 0, dict(told)
+        for step in range(numbers.randrange(1, 9)):
+            if numbers.random() < 0.1 and newest > 3:
+                newest -= numbers.randrange(1, 3)
+                lives = {n: {**block, "lives": block["lives"] + (n > newest)} for n, block in lives.items()}
+            newest = max(1, min(max(told), newest + numbers.randrange(slots + 2)))
+            write(image, slots, lives, newest, shut=newest + 1 if numbers.random() < 0.3 and newest >= slots else None)
+            if numbers.random() < 0.3 and paths[0].exists() and paths[0].stat().st_size > 2 * SLOT:
+                cut, is_zeros = numbers.randrange(2 * SLOT), numbers.random() < 0.5
+                for path in paths:
+                    data = path.read_bytes()
+                    path.write_bytes(data[:len(data) - cut].ljust(len(data) * is_zeros, b"\0"))
+            with archive.Archive(paths[0]) as kept:
+                wanted = kept.keep(image)
+            text, said, status = run(program, [image, paths[1]])
+            rows.same(f"ring of {slots}, step {step}", (text, said, status, paths[1].read_bytes() == paths[0].read_bytes()), (f"{wanted} 0\n", "", 0, True))
+
+
 def main(words):
     lab, *programs = (str(Path(word).resolve()) for word in words)
     os.environ["GAKNIFUR_ETCS_LAB"] = lab
@@ -63,7 +91,9 @@ def main(words):
     for at, program in enumerate(programs):
         with tempfile.TemporaryDirectory(dir=memory if memory.is_dir() and os.access(memory, os.W_OK) else None) as room:
             drive(rows, lab, program, FEW if at else CYCLES, Path(room))
-    return rows.end(f"lives longer than the ring: {rows.count} comparisons") or int(rows.count < 9 * len(programs))
+    with tempfile.TemporaryDirectory() as room:
+        beside(rows, programs, Path(room), 45)
+    return rows.end(f"lives longer than the ring: {rows.count} comparisons") or int(rows.count < 9 * len(programs) + 150)
 
 
 if __name__ == "__main__":

@@ -3,7 +3,8 @@
  *     kept FOLDER    what each call answers, on files that it makes in this folder
  *     kept FOLDER CYCLES EVERY    a drive of so many cycles of 2 s in a ring of 64 slots, whose blocks are kept each EVERY cycles:
  *                                 FOLDER/image, FOLDER/archive, FOLDER/times; it prints the number of the last event
- *     kept IMAGE ARCHIVE          keeps what an image holds, twice; it prints how many blocks that were */
+ *     kept IMAGE ARCHIVE          keeps what an image holds, twice; where $KEPT_LATER names a file, the image is that one's bytes the
+ *                                 second time. It prints how many blocks that were */
 #include "etcs_file.h"
 
 #include <stdio.h>
@@ -145,6 +146,19 @@ static void answers(const char *folder) {
     etcs_file_close(&file, &unit);
 }
 
+/* Writes the bytes of a file over an image. */
+static void becomes(const char *image, const char *later) {
+    char bytes[4096];
+    size_t got;
+    FILE *from = fopen(later, "rb"), *to = fopen(image, "r+b");
+    wants("a file doesn't open", from && to);
+    if (from == NULL || to == NULL)
+        return;
+    while ((got = fread(bytes, 1, sizeof bytes, from)) > 0)
+        wants("the image isn't written", fwrite(bytes, 1, got, to) == got);
+    wants("they don't close", fclose(from) == 0 && fclose(to) == 0);
+}
+
 /* No flush is made, so the image stays as it is. */
 static void keeps(const char *image, const char *path) {
     etcs_unit unit = {0};
@@ -153,7 +167,10 @@ static void keeps(const char *image, const char *path) {
     uint64_t count = 0, again = 0;
     wants("the image doesn't open", etcs_file_open(&file, image, &unit, ETCS_COLD_UNKNOWN) == ETCS_FILE_OK);
     wants("the archive doesn't open", etcs_archive_open(&archive, path) == ETCS_FILE_OK);
-    wants("nothing is kept", etcs_archive_keep(&archive, &file, &count) == ETCS_FILE_OK && etcs_archive_keep(&archive, &file, &again) == ETCS_FILE_OK);
+    wants("nothing is kept", etcs_archive_keep(&archive, &file, &count) == ETCS_FILE_OK);
+    if (getenv("KEPT_LATER"))
+        becomes(image, getenv("KEPT_LATER"));
+    wants("nothing is kept again", etcs_archive_keep(&archive, &file, &again) == ETCS_FILE_OK);
     etcs_archive_close(&archive);
     etcs_file_close(&file, &unit);
     printf("%llu %llu\n", (unsigned long long)count, (unsigned long long)again);

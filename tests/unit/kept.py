@@ -21,8 +21,9 @@ from pathlib import Path
 TOP = Path(__file__).resolve().parents[2]
 sys.path[:0] = [str(TOP / part) for part in ("python", "tests", "tests/plain", "tests/lab", "tests/lab_package")]
 
+from blocks import data_of  # noqa: E402
 from compared import Compared, run  # noqa: E402
-from gaknifur import archive, times  # noqa: E402
+from gaknifur import archive, layout, times  # noqa: E402
 from gaknifur.reading import Journal  # noqa: E402
 from join_rows import SLOT, journal, write  # noqa: E402
 
@@ -60,27 +61,42 @@ def drive(rows, lab, program, cycles, room):
     rows.unless(utc == BEGUN_MS + CYCLE_MS * cycles and off <= 50 + 60 + 1, f"{name}: the last moment was at {utc}, give or take {off} ms")
 
 
+def laid(numbers, path, slots, lives, newest):
+    """Lays an image: perhaps with a gate that is closed, or with a copy of a block in a wrong slot."""
+    write(path, slots, lives, newest, shut=newest + 1 if numbers.random() < 0.3 and newest >= slots else None)
+    if numbers.random() < 0.2 and slots > 2:
+        at, data = layout.slot_at((newest + 2) % slots), path.read_bytes()
+        path.write_bytes(data[:at] + data_of(lives[min(newest + 1, max(lives))]) + data[at + SLOT:])
+
+
 def beside(rows, programs, room, count):
     """Archives that are kept in C and in Python, of the same images."""
     told, numbers = journal(), random.Random(4)
     for number in range(count):
         slots, program = numbers.choice((2, 3, 4, 8, 64)), programs[number % len(programs)]
         paths, image, newest, lives = [room / f"python-{number}", room / f"c-{number}"], room / "image", 0, dict(told)
+        later = room / "later"
         for step in range(numbers.randrange(1, 9)):
             if numbers.random() < 0.1 and newest > 3:
                 newest -= numbers.randrange(1, 3)
                 lives = {n: {**block, "lives": block["lives"] + (n > newest)} for n, block in lives.items()}
             newest = max(1, min(max(told), newest + numbers.randrange(slots + 2)))
-            write(image, slots, lives, newest, shut=newest + 1 if numbers.random() < 0.3 and newest >= slots else None)
+            laid(numbers, image, slots, lives, newest)
             if numbers.random() < 0.3 and paths[0].exists() and paths[0].stat().st_size > 2 * SLOT:
                 cut, is_zeros = numbers.randrange(2 * SLOT), numbers.random() < 0.5
                 for path in paths:
                     data = path.read_bytes()
                     path.write_bytes(data[:len(data) - cut].ljust(len(data) * is_zeros, b"\0"))
+            before, newest = image.read_bytes(), min(max(told), newest + numbers.randrange(slots + 2))
+            laid(numbers, later, slots, lives, newest)
             with archive.Archive(paths[0]) as kept:
-                wanted = kept.keep(image)
-            text, said, status = run(program, [image, paths[1]])
-            rows.same(f"ring of {slots}, step {step}", (text, said, status, paths[1].read_bytes() == paths[0].read_bytes()), (f"{wanted} 0\n", "", 0, True))
+                wanted = [kept.keep(image)]
+                image.write_bytes(later.read_bytes())
+                wanted.append(kept.keep(image))
+            image.write_bytes(before)
+            text, said, status = run(program, [image, paths[1]], env={**os.environ, "KEPT_LATER": str(later)})
+            rows.same(f"ring of {slots}, step {step}", (text, said, status, paths[1].read_bytes() == paths[0].read_bytes()),
+                      (f"{wanted[0]} {wanted[1]}\n", "", 0, True))
 
 
 def main(words):

@@ -167,7 +167,7 @@ def stays(rows, room):
         kept.keep(image)
         before = path.read_bytes()
         for name, said, do in (("an archive that is held", "another program writes it", lambda: Archive(path)),
-                               ("no archive", "is no archive of blocks", lambda: Archive(text)), ("an image", "is no archive of blocks", lambda: Archive(image)),
+                               ("no archive", "is not an archive of blocks", lambda: Archive(text)), ("an image", "is not an archive of blocks", lambda: Archive(image)),
                                ("no image", "is not a formatted image", lambda: Ring(text)), ("no file", "No such file", lambda: Ring(room / "none")),
                                ("a folder", "", lambda: Ring(room)), ("onto an image", "is there", lambda: archive.join(image, [path])),
                                ("of no block", "no block", lambda: archive.join(room / "new", [room / "empty"]))):

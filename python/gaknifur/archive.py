@@ -253,13 +253,14 @@ def join(out: Path, paths: list[Path]) -> Joined:
             choose(found, number, place)
     if not found.chosen:
         raise Failed(f"{shown(paths[0])}: there is no block to be joined", REFUSED)
-    if found.slots > layout.MOST_SLOTS:
-        raise Failed(f"{shown(out)}: would have {found.slots} slots, and {layout.MOST_SLOTS} are the most; join fewer", REFUSED)
+    slots = found.slots
+    if slots > layout.MOST_SLOTS:
+        raise Failed(f"{shown(out)}: would have {slots} slots, and {layout.MOST_SLOTS} are the most; join fewer", REFUSED)
     with files.new_file(out) as file:
-        file.truncate(layout.slot_at(found.slots))
-        file.write(layout.first_sector(found.slots))
-        for number, place in sorted(found.chosen.items(), key=lambda pair: pair[0] % found.slots):
-            file.seek(layout.slot_at(number % found.slots))
+        file.truncate(layout.slot_at(slots))
+        file.write(layout.first_sector(slots))
+        for number, place in sorted(found.chosen.items(), key=lambda pair: pair[0] % slots):
+            file.seek(layout.slot_at(number % slots))
             file.write(place.read())
     found.unreadable = [slot["block"] for slot in examine(out)["slots"] if slot["state"] == "unreadable"]
     return found

@@ -69,7 +69,7 @@ def make_keys(room):
     for name in ("one", "other"):
         run("ssh-keygen", "-q", "-t", "ed25519", "-N", "", "-C", "", "-f", room / f"ssh-{name}")
         (room / f"signers-{name}").write_text(f"{name}@example " + (room / f"ssh-{name}.pub").read_text())
-        run("gpg", "--batch", "--quiet", "--passphrase", "", "--quick-generate-key", f"{name}@example", "ed25519", "sign")
+        run("gpg", "--batch", "--quiet", "--pinentry-mode", "loopback", "--passphrase", "", "--quick-generate-key", f"{name}@example", "ed25519", "sign")
         (room / f"{name}.gpg").write_bytes(run("gpg", "--export", f"{name}@example"))
         (room / f"{name}.cnf").write_text(AUTHORITY.format(room=room, name=name))
         run("openssl", "req", "-x509", "-newkey", "ec", "-pkeyopt", "ec_paramgen_curve:P-256", "-nodes", "-days", "2", "-subj", f"/CN={name}",

@@ -396,4 +396,369 @@ static inline uint32_t etcs_file_format(etcs_file *file, const char *path, uint3
 }
 #endif
 
+/* ---- beside the journal, for makers who want it: an archive of blocks, and marks of the time of day
+ *
+ * Both are files of their own. Nothing here writes to the journal, and no call of the unit waits for one of these: call
+ * them between two cycles. ANOTHER ANSWER THAN ETCS_FILE_OK SAYS THAT THE ARCHIVE OR THE MARKS ARE NOT GOING ON, and
+ * nothing of the unit, which still protects the train.
+ *
+ * A ring of 64 slots that is flushed each 100 ms holds 6.4 s. What went before is written over, and with it the power-up
+ * of the life, without which nobody can run it again. An archive keeps each block before its slot is taken:
+ *
+ *     etcs_archive archive = {0};
+ *     etcs_archive_open(&archive, "image.archive");
+ *     ...                                                at least once in as many flushes as the ring has slots, less two:
+ *     etcs_archive_keep(&archive, &file, &count);
+ *     ...
+ *     etcs_archive_close(&archive);
+ *
+ * `./lab join` makes one image of a larger ring of the archive and the image (docs/INVESTIGATING.md). An archive grows
+ * by 3,072 bytes a block; docs/EMBEDDING.md has a table.
+ */
+#include <stdio.h>
+#include <time.h>
+
+#ifdef __cplusplus
+extern "C" {
+#endif
+
+#define ETCS_ARCHIVE_ENTRY (6 * ETCS_UNIT_SECTOR)
+
+/* What failed beside enum etcs_file_answer. */
+enum etcs_archive_answer {
+    ETCS_FILE_NO_ARCHIVE = 10, /* what is there is no archive of blocks; it stays as it is */
+    ETCS_FILE_NO_MARKS = 11,   /* what is there holds no marks of the time of day; it stays as it is */
+    ETCS_FILE_BAD_MARK = 12    /* a time beyond the years 1970 to 9999, or a source that isn't 1 to 64 letters, digits, or of " ._-" */
+};
+
+/* An archive that is open, or was; all zeros before its first call. */
+typedef struct {
+    etcs_file file;    /* its file; `error` says why what failed */
+    uint64_t entries;  /* how many blocks it has */
+    uint64_t behind;   /* behind which block those of the image are new */
+    uint32_t slots;    /* how many slots the image has; 0 before the first look at it */
+    uint32_t reserved;
+} etcs_archive;
+
+/* Marks that are open, or were; all zeros before their first call. */
+typedef struct {
+    etcs_file file;
+    uint32_t life;     /* in which life the unit is */
+    uint32_t reserved;
+} etcs_times;
+
+static inline uint32_t etcs_archive_read_(etcs_file *file, uint8_t *bytes, size_t len, uint64_t from) {
+    for (size_t at = 0; at < len;) {
+        const ssize_t got = pread(etcs_file_at_(file), bytes + at, len - at, (off_t)(from + at));
+        if (got < 0 && errno == EINTR)
+            continue;
+        if (got == 0)
+            errno = EIO;
+        if (got <= 0)
+            return etcs_file_failed_(file, ETCS_FILE_CANT_READ);
+        at += (size_t)got;
+    }
+    return ETCS_FILE_OK;
+}
+
+static inline uint64_t etcs_archive_big_(const uint8_t *bytes) {
+    uint64_t number = 0;
+    for (int at = 0; at < 8; at++)
+        number = number << 8 | bytes[at];
+    return number;
+}
+
+/* The number of a gate as a unit writes it; 0 where it is closed or another one. */
+static inline uint64_t etcs_archive_gate_(const uint8_t *sector) {
+    if (memcmp(sector, "ETCSGATE", 8) != 0)
+        return 0;
+    for (int at = 16; at < ETCS_UNIT_SECTOR; at++)
+        if (sector[at] != 0)
+            return 0;
+    return etcs_archive_big_(sector + 8);
+}
+
+/* The number of the block behind its own gate in the bytes of a slot; 0 where there is none. */
+static inline uint64_t etcs_archive_block_(const uint8_t *slot) {
+    const uint64_t number = etcs_archive_gate_(slot);
+    return etcs_archive_big_(slot + ETCS_UNIT_SECTOR + 8) == number ? number : 0;
+}
+
+static inline uint64_t etcs_archive_place_(uint64_t slot) {
+    return ETCS_UNIT_SECTOR + ETCS_ARCHIVE_ENTRY * slot;
+}
+
+/* What an archive begins with. */
+static inline void etcs_archive_first_(uint8_t *sector) {
+    memset(sector, 0, ETCS_UNIT_SECTOR);
+    memcpy(sector, "ETCSKEPT", 8);
+    sector[11] = 1;
+}
+
+/* Looks at what is there, and begins a new archive where nothing is, or less than a first sector of one. */
+static inline uint32_t etcs_archive_begin_(etcs_archive *archive, const char *path) {
+    uint8_t first[ETCS_UNIT_SECTOR], there[ETCS_UNIT_SECTOR];
+    const off_t end = lseek(archive->file.descriptor, 0, SEEK_END);
+    if (end < 0)
+        return etcs_file_failed_(&archive->file, ETCS_FILE_CANT_READ);
+    const size_t some = end < ETCS_UNIT_SECTOR ? (size_t)end : (size_t)ETCS_UNIT_SECTOR;
+    etcs_archive_first_(first);
+    uint32_t answer = etcs_archive_read_(&archive->file, there, some, 0);
+    if (answer != ETCS_FILE_OK)
+        return answer;
+    if (memcmp(first, there, some) != 0)
+        return ETCS_FILE_NO_ARCHIVE;
+    archive->entries = some < ETCS_UNIT_SECTOR ? 0 : ((uint64_t)end - ETCS_UNIT_SECTOR) / ETCS_ARCHIVE_ENTRY;
+    if (some < ETCS_UNIT_SECTOR) {
+        answer = etcs_file_write_(&archive->file, first, sizeof first, 0);
+        if (answer == ETCS_FILE_OK)
+            answer = etcs_file_sync_(&archive->file, archive->file.descriptor);
+        return answer == ETCS_FILE_OK ? etcs_file_sync_folder_(&archive->file, path) : answer;
+    }
+    /* a part of a block, of which power was lost; its slot still has it */
+    if (ftruncate(archive->file.descriptor, (off_t)etcs_archive_place_(archive->entries)) != 0)
+        return etcs_file_failed_(&archive->file, ETCS_FILE_CANT_WRITE);
+    return ETCS_FILE_OK;
+}
+
+/* Opens an archive under a lock of its own, or begins one. Where it answers something else than OK, it isn't open. */
+static inline uint32_t etcs_archive_open(etcs_archive *archive, const char *path) {
+    if (etcs_file_at_(&archive->file) >= 0)
+        return etcs_file_is_open_(&archive->file);
+    archive->slots = 0;
+    uint32_t answer = etcs_file_lock_(&archive->file, path, O_CREAT);
+    if (answer == ETCS_FILE_OK)
+        answer = etcs_archive_begin_(archive, path);
+    if (answer != ETCS_FILE_OK)
+        etcs_file_shut_(&archive->file);
+    return answer;
+}
+
+/* Closes an archive; one that isn't open stays so. */
+static inline void etcs_archive_close(etcs_archive *archive) {
+    etcs_file_shut_(&archive->file);
+}
+
+static inline uint32_t etcs_archive_append_(etcs_archive *archive, const uint8_t *slot) {
+    const uint32_t answer = etcs_file_write_(&archive->file, slot, ETCS_ARCHIVE_ENTRY, etcs_archive_place_(archive->entries));
+    archive->entries += answer == ETCS_FILE_OK;
+    return answer;
+}
+
+/* The bytes of the block of this number, where the image has it: then `found` is its number, else 0. */
+static inline uint32_t etcs_archive_look_(etcs_archive *archive, etcs_file *file, uint64_t number, uint8_t *slot, uint64_t *found) {
+    const uint32_t answer = etcs_archive_read_(file, slot, ETCS_ARCHIVE_ENTRY, etcs_archive_place_(number % archive->slots));
+    *found = answer == ETCS_FILE_OK && etcs_archive_block_(slot) == number ? number : 0;
+    return answer;
+}
+
+/* The least number and the greatest one of the gates of the image that are above a number; 0 where none is. */
+static inline uint32_t etcs_archive_range_(etcs_archive *archive, etcs_file *file, uint64_t behind, uint64_t *least, uint64_t *greatest) {
+    uint8_t gate[ETCS_UNIT_SECTOR];
+    *least = *greatest = 0;
+    for (uint64_t slot = 0; slot < archive->slots; slot++) {
+        const uint32_t answer = etcs_archive_read_(file, gate, sizeof gate, etcs_archive_place_(slot));
+        const uint64_t number = answer == ETCS_FILE_OK ? etcs_archive_gate_(gate) : 0;
+        if (answer != ETCS_FILE_OK)
+            return answer;
+        if (number <= behind || number % archive->slots != slot)
+            continue;
+        *least = *least == 0 || number < *least ? number : *least;
+        *greatest = number > *greatest ? number : *greatest;
+    }
+    return ETCS_FILE_OK;
+}
+
+/* The first look at the image: each of its blocks is appended that the end of the archive hasn't just so. A loss of power
+ * may have left other bytes there, or an older image have been put back. */
+static inline uint32_t etcs_archive_catch_up_(etcs_archive *archive, etcs_file *file) {
+    uint8_t slot[ETCS_ARCHIVE_ENTRY], entry[ETCS_ARCHIVE_ENTRY];
+    const uint64_t before = archive->entries;
+    uint64_t last = 0, least = 0, newest = 0, found = 0;
+    uint32_t answer = ETCS_FILE_OK;
+    for (uint64_t place = before; answer == ETCS_FILE_OK && last == 0 && place > 0; place--) {
+        answer = etcs_archive_read_(&archive->file, entry, sizeof entry, etcs_archive_place_(place - 1));
+        last = answer == ETCS_FILE_OK ? etcs_archive_block_(entry) : 0;
+    }
+    if (answer == ETCS_FILE_OK)
+        answer = etcs_archive_range_(archive, file, 0, &least, &newest);
+    for (uint64_t number = least; answer == ETCS_FILE_OK && number != 0 && number <= newest; number++) {
+        answer = etcs_archive_look_(archive, file, number, slot, &found);
+        if (answer != ETCS_FILE_OK || found == 0)
+            continue;
+        const uint64_t place = before + number - last - 1; /* (wraps below 0, and is no place then) */
+        int is_there = place < before;
+        if (is_there) {
+            answer = etcs_archive_read_(&archive->file, entry, sizeof entry, etcs_archive_place_(place));
+            is_there = answer == ETCS_FILE_OK && memcmp(entry, slot, sizeof entry) == 0;
+        }
+        if (answer == ETCS_FILE_OK && !is_there)
+            answer = etcs_archive_append_(archive, slot);
+    }
+    archive->behind = newest;
+    return answer;
+}
+
+/* Appends the next block behind those that are there; `found` is 0 where the image has none. */
+static inline uint32_t etcs_archive_next_(etcs_archive *archive, etcs_file *file, uint64_t *found) {
+    uint8_t slot[ETCS_ARCHIVE_ENTRY];
+    uint64_t least = 0, greatest = 0;
+    uint32_t answer = etcs_archive_look_(archive, file, archive->behind + 1, slot, found);
+    if (answer == ETCS_FILE_OK && *found == 0) {
+        /* a slot that is written over, or was: then the next one has a later block, since one gate is closed at a time */
+        uint8_t gate[ETCS_UNIT_SECTOR];
+        answer = etcs_archive_read_(file, gate, sizeof gate, etcs_archive_place_((archive->behind + 2) % archive->slots));
+        if (answer == ETCS_FILE_OK && (etcs_archive_gate_(gate) > archive->behind || etcs_archive_gate_(slot) > archive->behind))
+            answer = etcs_archive_range_(archive, file, archive->behind, &least, &greatest);
+        if (answer == ETCS_FILE_OK && least != 0)
+            answer = etcs_archive_look_(archive, file, least, slot, found);
+    }
+    if (answer == ETCS_FILE_OK && *found != 0)
+        answer = etcs_archive_append_(archive, slot);
+    if (answer == ETCS_FILE_OK && *found != 0)
+        archive->behind = *found;
+    return answer;
+}
+
+/* Appends what the image holds that is newer than the archive, and syncs; `count` is how many blocks that were. Call it
+ * at least once in as many flushes as the ring has slots, less two: a block that is written over before is missing, and
+ * `./lab join` tells that. The file has to be open (etcs_file_open), and no thread may flush meanwhile. The first call
+ * reads all slots, each other one what is new and two sectors. Where it answers something else than OK, the archive may
+ * have a part of what is new, and `error` of the archive's file, or of the image's, says why. */
+static inline uint32_t etcs_archive_keep(etcs_archive *archive, etcs_file *file, uint64_t *count) {
+    uint8_t first[ETCS_UNIT_SECTOR];
+    etcs_image facts;
+    uint64_t found = 1;
+    const uint64_t before = archive->entries;
+    uint32_t answer = ETCS_FILE_OK;
+    *count = 0;
+    if (etcs_file_at_(file) < 0 || etcs_file_at_(&archive->file) < 0) {
+        errno = EBADF;
+        return etcs_file_failed_(&archive->file, ETCS_FILE_CANT_READ);
+    }
+    if (archive->slots == 0) {
+        answer = etcs_archive_read_(file, first, sizeof first, 0);
+        if (answer == ETCS_FILE_OK)
+            answer = etcs_file_told_(&archive->file, etcs_image_facts(first, sizeof first, &facts));
+        if (answer == ETCS_FILE_OK)
+            archive->slots = (uint32_t)facts.slots;
+        if (answer == ETCS_FILE_OK)
+            answer = etcs_archive_catch_up_(archive, file);
+        if (answer != ETCS_FILE_OK)
+            archive->slots = 0;
+    }
+    while (answer == ETCS_FILE_OK && found != 0)
+        answer = etcs_archive_next_(archive, file, &found);
+    *count = archive->entries - before;
+    if (answer == ETCS_FILE_OK && *count > 0)
+        answer = etcs_file_sync_(&archive->file, archive->file.descriptor);
+    return answer;
+}
+
+/* ---- marks of the time of day: a line each, in CSV, which ./lab reads beside the journal (docs/FORMAT.md). The journal has
+ * no time of day, and nothing proves what a mark says. */
+
+#define ETCS_TIMES_FIRST "life,moment_ms,event,utc,uncertainty_ms,source\n"
+
+/* In which life the journal is: what the head of its newest block tells. */
+static inline uint32_t etcs_times_life_(etcs_times *times, etcs_file *file) {
+    uint8_t bytes[ETCS_UNIT_SECTOR];
+    etcs_image facts;
+    etcs_archive look;
+    uint64_t least = 0, newest = 0;
+    memset(&look, 0, sizeof look);
+    uint32_t answer = etcs_archive_read_(file, bytes, sizeof bytes, 0);
+    if (answer == ETCS_FILE_OK)
+        answer = etcs_file_told_(&times->file, etcs_image_facts(bytes, sizeof bytes, &facts));
+    if (answer != ETCS_FILE_OK)
+        return answer;
+    look.slots = (uint32_t)facts.slots;
+    answer = etcs_archive_range_(&look, file, 0, &least, &newest);
+    if (answer == ETCS_FILE_OK && newest != 0)
+        answer = etcs_archive_read_(file, bytes, sizeof bytes, etcs_archive_place_(newest % look.slots) + ETCS_UNIT_SECTOR);
+    if (answer == ETCS_FILE_OK)
+        times->life = newest == 0 ? 0 : (uint32_t)bytes[24] << 24 | (uint32_t)bytes[25] << 16 | (uint32_t)bytes[26] << 8 | bytes[27];
+    return answer;
+}
+
+/* Begins a new file by its first line, or drops the part of a line that a loss of power left at the end of what is there. */
+static inline uint32_t etcs_times_begin_(etcs_times *times, const char *path) {
+    const size_t len = sizeof ETCS_TIMES_FIRST - 1;
+    uint8_t there[sizeof ETCS_TIMES_FIRST];
+    off_t end = lseek(times->file.descriptor, 0, SEEK_END);
+    if (end < 0)
+        return etcs_file_failed_(&times->file, ETCS_FILE_CANT_READ);
+    const size_t some = (size_t)end < len ? (size_t)end : len;
+    uint32_t answer = etcs_archive_read_(&times->file, there, some, 0);
+    if (answer == ETCS_FILE_OK && memcmp(there, ETCS_TIMES_FIRST, some) != 0)
+        return ETCS_FILE_NO_MARKS;
+    while (answer == ETCS_FILE_OK && some == len && end > (off_t)len) {
+        answer = etcs_archive_read_(&times->file, there, 1, (uint64_t)end - 1);
+        if (answer == ETCS_FILE_OK && there[0] == '\n')
+            break;
+        end--;
+    }
+    if (answer == ETCS_FILE_OK && some == len && ftruncate(times->file.descriptor, end) != 0)
+        return etcs_file_failed_(&times->file, ETCS_FILE_CANT_WRITE);
+    if (answer != ETCS_FILE_OK || some == len)
+        return answer;
+    answer = etcs_file_write_(&times->file, (const uint8_t *)ETCS_TIMES_FIRST, len, 0);
+    if (answer == ETCS_FILE_OK)
+        answer = etcs_file_sync_(&times->file, times->file.descriptor);
+    return answer == ETCS_FILE_OK ? etcs_file_sync_folder_(&times->file, path) : answer;
+}
+
+/* Opens the marks of a journal under a lock of their own, or begins them. The file is that of the journal; it has to be
+ * open, and the power-up flushed, since the marks are of the life of the newest block. Where it answers something else
+ * than OK, the marks aren't open. */
+static inline uint32_t etcs_times_open(etcs_times *times, const char *path, etcs_file *file) {
+    if (etcs_file_at_(&times->file) >= 0)
+        return etcs_file_is_open_(&times->file);
+    uint32_t answer = etcs_file_lock_(&times->file, path, O_CREAT);
+    if (answer == ETCS_FILE_OK)
+        answer = etcs_times_begin_(times, path);
+    if (answer == ETCS_FILE_OK)
+        answer = etcs_times_life_(times, file);
+    if (answer != ETCS_FILE_OK)
+        etcs_file_shut_(&times->file);
+    return answer;
+}
+
+/* Closes marks; such that aren't open stay so. */
+static inline void etcs_times_close(etcs_times *times) {
+    etcs_file_shut_(&times->file);
+}
+
+static inline int etcs_times_is_source_(const char *source) {
+    const size_t len = strlen(source);
+    return len >= 1 && len <= 64 && strspn(source, "abcdefghijklmnopqrstuvwxyzABCDEFGHIJKLMNOPQRSTUVWXYZ0123456789 ._-") == len;
+}
+
+/* Appends a mark and syncs: at this moment of the life, as the unit's clock told it last, a clock told this time of day, in
+ * milliseconds since 1970-01-01 UTC without leap seconds, right to so many milliseconds. `source` is a word for that clock,
+ * as "GNSS". Two marks of a life bound how far the unit's clock runs off; one each ten minutes is plenty. */
+static inline uint32_t etcs_times_mark(etcs_times *times, uint64_t moment_ms, int64_t utc_ms, uint32_t uncertainty_ms, const char *source) {
+    char line[160];
+    struct tm told;
+    if (utc_ms < 0 || utc_ms > INT64_C(253402300799999) || !etcs_times_is_source_(source))
+        return ETCS_FILE_BAD_MARK;
+    const time_t seconds = (time_t)(utc_ms / 1000);
+    if (gmtime_r(&seconds, &told) == NULL)
+        return ETCS_FILE_BAD_MARK;
+    const int len = snprintf(line, sizeof line, "%lu,%llu,,%04d-%02d-%02dT%02d:%02d:%02d.%03dZ,%lu,%s\n", (unsigned long)times->life,
+                             (unsigned long long)moment_ms, told.tm_year + 1900, told.tm_mon + 1, told.tm_mday, told.tm_hour, told.tm_min,
+                             told.tm_sec, (int)(utc_ms % 1000), (unsigned long)uncertainty_ms, source);
+    const off_t end = lseek(etcs_file_at_(&times->file), 0, SEEK_END);
+    if (len < 0 || (size_t)len >= sizeof line)
+        return ETCS_FILE_BAD_MARK;
+    if (end < 0)
+        return etcs_file_failed_(&times->file, ETCS_FILE_CANT_WRITE);
+    const uint32_t answer = etcs_file_write_(&times->file, (const uint8_t *)line, (size_t)len, (uint64_t)end);
+    return answer == ETCS_FILE_OK ? etcs_file_sync_(&times->file, etcs_file_at_(&times->file)) : answer;
+}
+
+#ifdef __cplusplus
+}
+#endif
+
 #endif

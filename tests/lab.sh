@@ -12,6 +12,7 @@ for program in "$lab" "$etcs"; do
     [ -x "$program" ] || { echo "there is no program $program: rt ci makes it"; exit 1; }
 done
 status=0
+../tools/python --checks || exit 1
 python3 lab/image_rows.py "$lab" "$etcs" || status=1
 python3 lab/verdict_rows.py "$lab" || status=1
 ETCS=$etcs ETCS_LAB=$lab python3 pages.py INVESTIGATING || status=1

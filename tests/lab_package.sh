@@ -1,6 +1,7 @@
 #!/bin/bash
 # The package python/gaknifur and its script ./lab, on the programs that the gate leaves behind: types, the package's own tests, the commands of
-# docs/LABORATORY.md, tables and database beside plain readers, and reports.
+# docs/LABORATORY.md, tables and database beside plain readers, reports, sealed copies,
+# differences of images, archives of blocks, and journals that are followed.
 #
 #     tests/lab_package.sh [ETCS_LAB ETCS [IMAGES [SEED]]]    on other programs, with more or other images
 lab=${1:-$(dirname "$(readlink -f -- "$0")")/../crates/etcs_lab/out/etcs_lab}
@@ -19,5 +20,9 @@ status=0
 ETCS=$etcs ETCS_LAB=$lab "$python" tests/pages.py LABORATORY || status=1
 "$python" tests/lab_package/told_rows.py "$lab" "${@:3}" || status=1
 "$python" tests/lab_package/report_rows.py "$etcs" "$lab" || status=1
+"$python" tests/lab_package/seal_rows.py "$lab" || status=1
+"$python" tests/lab_package/diff_rows.py "$lab" || status=1
+"$python" tests/lab_package/join_rows.py "$lab" || status=1
+"$python" tests/lab_package/follow_rows.py "$lab" || status=1
 "$python" tests/lab_package/campaign_rows.py "$etcs" "$lab" || status=1
 exit $status

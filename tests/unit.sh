@@ -1,7 +1,7 @@
 #!/bin/bash
 # The unit as C, C++, Python and Rust programs call it, all of it built from the folder that tools/library makes: the headers alone, the names
-# that the library shows, sizes and places, wrong calls, files, two units at once, the examples, images beside `etcs journal`, random lives
-# beside `etcs run`, memory that is refused, and the commands of docs/EMBEDDING.md. It needs gcc, g++, valgrind, rustc and Debian's Python; clang
+# that the library shows, sizes and places, wrong calls, files, archives of blocks and marks beside the journal, two units at once, the
+# examples, images beside `etcs journal`, random lives beside `etcs run`, memory that is refused, and the commands of docs/EMBEDDING.md. It needs gcc, g++, valgrind, rustc and Debian's Python; clang
 # is tried where it is there.
 #
 #     tests/unit.sh [PREFIX [LIVES]]    builds and installs the library first, or takes the one below PREFIX; 400 lives; $ETCS and $ETCS_LAB name
@@ -86,13 +86,13 @@ build() {
 built=0
 link=("$archive")
 "$python" "$top/tests/unit/layout.py" --program >"$made/places.c" || fails "layout.py prints no program"
-for name in layout misuse files two life reading listing again; do
+for name in layout misuse files kept two life reading listing again; do
     source=$top/tests/unit/$name.c
     [ "$name" != layout ] || source=$made/places.c
     for compiler in "${compilers[@]}"; do build "$name.$compiler" "$source" "$compiler" -x c -std=c99 -O2; done
     build "$name.cpp" "$source" g++ -x c++ -std=c++17 -O2 -Wno-missing-field-initializers
 done
-for name in misuse files two life reading listing again; do
+for name in misuse files kept two life reading listing again; do
     build "$name.checked" "$top/tests/unit/$name.c" gcc -x c -std=c99 -O1 "${sanitizers[@]}"
 done
 for name in brake flash why; do
@@ -111,7 +111,7 @@ link=(-L "$prefix/lib" -letcs_unit)
 for name in misuse two reading; do build "$name.shared" "$top/tests/unit/$name.c" gcc -x c -std=c99 -O2; done
 rustc --edition 2021 -D warnings -O -L "$prefix/lib" -l static=etcs_unit "$top/examples/embedding/rust/brake.rs" -o "$made/brake.rs" &&
     built=$((built + 1)) || fails "examples/embedding/rust doesn't compile"
-counted "programs built" $built 34
+counted "programs built" $built 37
 
 # ---- what they answer
 
@@ -124,21 +124,21 @@ runs_well() {
 
 "$python" "$top/tests/unit/layout.py" "$made"/layout.* || fails "sizes and places differ"
 for program in "$made"/misuse.* "$made"/two.* "$made"/reading.*; do runs_well "$program"; done
-for program in "$made"/files.*; do
+for program in "$made"/files.* "$made"/kept.*; do
     rm -rf "$made/room"
     mkdir "$made/room"
     runs_well "$program" "$made/room"
 done
 for program in "$made"/flash.*; do runs_well "$program"; done
 mv "$made/said" "$made/flash"
-for program in misuse.gcc two.gcc reading.gcc "files.gcc $made/room" "brake.gcc $made/image.valgrind" flash.gcc "why.gcc $made/image.valgrind" \
+for program in misuse.gcc two.gcc reading.gcc "files.gcc $made/room" "kept.gcc $made/room" "brake.gcc $made/image.valgrind" flash.gcc "why.gcc $made/image.valgrind" \
     "again.gcc $made/image.valgrind why 7"; do
     rm -rf "$made/room"
     mkdir "$made/room"
     # shellcheck disable=SC2086
     runs_well valgrind -q --error-exitcode=9 --leak-check=full --errors-for-leak-kinds=all --show-leak-kinds=all $(echo "$made/$program")
 done
-counted "runs of them, 8 of them under valgrind" $runs 25
+counted "runs of them, 9 of them under valgrind" $runs 29
 
 # ---- the examples: the same train in each language, over the same file
 
@@ -163,6 +163,10 @@ counted "trains that brake" $trains 5
 
 gcc -std=gnu11 -O2 -fPIC -shared "$top/tests/hostile/refuse.c" -o "$made/refuse.so" || fails "tests/hostile/refuse.c doesn't compile"
 "$python" "$top/tests/unit/again.py" "$lab" "$made/refuse.so" "$made"/again.gcc "$made"/again.checked "$made"/again.cpp || status=1
+
+# ---- a life longer than the ring, whose blocks are kept
+
+"$python" "$top/tests/unit/kept.py" "$lab" "$made"/kept.gcc "$made"/kept.checked "$made"/kept.cpp || status=1
 
 # ---- lives beside the program
 

@@ -1,7 +1,8 @@
 """Tables, a database and reports of the journals that the program `etcs_lab` reads.
 
-Every record of the tables comes from `etcs_lab`; `replay` and `why` come from the library of `gaknifur.unit`. Nothing here
-reads the bytes of an image. `journal` is the call for a notebook:
+Every record of the tables comes from `etcs_lab`; `replay` and `why` come from the library of `gaknifur.unit`. Of the bytes of an
+image nothing is read here but the gates and numbers of its blocks (`layout`), where these are copied or compared as they are.
+`journal` is the call for a notebook:
 
     import gaknifur
     events = gaknifur.journal("image")

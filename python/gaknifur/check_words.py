@@ -1,21 +1,42 @@
-"""The word `check` of `./lab`: what `etcs_lab check` tells of an image, handed on as it is."""
+"""The word `check` of `./lab`: what `etcs_lab check` tells of an image, handed on as it is, and behind it what is implausible."""
 import argparse
+import json
 import sys
 from collections.abc import Callable
+from dataclasses import fields
 from pathlib import Path
 
+from . import plausible
 from .program import DEVICE, NOT_WHOLE, REFUSED, WHOLE, Run
-from .reading import Progress
+from .reading import Json, Progress, objects
 
 Word = Callable[[str, str, str], argparse.ArgumentParser]
 
 
 def add_words(word: Word) -> None:
     """Adds the word."""
-    check = word("check", "examines and replays an image, and says at the end whether both have nothing to tell",
-                 "It hands on what etcs_lab check prints, and its status: 4 where something is lost, damaged, contradicts or differs.")
+    check = word("check", "examines and replays an image, says whether both have nothing to tell, and what is implausible",
+                 "It hands on what etcs_lab check prints, and its status: 4 where something is lost, damaged, contradicts or differs. "
+                 "Status 4 too where something is implausible, as movement over time against the speeds. The thresholds can be set.")
     check.add_argument("image", metavar="IMAGE", type=Path)
     check.add_argument("--json", action="store_true", help="as JSON")
+    for name, unit, told in (("path_cm", "CM", "movement may be off by so much"), ("path_percent", "N", "and so many percent"),
+                             ("acceleration_cm_per_s2", "CM/S2", "a speed may change so fast"), ("jump_m_per_h", "M/H", "beside so much at once"),
+                             ("place_cm", "CM", "a group's place may be off by so much"), ("place_percent", "N", "and so many percent of the way")):
+        usual = next(one.default for one in fields(plausible.Thresholds) if one.name == name)
+        check.add_argument(f"--{name.replace('_', '-')}", metavar=unit, type=int, default=usual, help=f"{told}; else {usual}")
+
+
+def judge(told: argparse.Namespace) -> int:
+    """Prints what is implausible, and answers the status."""
+    records: list[Json] = []
+    limits = plausible.Thresholds(**{one.name: getattr(told, one.name) for one in fields(plausible.Thresholds)})
+    objects(["events"], told.image, lambda line: records.append(line) if "event" in line else None)
+    found = plausible.judge(records, limits)
+    lines = [*map(json.dumps, found.findings), json.dumps(plausible.as_json(found, limits))] if told.json else \
+        [*map(plausible.text, found.findings), plausible.summary(found, limits)]
+    sys.stdout.writelines(f"{line}\n" for line in lines)
+    return NOT_WHOLE if found.findings else WHOLE
 
 
 def check_image(told: argparse.Namespace, progress: Progress) -> int:
@@ -26,7 +47,9 @@ def check_image(told: argparse.Namespace, progress: Progress) -> int:
     sys.stdout.flush()
     if run.status not in (WHOLE, NOT_WHOLE) and (run.said or run.status not in (REFUSED, DEVICE)):
         raise run.failed(told.image)
-    return run.status
+    if run.status not in (WHOLE, NOT_WHOLE):
+        return run.status
+    return max(run.status, judge(told))
 
 
 WORDS = {"check": check_image}

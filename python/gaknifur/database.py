@@ -10,18 +10,18 @@ from typing import Any
 
 import pandas as pd
 
-from . import causes, files, tables
+from . import causes, files, tables, times
 from .program import DEVICE, REFUSED, Failed
 from .reading import Journal, Json
 
-VERSION = 3
+VERSION = 4
 """The `user_version` of the schema."""
 GREATEST = 2**62
 EVENT = (
     "block event life stretch kind time_ms mode level brake place_cm uncertainty_cm min_safe_front_cm max_safe_front_cm "
     "limit_m_per_h movement_cm reading_m_per_h speed_m_per_h word now_ms action refused identity running_number "
     "chosen_level confirmed acknowledged length_cm maximum_m_per_h category deceleration_cm_per_s2 reaction_ms "
-    "causes_not_known trip_cause trip_cause_event limit_cause"
+    "causes_not_known trip_cause trip_cause_event limit_cause utc_by_marks utc_uncertainty_ms"
 ).split() + list(tables.SHOWS)
 BEFORE = {"mode_before": "mode", "level_before": "level", "brake_before": "brake", "speed_before_m_per_h": "speed_m_per_h"}
 NEXT = {"next_event": "event", "next_ms": "time_ms", "next_cm": "place_cm"}
@@ -105,6 +105,7 @@ def add_all(connection: sqlite3.Connection, journal: Journal, table: pd.DataFram
     insert(connection, "replay", ["image", "line", "verdict", *REPLAY[1:], "journal", "kernel"],
            ([image, number, *row] for number, row in enumerate(replay_rows(journal.replay))))
     add_events(connection, image, table)
+    add_marks(connection, image, journal)
     add_causes(connection, image, table)
 
 
@@ -153,6 +154,16 @@ def add_events(connection: sqlite3.Connection, image: int, table: pd.DataFrame) 
     insert(connection, "field", ["image", "block", "event", "packet", "field", "name", "value"],
            ([image, block, event, place, index, *pair]
             for block, event, place, packet in packets_in(rows) for index, pair in enumerate(packet["fields"])))
+
+
+def add_marks(connection: sqlite3.Connection, image: int, journal: Journal) -> None:
+    """Adds the marks of the time of day, and whether another one contradicts each."""
+    if journal.times is None:
+        return
+    bad = {mark.line for life in journal.times.lives.values() for pair in life.contradictions for mark in pair}
+    insert(connection, "mark", ["image", "line", "life", "moment_ms", "event", "utc", "uncertainty_ms", "source", "drift_ppm", "contradicts"],
+           ([image, one.line, one.life, one.moment_ms, one.event, times.iso(one.utc_ms), one.uncertainty_ms, one.source,
+             journal.times.drift_ppm, one.line in bad] for one in journal.times.marks))
 
 
 def telegram_row(row: tuple[int, int, str, Json]) -> list[Any]:

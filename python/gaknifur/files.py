@@ -4,24 +4,36 @@ What is made is a new file. In place of one that is there it comes only with `--
 file which this package made before, as its first bytes tell (`Kind`). An image is never written over, whatever its name
 is. A file is written beside its name and synced, and takes the name once it is whole.
 """
+import contextlib
+import fcntl
+import io
 import os
 import secrets
+import shutil
 import sqlite3
 import stat
-from collections.abc import Callable, Iterable
+import zipfile
+from collections.abc import Callable, Iterable, Iterator
 from dataclasses import dataclass
 from pathlib import Path
+from types import TracebackType
+from typing import BinaryIO, Self
 from urllib.parse import quote
 
+from . import layout
 from .program import DEVICE, REFUSED, Failed
 from .shown import shown
 
-IMAGE_MARK = b"ETCSJRU1"
+IMAGE_MARK = layout.MARK
 """What an image begins with (docs/FORMAT.md)."""
 FIRST_BYTES = 4096
 SQLITE, SQLITE_ID = b"SQLite format 3\0", slice(68, 72)
 WAIT_SECONDS = 60.0
 """How long a database is waited for that another program writes to."""
+
+
+MAKER = "gaknifur lab"
+"""The maker that pages, pictures and workbooks tell."""
 
 
 @dataclass(frozen=True)
@@ -34,6 +46,15 @@ class Kind:
     """Whether all bytes are asked, and not the first ones alone."""
 
 
+def is_workbook(data: bytes) -> bool:
+    """Whether the bytes of an archive are those of a workbook that this package made."""
+    try:
+        with zipfile.ZipFile(io.BytesIO(data)) as told:
+            return b">%s</dc:creator>" % MAKER.encode() in told.read("docProps/core.xml")
+    except (zipfile.BadZipFile, KeyError, OSError, ValueError):
+        return False
+
+
 def beginning(name: str, *marks: bytes) -> Kind:
     """A kind whose files begin with one of some marks."""
     return Kind(name, lambda data: data.startswith(marks))
@@ -44,11 +65,11 @@ def holding(name: str, beginning: bytes, mark: bytes) -> Kind:
     return Kind(name, lambda data: data.startswith(beginning) and mark in data)
 
 
-MAKER = "gaknifur lab"
-"""The maker that pages and pictures tell."""
 TABLE = beginning("a table", b"block,event,life,stretch,kind,time_ms,mode,", b"source,slot,byte,block,event,life,kind,")
 DRIVE_TABLE = beginning("a table of a drive", b"time_ms,first_event,event,place_cm,speed_m_per_h,")
 CAMPAIGN_TABLE = beginning("a table of a campaign", b"name,job_sha256,kind,ended,image_sha256,")
+WORKBOOK = Kind("a workbook", lambda data: data.startswith(b"PK") and is_workbook(data), is_whole=True)
+TIMELINE = beginning("a timeline", b"datetime,timestamp_desc,message,timestamp,uncertainty_ms,image,", b'{"datetime": ')
 REPORT = holding("a report", b"<!DOCTYPE html>\n", b'<meta name="generator" content="%s">' % MAKER.encode())
 SVG = holding("a picture", b"<?xml", b"<dc:title>%s</dc:title>" % MAKER.encode())
 PNG = holding("a picture", b"\x89PNG\r\n\x1a\n", b"tEXtSoftware\0%s" % MAKER.encode())
@@ -77,6 +98,26 @@ def standing(path: Path) -> os.stat_result | None:
         return None
     except OSError as error:
         raise Failed(f"{path}: {error.strerror}", DEVICE) from error
+
+
+def open_to_read(path: Path) -> BinaryIO:
+    """A regular file or a device of blocks, opened to be read alone, under the shared lock that etcs_lab takes: no unit runs on
+    it meanwhile."""
+    try:
+        descriptor = os.open(path, os.O_RDONLY | os.O_NONBLOCK | os.O_CLOEXEC)
+    except OSError as error:
+        raise Failed(f"{path}: {error.strerror}", DEVICE) from error
+    try:
+        mode = os.fstat(descriptor).st_mode
+        if not stat.S_ISREG(mode) and not stat.S_ISBLK(mode):
+            raise Failed(f"{path}: is no regular file and no device of blocks", DEVICE)
+        fcntl.flock(descriptor, fcntl.LOCK_SH | fcntl.LOCK_NB)
+        return open(descriptor, "rb")
+    except BaseException as error:
+        os.close(descriptor)
+        if isinstance(error, BlockingIOError):
+            raise Failed(f"{path}: another program writes it", DEVICE) from error
+        raise
 
 
 def bytes_of(path: Path, most: int | None = None) -> bytes:
@@ -142,16 +183,17 @@ def write(out: Out, data: str | bytes, inputs: Iterable[Path] = ()) -> None:
         raise Failed(f"{out.path}: {error.strerror}", DEVICE) from error
 
 
-def put(path: Path, data: bytes, before: os.stat_result | None) -> None:
-    """Writes a file beside its name, and gives it the name: a new one where nothing stood there (FileExistsError where
-    something does now), else in place of what did."""
+@contextlib.contextmanager
+def filled(path: Path, before: os.stat_result | None = None) -> Iterator[BinaryIO]:
+    """A file that is filled beside its name, and gets the name once it is whole and synced: a new one where nothing stood there
+    (FileExistsError where something does now), else in place of what did."""
     beside = path.with_name(f".lab-{os.getpid()}-{secrets.token_hex(8)}")
     descriptor = os.open(beside, os.O_WRONLY | os.O_CREAT | os.O_EXCL | os.O_CLOEXEC, 0o666)
     try:
         with open(descriptor, "wb") as file:
             if before is not None:
                 os.fchmod(descriptor, stat.S_IMODE(before.st_mode))
-            file.write(data)
+            yield file
             file.flush()
             os.fsync(descriptor)
         if before is None:
@@ -161,6 +203,26 @@ def put(path: Path, data: bytes, before: os.stat_result | None) -> None:
         sync_folder(path.parent)
     finally:
         beside.unlink(missing_ok=True)
+
+
+def put(path: Path, data: bytes, before: os.stat_result | None) -> None:
+    """Makes a file of these bytes."""
+    with filled(path, before) as file:
+        file.write(data)
+
+
+@contextlib.contextmanager
+def new_file(path: Path) -> Iterator[BinaryIO]:
+    """A file that nothing stands in the place of, whole or not at all, for what memory needn't hold at once."""
+    if standing(path) is not None or path.is_symlink():
+        raise refused(path, "is there; a file that isn't there yet is made")
+    try:
+        with filled(Path(os.path.realpath(path))) as file:
+            yield file
+    except FileExistsError as error:
+        raise refused(path, "is there since a moment ago; nothing writes over it") from error
+    except OSError as error:
+        raise Failed(f"{path}: {error.strerror}", DEVICE) from error
 
 
 def name_new(beside: Path, path: Path) -> None:
@@ -196,6 +258,43 @@ def write_new(path: Path, data: bytes) -> None:
     put(Path(os.path.realpath(path)), data, None)
 
 
+def sync_file(path: Path) -> None:
+    """Returns when the system says that all of a file is kept."""
+    descriptor = os.open(path, os.O_RDONLY | os.O_NOFOLLOW | os.O_CLOEXEC)
+    try:
+        os.fsync(descriptor)
+    finally:
+        os.close(descriptor)
+
+
+@contextlib.contextmanager
+def new_folder(path: Path) -> Iterator[Path]:
+    """A folder that is filled beside its name, and takes the name once all in it is whole and synced. Nothing may stand under
+    the name. Where it can't be filled, nothing of it stays."""
+    if standing(path) is not None or path.is_symlink():
+        raise refused(path, "is there; a folder that isn't there yet is made")
+    real = Path(os.path.realpath(path))
+    beside = real.with_name(f".lab-{os.getpid()}-{secrets.token_hex(8)}")
+    try:
+        beside.mkdir()
+        yield beside
+        for folder, _, names in os.walk(beside, topdown=False):
+            for name in names:
+                os.chmod(Path(folder, name), 0o444)
+                sync_file(Path(folder, name))
+            sync_folder(Path(folder))
+        try:
+            real.mkdir()
+        except FileExistsError as error:
+            raise refused(path, "is there since a moment ago; nothing takes its place") from error
+        os.replace(beside, real)
+        sync_folder(real.parent)
+    except OSError as error:
+        raise Failed(f"{path}: {error.strerror}", DEVICE) from error
+    finally:
+        shutil.rmtree(beside, ignore_errors=True)
+
+
 def is_there(path: Path, inputs: Iterable[Path] = ()) -> bool:
     """Whether an image is there, which a command goes on with. What is no regular file is none."""
     found = standing(path)
@@ -206,6 +305,62 @@ def is_there(path: Path, inputs: Iterable[Path] = ()) -> bool:
     if any(read is not None and is_same(found, read) for read in map(standing, inputs)):
         raise refused(path, "is a file that is read here")
     return True
+
+
+class Appended:
+    """A file that is appended to alone, under a lock of its own, and that begins with some bytes. A new one is made; what is there
+    and begins with others stays as it is."""
+
+    def __init__(self, path: Path, first: bytes, name: str) -> None:
+        self.path = path
+        with contextlib.suppress(FileExistsError):
+            if standing(path) is None:
+                write_new(path, first)
+        try:
+            self.descriptor = os.open(path, os.O_RDWR | os.O_NONBLOCK | os.O_CLOEXEC)
+        except OSError as error:
+            raise Failed(f"{path}: {error.strerror}", DEVICE) from error
+        try:
+            fcntl.flock(self.descriptor, fcntl.LOCK_EX | fcntl.LOCK_NB)
+            self.size = os.lseek(self.descriptor, 0, os.SEEK_END)
+            if self.read(0, len(first)) != first:
+                raise refused(path, f"is there, and is not {name}")
+        except BaseException as error:
+            self.close()
+            if isinstance(error, BlockingIOError):
+                raise Failed(f"{path}: another program writes it", DEVICE) from error
+            raise
+
+    def __enter__(self) -> Self:
+        return self
+
+    def __exit__(self, kind: type[BaseException] | None, error: BaseException | None, trace: TracebackType | None) -> None:
+        self.close()
+
+    def close(self) -> None:
+        """Gives the lock back."""
+        os.close(self.descriptor)
+
+    def read(self, at: int, size: int) -> bytes:
+        """Bytes that are there."""
+        return os.pread(self.descriptor, size, at)
+
+    def drop(self, size: int) -> None:
+        """Drops what stands behind so many bytes: a part of what was being appended where power was lost."""
+        if size < self.size:
+            os.ftruncate(self.descriptor, size)
+            self.size = size
+
+    def append(self, data: bytes) -> None:
+        """Appends. `sync` has to follow."""
+        done = 0
+        while done < len(data):
+            done += os.pwrite(self.descriptor, data[done:], self.size + done)
+        self.size += done
+
+    def sync(self) -> None:
+        """Returns when the system says that all is kept."""
+        os.fsync(self.descriptor)
 
 
 # ---- databases

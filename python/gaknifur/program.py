@@ -9,6 +9,7 @@ import os
 import subprocess
 import tempfile
 from collections.abc import Iterator, Sequence
+from dataclasses import dataclass
 from pathlib import Path
 
 WHOLE, REFUSED, WRONG_WORDS, DEVICE, NOT_WHOLE = range(5)
@@ -47,6 +48,37 @@ def tried(script: Path) -> Path:
     if done.returncode:
         raise Failed(f"there is no {script.name} that can be run", DEVICE)
     return Path(os.fsdecode(done.stdout.removesuffix(b"\n")))
+
+
+def version() -> str:
+    """Version and commit of this repository."""
+    tool = Path(__file__).resolve().parents[2] / "tools" / "version"
+    return subprocess.run([tool], stdin=subprocess.DEVNULL, capture_output=True, text=True).stdout.strip()
+
+
+@dataclass(frozen=True)
+class Told:
+    """What a tool of the system told: its status, its output, and what it said on standard error."""
+
+    status: int
+    output: str
+    said: str
+
+    def last(self) -> str:
+        """The last line that says something."""
+        lines = [line.strip() for line in (self.said or self.output).splitlines() if line.strip()]
+        return lines[-1] if lines else f"status {self.status}"
+
+
+def tool(*words: str | Path, given: bytes = b"") -> Told:
+    """Runs a tool of the system: ssh-keygen, gpg, gpgv or openssl. One that is missing is an error."""
+    try:
+        done = subprocess.run(words, input=given, capture_output=True)
+    except FileNotFoundError as error:
+        raise Failed(f"{words[0]} is missing; Debian has it (openssh-client, openssl, gpg, gpgv)", DEVICE) from error
+    except OSError as error:
+        raise Failed(f"{words[0]}: {error.strerror}", DEVICE) from error
+    return Told(done.returncode, done.stdout.decode(errors="replace"), done.stderr.decode(errors="replace"))
 
 
 def find(name: str = "etcs_lab") -> str:

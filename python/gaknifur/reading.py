@@ -4,10 +4,13 @@ import json
 from collections.abc import Callable
 from dataclasses import dataclass, field
 from pathlib import Path
-from typing import Any
+from typing import TYPE_CHECKING, Any
 
 from .program import DEVICE, NOT_WHOLE, REFUSED, WHOLE, Failed, Run
 from .shown import shown
+
+if TYPE_CHECKING:
+    from .times import Times
 
 Json = dict[str, Any]
 Progress = Callable[[str, int, int], None]
@@ -38,6 +41,8 @@ class Journal:
     strays: list[Json] = field(default_factory=list)
     """Records of blocks in a wrong slot and of damaged ones, where they were asked for. They are in no other list: an event
     may stand twice there, and of a damaged block the life isn't known."""
+    times: "Times | None" = None
+    """The marks of the time of day beside it, where there are any. No part of the journal, and of nothing that `etcs_lab` tells."""
 
     @property
     def name(self) -> str:

@@ -156,6 +156,12 @@ def limit_text(table: pd.DataFrame, row: Any) -> str:
     return causes.limit_text(line) if line else ""
 
 
+def utc_texts(table: pd.DataFrame) -> Json:
+    """Of each row its time of day by marks, and how far off it may be; nothing where it isn't known."""
+    return {row: f"{told.replace('T', ' ').replace('Z', ' UTC')} ±{off} ms"
+            for row, told, off in zip(table.index, table["utc_by_marks"], table["utc_uncertainty_ms"]) if told is not None}
+
+
 def environment() -> jinja2.Environment:
     """Templates that escape each text."""
     return jinja2.Environment(loader=jinja2.PackageLoader("gaknifur"), autoescape=True, trim_blocks=True,
@@ -233,4 +239,4 @@ def page(journal: Journal, extent: Extent = Extent(), progress: Progress = silen
         strays=stray_rows(journal), more_strays=max(len(journal.strays) - MOST_STRAYS, 0),
         way_m=float(table["movement_cm"].fillna(0).abs().sum()) / 100, modes=list(dict.fromkeys(table["mode"])),
         service=int((found["worst"] == "service").sum()), emergency=int((found["worst"] == "emergency").sum()),
-        causes=causes, words=words, pd=pd)
+        causes=causes, words=words, pd=pd, utc_of=utc_texts(records).get)

@@ -92,8 +92,9 @@ CREATE TABLE trip_word (
 -- Each record. Those of one stretch are of one life, and follow one another without a gap. speed_m_per_h is that of the
 -- last reading of the stretch, 0 from a power-up on. An uncertainty beyond 2^62 cm is NULL. causes_not_known tells why
 -- the causes of its brake can't be told; NULL where the replay agrees. trip_cause tells why the trip was entered that is
--- owed, trip_cause_event by which event. limit_cause is the kind of what decides the limit. Behind them stands what the
--- record before it in its stretch told (NULL at the beginning of a stretch), and when and where the next one of it came.
+-- owed, trip_cause_event by which event. limit_cause is the kind of what decides the limit. utc_by_marks is the time of
+-- day of time_ms by the marks beside the journal, outside the journal and the proof. Behind them stands what the record
+-- before it in its stretch told (NULL at the beginning of a stretch), and when and where the next one of it came.
 CREATE TABLE event (
     image INTEGER NOT NULL,
     block INTEGER NOT NULL,
@@ -138,6 +139,8 @@ CREATE TABLE event (
     trip_cause TEXT REFERENCES trip_word,
     trip_cause_event INTEGER,
     limit_cause TEXT,
+    utc_by_marks TEXT,
+    utc_uncertainty_ms INTEGER,
     mode_before TEXT,
     level_before INTEGER,
     brake_before TEXT,
@@ -147,6 +150,22 @@ CREATE TABLE event (
     next_cm INTEGER,
     PRIMARY KEY (image, block, event),
     FOREIGN KEY (image, block) REFERENCES block ON DELETE CASCADE
+) STRICT, WITHOUT ROWID;
+
+-- The marks of the time of day beside the journal: at a moment of a life, or at an event, a clock told this time. They are
+-- outside the journal and outside the proof. drift_ppm is by how much the unit's clock is taken to run off at most.
+CREATE TABLE mark (
+    image INTEGER NOT NULL REFERENCES image ON DELETE CASCADE,
+    line INTEGER NOT NULL,
+    life INTEGER,
+    moment_ms INTEGER,
+    event INTEGER,
+    utc TEXT NOT NULL,
+    uncertainty_ms INTEGER NOT NULL,
+    source TEXT NOT NULL,
+    drift_ppm INTEGER NOT NULL,
+    contradicts INTEGER NOT NULL CHECK (contradicts IN (0, 1)),
+    PRIMARY KEY (image, line)
 ) STRICT, WITHOUT ROWID;
 
 -- The lines of `etcs_lab why`, of events of which the replay agrees: those at which brake, limit, a cause or the kind of
@@ -321,4 +340,4 @@ FROM extent
 JOIN step AS first ON (first.image, first.block, first.event) = (extent.image, extent.first_block, extent.first_event)
 JOIN step AS last ON (last.image, last.block, last.event) = (extent.image, extent.last_block, extent.last_event);
 
-PRAGMA user_version = 3;
+PRAGMA user_version = 4;

@@ -15,6 +15,8 @@ Columns of `frame`, in their order:
   `trip_cause`, `trip_cause_event`: while a trip is owed, why it was entered and by which event; `limit_cause`: the kind of
   what decides the limit; `held`: the causes as a dictionary; `trip`: the trip that is owed; `why`: the line of `etcs_lab
   why` (module `causes`). They are missing where they aren't told.
+- `utc_by_marks`, `utc_uncertainty_ms`: the time of day of `time_ms`, and how far off it may be, by marks beside the journal
+  (module `times`). They are outside the journal and outside the proof, and missing where there are no marks.
 
 Columns of `strays`, the records of blocks in a wrong slot and of damaged ones: `source`, `slot` and `byte`, where a record
 stands in the image, and of those above what it tells by itself. Of a damaged block the life is missing, and the block where
@@ -27,7 +29,8 @@ from typing import Any
 import numpy as np
 import pandas as pd
 
-from . import actions, causes
+from . import actions, causes, times
+from .layout import SECTOR, SLOT_SECTORS
 from .reading import Journal, Json
 from .words import INDICATIONS
 
@@ -44,7 +47,6 @@ OF_KIND = {
                "maximum_m_per_h", "category", "deceleration_cm_per_s2", "reaction_ms")}
 """Those of one kind of event."""
 HEADER = ("NID_C", "NID_BG", "N_PIG", "N_TOTAL", "M_DUP", "M_MCOUNT", "Q_LINK")
-SECTOR, SLOT_SECTORS = 512, 6
 SHOWS = tuple(f"shows_{name}" for name in INDICATIONS)
 
 
@@ -136,6 +138,8 @@ def frame(journal: Journal) -> pd.DataFrame:
     columns |= {name: some[name] for name in TEXTS}
     columns |= decoded_columns(some["decoded"])
     columns |= {"decoded": some["decoded"], **cause_columns(journal)}
+    by_marks = times.columns(journal)
+    columns |= {"utc_by_marks": by_marks["utc_by_marks"], "utc_uncertainty_ms": numbers(by_marks["utc_uncertainty_ms"])}
     table = pd.DataFrame(columns)
     table.insert(table.columns.get_loc("action") + 1, "refused", actions.refused(table))
     return table
@@ -235,8 +239,12 @@ def strays(journal: Journal) -> pd.DataFrame:
     return pd.DataFrame({name: pd.Series(values, dtype=object) for name, values in columns.items()})
 
 
+def written(table: pd.DataFrame) -> pd.DataFrame:
+    """The table as it is written, without the columns `decoded`, `held`, `trip` and `why`."""
+    return table.drop(columns=["decoded", "held", "trip", "why"], errors="ignore")
+
+
 def csv_text(table: pd.DataFrame) -> str:
-    """The table as comma-separated values, without the columns `decoded`, `held`, `trip` and `why`; nothing stands where
-    nothing is known."""
-    text: str = table.drop(columns=["decoded", "held", "trip", "why"], errors="ignore").to_csv(index=False, lineterminator="\n")
+    """The table as comma-separated values; nothing stands where nothing is known."""
+    text: str = written(table).to_csv(index=False, lineterminator="\n")
     return text

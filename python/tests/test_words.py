@@ -1,10 +1,12 @@
 """The words of `./lab`: in which order they may stand; and what pytest makes of a suite."""
 import contextlib
 import io
+import json
 import os
 import tempfile
 import unittest
 import xml.etree.ElementTree
+from collections.abc import Sequence
 from pathlib import Path
 from typing import Any
 from unittest.mock import patch
@@ -13,6 +15,7 @@ from gaknifur import __main__ as lab
 from gaknifur import playing
 from gaknifur.cases import Case
 from gaknifur.playing import Keep, Played, with_speeds
+from gaknifur.reading import Json
 
 from .samples import journal, record
 
@@ -52,21 +55,33 @@ class Order(unittest.TestCase):
 class Checks(unittest.TestCase):
     """`lab check` by a stand-in of etcs_lab."""
 
-    def check(self, status: int, printed: str, said: str, *words: str) -> tuple[int, str, str]:
+    def check(self, status: int, printed: str, said: str, *words: str, events: Sequence[Json] = ()) -> tuple[int, str, str]:
         """Status, standard output and standard error."""
         with tempfile.TemporaryDirectory() as room:
-            program, image = Path(room) / "etcs_lab", Path(room) / "image"
-            program.write_text(f"#!/bin/sh\nprintf '%s' \"{printed}\"\necho \"{said}\" 1>&2\nexit {status}\n" if said else
-                               f"#!/bin/sh\nprintf '%s' \"{printed}\"\nexit {status}\n")
+            program, image, told = (Path(room) / name for name in ("etcs_lab", "image", "events"))
+            told.write_text("".join(json.dumps(one) + "\n" for one in events))
+            program.write_text(f"#!/bin/sh\n[ $1 != events ] || exec cat {told}\nprintf '%s' \"{printed}\"\n"
+                               + (f"echo \"{said}\" 1>&2\n" if said else "") + f"exit {status}\n")
             program.chmod(0o755)
             out, errors = io.StringIO(), io.StringIO()
             with patch.dict(os.environ, {"GAKNIFUR_ETCS_LAB": str(program)}), contextlib.redirect_stdout(out), contextlib.redirect_stderr(errors):
                 return lab.main(["check", *words, str(image)]), out.getvalue(), errors.getvalue().replace(room, "ROOM")
 
     def test_lines_and_status_are_handed_on(self) -> None:
-        self.assertEqual(self.check(0, "one\ntwo\n", ""), (0, "one\ntwo\n", ""))
-        self.assertEqual(self.check(4, "the image is not whole\n", ""), (4, "the image is not whole\n", ""))
+        nothing = "plausibility: nothing implausible; 0 readings and 0 groups of 0 lives, of which 0 tell moments; thresholds: "
+        for status, printed in ((0, "one\ntwo\n"), (4, "the image is not whole\n")):
+            found, text, said = self.check(status, printed, "")
+            self.assertEqual((found, text[:len(printed + nothing)], said), (status, printed + nothing, ""))
         self.assertTrue(self.check(0, "$*\n", "", "--json")[1].startswith("check --json -- /"))
+
+    def test_what_is_implausible_has_a_status(self) -> None:
+        standing = [record(0, "powerup"), *(record(at, "odometer", movement_cm=1_000, speed_m_per_h=0) for at in range(1, 5))]
+        status, text, _ = self.check(0, "whole\n", "", events=standing)
+        self.assertEqual((status, text.splitlines()[:2]), (4, ["whole", "implausible: life 1, events 2 to 4: moved 30 m, and the speeds are 0"]))
+        self.assertEqual(self.check(0, "whole\n", "", "--path-cm", "3000", events=standing)[0], 0)
+        found = [json.loads(line) for line in self.check(0, "", "", "--json", "--path-cm=9", events=standing)[1].splitlines()]
+        self.assertEqual((found[0]["implausible"], found[1]["plausibility"]["thresholds"]["path_cm"]), ("standing", 9))
+        self.assertEqual(self.check(1, "no image\n", "", events=standing)[:2], (1, "no image\n"))
 
     def test_what_is_said(self) -> None:
         self.assertEqual(self.check(3, "", "etcs_lab: ROOM/image: no such file")[0], 3)

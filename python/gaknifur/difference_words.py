@@ -1,0 +1,31 @@
+"""The word `diff` of `./lab`."""
+import argparse
+import json
+import sys
+from collections.abc import Callable
+from pathlib import Path
+
+from .program import NOT_WHOLE
+from .reading import Progress
+
+Word = Callable[[str, str, str], argparse.ArgumentParser]
+
+
+def add_words(word: Word) -> None:
+    """Adds the word."""
+    diff = word("diff", "tells what changed between two images of one unit",
+                "Status 0 where both hold the same journal or B continues A, else 4.")
+    diff.add_argument("a", metavar="A", type=Path, help="the image that was read first")
+    diff.add_argument("b", metavar="B", type=Path, help="the one that was read later")
+    diff.add_argument("--json", action="store_true", help="as JSON")
+
+
+def tell_difference(told: argparse.Namespace, progress: Progress) -> int:
+    """The word `diff`."""
+    from . import difference
+    found = difference.compare(told.a, told.b)
+    sys.stdout.write(json.dumps(difference.as_json(found), ensure_ascii=False) + "\n" if told.json else difference.text(found))
+    return 0 if found.verdict in difference.FINE else NOT_WHOLE
+
+
+WORDS = {"diff": tell_difference}

@@ -1,0 +1,52 @@
+"""Where the slots of an image lie (docs/FORMAT.md): sizes, gates and the numbers of blocks, and nothing of what a block says,
+which `etcs_lab` tells."""
+SECTOR, SLOT_SECTORS = 512, 6
+SLOT = SECTOR * SLOT_SECTORS
+MARK, GATE_MARK, ARCHIVE_MARK = b"ETCSJRU1", b"ETCSGATE", b"ETCSKEPT"
+VERSION, ARCHIVE_VERSION, LEAST_SLOTS, MOST_SLOTS, MOST_NUMBER = 2, 1, 2, 1_048_576, 2**40
+CLOSED = bytes(SECTOR)
+"""A gate that is closed."""
+
+
+def first_sector(slots: int) -> bytes:
+    """The first sector of an image of so many slots."""
+    return (MARK + VERSION.to_bytes(4, "big") + slots.to_bytes(4, "big")).ljust(SECTOR, b"\0")
+
+
+def archive_sector() -> bytes:
+    """The first sector of an archive of blocks."""
+    return (ARCHIVE_MARK + ARCHIVE_VERSION.to_bytes(4, "big")).ljust(SECTOR, b"\0")
+
+
+def slots_told(first: bytes) -> int | None:
+    """How many slots a first sector tells; None where it is none."""
+    slots = int.from_bytes(first[12:16], "big")
+    is_one = len(first) >= SECTOR and first.startswith(MARK) and int.from_bytes(first[8:12], "big") in (1, VERSION) and not any(first[16:SECTOR])
+    return slots if is_one and LEAST_SLOTS <= slots <= MOST_SLOTS else None
+
+
+def slot_at(slot: int) -> int:
+    """The byte at which a slot begins."""
+    return SECTOR + SLOT * slot
+
+
+def gate(number: int) -> bytes:
+    """The gate of a block, opened."""
+    return (GATE_MARK + number.to_bytes(8, "big")).ljust(SECTOR, b"\0")
+
+
+def number_of_gate(sector: bytes) -> int | None:
+    """The number of a gate as a unit writes it; None where it is closed or another one."""
+    number = int.from_bytes(sector[8:16], "big")
+    return number if 1 <= number <= MOST_NUMBER and sector[:SECTOR] == gate(number) else None
+
+
+def number_of_head(slot: bytes) -> int:
+    """The number that the head of a slot tells, whatever else is there."""
+    return int.from_bytes(slot[SECTOR + 8:SECTOR + 16], "big")
+
+
+def block_in(slot: bytes) -> int | None:
+    """The number of the block that lies in the bytes of a slot behind its own gate; None where there is none."""
+    number = number_of_gate(slot)
+    return number if number is not None and len(slot) == SLOT and number_of_head(slot) == number else None

@@ -1,0 +1,167 @@
+"""Signatures and time stamps of bags, by the tools that are there for them: `ssh-keygen` (OpenSSH), `gpg` and `gpgv`
+(OpenPGP), `openssl ts` (RFC 3161). What is signed is `tagmanifest-sha512.txt`, and stamped `manifest-sha512.txt`.
+"""
+import re
+from dataclasses import dataclass
+from pathlib import Path
+
+from . import bag
+from .program import REFUSED, Failed, tool
+from .shown import shown
+
+NAMESPACE = "gaknifur-seal"
+"""What a signature of OpenSSH is for."""
+STAMPED = bag.MANIFEST.format("sha512")
+SSH, PGP = f"{bag.SIGNED}.sig", f"{bag.SIGNED}.asc"
+REQUEST, ANSWER = f"{STAMPED}.tsq", f"{STAMPED}.tsr"
+LOOSE = (SSH, PGP, ANSWER)
+"""Files that come later than the digests of a bag."""
+NAMES = {"ssh": SSH, "openpgp": PGP}
+FINGERPRINT = re.compile(r"SHA256:[A-Za-z0-9+/]+")
+
+
+@dataclass(frozen=True)
+class Key:
+    """A key that signs: the file of one of OpenSSH, or the name of one of OpenPGP."""
+
+    kind: str
+    name: str
+
+    def told(self) -> str:
+        """The key as it is told: its fingerprint."""
+        if self.kind == "ssh":
+            done = tool("ssh-keygen", "-l", "-f", self.name)
+            found = FINGERPRINT.search(done.output)
+            if done.status or not found:
+                raise Failed(f"{self.name}: is no key of OpenSSH: {done.last()}", REFUSED)
+            return found.group()
+        done = tool("gpg", "--batch", "--with-colons", "--list-secret-keys", "--", self.name)
+        prints = [line.split(":")[9] for line in done.output.splitlines() if line.startswith("fpr:")]
+        if done.status or not prints:
+            raise Failed(f"{self.name}: gpg has no such secret key", REFUSED)
+        return prints[0]
+
+    def sign(self, path: Path) -> None:
+        """Signs a file, and leaves the signature beside it."""
+        if self.kind == "ssh":
+            done = tool("ssh-keygen", "-q", "-Y", "sign", "-f", self.name, "-n", NAMESPACE, path)
+        else:
+            done = tool("gpg", "--batch", "--armor", "--local-user", self.name, "--output", f"{path}.asc", "--detach-sign", path)
+        if done.status:
+            raise Failed(f"{self.name}: can't sign: {done.last()}", REFUSED)
+
+
+@dataclass(frozen=True)
+class Trust:
+    """Whom a verification trusts: a file of allowed signers of OpenSSH, a keyring of OpenPGP, a file of certificates of
+    authorities of time stamps."""
+
+    signers: Path | None = None
+    keyring: Path | None = None
+    authority: Path | None = None
+
+    @property
+    def asks_for_signature(self) -> bool:
+        """Whether a signature has to be there."""
+        return self.signers is not None or self.keyring is not None
+
+
+@dataclass
+class Signature:
+    """What a signature shows."""
+
+    name: str
+    is_there: bool
+    key: str | None = None
+    signer: str | None = None
+    fault: str | None = None
+    told: str = ""
+
+
+def ssh_signature(folder: Path, trust: Trust) -> Signature:
+    """What the signature of OpenSSH shows."""
+    path, found = folder / SSH, Signature(SSH, (folder / SSH).is_file())
+    if not found.is_there:
+        return found
+    data = (folder / bag.SIGNED).read_bytes() if (folder / bag.SIGNED).is_file() else b""
+    done = tool("ssh-keygen", "-Y", "check-novalidate", "-n", NAMESPACE, "-s", path, given=data)
+    key = FINGERPRINT.search(done.output + done.said)
+    if done.status or not key:
+        found.fault = "is no signature of this bag"
+        return found
+    found.key = key.group()
+    if trust.signers is None:
+        found.told = f"whose key {key.group()} is, by which the bag is signed: no signers are named (--signers)"
+        return found
+    asked = tool("ssh-keygen", "-Y", "find-principals", "-s", path, "-f", trust.signers)
+    for name in asked.output.splitlines():
+        if not tool("ssh-keygen", "-Y", "verify", "-f", trust.signers, "-I", name, "-n", NAMESPACE, "-s", path, given=data).status:
+            found.signer, found.told = name, f"{shown(name)} signed the bag, by the key {key.group()}"
+            return found
+    found.fault = f"is by the key {key.group()}, which is of none of {shown(trust.signers)}"
+    return found
+
+
+def pgp_signature(folder: Path, trust: Trust) -> Signature:
+    """What the signature of OpenPGP shows."""
+    path, found = folder / PGP, Signature(PGP, (folder / PGP).is_file())
+    if not found.is_there:
+        return found
+    if trust.keyring is None:
+        found.told = "by whom the OpenPGP signature is, and that it is of this bag: no keyring is named (--keyring)"
+        return found
+    done = tool("gpgv", "--status-fd", "1", "--keyring", trust.keyring.absolute(), path, folder / bag.SIGNED)
+    valid = re.search(r"^\[GNUPG:\] VALIDSIG .*?([0-9A-F]+)$", done.output, re.MULTILINE)
+    if done.status or not valid:
+        found.fault = f"is no signature of this bag by a key of {shown(trust.keyring)}"
+        return found
+    found.key = valid.group(1)
+    name = re.search(r"^\[GNUPG:\] GOODSIG \S+ (.*)$", done.output, re.MULTILINE)
+    found.signer = shown(name.group(1)) if name else valid.group(1)
+    found.told = f"{found.signer} signed the bag, by the OpenPGP key {valid.group(1)}"
+    return found
+
+
+def signatures(folder: Path, trust: Trust) -> dict[str, Signature]:
+    """What the signatures of a bag show, by their kinds."""
+    return {"ssh": ssh_signature(folder, trust), "openpgp": pgp_signature(folder, trust)}
+
+
+# ---- time stamps
+
+def ask_for_time(folder: Path) -> None:
+    """Writes the request of a time stamp for the payload of a bag."""
+    done = tool("openssl", "ts", "-query", "-sha512", "-cert", "-data", folder / STAMPED, "-out", folder / REQUEST)
+    if done.status:
+        raise Failed(f"openssl ts: {done.last()}", REFUSED)
+
+
+@dataclass
+class Stamp:
+    """What a time stamp shows."""
+
+    is_shown: bool
+    told: str = ""
+    fault: str | None = None
+
+
+def time_of(path: Path) -> str:
+    """The time that the answer of an authority tells."""
+    told = re.search(r"^Time stamp: (.*)$", tool("openssl", "ts", "-reply", "-in", path, "-text").output, re.MULTILINE)
+    return told.group(1) if told else "no time"
+
+
+def time_stamp(folder: Path, trust: Trust) -> Stamp:
+    """What the answer of an authority of time stamps shows."""
+    path = folder / ANSWER
+    if not path.is_file():
+        if trust.authority is not None:
+            return Stamp(False, fault=f"{ANSWER}: is missing")
+        return Stamp(False, f"when it was sealed, but by the clock of the machine that did: no authority answered {REQUEST} "
+                            f"({ANSWER} is missing)")
+    if trust.authority is None:
+        return Stamp(False, f"when it was sealed: {ANSWER} tells {time_of(path)}, and no authority is named (--authority)")
+    for word, name in (("-data", STAMPED), ("-queryfile", REQUEST)):
+        if tool("openssl", "ts", "-verify", word, folder / name, "-in", path, "-CAfile", trust.authority).status:
+            return Stamp(False, fault=f"{ANSWER}: is no time stamp of this bag by an authority of {shown(trust.authority)}")
+    return Stamp(True, f"the payload was there at {time_of(path)}, by the time stamp")

@@ -1,0 +1,95 @@
+"""Timelines and workbooks."""
+import csv
+import io
+import json
+import tempfile
+import unittest
+from pathlib import Path
+
+import openpyxl
+import pandas as pd
+
+from gaknifur import files, tables, timeline, times
+from gaknifur.files import Out
+from gaknifur.program import Failed
+from gaknifur.reading import Journal
+from gaknifur.times import Times
+
+from .samples import action, journal, reading, record
+
+BAD = ('=cmd|"/C calc"!A0', "+1", "-1", "@SUM(A1)", "\ta", "a,b\"c")
+
+
+class Room(unittest.TestCase):
+    """A folder of its own."""
+
+    def setUp(self) -> None:
+        folder = tempfile.TemporaryDirectory()
+        self.addCleanup(folder.cleanup)
+        self.room = Path(folder.name)
+
+    def told(self) -> Journal:
+        """A journal of two lives, of which one has a mark."""
+        found = journal(record(0, "powerup"), reading(1, 36_000, time_ms=1_500), *(action(at, "enter_identity", identity=text) for at, text in enumerate(BAD, 2)),
+                        record(8, "powerup", life=2))
+        (self.room / "marks").write_text(f"{times.FIRST}\n1,0,,2026-03-01T10:00:00.000Z,50,GNSS\n")
+        found.times = Times.of(found, self.room / "marks")
+        return found
+
+
+class Timelines(Room):
+    """Lines for other programs."""
+
+    def test_csv_has_what_timesketch_asks_for(self) -> None:
+        text, left = timeline.as_csv(self.told())
+        rows = list(csv.DictReader(io.StringIO(text)))
+        self.assertEqual((len(rows), left), (8, 1))
+        self.assertEqual([rows[1][name] for name in ("datetime", "timestamp_desc", "message", "timestamp", "uncertainty_ms")], [
+            "2026-03-01T10:00:01.500+00:00", "onboard unit, by marks beside the journal",
+            "life 1 event 1: moved 1 m, at 36 km/h; Full Supervision, brake none, limit 40 km/h", "1772359201500000", "51"])
+
+    def test_json_has_all_events(self) -> None:
+        lines = [json.loads(line) for line in timeline.as_json(self.told()).splitlines()]
+        self.assertEqual([line["event"] for line in lines], list(range(9)))
+        self.assertEqual((lines[1]["datetime"], lines[8]["datetime"], lines[8]["timestamp_desc"]), ("2026-03-01T10:00:01.500+00:00", None, None))
+        self.assertEqual(lines[2]["identity"], BAD[0])
+
+    def test_without_marks_none_has_a_time(self) -> None:
+        told = self.told()
+        told.times = None
+        self.assertEqual((timeline.as_csv(told)[0].count("\n"), timeline.as_csv(told)[1]), (1, 9))
+
+    def test_lab_knows_its_own(self) -> None:
+        for data in (timeline.as_csv(self.told())[0].encode(), timeline.as_json(self.told()).encode()):
+            self.assertTrue(files.TIMELINE.is_own(data))
+
+
+class Workbooks(Room):
+    """Tables as workbooks."""
+
+    def test_numbers_are_numbers_and_texts_are_texts(self) -> None:
+        table = tables.written(tables.frame(self.told()))
+        path = self.room / "out.xlsx"
+        files.write(Out(path, files.WORKBOOK), timeline.workbook(table, ["=note", "sha256 ab"]))
+        files.write(Out(path, files.WORKBOOK, True), timeline.workbook(table, ["=note", "sha256 ab"]))
+        book = openpyxl.load_workbook(path)
+        rows = list(book["events"].iter_rows())
+        at = {cell.value: place for place, cell in enumerate(rows[0])}
+        self.assertEqual(list(at), list(table))
+        self.assertEqual([row[at["identity"]].value for row in rows[3:9]], list(BAD))
+        self.assertFalse([cell.coordinate for row in rows for cell in row if cell.data_type == "f"])
+        self.assertEqual((rows[2][at["movement_cm"]].value, rows[2][at["speed_kmh"]].value, rows[1][at["movement_cm"]].value), (100, 36.0, None))
+        self.assertEqual([cell.value for row in book["notes"].iter_rows() for cell in row], ["=note", "sha256 ab"])
+        self.assertFalse([row for row in book["notes"].iter_rows() if row[0].data_type == "f"])
+
+    def test_no_other_workbook_is_written_over(self) -> None:
+        path, book = self.room / "other.xlsx", openpyxl.Workbook()
+        book.save(path)
+        before = path.read_bytes()
+        with self.assertRaisesRegex(Failed, "is not a workbook that lab made"):
+            files.write(Out(path, files.WORKBOOK, True), timeline.workbook(pd.DataFrame(), []))
+        self.assertEqual(path.read_bytes(), before)
+
+
+if __name__ == "__main__":
+    unittest.main()

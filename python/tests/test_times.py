@@ -1,0 +1,195 @@
+"""The time of day by marks beside a journal."""
+import random
+import tempfile
+import unittest
+from pathlib import Path
+
+from gaknifur import report, tables, times
+from gaknifur.program import REFUSED, Failed
+from gaknifur.reading import Journal
+from gaknifur.times import Marks, Times
+
+from .samples import journal, reading, record
+
+TEN = "2026-03-01T10:00:00.000Z"
+TEN_MS = 1_772_359_200_000
+LINES = f"""\
+{times.FIRST}
+1,0,,{TEN},50,GNSS
+# a word of the investigator
+1,600000,,2026-03-01T10:10:00.000Z,50,GNSS
+
+"""
+
+
+def lives() -> Journal:
+    """Two lives with moments."""
+    return journal(record(0, "powerup"), record(1, now_ms=0), record(2, time_ms=1_000, now_ms=1_000), reading(3, 36_000, time_ms=1_000),
+                   record(4, time_ms=1_500, now_ms=1_500), record(5, time_ms=600_000, now_ms=600_000), record(6, "powerup", life=2),
+                   reading(7, 0, life=2))
+
+
+class Room(unittest.TestCase):
+    """A folder of its own."""
+
+    def setUp(self) -> None:
+        folder = tempfile.TemporaryDirectory()
+        self.addCleanup(folder.cleanup)
+        self.room = Path(folder.name)
+
+    def times(self, text: str, drift_ppm: int = 100) -> Times:
+        """The marks of a text."""
+        path = self.room / "image.times"
+        path.write_text(text)
+        return Times.of(lives(), path, drift_ppm)
+
+
+class Moments(Room):
+    """What is told of a moment."""
+
+    def test_at_a_mark_and_between_marks(self) -> None:
+        told = self.times(LINES)
+        self.assertEqual(told.utc(1, 0), (TEN_MS, 50))
+        self.assertEqual(told.utc(1, 600_000), (TEN_MS + 600_000, 50))
+        self.assertEqual(told.utc(1, 300_000), (TEN_MS + 300_000, 80))  # 300 s at 100 ppm are 30 ms
+        self.assertEqual(told.faults(), [])
+
+    def test_beyond_the_marks_the_drift_counts(self) -> None:
+        self.assertEqual(self.times(LINES).utc(1, 10_600_000), (TEN_MS + 10_600_000, 1_050))
+        self.assertEqual(self.times(LINES, 0).utc(1, 10_600_000), (TEN_MS + 10_600_000, 50))
+
+    def test_none_in_a_life_without_marks(self) -> None:
+        self.assertIsNone(self.times(LINES).utc(2, 0))
+        self.assertIsNone(self.times(LINES).utc(None, 0))
+        self.assertIsNone(self.times(f"{times.FIRST}\n").utc(1, 0))
+
+    def test_a_better_mark_narrows_what_others_allow(self) -> None:
+        told = self.times(LINES + "1,1000,,2026-03-01T10:00:01.020Z,5,traffic log\n")
+        self.assertEqual(told.utc(1, 0), (TEN_MS + 20, 6))
+        self.assertEqual(told.utc(1, 1_000), (TEN_MS + 1_020, 5))
+
+    def test_what_marks_allow_is_what_each_allows(self) -> None:
+        numbers = random.Random(3)
+        tried = 0
+        for _ in range(60):
+            drift, life = numbers.choice((0, 20, 100, 1_000)), numbers.randrange(1, 3)
+            true_rate = 1_000_000 + numbers.randint(-drift, drift)
+            begin, marks = TEN_MS + numbers.randrange(10**9), []
+
+            def true(moment: int, begin: int = begin, rate: int = true_rate) -> int:
+                return begin + moment * rate // 1_000_000
+
+            for _ in range(numbers.randrange(1, 12)):
+                moment, off = numbers.randrange(7_200_000), numbers.choice((0, 5, 50, 2_000))
+                marks.append((moment, true(moment) + numbers.randint(-off, off), off + 1))
+            told = self.times(times.FIRST + "\n" + "".join(f"{life},{moment},,{times.iso(utc)},{off},a\n" for moment, utc, off in marks), drift)
+            self.assertEqual(told.faults(), [])
+            for moment in [0, 7_200_000, *(numbers.randrange(7_200_000) for _ in range(10))]:
+                found = told.utc(life, moment)
+                assert found is not None
+                lows = [utc - off + (moment - at) - abs(moment - at) * drift / 1e6 for at, utc, off in marks]
+                highs = [utc + off + (moment - at) + abs(moment - at) * drift / 1e6 for at, utc, off in marks]
+                self.assertAlmostEqual(found[0], (max(lows) + min(highs)) / 2, delta=1)
+                self.assertAlmostEqual(found[1], (min(highs) - max(lows)) / 2, delta=2.1)
+                self.assertLessEqual(abs(found[0] - true(moment)), found[1])
+                tried += 1
+        self.assertGreater(tried, 600)
+
+
+class Contradictions(Room):
+    """Marks that can't both be right."""
+
+    def test_both_are_named_and_nothing_is_told(self) -> None:
+        told = self.times(LINES + "1,300000,,2026-03-01T10:05:01.000Z,50,watch\n")
+        self.assertIsNone(told.utc(1, 0))
+        self.assertEqual(told.faults()[0], "line 2 (life 1, 0 ms: 2026-03-01T10:00:00.000Z, by GNSS) and line 6 (life 1, 300000 ms: "
+                         "2026-03-01T10:05:01.000Z, by watch) contradict, so of life 1 no UTC is told")
+        self.assertEqual(len(told.faults()), 2)
+
+    def test_in_both_directions_and_at_the_bound(self) -> None:
+        for off, is_one in ((130, False), (131, True), (-130, False), (-131, True)):
+            told = self.times(LINES + f"1,300000,,{times.iso(TEN_MS + 300_000 + off)},50,watch\n")
+            self.assertEqual(bool(told.faults()), is_one, off)
+
+    def test_of_one_life_alone(self) -> None:
+        told = self.times(LINES + f"2,0,,{TEN},1,a\n2,0,,2026-03-01T11:00:00.000Z,1,b\n")
+        self.assertEqual((told.utc(1, 0), told.utc(2, 0), len(told.faults())), ((TEN_MS, 50), None, 1))
+
+
+class Events(Room):
+    """Marks at events."""
+
+    def test_an_event_came_before_the_next_moment(self) -> None:
+        told = self.times(f"{times.FIRST}\n,,3,2026-03-01T10:00:01.000Z,100,traffic log\n", 0)
+        self.assertEqual(told.utc(1, 1_000), (TEN_MS + 750, 350))  # from 600 ms before, where it came at 1,500 ms, to 100 ms behind
+
+    def test_a_moment_of_the_clock_is_told_as_it_is(self) -> None:
+        told = self.times(f"{times.FIRST}\n,,2,2026-03-01T10:00:01.000Z,100,traffic log\n", 0)
+        self.assertEqual(told.utc(1, 1_000), (TEN_MS + 1_000, 100))
+
+    def test_what_isnt_used_is_told(self) -> None:
+        told = self.times(f"{times.FIRST}\n,,99,{TEN},1,a\n,,7,{TEN},1,b\n1,0,,{TEN},1,c")
+        self.assertEqual([fault.split(":")[0].split(" (")[0] for fault in told.faults()], ["line 2", "line 3", "the last line is cut off"])
+        self.assertIsNone(told.utc(1, 0))
+
+
+class Files(Room):
+    """Files of marks."""
+
+    def test_what_is_no_mark(self) -> None:
+        good = ["1", "0", "", TEN, "50", "GNSS"]
+        tried = 0
+        for place, values in enumerate((("", "x", "-1", "1.5"), ("", "x", "-1", str(2**41)), ("3", "x"), ("", "10:00", TEN[:-1], TEN[:-1] + "+01:00",
+                                        "2026-02-30T10:00:00.000Z"), ("", "-1", "x"), ("", " "))):
+            for value in values:
+                row = [*good[:place], value, *good[place + 1:]]
+                with self.assertRaisesRegex(Failed, "image.times: line 2 is no mark") as caught:
+                    self.times(f"{times.FIRST}\n{','.join(row)}\n")
+                self.assertEqual(caught.exception.status, REFUSED)
+                tried += 1
+        for text in ("", "life,moment\n", f"{times.FIRST}x\n"):
+            with self.assertRaisesRegex(Failed, "line 1 isn't life,moment_ms"):
+                self.times(text)
+        with self.assertRaisesRegex(Failed, "line 2"):
+            self.times(f"{times.FIRST}\n1,0,,{TEN},50\n")
+        self.assertEqual(tried, 20)
+
+    def test_a_host_writes_marks(self) -> None:
+        path = self.room / "image.times"
+        with Marks(path) as marks:
+            marks.mark(1, 0, TEN_MS, 50, "GNSS")
+            self.assertRaisesRegex(Failed, "another program writes it", Marks, path)
+            for wrong in ((1, 0, TEN_MS, 50, "a,b"), (-1, 0, TEN_MS, 50, "a"), (1, 0, TEN_MS, -1, "a"), (1, 0, TEN_MS, 1, ""), (1, 0, TEN_MS, 1, "a\nb")):
+                self.assertRaises(ValueError, marks.mark, *wrong)
+        with path.open("a") as file:
+            file.write("1,600000,,2026")
+        with Marks(path) as marks:
+            marks.mark(1, 600_000, TEN_MS + 600_000, 50, "GNSS")
+        self.assertEqual(path.read_text(), LINES.replace("# a word of the investigator\n", "").rstrip("\n") + "\n")
+        (self.room / "text").write_text("text")
+        self.assertRaisesRegex(Failed, "is there, and is not a file of marks", Marks, self.room / "text")
+
+
+class Outputs(Room):
+    """What outputs tell."""
+
+    def test_the_table_has_columns_of_its_own(self) -> None:
+        told = lives()
+        self.assertTrue(tables.frame(told)["utc_by_marks"].isna().all())
+        told.times = self.times(LINES)
+        table = tables.frame(told)
+        self.assertEqual(list(table["utc_by_marks"])[3:], ["2026-03-01T10:00:01.000Z", "2026-03-01T10:00:01.500Z", "2026-03-01T10:10:00.000Z", None, None])
+        self.assertEqual(list(table["utc_uncertainty_ms"])[3:5], [51, 51])
+
+    def test_the_page_says_where_it_is_from(self) -> None:
+        told = lives()
+        self.assertFalse("outside the proof" in report.page(told))
+        told.times = self.times(LINES + f"2,0,,{TEN},1,a\n2,0,,2026-03-01T11:00:00.000Z,1,<b>\n")
+        page = report.page(told)
+        for text in ("marks beside the journal (image.times), which are outside the journal and outside the proof", "run off by 100 ppm",
+                     "2026-03-01 10:00:01.000 UTC ±51 ms", "contradict, so of life 2 no UTC is told", "by &lt;b&gt;"):
+            self.assertTrue(text in page, text)
+
+
+if __name__ == "__main__":
+    unittest.main()

@@ -1,0 +1,202 @@
+#!/usr/bin/env python3
+"""Archives of blocks, and what `./lab join` makes of them and of images.
+
+    tests/lab_package/join_rows.py ETCS_LAB
+
+- Lives in a ring of few slots, of which each block is kept before it is written over: what is joined is, block by block, the
+  image that a larger ring has, and etcs_lab tells the same events, replay and causes of both.
+- An archive is cut within its last block, or has zeros there: no block is lost, what a cut left is told, and what is kept then goes
+  on behind it. Gaps stay gaps, blocks that contradict are named, and what can't be read is taken from where it can.
+- Files that are there, no archives, and archives that another program holds, stay as they are.
+"""
+import json
+import os
+import sys
+import tempfile
+from pathlib import Path
+
+TOP = Path(__file__).resolve().parents[2]
+sys.path[:0] = [str(TOP / part) for part in ("python", "tests", "tests/plain", "tests/lab")]
+
+from blocks import block, data_of, entry  # noqa: E402
+from compared import Compared, run  # noqa: E402
+from gaknifur import archive, layout  # noqa: E402
+from gaknifur.archive import Archive, Ring  # noqa: E402
+from gaknifur.program import Failed  # noqa: E402
+from image_cases import image_of, patched, ring  # noqa: E402
+from replay_rows import STARTED, TWO, blocks_of  # noqa: E402
+
+SECTOR, SLOT = 512, 3072
+LONG = [("unknown", (*STARTED, *(part for at in range(1, 60) for part in (f"clock {1_000 + 100 * at}", "move 100 50")))), *TWO, *TWO]
+"""Lives of more blocks than the rings below have slots."""
+
+
+def journal():
+    """The blocks of these lives, by their numbers, in the plain unit's words."""
+    return {block["number"]: block for block in blocks_of(LONG, 3)}
+
+
+def write(path, slots, told, newest, shut=None):
+    """The image of a ring with the blocks up to the newest, and perhaps the gate of one closed."""
+    image = image_of(slots, ring(slots, {n: b for n, b in told.items() if n <= newest}))
+    path.write_bytes(patched(image, layout.slot_at(shut % slots), bytes(SECTOR)) if shut else image)
+
+
+def data_in(path):
+    """The bytes of the blocks in an archive, by their numbers."""
+    data = path.read_bytes()
+    slots = [data[at:at + SLOT] for at in range(SECTOR, len(data), SLOT)]
+    return {layout.block_in(slot): slot for slot in slots}
+
+
+def words_of(lab, path):
+    """What etcs_lab tells of an image, without the bytes at which records begin and the lines of the image itself."""
+    told = []
+    for words in (["events"], ["replay", "--json"], ["why", "--json"]):
+        text, _, status = run(lab, [*words, path])
+        lines = [json.loads(line) for line in text.splitlines()]
+        told.append((status, [{key: value for key, value in line.items() if key != "byte"} for line in lines if "image" not in line]))
+    return told
+
+
+def whole_lives(rows, lab, room):
+    """Each block is kept before its slot is taken again, whenever that is asked for."""
+    told = journal()
+    last = max(told)
+    rows.unless(last > 30, f"too few blocks: {last}")
+    image, whole = room / "image", room / "whole"
+    write(whole, last, told, last)
+    for slots, every in ((2, 1), (4, 1), (4, 3), (8, 7), (64, 20)):
+        path, out = room / f"archive-{slots}-{every}", room / f"joined-{slots}-{every}"
+        for newest in range(every, last + 1, every):
+            write(image, slots, told, newest, shut=newest + 1 if slots > every + 1 else None)
+            with Archive(path) as kept:
+                kept.keep(image)
+        write(image, slots, told, last)
+        rows.same(f"ring of {slots}, archive", data_in(path), {n: data_of(told[n]) for n in range(1, last - last % every + 1)})
+        found = archive.join(out, [image, path])
+        rows.same(f"ring of {slots}, joined", (out.read_bytes(), found.is_whole, found.slots), (whole.read_bytes(), True, last))
+        if every > 1:
+            rows.same(f"ring of {slots}, in words", words_of(lab, out), words_of(lab, whole))
+    lines = words_of(lab, whole)[1][1]
+    rows.same("the replay agrees from the first event", (lines[0]["first_event"], lines[0]["replay"], lines[-1]), (0, "agrees", {"end": "nothing_differs"}))
+
+
+def late(rows, room):
+    """What was overwritten before it was kept is a gap, and stays one."""
+    told, image, path = journal(), room / "late", room / "late-archive"
+    for newest in (6, 20, 23):
+        write(image, 4, told, newest)
+        with Archive(path) as kept:
+            kept.keep(image)
+    rows.same("kept late", sorted(data_in(path)), [*range(3, 7), *range(17, 24)])
+    found = archive.join(room / "late-joined", [path])
+    rows.same("joined late", (found.missing, found.is_whole), (list(range(7, 17)), False))
+    text, said, status = run(TOP / "lab", ["join", room / "late-out", path, image])
+    rows.same("in words", (text.splitlines()[-2:], said, status), (["missing 7..16", "joined blocks 3..6 17..23 in 21 slots"], "", 4))
+    with Ring(image) as ring_of:
+        rows.same("all blocks behind one", [number for number, _ in ring_of.blocks(2)], [20, 21, 22, 23])
+    write(image, 4, told, 23, shut=20)
+    with Ring(image) as ring_of:
+        rows.same("behind a gate that is closed", [number for number, _ in ring_of.blocks(19)], [21, 22, 23])
+        rows.same("nothing newer", [number for number, _ in ring_of.blocks(23)], [])
+
+
+def cut(rows, room):
+    """An archive that a loss of power cut off within its last block, or left with zeros there."""
+    told, image, path = journal(), room / "cut", room / "cut-archive"
+    write(image, 8, told, 6)
+    with Archive(path) as kept:
+        kept.keep(image)
+    whole = path.read_bytes()
+    write(image, 8, told, 7)
+    good = {n: data_of(told[n]) for n in range(1, 8)}
+    for size in (*range(0, SLOT, 331), SECTOR + 15, SECTOR + 16, SLOT - 1):
+        for is_cut in (True, False):
+            path.write_bytes(whole[:-SLOT + size] if is_cut else whole[:-SLOT + size].ljust(len(whole), b"\0"))
+            found = archive.source(path)
+            rows.same(f"cut at {size}", (found.behind, found.numbers >= set(range(1, 6))), (size if is_cut else 0, True))
+            rows.same(f"cut at {size}: block 6", 6 in found.numbers, not is_cut and size >= SECTOR + 16)
+            with Archive(path) as kept:
+                kept.keep(image)
+            found = archive.join(room / f"cut-{size}-{is_cut}", [path])
+            rows.same(f"cut at {size}, and on", ({n: place.read() for n, place in found.chosen.items()}, found.is_whole), (good, True))
+
+
+def put_back(rows, room):
+    """An older image is put back, and the unit goes on from there: the archive keeps both."""
+    told, image, path = journal(), room / "back", room / "back-archive"
+    write(image, 8, told, 12)
+    with Archive(path) as kept:
+        kept.keep(image)
+    other = {**{n: b for n, b in told.items() if n < 10}, **{n: {**told[n], "lives": told[n]["lives"] + 1} for n in range(10, 15)}}
+    for newest in (10, 11, 14):
+        write(image, 8, other, newest)
+        with Archive(path) as kept:
+            kept.keep(image)
+    found = archive.join(room / "back-joined", [path])
+    rows.same("put back", (sorted(found.contradictions), sorted(found.chosen)), ([10, 11, 12], list(range(3, 15))))
+
+
+def contradictions(rows, room):
+    """Blocks that differ, and such that can't be read."""
+    told = journal()
+    one, other, bad = (room / name for name in ("one", "other", "bad"))
+    write(one, 8, told, 8)
+    changed = {**told, 7: block(3, 7, told[7]["events"], 1, [entry(told[7]["events"] - 1, ("clock", 9), moment=9)])}
+    write(other, 8, changed, 9)
+    found = archive.join(room / "contradicts", [one, other])
+    rows.same("a block that differs", [(number, a.path.name, b.path.name) for number, (a, b) in found.contradictions.items()], [(7, "one", "other")])
+    rows.same("the first one is taken", (found.chosen[7].path, found.is_whole), (one, False))
+    kept = bytearray(layout.archive_sector() + b"".join(data_of(told[n]) for n in range(1, 10)))
+    kept[SECTOR + 6 * SLOT + SECTOR + 500] = 1
+    bad.write_bytes(kept)
+    found = archive.join(room / "mended", [bad, one])
+    rows.same("what can't be read is taken from where it can", (found.chosen[7].path, found.is_whole), (one, True))
+    found = archive.join(room / "unreadable", [bad])
+    rows.same("what can't be read stays so", (found.unreadable, found.is_whole), ([7], False))
+
+
+def stays(rows, room):
+    """What isn't written."""
+    told = journal()
+    image, text, path = room / "stays", room / "text", room / "held"
+    write(image, 4, told, 5)
+    text.write_bytes(b"text")
+    with Archive(path) as kept:
+        kept.keep(image)
+        before = path.read_bytes()
+        for name, said, do in (("an archive that is held", "another program writes it", lambda: Archive(path)),
+                               ("no archive", "is not an archive of blocks", lambda: Archive(text)), ("an image", "is not an archive of blocks", lambda: Archive(image)),
+                               ("no image", "is not a formatted image", lambda: Ring(text)), ("no file", "No such file", lambda: Ring(room / "none")),
+                               ("a folder", "", lambda: Ring(room)), ("onto an image", "is there", lambda: archive.join(image, [path])),
+                               ("of no block", "no block", lambda: archive.join(room / "new", [room / "empty"]))):
+            (room / "empty").write_bytes(image_of(4, {}))
+            try:
+                do()
+                rows.tell(f"{name}: is taken")
+            except Failed as failed:
+                rows.unless(said in str(failed), f"{name}: {failed}")
+        rows.same("what is there", (path.read_bytes(), text.read_bytes(), (room / "new").exists()), (before, b"text", False))
+
+
+def main(words):
+    lab = str(Path(words[0]).resolve())
+    os.environ["GAKNIFUR_ETCS_LAB"] = lab
+    rows = Compared()
+    with tempfile.TemporaryDirectory() as at:
+        room = Path(at)
+        whole_lives(rows, lab, room)
+        late(rows, room)
+        cut(rows, room)
+        put_back(rows, room)
+        contradictions(rows, room)
+        stays(rows, room)
+    few = rows.count < 110
+    if few:
+        print("too little was tried")
+    return rows.end(f"archives and joined images: {rows.count} comparisons") or int(few)
+
+
+if __name__ == "__main__":
+    sys.exit(main(sys.argv[1:]))

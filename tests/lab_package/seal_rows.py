@@ -1,0 +1,326 @@
+#!/usr/bin/env python3
+"""What `./lab verify` says of sealed copies, each altered in one way.
+
+    tests/lab_package/seal_rows.py ETCS_LAB
+
+- A bag of the example trip, signed by OpenSSH and OpenPGP and stamped by an authority made here, is as it was sealed, and
+  sha256sum and sha512sum find each file so.
+- A byte of each file, a file less, more, renamed, cut off, in place of another one, a link in its place; lines of manifests;
+  signatures and time stamps of others: each is told, by the name of the file. So is what was closed anew behind the
+  alteration, where a signature or a time stamp is asked for.
+- The image that is sealed stays as it is, and is opened once, to be read alone. What is no image, is held by a unit, or has
+  its folder already isn't sealed; images that are damaged or not formatted are, with all that can be told of them.
+"""
+import fcntl
+import json
+import os
+import shutil
+import stat
+import subprocess
+import sys
+import tempfile
+from pathlib import Path
+from unittest.mock import patch
+
+TOP = Path(__file__).resolve().parents[2]
+sys.path[:0] = [str(TOP / part) for part in ("python", "tests", "tests/plain", "tests/lab")]
+
+from compared import Compared  # noqa: E402
+from gaknifur import bag, seal, signing  # noqa: E402
+from gaknifur.program import Failed  # noqa: E402
+from gaknifur.signing import Key, Trust  # noqa: E402
+from replay_rows import examples  # noqa: E402
+
+LEAST = 100
+"""So many altered bags at least."""
+AUTHORITY = """
+[req]
+distinguished_name = name
+[name]
+[ca]
+extendedKeyUsage = critical,timeStamping
+[tsa]
+default_tsa = one
+[one]
+serial = {room}/serial
+crypto_device = builtin
+signer_cert = {room}/{name}.pem
+signer_key = {room}/{name}.key
+signer_digest = sha256
+default_policy = 1.2.3.4
+digests = sha256, sha512
+ess_cert_id_alg = sha256
+"""
+PAYLOAD = ("digests.csv", "events.jsonl", "examine.json", "image", "journal.db", "replay.jsonl", "report.html", "seal.json", "table.csv", "why.jsonl")
+TAGS = ("bagit.txt", "bag-info.txt", "manifest-sha256.txt", "manifest-sha512.txt", "tagmanifest-sha256.txt", "tagmanifest-sha512.txt", signing.REQUEST)
+LATER = (signing.SSH, signing.PGP, signing.ANSWER)
+FILES = [f"data/{name}" for name in PAYLOAD] + [*TAGS, *LATER]
+
+
+def run(*words, **how):
+    done = subprocess.run([str(word) for word in words], capture_output=True, stdin=subprocess.DEVNULL, **how)
+    if done.returncode:
+        raise SystemExit(f"{words[0]}: {done.stderr.decode()}")
+    return done.stdout
+
+
+def make_keys(room):
+    """Two keys of each kind, and two authorities of time stamps."""
+    for name in ("one", "other"):
+        run("ssh-keygen", "-q", "-t", "ed25519", "-N", "", "-C", "", "-f", room / f"ssh-{name}")
+        (room / f"signers-{name}").write_text(f"{name}@example " + (room / f"ssh-{name}.pub").read_text())
+        run("gpg", "--batch", "--quiet", "--pinentry-mode", "loopback", "--passphrase", "", "--quick-generate-key", f"{name}@example", "ed25519", "sign")
+        (room / f"{name}.gpg").write_bytes(run("gpg", "--export", f"{name}@example"))
+        (room / f"{name}.cnf").write_text(AUTHORITY.format(room=room, name=name))
+        run("openssl", "req", "-x509", "-newkey", "ec", "-pkeyopt", "ec_paramgen_curve:P-256", "-nodes", "-days", "2", "-subj", f"/CN={name}",
+            "-config", room / f"{name}.cnf", "-extensions", "ca", "-keyout", room / f"{name}.key", "-out", room / f"{name}.pem")
+    (room / "serial").write_text("01")
+
+
+def stamp(room, folder, name="one"):
+    """The answer of an authority."""
+    (folder / signing.ANSWER).unlink(missing_ok=True)
+    run("openssl", "ts", "-reply", "-config", room / f"{name}.cnf", "-section", "one", "-queryfile", folder / signing.REQUEST, "-out",
+        folder / signing.ANSWER)
+
+
+def sign(room, folder, name="one"):
+    """Signatures by both keys of a name, in place of those that are there."""
+    for path in (signing.SSH, signing.PGP):
+        (folder / path).unlink(missing_ok=True)
+    for key in keys(room, name):
+        key.sign(folder / bag.SIGNED)
+
+
+def keys(room, name="one"):
+    return [Key("ssh", str(room / f"ssh-{name}")), Key("openpgp", f"{name}@example")]
+
+
+def trust(room, name="one"):
+    return Trust(room / f"signers-{name}", room / f"{name}.gpg", room / f"{name}.pem")
+
+
+# ---- alterations: a name, what does it, and the file that is to be told
+
+def flip(name, at):
+    def do(folder):
+        path = folder / name
+        data = bytearray(path.read_bytes())
+        data[int(at * (len(data) - 1))] ^= 1
+        path.write_bytes(data)
+    return f"a byte at {at} of {name}", do, name
+
+
+def alterations():
+    for name in FILES:
+        for at in (0.3, 0.8):
+            yield flip(name, at)
+        yield f"{name} less", lambda folder, name=name: (folder / name).unlink(), name
+        yield f"{name} renamed", lambda folder, name=name: (folder / name).rename(folder / f"{name}.old"), f"{name}.old"
+        if name != signing.SSH:  # (what is behind the end mark of one of OpenSSH is nobody's)
+            yield f"{name} cut off", lambda folder, name=name: os.truncate(folder / name, (folder / name).stat().st_size // 2), name
+    for name in ("data/more", "more.txt", "data/deep/more", "more/more", "data/image.times", f"{bag.SIGNED}.pem"):
+        def more(folder, name=name):
+            (folder / name).parent.mkdir(exist_ok=True)
+            (folder / name).write_text("more")
+        yield f"{name} more", more, name
+    yield from others()
+
+
+def others():
+    def swap(folder):
+        one, two = folder / "data/replay.jsonl", folder / "data/why.jsonl"
+        told = one.read_bytes(), two.read_bytes()
+        two.write_bytes(told[0])
+        one.write_bytes(told[1])
+    yield "two files in place of each other", swap, "data/why.jsonl"
+
+    def link(folder):
+        (folder / "data/image").rename(folder.parent / "elsewhere")
+        (folder / "data/image").symlink_to(folder.parent / "elsewhere")
+    yield "a link in place of the image", link, "data/image"
+
+    def link_folder(folder):
+        (folder / "data/linked").symlink_to(folder.parent)
+    yield "a link to a folder", link_folder, "data/linked"
+    for name in ("bagit.txt", "data/seal.json", "manifest-sha512.txt", "tagmanifest-sha256.txt"):
+        yield f"a pipe in place of {name}", lambda folder, name=name: [(folder / name).unlink(), os.mkfifo(folder / name)], name
+    yield "a pipe", lambda folder: os.mkfifo(folder / "data/pipe"), "data/pipe"
+    for name in ("manifest-sha256.txt", "manifest-sha512.txt", "tagmanifest-sha256.txt", "tagmanifest-sha512.txt"):
+        def edit(folder, change, name=name):
+            lines = (folder / name).read_text().splitlines(True)
+            (folder / name).write_text("".join(change(lines)))
+        yield f"a line of {name} less", lambda folder, edit=edit: edit(folder, lambda lines: lines[1:]), name
+        yield f"a line of {name} twice", lambda folder, edit=edit: edit(folder, lambda lines: lines + lines[:1]), name
+        yield f"a file elsewhere in {name}", lambda folder, edit=edit: edit(folder, lambda lines: [*lines, f"{lines[0][:-8]}../other\n"]), name
+        yield f"a short digest in {name}", lambda folder, edit=edit: edit(folder, lambda lines: [lines[0][8:], *lines[1:]]), name
+    yield "nothing of it", lambda folder: [shutil.rmtree(folder), folder.mkdir()], "bagit.txt"
+
+
+def close_anew(folder):
+    """Closes a bag behind an alteration, as whoever altered it might."""
+    info = [line.split(": ", 1) for line in (folder / bag.INFO).read_text().splitlines()]
+    for name in (bag.SIGNED, "tagmanifest-sha256.txt"):
+        (folder / name).unlink()
+    later = {name: (folder / name).read_bytes() for name in LATER if (folder / name).exists()}
+    for name in later:
+        (folder / name).unlink()
+    bag.close(folder, [pair for pair in info if pair[0] != "Payload-Oxum"])
+    bag.close_tags(folder)
+    for name, data in later.items():
+        (folder / name).write_bytes(data)
+
+
+def closed_anew(room):
+    """Alterations behind which the bag was closed anew: only a signature, a time stamp or `etcs_lab` tells them."""
+    def table(folder):
+        text = (folder / "data/table.csv").read_text()
+        (folder / "data/table.csv").write_text(text.replace("emergency", "none"))
+    yield "a table, closed anew", [table, close_anew], signing.SSH
+    yield "a table, closed anew and without signatures", [table, close_anew, lambda folder: [(folder / name).unlink() for name in LATER[:2]]], signing.SSH
+    yield "a table, closed anew and signed by others", [table, close_anew, lambda folder: sign(room, folder, "other")], signing.SSH
+    yield "a table, closed anew and signed again", [table, close_anew, lambda folder: sign(room, folder)], signing.ANSWER
+
+    def image(folder):
+        data = bytearray((folder / "data/image").read_bytes())
+        data[512 + 3072 + 1024 + 2] ^= 2
+        (folder / "data/image").write_bytes(data)
+    anew = [close_anew, lambda folder: sign(room, folder), lambda folder: (folder / signing.REQUEST).unlink(), lambda folder: signing.ask_for_time(folder),
+            close_anew, lambda folder: sign(room, folder), lambda folder: stamp(room, folder)]
+    yield "the image, with all but what is told of it", [image, *anew], "data/image"
+    for name in ("examine.json", "events.jsonl", "replay.jsonl", "why.jsonl", "digests.csv"):
+        def told(folder, name=name):
+            text = (folder / "data" / name).read_text()
+            (folder / "data" / name).write_text(text.replace("1", "2", 1) if name != "digests.csv" else text.replace("slot,0", "slot,9", 1))
+        yield f"{name}, with all that follows", [told, *anew], f"data/{name}"
+    yield "signatures of others", [lambda folder: sign(room, folder, "other")], signing.SSH
+    yield "a signature of OpenPGP of others", [lambda folder: [(folder / signing.PGP).unlink(), keys(room, "other")[1].sign(folder / bag.SIGNED)]], signing.PGP
+    yield "a time stamp of others", [lambda folder: stamp(room, folder, "other")], signing.ANSWER
+
+    def other_request(folder):
+        data = (folder / signing.REQUEST).read_bytes()
+        (folder / signing.REQUEST).unlink()
+        signing.ask_for_time(folder)
+        stamp(room, folder)
+        (folder / signing.REQUEST).write_bytes(data)
+    yield "a time stamp of another request", [other_request], signing.ANSWER
+
+
+class Count(Compared):
+    """What is compared, and how many bags were altered."""
+
+    def __init__(self, room):
+        super().__init__()
+        self.room, self.altered = room, 0
+
+    def told(self, name, steps, file, trusted):
+        """An altered bag is told by the name of the file."""
+        folder = self.room / "altered"
+        shutil.rmtree(folder, ignore_errors=True)
+        (self.room / "elsewhere").unlink(missing_ok=True)
+        shutil.copytree(self.room / "bag", folder)
+        for at, _, names in os.walk(folder):
+            for one in names:
+                os.chmod(Path(at, one), 0o644)
+        for step in steps:
+            step(folder)
+        self.altered += 1
+        faults = seal.verify(folder, trusted).faults
+        self.unless(any(line.startswith(f"{file}: ") for line in faults), f"{name}: {file} isn't told: {faults}")
+
+
+def whole_bag(count, room, image):
+    """What a bag holds that nobody altered, and what it shows."""
+    data, opened = image.read_bytes(), []
+    os_open = os.open
+
+    def noted(path, flags, *more, **named):
+        if str(path) == str(image):
+            opened.append(flags & (os.O_WRONLY | os.O_RDWR))
+        return os_open(path, flags, *more, **named)
+
+    with patch("os.open", noted):
+        found = seal.seal(image, room / "bag", seal.Sealing("one", "a medium", keys=keys(room)))
+    count.same("the image was opened once, to be read", (opened, image.read_bytes()), ([os.O_RDONLY], data))
+    count.same("the copy", (room / "bag/data/image").read_bytes(), data)
+    count.same("what it told", (found["by"], found["medium"], found["image"]["bytes"]), ("one", "a medium", len(data)))
+    stamp(room, room / "bag")
+    count.same("its files", bag.names_in(room / "bag"), (sorted(FILES), []))
+    count.same("their modes", {(room / "bag" / name).stat().st_mode & 0o222 for name in FILES if name != signing.ANSWER}, {0})
+    for name, kind in (("manifest", "sha256"), ("manifest", "sha512"), ("tagmanifest", "sha256"), ("tagmanifest", "sha512")):
+        lines = run(f"{kind}sum", "-c", f"{name}-{kind}.txt", cwd=room / "bag").decode().splitlines()
+        count.same(f"{name}-{kind}.txt", len(lines), len(PAYLOAD) if name == "manifest" else 5)
+    seen = seal.verify(room / "bag", trust(room))
+    count.same("the bag", (seen.faults, len(seen.shown), len(seen.not_shown)), ([], 7, 1))
+    seen = seal.verify(room / "bag", Trust())
+    count.same("the bag, where nobody is trusted", (seen.faults, len(seen.shown), len(seen.not_shown)), ([], 4, 4))
+    seen = seal.verify(room / "bag", trust(room, "other"))
+    count.same("the bag, where others are trusted", sorted(line.split(":")[0] for line in seen.faults),
+               sorted([*LATER, "the bag isn't signed by anybody who is named"]))
+    events = [json.loads(line) for line in (room / "bag/data/events.jsonl").open()]
+    rows = [line.split(",") for line in (room / "bag/data/digests.csv").read_text().splitlines()]
+    count.same("digests of parts", [row[0] for row in rows[1:]], ["image"] + ["slot"] * 16 + ["record"] * sum("event" in one for one in events))
+
+
+def refuses(count, name, said, image, folder):
+    """An image isn't sealed, and nothing is left of the folder."""
+    before = sorted(os.listdir(folder.parent))
+    try:
+        seal.seal(image, folder, seal.Sealing())
+        count.tell(f"{name} is sealed")
+    except Failed as failed:
+        count.unless(said in str(failed), f"{name}: {failed}")
+    count.same(f"{name}: what is left", sorted(os.listdir(folder.parent)), before)
+
+
+def at_the_edges(count, room, image):
+    """What isn't sealed, and images that are damaged or none."""
+    os.mkfifo(room / "pipe")
+    refuses(count, "a pipe", "is no regular file", room / "pipe", room / "new")
+    refuses(count, "a folder", "is no regular file", room, room / "new")
+    refuses(count, "no file", "No such file", room / "none", room / "new")
+    refuses(count, "a folder that is there", "is there", image, room / "bag")
+    with image.open("r+b") as held:
+        fcntl.flock(held, fcntl.LOCK_EX)
+        refuses(count, "an image that a unit holds", "another program writes it", image, room / "new")
+    data = image.read_bytes()
+    for name, made, status in (("damaged", data[:2000] + b"\xff" + data[2001:], 4), ("cut", data[:5000], 4), ("none", b"text", 1), ("empty", b"", 1)):
+        (room / name).write_bytes(made)
+        told = seal.seal(room / name, room / f"bag-{name}", seal.Sealing())
+        seen = seal.verify(room / f"bag-{name}", Trust())
+        count.same(f"{name}: sealed", (told["etcs_lab"]["examine.json"]["status"], seen.faults), (status, []))
+        count.same(f"{name}: a report", (room / f"bag-{name}/data/report.html").exists(), status == 4)
+    unsigned = seal.verify(room / "bag-cut", trust(room))
+    count.same("not signed", [line.split(":")[0] for line in unsigned.faults], ["the bag isn't signed by anybody who is named", signing.ANSWER])
+    seal.seal(image, room / "bag-ssh", seal.Sealing(keys=keys(room)[:1]))
+    for name, trusted, wanted in (("signers", Trust(signers=room / "signers-one"), []), ("both", Trust(room / "signers-one", room / "one.gpg"), []),
+                                  ("keyring", Trust(keyring=room / "one.gpg"), ["the bag isn't signed by anybody who is named"])):
+        count.same(f"signed by OpenSSH alone, {name} named", seal.verify(room / "bag-ssh", trusted).faults, wanted)
+
+
+def main(words):
+    os.environ["GAKNIFUR_ETCS_LAB"] = str(Path(words[0]).resolve())
+    with tempfile.TemporaryDirectory() as at:
+        room = Path(at)
+        (room / "gnupg").mkdir(mode=stat.S_IRWXU)
+        os.environ["GNUPGHOME"] = str(room / "gnupg")
+        make_keys(room)
+        image = room / "image"
+        image.write_bytes(dict(examples())["example trip"])
+        count = Count(room)
+        whole_bag(count, room, image)
+        for name, do, file in alterations():
+            count.told(name, [do], file, trust(room) if file in LATER else Trust())
+        for name, steps, file in closed_anew(room):
+            count.told(name, steps, file, trust(room))
+        count.told("signatures of others, where nobody is trusted", [lambda folder: sign(room, folder, "other")], signing.SSH, Trust())
+        at_the_edges(count, room, image)
+        subprocess.run(["gpgconf", "--kill", "gpg-agent"], capture_output=True)
+    few = count.altered < LEAST
+    if few:
+        print("too little was tried")
+    return count.end(f"sealed copies: {count.altered} altered bags, {count.count} comparisons") or int(few)
+
+
+if __name__ == "__main__":
+    sys.exit(main(sys.argv[1:]))

@@ -59,16 +59,17 @@ for header in etcs etcs_unit etcs_file etcs_image; do
 done
 counted "headers alone" $tried 20
 
-# ---- the names that the library shows are those that the headers declare, as gcc reads them
+# ---- the names that the library shows are those that the headers declare or define, as gcc reads them
 
 printf '#include "etcs.h"\n#include "etcs_unit.h"\n#include "etcs_image.h"\n' >"$made/all.c"
 gcc -std=c99 -I "$include" -aux-info "$made/declared" -c "$made/all.c" -o "$made/all.o" || fails "the headers don't compile"
-sed -n 's@^/\* [^ ]*/etcs[a-z_]*\.h:[0-9]*:NC \*/ extern .*[ *]\(etcs_[a-z_]*\) (.*@\1@p' "$made/declared" | LC_ALL=C sort -u >"$made/names"
+named() { sed -n 's@^/\* [^ ]*/etcs[a-z_]*\.h:[0-9]*:N[CF] \*/ \(extern\|static\) .*[ *]\(etcs_[a-z_]*\) (.*@\2@p' "$made/declared" | LC_ALL=C sort -u; }
+named >"$made/names"
 nm -D --defined-only "$shared" | sed 's/.* //' | LC_ALL=C sort >"$made/shown"
 nm --defined-only --extern-only "$archive" | sed -n 's/^[0-9a-f]* . //p' | LC_ALL=C sort >"$made/in_archive"
 diff "$made/names" "$made/shown" || fails "the shared library shows other names than the headers declare"
 diff "$made/names" "$made/in_archive" || fails "the static library shows other names than the headers declare"
-counted "names of the library" "$(wc -l <"$made/shown")" 28
+counted "names of the library" "$(wc -l <"$made/shown")" 54
 needed=$(objdump -p "$shared" | sed -n 's/^ *NEEDED *//p' | tr '\n' ' ')
 soname=$(objdump -p "$shared" | sed -n 's/^ *SONAME *//p')
 [ "$needed" = "libc.so.6 " ] || fails "the shared library needs $needed"

@@ -36,7 +36,6 @@ typedef struct {
     uint32_t parts[LEVELS];  /* .. and for each part of it */
     block *lists[LEVELS][PARTS];
     block *end;              /* the last block, which has no bytes and is never free */
-    etcs_memory_told told;
 } pool;
 
 typedef struct {
@@ -44,6 +43,9 @@ typedef struct {
 } class;
 
 static pool *our = NULL;
+
+/* What is told of it. It doesn't lie in the buffer, which a maker may write to once nothing is out. */
+static etcs_memory_told counts;
 
 /* The place of the highest and of the lowest bit of a number that isn't 0. */
 static uint32_t highest(uint64_t number) {
@@ -191,16 +193,16 @@ static uint64_t rounded(uint64_t size) {
 /* Whether a size is one that any buffer could have room for. */
 static int is_refused(uint64_t size) {
     const int is = our == NULL || size > ETCS_MEMORY_MOST;
-    if (is != 0 && our != NULL) {
-        our->told.refused++;
+    if (is != 0) {
+        counts.refused++;
     }
     return is;
 }
 
-static void count(uint64_t more, uint64_t less) {
-    our->told.used = (our->told.used + more) - less;
-    if (our->told.used > our->told.most_used) {
-        our->told.most_used = our->told.used;
+static void count_taken(uint64_t more, uint64_t less) {
+    counts.used = (counts.used + more) - less;
+    if (counts.used > counts.most_used) {
+        counts.most_used = counts.used;
     }
 }
 
@@ -211,11 +213,11 @@ void *etcs_piece_take(uint64_t size) {
         if (one != NULL) {
             delist(one);
             cut(one, rounded(size));
-            our->told.pieces++;
-            count(HEAD + one->size, 0);
+            counts.pieces++;
+            count_taken(HEAD + one->size, 0);
             piece = piece_of(one);
         } else {
-            our->told.refused++;
+            counts.refused++;
         }
     }
     return piece;
@@ -223,8 +225,8 @@ void *etcs_piece_take(uint64_t size) {
 
 void etcs_piece_give(void *piece) {
     block *one = block_of(piece);
-    our->told.pieces--;
-    count(0, HEAD + one->size);
+    counts.pieces--;
+    count_taken(0, HEAD + one->size);
     join(one);
     if (one->before != NULL && is_free(one->before)) {
         one = one->before;
@@ -257,7 +259,7 @@ void *etcs_piece_resize(void *piece, uint64_t size) {
                 join(one);
             }
             cut(one, wanted);
-            count(one->size, had);
+            count_taken(one->size, had);
             answer = piece;
         } else {
             answer = moved(piece, wanted);
@@ -275,15 +277,15 @@ static void end_at(block *end, block *before) {
 
 int etcs_piece_more(uint64_t size) {
     const uint64_t more = size & ~(UNIT - 1u);
-    const int is = our != NULL && more >= HEAD && more <= ETCS_MEMORY_MOST && our->told.size + more <= ETCS_MEMORY_MOST;
+    const int is = our != NULL && more >= HEAD && more <= ETCS_MEMORY_MOST && counts.size + more <= ETCS_MEMORY_MOST;
     if (is != 0) {
         /* The end becomes a block that is given back. */
         block *const one = our->end;
         one->size = more - HEAD;
         end_at(behind(one), one);
-        our->told.size += more;
-        our->told.pieces++;
-        our->told.used += more;
+        counts.size += more;
+        counts.pieces++;
+        counts.used += more;
         etcs_piece_give(piece_of(one));
     }
     return is;
@@ -295,7 +297,7 @@ uint32_t etcs_memory_use(void *buffer, uint64_t size) {
         status = ETCS_UNIT_NULL_POINTER;
     } else if (size < ETCS_MEMORY_LEAST || size > ETCS_MEMORY_MOST) {
         status = ETCS_UNIT_OUT_OF_RANGE;
-    } else if (our != NULL && our->told.pieces > 0u) {
+    } else if (counts.pieces > 0u) {
         status = ETCS_UNIT_IS_OPEN;
     } else {
         const uint64_t skipped = (~(uint64_t)(uintptr_t)buffer + 1u) & (UNIT - 1u);
@@ -304,10 +306,11 @@ uint32_t etcs_memory_use(void *buffer, uint64_t size) {
         block *const first = (block *)(void *)(from + head);
         our = (pool *)(void *)from;
         (void)memset(our, 0, sizeof(pool));
+        (void)memset(&counts, 0, sizeof counts);
         first->before = NULL;
         first->size = has - head - (2u * HEAD);
         end_at(behind(first), first);
-        our->told.size = has - head - HEAD;
+        counts.size = has - head - HEAD;
         enlist(first);
     }
     return status;
@@ -320,7 +323,7 @@ uint32_t etcs_memory_state(etcs_memory_told *told) {
     } else if (our == NULL) {
         status = ETCS_UNIT_NOT_OPEN;
     } else {
-        *told = our->told;
+        *told = counts;
     }
     return status;
 }

@@ -59,7 +59,7 @@ typedef struct {
     uint64_t refused;   /* how many requests were refused since the buffer is used */
 } etcs_memory_told;
 
-ETCS_UNIT_ASSERT(sizeof(etcs_memory_told) == 40 && offsetof(etcs_memory_told, most_used) == 16 && offsetof(etcs_memory_told, refused) == 32);
+ETCS_UNIT_ASSERT(sizeof(etcs_memory_told) == 40u && offsetof(etcs_memory_told, most_used) == 16u && offsetof(etcs_memory_told, refused) == 32u);
 
 /* From now on memory comes from this buffer, which may lie anywhere. Answers OK; OUT_OF_RANGE where it has fewer bytes
  * than ETCS_MEMORY_LEAST or more than ETCS_MEMORY_MOST; IS_OPEN where a piece of the one before is out (a unit is open);

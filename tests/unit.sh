@@ -69,7 +69,8 @@ nm -D --defined-only "$shared" | sed 's/.* //' | LC_ALL=C sort >"$made/shown"
 nm --defined-only --extern-only "$archive" | sed -n 's/^[0-9a-f]* . //p' | LC_ALL=C sort >"$made/in_archive"
 diff "$made/names" "$made/shown" || fails "the shared library shows other names than the headers declare"
 diff "$made/names" "$made/in_archive" || fails "the static library shows other names than the headers declare"
-counted "names of the library" "$(wc -l <"$made/shown")" 54
+counted "names of the library" "$(wc -l <"$made/shown")" 55
+"$python" "$top/tests/unit/symbols.py" "$shared" $(cat "$made/shown") || fails "the calls as symbols"
 needed=$(objdump -p "$shared" | sed -n 's/^ *NEEDED *//p' | tr '\n' ' ')
 soname=$(objdump -p "$shared" | sed -n 's/^ *SONAME *//p')
 [ "$needed" = "libc.so.6 " ] || fails "the shared library needs $needed"

@@ -341,7 +341,7 @@ static void formatting(void) {
 
 /* What an answer is, of the driver's values and of the equipment's: by hand, from what etcs_unit.h says of each status. */
 static void kinds(void) {
-    static const uint8_t mistakes[] = {10, 22, 247, 248, 249, 251, 252, 253};
+    static const uint8_t mistakes[] = {10, 22, 41, 248, 249, 251, 252, 253};
     for (uint32_t status = 0; status < 300; status++) {
         uint32_t driver = status == 0 ? ETCS_KIND_OK : ETCS_KIND_FAULT, equipment;
         for (size_t i = 0; i < sizeof mistakes; i++)

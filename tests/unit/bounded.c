@@ -3,8 +3,8 @@
  *
  *     bounded SLOTS PACKETS RESTRICTIONS GRADIENTS SPEEDS    reads lives from standard input: `open COLD`, an input (inputs.h), `flush`, `close`
  *
- * It prints how many bytes the buffer has, how many of them were used at most, and how many lives there were. Where an input or an opening is
- * refused memory, it says so with the line, and goes on. */
+ * It prints how many bytes the buffer has, how many of them were used at most, how many lives there were, how many outputs, and how many of those
+ * command no brake. Where a call answers something else than OK, it says so with the line, and goes on. */
 #include "etcs_memory.h"
 #include "inputs.h"
 #include "medium.h"
@@ -23,7 +23,7 @@ int main(int count, char **words) {
     etcs_unit_output outputs[ETCS_UNIT_OUTPUTS];
     etcs_memory_told told_of;
     uint32_t released;
-    unsigned lives = 0, number = 0;
+    unsigned lives = 0, number = 0, outputs_told = 0, brakeless = 0;
     if (buffer == NULL)
         return 2;
     is("use", etcs_memory_use(buffer, size), ETCS_UNIT_OK);
@@ -38,7 +38,11 @@ int main(int count, char **words) {
             is("state", etcs_memory_state(&told_of), ETCS_UNIT_OK);
             is("used behind a close", told_of.used + told_of.pieces, 0);
         } else if (strcmp(line, "flush\n") == 0) {
+            released = 0;
             status = flushed(&on, &unit, outputs, &released);
+            outputs_told += released;
+            for (uint32_t i = 0; i < released; i++)
+                brakeless += outputs[i].brake == ETCS_BRAKE_NONE;
         } else {
             status = take(&unit, line);
         }
@@ -50,7 +54,8 @@ int main(int count, char **words) {
     }
     is("state", etcs_memory_state(&told_of), ETCS_UNIT_OK);
     is("requests that were refused", told_of.refused, 0);
-    printf("%llu bytes, %llu used at most, %u lives\n", (unsigned long long)size, (unsigned long long)told_of.most_used, lives);
+    printf("%llu bytes, %llu used at most, %u lives, %u outputs, %u without a brake\n", (unsigned long long)size, (unsigned long long)told_of.most_used,
+           lives, outputs_told, brakeless);
     free(on.bytes);
     free(buffer);
     return told("bounded", 1);

@@ -61,7 +61,7 @@ done
 counted "headers alone" $tried 25
 # a machine of 32 bits is told so in one sentence
 told=$(gcc -m32 -ffreestanding -I "$include" -fsyntax-only "$made/all.c" 2>&1 | grep -c 'error:')
-said=$(gcc -m32 -ffreestanding -I "$include" -fsyntax-only "$made/all.c" 2>&1 | grep -c '#error "the library is for machines with pointers of 64 bits')
+said=$(gcc -m32 -ffreestanding -I "$include" -fsyntax-only "$made/all.c" 2>&1 | grep -c 'error: #error "the library is for machines with pointers of 64 bits')
 [ "$told $said" = "1 1" ] || fails "a machine of 32 bits is told other things: $told errors"
 
 # ---- the names that the library shows are those that the headers declare or define, as gcc reads them

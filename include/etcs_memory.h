@@ -35,7 +35,7 @@ extern "C" {
 #define ETCS_MEMORY_LEAST UINT64_C(4096)
 #define ETCS_MEMORY_MOST UINT64_C(0x400000000)
 
-/* What one unit needs at most, in bytes, of:
+/* What one unit, alone on a buffer, needs at most, in bytes, of:
  *
  * - slots: of its medium, which has 1 + 6 * slots sectors;
  * - packets: that the telegrams of one group have together, at most (264: eight telegrams of 33);

@@ -18,6 +18,10 @@
 #include <stddef.h>
 #include <stdint.h>
 
+#if (UINTPTR_MAX != UINT64_MAX) || (defined(__BYTE_ORDER__) && (__BYTE_ORDER__ != __ORDER_LITTLE_ENDIAN__))
+#error "the library is for machines with pointers of 64 bits and the lowest byte of a number first, and for no others"
+#endif
+
 #ifdef __cplusplus
 extern "C" {
 #endif

@@ -284,19 +284,19 @@ typedef struct {
     uint8_t reserved[5];
 } etcs_why;
 
-ETCS_UNIT_ASSERT(sizeof(etcs_image) == 32 && offsetof(etcs_image, newest) == 24);
-ETCS_UNIT_ASSERT(sizeof(etcs_slot) == 32 && offsetof(etcs_slot, state) == 16 && offsetof(etcs_slot, fault_record) == 28);
-ETCS_UNIT_ASSERT(sizeof(etcs_national) == 112 && offsetof(etcs_national, count) == 44 && offsetof(etcs_national, countries) == 48);
-ETCS_UNIT_ASSERT(sizeof(etcs_kept) == 176 && offsetof(etcs_kept, train) == 8 && offsetof(etcs_kept, running_number) == 28
-                 && offsetof(etcs_kept, identity) == 40 && offsetof(etcs_kept, identity_len) == 56 && offsetof(etcs_kept, national) == 64);
-ETCS_UNIT_ASSERT(sizeof(etcs_block) == 208 && offsetof(etcs_block, lives) == 24 && offsetof(etcs_block, format) == 28 && offsetof(etcs_block, kept) == 32);
-ETCS_UNIT_ASSERT(sizeof(etcs_record) == 160 && offsetof(etcs_record, limit_m_per_h) == 40 && offsetof(etcs_record, format) == 48
-                 && offsetof(etcs_record, payload_len) == 55 && offsetof(etcs_record, payload) == 56);
-ETCS_UNIT_ASSERT(sizeof(etcs_journal) == 24 && offsetof(etcs_journal, index) == 16);
-ETCS_UNIT_ASSERT(sizeof(etcs_replay) == 720 && offsetof(etcs_replay, life) == 32 && offsetof(etcs_replay, journal) == 48
-                 && offsetof(etcs_replay, kernel) == 208 && offsetof(etcs_replay, journal_kept) == 368 && offsetof(etcs_replay, kernel_kept) == 544);
-ETCS_UNIT_ASSERT(sizeof(etcs_why) == 160 && offsetof(etcs_why, trip_event) == 88 && offsetof(etcs_why, limit_m_per_h) == 128
-                 && offsetof(etcs_why, holds) == 140 && offsetof(etcs_why, brake) == 150 && offsetof(etcs_why, reserved) == 155);
+ETCS_UNIT_ASSERT(sizeof(etcs_image) == 32u && offsetof(etcs_image, newest) == 24u);
+ETCS_UNIT_ASSERT(sizeof(etcs_slot) == 32u && offsetof(etcs_slot, state) == 16u && offsetof(etcs_slot, fault_record) == 28u);
+ETCS_UNIT_ASSERT(sizeof(etcs_national) == 112u && offsetof(etcs_national, count) == 44u && offsetof(etcs_national, countries) == 48u);
+ETCS_UNIT_ASSERT(sizeof(etcs_kept) == 176u && offsetof(etcs_kept, train) == 8u && offsetof(etcs_kept, running_number) == 28u
+                 && offsetof(etcs_kept, identity) == 40u && offsetof(etcs_kept, identity_len) == 56u && offsetof(etcs_kept, national) == 64u);
+ETCS_UNIT_ASSERT(sizeof(etcs_block) == 208u && offsetof(etcs_block, lives) == 24u && offsetof(etcs_block, format) == 28u && offsetof(etcs_block, kept) == 32u);
+ETCS_UNIT_ASSERT(sizeof(etcs_record) == 160u && offsetof(etcs_record, limit_m_per_h) == 40u && offsetof(etcs_record, format) == 48u
+                 && offsetof(etcs_record, payload_len) == 55u && offsetof(etcs_record, payload) == 56u);
+ETCS_UNIT_ASSERT(sizeof(etcs_journal) == 24u && offsetof(etcs_journal, index) == 16u);
+ETCS_UNIT_ASSERT(sizeof(etcs_replay) == 720u && offsetof(etcs_replay, life) == 32u && offsetof(etcs_replay, journal) == 48u
+                 && offsetof(etcs_replay, kernel) == 208u && offsetof(etcs_replay, journal_kept) == 368u && offsetof(etcs_replay, kernel_kept) == 544u);
+ETCS_UNIT_ASSERT(sizeof(etcs_why) == 160u && offsetof(etcs_why, trip_event) == 88u && offsetof(etcs_why, limit_m_per_h) == 128u
+                 && offsetof(etcs_why, holds) == 140u && offsetof(etcs_why, brake) == 150u && offsetof(etcs_why, reserved) == 155u);
 
 /* ---- the library's own names; the calls below test pointers first, hand over the header's interface, and then call these */
 
@@ -314,31 +314,31 @@ uint32_t etcs_image_why_(const uint8_t *image, size_t size, uint32_t abi, uint64
 /* What an image has at first sight. It reads the first sector, each gate, and the head behind each open one. Answers OK,
  * OTHER_ABI, or IMAGE_NOT_FORMATTED. */
 static inline uint32_t etcs_image_facts(const uint8_t *image, size_t size, etcs_image *facts) {
-    return image && facts ? etcs_image_facts_(image, size, ETCS_UNIT_ABI, facts) : (uint32_t)ETCS_UNIT_NULL_POINTER;
+    return ((image != NULL) && (facts != NULL)) ? etcs_image_facts_(image, size, ETCS_UNIT_ABI, facts) : (uint32_t)ETCS_UNIT_NULL_POINTER;
 }
 
 /* What a slot holds, where the newest block has this number, as etcs_image_facts tells it. Answers OK, OTHER_ABI,
  * IMAGE_NOT_FORMATTED, OUT_OF_RANGE (a newest number above 2^40), or NO_SUCH_SLOT. */
 static inline uint32_t etcs_image_slot(const uint8_t *image, size_t size, uint64_t newest, uint64_t slot, etcs_slot *told) {
-    return image && told ? etcs_image_slot_(image, size, ETCS_UNIT_ABI, newest, slot, told) : (uint32_t)ETCS_UNIT_NULL_POINTER;
+    return ((image != NULL) && (told != NULL)) ? etcs_image_slot_(image, size, ETCS_UNIT_ABI, newest, slot, told) : (uint32_t)ETCS_UNIT_NULL_POINTER;
 }
 
 /* What the head of the block of this number tells. Answers OK, OTHER_ABI, IMAGE_NOT_FORMATTED, or NO_SUCH_BLOCK where its
  * slot doesn't hold it behind an open gate. */
 static inline uint32_t etcs_image_block(const uint8_t *image, size_t size, uint64_t number, etcs_block *block) {
-    return image && block ? etcs_image_block_(image, size, ETCS_UNIT_ABI, number, block) : (uint32_t)ETCS_UNIT_NULL_POINTER;
+    return ((image != NULL) && (block != NULL)) ? etcs_image_block_(image, size, ETCS_UNIT_ABI, number, block) : (uint32_t)ETCS_UNIT_NULL_POINTER;
 }
 
 /* A record of the block of this number. Answers OK, OTHER_ABI, IMAGE_NOT_FORMATTED, NO_SUCH_BLOCK, or NO_SUCH_RECORD. */
 static inline uint32_t etcs_image_record(const uint8_t *image, size_t size, uint64_t number, uint32_t index, etcs_record *record) {
-    return image && record ? etcs_image_record_(image, size, ETCS_UNIT_ABI, number, index, record) : (uint32_t)ETCS_UNIT_NULL_POINTER;
+    return ((image != NULL) && (record != NULL)) ? etcs_image_record_(image, size, ETCS_UNIT_ABI, number, index, record) : (uint32_t)ETCS_UNIT_NULL_POINTER;
 }
 
 /* Begins at the oldest record of the journal: of the longest unbroken run of blocks up to the newest, which `etcs journal`
  * lists. It reads what etcs_image_facts reads. Answers OK, OTHER_ABI, IMAGE_NOT_FORMATTED, or IMAGE_DAMAGED where the
  * image hasn't just 1 + 6 * slots sectors. */
 static inline uint32_t etcs_journal_open(const uint8_t *image, size_t size, etcs_journal *journal) {
-    return image && journal ? etcs_journal_open_(image, size, ETCS_UNIT_ABI, journal) : (uint32_t)ETCS_UNIT_NULL_POINTER;
+    return ((image != NULL) && (journal != NULL)) ? etcs_journal_open_(image, size, ETCS_UNIT_ABI, journal) : (uint32_t)ETCS_UNIT_NULL_POINTER;
 }
 
 /* The next record of the journal. It reads one slot, and takes as long whatever size the image has. Answers OK, END,
@@ -346,7 +346,7 @@ static inline uint32_t etcs_journal_open(const uint8_t *image, size_t size, etcs
  * image), or IMAGE_DAMAGED where a block of the journal can't be read: then the journal is behind that block, and the next
  * call goes on there. */
 static inline uint32_t etcs_journal_next(const uint8_t *image, size_t size, etcs_journal *journal, etcs_record *record) {
-    return image && journal && record ? etcs_journal_next_(image, size, journal, record) : (uint32_t)ETCS_UNIT_NULL_POINTER;
+    return ((image != NULL) && (journal != NULL) && (record != NULL)) ? etcs_journal_next_(image, size, journal, record) : (uint32_t)ETCS_UNIT_NULL_POINTER;
 }
 
 /* Runs the life through the kernel again that begins with the block at which the journal is, whatever its index, and
@@ -358,7 +358,7 @@ static inline uint32_t etcs_journal_next(const uint8_t *image, size_t size, etcs
  * IMAGE_DAMAGED where the block can't be read: then the journal is behind that block; or NO_MEMORY, where the journal
  * stays. */
 static inline uint32_t etcs_image_replay(const uint8_t *image, size_t size, etcs_journal *journal, etcs_replay *replay) {
-    return image && journal && replay ? etcs_image_replay_(image, size, ETCS_UNIT_ABI, journal, replay) : (uint32_t)ETCS_UNIT_NULL_POINTER;
+    return ((image != NULL) && (journal != NULL) && (replay != NULL)) ? etcs_image_replay_(image, size, ETCS_UNIT_ABI, journal, replay) : (uint32_t)ETCS_UNIT_NULL_POINTER;
 }
 
 /* Why the event of this number in the block of this number was answered so: its life is run through the kernel again, from
@@ -366,7 +366,7 @@ static inline uint32_t etcs_image_replay(const uint8_t *image, size_t size, etcs
  * OTHER_ABI, IMAGE_NOT_FORMATTED, NO_SUCH_BLOCK, NO_SUCH_RECORD where the block has no such event, NOT_REPLAYED where what
  * was kept before the life isn't known (etcs_image_replay tells why), or NO_MEMORY. */
 static inline uint32_t etcs_image_why(const uint8_t *image, size_t size, uint64_t number, uint64_t event, etcs_why *why) {
-    return image && why ? etcs_image_why_(image, size, ETCS_UNIT_ABI, number, event, why) : (uint32_t)ETCS_UNIT_NULL_POINTER;
+    return ((image != NULL) && (why != NULL)) ? etcs_image_why_(image, size, ETCS_UNIT_ABI, number, event, why) : (uint32_t)ETCS_UNIT_NULL_POINTER;
 }
 
 #ifdef __cplusplus

@@ -31,7 +31,8 @@
  * where carry_out takes request after request, 0 and on, until one answers ETCS_UNIT_NO_SUCH_REQUEST, and then calls
  * etcs_unit_done with their number, or etcs_unit_fail where the medium failed. etcs_file.h has one for a POSIX file.
  *
- * ANY ANSWER BUT ETCS_UNIT_OK MEANS THE EMERGENCY BRAKE. An output reaches the train from etcs_unit_release alone.
+ * ANY ANSWER BUT ETCS_UNIT_OK MEANS THE EMERGENCY BRAKE, unless it is a mistake that is put right before the next output is
+ * due: etcs_status_kind parts what an answer may be. An output reaches the train from etcs_unit_release alone.
  *
  * Every call returns, whatever numbers it is handed, and answers a number of enum etcs_unit_status. A null pointer is
  * answered with ETCS_UNIT_NULL_POINTER. What no call can test, the caller owes:
@@ -45,9 +46,14 @@
  * - requests are carried out in their order, each whole before the next one, and are said to be done only then;
  * - the word on movements without power is true (ETCS_COLD_UNKNOWN in doubt).
  *
- * A unit is for one call at a time, and stays in the thread that opened it. Units share nothing, so different ones may be
- * called from different threads. Memory is taken by etcs_unit_open, and by the calls that take an input; close gives all
- * of it back. No call blocks, and none is for a signal handler.
+ * A unit is for one call at a time. It may be handed from one task to another, as from the one that opens it to a cyclic
+ * one, where a lock (or a queue, or the start of the task) orders their calls: the library keeps nothing beside its units,
+ * and nothing by thread. Units share nothing, so different ones may be called from different threads at once; but where
+ * memory is of the maker's own, see etcs_memory.h. Memory is taken by etcs_unit_open, and by the calls that take an input;
+ * close gives all of it back. No call blocks, and none is for a signal handler or an interrupt.
+ *
+ * Each call that this header defines stands in the library too, by the same name: for Ada, Python, and who else reads no
+ * header. There the number of the interface isn't compared: compare etcs_abi first.
  */
 #ifndef ETCS_UNIT_H
 #define ETCS_UNIT_H
@@ -59,14 +65,17 @@
 
 #ifdef __cplusplus
 extern "C" {
-#define ETCS_UNIT_ASSERT(what) static_assert(what, #what)
-#elif defined(__STDC_VERSION__) && __STDC_VERSION__ >= 201112L
-#define ETCS_UNIT_ASSERT(what) _Static_assert(what, #what)
+#endif
+
+#if UINTPTR_MAX != UINT64_MAX
+#define ETCS_UNIT_ASSERT(what) extern char etcs_unit_assert_[1] /* etcs.h said so already */
+#elif defined(__cplusplus)
+#define ETCS_UNIT_ASSERT(what) static_assert(what, "the layout that the library has")
+#elif defined(__STDC_VERSION__) && (__STDC_VERSION__ >= 201112L)
+#define ETCS_UNIT_ASSERT(what) _Static_assert(what, "the layout that the library has")
 #else
 /* C99 has no assertion of its own: an array of size -1 is refused. */
-#define ETCS_UNIT_JOIN2(a, b) a##b
-#define ETCS_UNIT_JOIN(a, b) ETCS_UNIT_JOIN2(a, b)
-#define ETCS_UNIT_ASSERT(what) extern char ETCS_UNIT_JOIN(etcs_unit_assert_, __LINE__)[(what) ? 1 : -1]
+#define ETCS_UNIT_ASSERT(what) extern char etcs_unit_assert_[(what) ? 1 : -1]
 #endif
 
 /* The number of this interface: counted up with each change that a caller can see. */
@@ -128,6 +137,16 @@ enum etcs_unit_status {
     ETCS_UNIT_OTHER_ABI = 254,       /* the header is of another interface than the library */
     ETCS_UNIT_OUT_OF_RANGE = 255     /* a number or a length is outside its limits */
 };
+
+/* What an answer is (etcs_status_kind). */
+enum etcs_status_kind {
+    ETCS_KIND_OK = 0,      /* the call did what it was asked */
+    ETCS_KIND_MISTAKE = 1, /* the driver or the program asked what can't be done: nothing changed; put it right, and call again */
+    ETCS_KIND_FAULT = 2    /* a sensor, the clock, the medium, memory or the library failed: the emergency brake */
+};
+
+/* Whom a call's values come from. */
+enum etcs_source { ETCS_OF_DRIVER = 0, ETCS_OF_EQUIPMENT = 1 };
 
 /* Whether the train was moved while the unit was without power. */
 enum etcs_cold { ETCS_COLD_UNKNOWN = 0, ETCS_COLD_MOVED = 1, ETCS_COLD_NOT_MOVED = 2 };
@@ -229,15 +248,15 @@ typedef struct {
     uint64_t uncertainty_cm; /* how far that may be wrong to either side */
 } etcs_unit_state_told;
 
-ETCS_UNIT_ASSERT(sizeof(void *) == 8 && sizeof(size_t) == 8);
-ETCS_UNIT_ASSERT(sizeof(etcs_unit) == 16 && offsetof(etcs_unit, is_open) == 8);
-ETCS_UNIT_ASSERT(sizeof(etcs_unit_output) == 16 && offsetof(etcs_unit_output, limit_m_per_h) == 8 && offsetof(etcs_unit_output, mode) == 12
-                 && offsetof(etcs_unit_output, level) == 13 && offsetof(etcs_unit_output, brake) == 14 && offsetof(etcs_unit_output, indications) == 15);
-ETCS_UNIT_ASSERT(sizeof(etcs_unit_request_told) == 24 && offsetof(etcs_unit_request_told, sectors) == 8 && offsetof(etcs_unit_request_told, kind) == 16);
-ETCS_UNIT_ASSERT(sizeof(etcs_train_data) == 20 && offsetof(etcs_train_data, length_cm) == 0 && offsetof(etcs_train_data, category) == 16);
-ETCS_UNIT_ASSERT(sizeof(etcs_unit_state_told) == 80 && offsetof(etcs_unit_state_told, requests) == 16 && offsetof(etcs_unit_state_told, has_failed) == 40
-                 && offsetof(etcs_unit_state_told, pending) == 48 && offsetof(etcs_unit_state_told, moment_ms) == 56
-                 && offsetof(etcs_unit_state_told, front_cm) == 64 && offsetof(etcs_unit_state_told, uncertainty_cm) == 72);
+ETCS_UNIT_ASSERT((sizeof(void *) == 8u) && (sizeof(size_t) == 8u));
+ETCS_UNIT_ASSERT(sizeof(etcs_unit) == 16u && offsetof(etcs_unit, is_open) == 8u);
+ETCS_UNIT_ASSERT(sizeof(etcs_unit_output) == 16u && offsetof(etcs_unit_output, limit_m_per_h) == 8u && offsetof(etcs_unit_output, mode) == 12u
+                 && offsetof(etcs_unit_output, level) == 13u && offsetof(etcs_unit_output, brake) == 14u && offsetof(etcs_unit_output, indications) == 15u);
+ETCS_UNIT_ASSERT(sizeof(etcs_unit_request_told) == 24u && offsetof(etcs_unit_request_told, sectors) == 8u && offsetof(etcs_unit_request_told, kind) == 16u);
+ETCS_UNIT_ASSERT(sizeof(etcs_train_data) == 20u && offsetof(etcs_train_data, length_cm) == 0u && offsetof(etcs_train_data, category) == 16u);
+ETCS_UNIT_ASSERT(sizeof(etcs_unit_state_told) == 80u && offsetof(etcs_unit_state_told, requests) == 16u && offsetof(etcs_unit_state_told, has_failed) == 40u
+                 && offsetof(etcs_unit_state_told, pending) == 48u && offsetof(etcs_unit_state_told, moment_ms) == 56u
+                 && offsetof(etcs_unit_state_told, front_cm) == 64u && offsetof(etcs_unit_state_told, uncertainty_cm) == 72u);
 
 /* ---- the library's own names; the calls below test pointers first, and then call these */
 
@@ -267,44 +286,75 @@ uint32_t etcs_abi(void);
 /* Writes the version of the product, as "0.1.0", with no zero behind it, and to `len` how many bytes it has. Answers OK,
  * or NO_ROOM; then nothing is written. ETCS_VERSION_BYTES are always enough. */
 static inline uint32_t etcs_version(uint8_t *out, size_t room, uint32_t *len) {
-    return out && len ? etcs_version_(out, room, len) : (uint32_t)ETCS_UNIT_NULL_POINTER;
+    return ((out != NULL) && (len != NULL)) ? etcs_version_(out, room, len) : (uint32_t)ETCS_UNIT_NULL_POINTER;
 }
 
 /* The name of a status, as enum etcs_unit_status has it behind ETCS_UNIT_; "unknown" for a number that it doesn't have.
  * The text is the program's own, and never ends. */
 static inline const char *etcs_status_text(uint32_t status) {
+    const char *text = "unknown";
     switch (status) {
-    case ETCS_UNIT_OK: return "OK";
-    case ETCS_UNIT_OPEN_DEVICE_FAULT: return "OPEN_DEVICE_FAULT";
-    case ETCS_UNIT_OPEN_NOT_FORMATTED: return "OPEN_NOT_FORMATTED";
-    case ETCS_UNIT_OPEN_DAMAGED: return "OPEN_DAMAGED";
-    case ETCS_UNIT_OPEN_NO_MEMORY: return "OPEN_NO_MEMORY";
-    case ETCS_UNIT_OPEN_WORN_OUT: return "OPEN_WORN_OUT";
-    case ETCS_UNIT_PENDING_FULL: return "PENDING_FULL";
-    case ETCS_UNIT_CLOCK_BACK: return "CLOCK_BACK";
-    case ETCS_UNIT_NO_MEMORY: return "NO_MEMORY";
-    case ETCS_UNIT_INPUT_FAILED: return "INPUT_FAILED";
-    case ETCS_UNIT_FAILED: return "FAILED";
-    case ETCS_UNIT_REQUESTS_OWED: return "REQUESTS_OWED";
-    case ETCS_UNIT_WORN_OUT: return "WORN_OUT";
-    case ETCS_UNIT_IMAGE_NOT_FORMATTED: return "IMAGE_NOT_FORMATTED";
-    case ETCS_UNIT_IMAGE_DAMAGED: return "IMAGE_DAMAGED";
-    case ETCS_UNIT_NO_SUCH_SLOT: return "NO_SUCH_SLOT";
-    case ETCS_UNIT_NO_SUCH_BLOCK: return "NO_SUCH_BLOCK";
-    case ETCS_UNIT_NO_SUCH_RECORD: return "NO_SUCH_RECORD";
-    case ETCS_UNIT_END: return "END";
-    case ETCS_UNIT_NOT_REPLAYED: return "NOT_REPLAYED";
-    case ETCS_UNIT_BAD_SLOTS: return "BAD_SLOTS";
-    case ETCS_UNIT_WRONG_COUNT: return "WRONG_COUNT";
-    case ETCS_UNIT_NO_SUCH_REQUEST: return "NO_SUCH_REQUEST";
-    case ETCS_UNIT_NOT_OPEN: return "NOT_OPEN";
-    case ETCS_UNIT_IS_OPEN: return "IS_OPEN";
-    case ETCS_UNIT_NO_ROOM: return "NO_ROOM";
-    case ETCS_UNIT_NULL_POINTER: return "NULL_POINTER";
-    case ETCS_UNIT_OTHER_ABI: return "OTHER_ABI";
-    case ETCS_UNIT_OUT_OF_RANGE: return "OUT_OF_RANGE";
-    default: return "unknown";
+    case (uint32_t)ETCS_UNIT_OK: text = "OK"; break;
+    case (uint32_t)ETCS_UNIT_OPEN_DEVICE_FAULT: text = "OPEN_DEVICE_FAULT"; break;
+    case (uint32_t)ETCS_UNIT_OPEN_NOT_FORMATTED: text = "OPEN_NOT_FORMATTED"; break;
+    case (uint32_t)ETCS_UNIT_OPEN_DAMAGED: text = "OPEN_DAMAGED"; break;
+    case (uint32_t)ETCS_UNIT_OPEN_NO_MEMORY: text = "OPEN_NO_MEMORY"; break;
+    case (uint32_t)ETCS_UNIT_OPEN_WORN_OUT: text = "OPEN_WORN_OUT"; break;
+    case (uint32_t)ETCS_UNIT_PENDING_FULL: text = "PENDING_FULL"; break;
+    case (uint32_t)ETCS_UNIT_CLOCK_BACK: text = "CLOCK_BACK"; break;
+    case (uint32_t)ETCS_UNIT_NO_MEMORY: text = "NO_MEMORY"; break;
+    case (uint32_t)ETCS_UNIT_INPUT_FAILED: text = "INPUT_FAILED"; break;
+    case (uint32_t)ETCS_UNIT_FAILED: text = "FAILED"; break;
+    case (uint32_t)ETCS_UNIT_REQUESTS_OWED: text = "REQUESTS_OWED"; break;
+    case (uint32_t)ETCS_UNIT_WORN_OUT: text = "WORN_OUT"; break;
+    case (uint32_t)ETCS_UNIT_IMAGE_NOT_FORMATTED: text = "IMAGE_NOT_FORMATTED"; break;
+    case (uint32_t)ETCS_UNIT_IMAGE_DAMAGED: text = "IMAGE_DAMAGED"; break;
+    case (uint32_t)ETCS_UNIT_NO_SUCH_SLOT: text = "NO_SUCH_SLOT"; break;
+    case (uint32_t)ETCS_UNIT_NO_SUCH_BLOCK: text = "NO_SUCH_BLOCK"; break;
+    case (uint32_t)ETCS_UNIT_NO_SUCH_RECORD: text = "NO_SUCH_RECORD"; break;
+    case (uint32_t)ETCS_UNIT_END: text = "END"; break;
+    case (uint32_t)ETCS_UNIT_NOT_REPLAYED: text = "NOT_REPLAYED"; break;
+    case (uint32_t)ETCS_UNIT_BAD_SLOTS: text = "BAD_SLOTS"; break;
+    case (uint32_t)ETCS_UNIT_WRONG_COUNT: text = "WRONG_COUNT"; break;
+    case (uint32_t)ETCS_UNIT_NO_SUCH_REQUEST: text = "NO_SUCH_REQUEST"; break;
+    case (uint32_t)ETCS_UNIT_NOT_OPEN: text = "NOT_OPEN"; break;
+    case (uint32_t)ETCS_UNIT_IS_OPEN: text = "IS_OPEN"; break;
+    case (uint32_t)ETCS_UNIT_NO_ROOM: text = "NO_ROOM"; break;
+    case (uint32_t)ETCS_UNIT_NULL_POINTER: text = "NULL_POINTER"; break;
+    case (uint32_t)ETCS_UNIT_OTHER_ABI: text = "OTHER_ABI"; break;
+    case (uint32_t)ETCS_UNIT_OUT_OF_RANGE: text = "OUT_OF_RANGE"; break;
+    default: break;
     }
+    return text;
+}
+
+/* What an answer is (enum etcs_status_kind), of a call whose values come from there (enum etcs_source): an identity, a
+ * number, train data or an action from the driver, all else from the equipment. Out of range is a mistake of the driver,
+ * and a fault of a sensor, the clock or a reader of balises. A mistake of the program, such as PENDING_FULL, is one as long
+ * as it is put right at once; a reading that is never handed in is as good as a sensor that failed. */
+static inline uint32_t etcs_status_kind(uint32_t status, uint32_t source) {
+    uint32_t kind = (uint32_t)ETCS_KIND_FAULT;
+    switch (status) {
+    case (uint32_t)ETCS_UNIT_OK:
+        kind = (uint32_t)ETCS_KIND_OK;
+        break;
+    case (uint32_t)ETCS_UNIT_OUT_OF_RANGE:
+        kind = (source == (uint32_t)ETCS_OF_DRIVER) ? (uint32_t)ETCS_KIND_MISTAKE : (uint32_t)ETCS_KIND_FAULT;
+        break;
+    case (uint32_t)ETCS_UNIT_PENDING_FULL:
+    case (uint32_t)ETCS_UNIT_REQUESTS_OWED:
+    case (uint32_t)ETCS_UNIT_WRONG_COUNT:
+    case (uint32_t)ETCS_UNIT_NO_SUCH_REQUEST:
+    case (uint32_t)ETCS_UNIT_IS_OPEN:
+    case (uint32_t)ETCS_UNIT_NO_ROOM:
+    case (uint32_t)ETCS_UNIT_NULL_POINTER:
+    case (uint32_t)ETCS_UNIT_BAD_SLOTS:
+        kind = (uint32_t)ETCS_KIND_MISTAKE;
+        break;
+    default:
+        break;
+    }
+    return kind;
 }
 
 /* Powers up on these sectors: `len` bytes, the whole medium, of which the unit keeps a copy. Behind it the requests of
@@ -312,7 +362,7 @@ static inline const char *etcs_status_text(uint32_t status) {
  * Answers OK, IS_OPEN, OTHER_ABI, OUT_OF_RANGE (the word), or one of the statuses of opening; then the unit is as
  * before. Takes memory: the copy, some 9 kB of room for requests, and the unit. */
 static inline uint32_t etcs_unit_open(etcs_unit *unit, const uint8_t *image, size_t len, uint32_t cold) {
-    return unit && image ? etcs_unit_open_(unit, image, len, cold, ETCS_UNIT_ABI) : (uint32_t)ETCS_UNIT_NULL_POINTER;
+    return ((unit != NULL) && (image != NULL)) ? etcs_unit_open_(unit, image, len, cold, ETCS_UNIT_ABI) : (uint32_t)ETCS_UNIT_NULL_POINTER;
 }
 
 /* ---- inputs: each takes one input into memory, also while requests are carried out. Nothing is released. They answer
@@ -320,38 +370,38 @@ static inline uint32_t etcs_unit_open(etcs_unit *unit, const uint8_t *image, siz
 
 /* The bytes that a balise sent, from 1 to ETCS_TELEGRAM_BYTES; they need not carry a telegram. */
 static inline uint32_t etcs_unit_telegram(etcs_unit *unit, const uint8_t *bytes, size_t len) {
-    return unit && bytes ? etcs_unit_telegram_(unit, bytes, len) : (uint32_t)ETCS_UNIT_NULL_POINTER;
+    return ((unit != NULL) && (bytes != NULL)) ? etcs_unit_telegram_(unit, bytes, len) : (uint32_t)ETCS_UNIT_NULL_POINTER;
 }
 
 /* A reading of the odometer: the movement since the last one, forward or backward, and the speed now, 0 only at
  * standstill. */
 static inline uint32_t etcs_unit_odometer(etcs_unit *unit, int64_t movement_cm, uint32_t speed_m_per_h) {
-    return unit ? etcs_unit_odometer_(unit, movement_cm, speed_m_per_h) : (uint32_t)ETCS_UNIT_NULL_POINTER;
+    return (unit != NULL) ? etcs_unit_odometer_(unit, movement_cm, speed_m_per_h) : (uint32_t)ETCS_UNIT_NULL_POINTER;
 }
 
 /* A moment of this life. Moments don't fall. */
 static inline uint32_t etcs_unit_clock(etcs_unit *unit, uint64_t moment_ms) {
-    return unit ? etcs_unit_clock_(unit, moment_ms) : (uint32_t)ETCS_UNIT_NULL_POINTER;
+    return (unit != NULL) ? etcs_unit_clock_(unit, moment_ms) : (uint32_t)ETCS_UNIT_NULL_POINTER;
 }
 
 /* An action of the driver (enum etcs_action). */
 static inline uint32_t etcs_unit_action(etcs_unit *unit, uint32_t action) {
-    return unit ? etcs_unit_action_(unit, action) : (uint32_t)ETCS_UNIT_NULL_POINTER;
+    return (unit != NULL) ? etcs_unit_action_(unit, action) : (uint32_t)ETCS_UNIT_NULL_POINTER;
 }
 
 /* The driver enters an identity, of 1 to 16 bytes. */
 static inline uint32_t etcs_unit_identity(etcs_unit *unit, const uint8_t *bytes, size_t len) {
-    return unit && bytes ? etcs_unit_identity_(unit, bytes, len) : (uint32_t)ETCS_UNIT_NULL_POINTER;
+    return ((unit != NULL) && (bytes != NULL)) ? etcs_unit_identity_(unit, bytes, len) : (uint32_t)ETCS_UNIT_NULL_POINTER;
 }
 
 /* The driver enters the running number. */
 static inline uint32_t etcs_unit_running_number(etcs_unit *unit, uint32_t number) {
-    return unit ? etcs_unit_running_number_(unit, number) : (uint32_t)ETCS_UNIT_NULL_POINTER;
+    return (unit != NULL) ? etcs_unit_running_number_(unit, number) : (uint32_t)ETCS_UNIT_NULL_POINTER;
 }
 
 /* The driver enters train data. */
 static inline uint32_t etcs_unit_train_data(etcs_unit *unit, const etcs_train_data *data) {
-    return unit && data ? etcs_unit_train_data_(unit, data) : (uint32_t)ETCS_UNIT_NULL_POINTER;
+    return ((unit != NULL) && (data != NULL)) ? etcs_unit_train_data_(unit, data) : (uint32_t)ETCS_UNIT_NULL_POINTER;
 }
 
 /* ---- from inputs to outputs */
@@ -359,24 +409,24 @@ static inline uint32_t etcs_unit_train_data(etcs_unit *unit, const etcs_train_da
 /* Puts what is pending onto the copy: its requests are then in the list, and its outputs held back. Where nothing is
  * pending the list stays empty. Answers OK, NOT_OPEN, or a status of preparing. */
 static inline uint32_t etcs_unit_prepare(etcs_unit *unit) {
-    return unit ? etcs_unit_prepare_(unit) : (uint32_t)ETCS_UNIT_NULL_POINTER;
+    return (unit != NULL) ? etcs_unit_prepare_(unit) : (uint32_t)ETCS_UNIT_NULL_POINTER;
 }
 
 /* Tells a request of the list, from 0 on, and the bytes that it writes. Answers OK, NOT_OPEN, NO_SUCH_REQUEST, or NO_ROOM
  * where it writes more than `room` bytes; but for OK nothing is written. ETCS_UNIT_REQUEST_BYTES are always enough. */
 static inline uint32_t etcs_unit_request(etcs_unit *unit, uint32_t index, etcs_unit_request_told *request, uint8_t *bytes, size_t room) {
-    return unit && request && bytes ? etcs_unit_request_(unit, index, request, bytes, room) : (uint32_t)ETCS_UNIT_NULL_POINTER;
+    return ((unit != NULL) && (request != NULL) && (bytes != NULL)) ? etcs_unit_request_(unit, index, request, bytes, room) : (uint32_t)ETCS_UNIT_NULL_POINTER;
 }
 
 /* Says that so many requests, from the first on, are done. Answers OK, NOT_OPEN or WRONG_COUNT. */
 static inline uint32_t etcs_unit_done(etcs_unit *unit, uint32_t count) {
-    return unit ? etcs_unit_done_(unit, count) : (uint32_t)ETCS_UNIT_NULL_POINTER;
+    return (unit != NULL) ? etcs_unit_done_(unit, count) : (uint32_t)ETCS_UNIT_NULL_POINTER;
 }
 
 /* Says that the medium failed: from then on inputs answer INPUT_FAILED, and prepare and release FAILED. Answers OK or
  * NOT_OPEN. */
 static inline uint32_t etcs_unit_fail(etcs_unit *unit) {
-    return unit ? etcs_unit_fail_(unit) : (uint32_t)ETCS_UNIT_NULL_POINTER;
+    return (unit != NULL) ? etcs_unit_fail_(unit) : (uint32_t)ETCS_UNIT_NULL_POINTER;
 }
 
 /* Releases what was held back, all of it, into room for ETCS_UNIT_OUTPUTS, and empties the list; `count` says how many
@@ -384,29 +434,31 @@ static inline uint32_t etcs_unit_fail(etcs_unit *unit) {
  * where not all requests are done; but for OK nothing changes, and neither an output nor `count` is written. */
 static inline uint32_t etcs_unit_release(etcs_unit *unit, etcs_unit_output *outputs, size_t room, uint32_t *count) {
     uint32_t released = 0;
-    if (!unit || !outputs || !count)
-        return ETCS_UNIT_NULL_POINTER;
-    const uint32_t status = etcs_unit_release_(unit, outputs, room, &released);
-    if (status == ETCS_UNIT_OK)
-        *count = released;
+    uint32_t status = (uint32_t)ETCS_UNIT_NULL_POINTER;
+    if ((unit != NULL) && (outputs != NULL) && (count != NULL)) {
+        status = etcs_unit_release_(unit, outputs, room, &released);
+        if (status == (uint32_t)ETCS_UNIT_OK) {
+            *count = released;
+        }
+    }
     return status;
 }
 
 /* Tells how far the unit is, and what is known of its life. Answers OK, or NOT_OPEN; then `state` isn't written. */
 static inline uint32_t etcs_unit_state(etcs_unit *unit, etcs_unit_state_told *state) {
-    return unit && state ? etcs_unit_state_(unit, state) : (uint32_t)ETCS_UNIT_NULL_POINTER;
+    return ((unit != NULL) && (state != NULL)) ? etcs_unit_state_(unit, state) : (uint32_t)ETCS_UNIT_NULL_POINTER;
 }
 
 /* Closes it, and gives its memory back. What is pending, and what is held back, is lost to this life; what was prepared
  * may be found by the next one. Answers OK, or NOT_OPEN, which is allowed. */
 static inline uint32_t etcs_unit_close(etcs_unit *unit) {
-    return unit ? etcs_unit_close_(unit) : (uint32_t)ETCS_UNIT_NULL_POINTER;
+    return (unit != NULL) ? etcs_unit_close_(unit) : (uint32_t)ETCS_UNIT_NULL_POINTER;
 }
 
 /* Tells what is to be done, from 0 on, to make a medium of 1 + 6 * slots sectors an empty journal. It needs no unit.
  * Answers OK, BAD_SLOTS, NO_SUCH_REQUEST behind the last one, or NO_ROOM (fewer than ETCS_UNIT_SECTOR bytes). */
 static inline uint32_t etcs_unit_format_request(uint32_t slots, uint32_t index, etcs_unit_request_told *request, uint8_t *bytes, size_t room) {
-    return request && bytes ? etcs_unit_format_request_(slots, index, request, bytes, room) : (uint32_t)ETCS_UNIT_NULL_POINTER;
+    return ((request != NULL) && (bytes != NULL)) ? etcs_unit_format_request_(slots, index, request, bytes, room) : (uint32_t)ETCS_UNIT_NULL_POINTER;
 }
 
 #ifdef __cplusplus

@@ -45,8 +45,9 @@ sanitizers=(-fsanitize=address,undefined -fno-sanitize-recover=all -static-libas
 
 # ---- the headers alone, in each language
 
+printf '#include "etcs.h"\n#include "etcs_unit.h"\n#include "etcs_image.h"\n' >"$made/all.c"
 tried=0
-for header in etcs etcs_unit etcs_file etcs_image; do
+for header in etcs etcs_unit etcs_file etcs_image etcs_memory; do
     echo "#include \"$header.h\"" >"$made/alone"
     echo "typedef int something;" >>"$made/alone"
     for words in "c -std=c99" "c -std=c11" "c -std=c17" "c++ -std=c++17" "c++ -std=c++20"; do
@@ -57,18 +58,31 @@ for header in etcs etcs_unit etcs_file etcs_image; do
         done
     done
 done
-counted "headers alone" $tried 20
+counted "headers alone" $tried 25
+# a machine of 32 bits is told so in one sentence
+told=$(gcc -m32 -ffreestanding -I "$include" -fsyntax-only "$made/all.c" 2>&1 | grep -c 'error:')
+said=$(gcc -m32 -ffreestanding -I "$include" -fsyntax-only "$made/all.c" 2>&1 | grep -c 'error: #error "the library is for machines with pointers of 64 bits')
+[ "$told $said" = "1 1" ] || fails "a machine of 32 bits is told other things: $told errors"
 
-# ---- the names that the library shows are those that the headers declare, as gcc reads them
+# ---- the names that the library shows are those that the headers declare or define, as gcc reads them
 
-printf '#include "etcs.h"\n#include "etcs_unit.h"\n#include "etcs_image.h"\n' >"$made/all.c"
 gcc -std=c99 -I "$include" -aux-info "$made/declared" -c "$made/all.c" -o "$made/all.o" || fails "the headers don't compile"
-sed -n 's@^/\* [^ ]*/etcs[a-z_]*\.h:[0-9]*:NC \*/ extern .*[ *]\(etcs_[a-z_]*\) (.*@\1@p' "$made/declared" | LC_ALL=C sort -u >"$made/names"
+named() { sed -n 's@^/\* [^ ]*/etcs[a-z_]*\.h:[0-9]*:N[CF] \*/ \(extern\|static\) .*[ *]\(etcs_[a-z_]*\) (.*@\2@p' "$made/declared" | LC_ALL=C sort -u; }
+named >"$made/names"
 nm -D --defined-only "$shared" | sed 's/.* //' | LC_ALL=C sort >"$made/shown"
 nm --defined-only --extern-only "$archive" | sed -n 's/^[0-9a-f]* . //p' | LC_ALL=C sort >"$made/in_archive"
 diff "$made/names" "$made/shown" || fails "the shared library shows other names than the headers declare"
 diff "$made/names" "$made/in_archive" || fails "the static library shows other names than the headers declare"
-counted "names of the library" "$(wc -l <"$made/shown")" 28
+static=$prefix/lib/libetcs_unit_static.a
+echo '#include "etcs_memory.h"' >>"$made/all.c"
+gcc -std=c99 -I "$include" -aux-info "$made/declared" -c "$made/all.c" -o "$made/all.o" || fails "the headers don't compile"
+named >"$made/names"
+nm --defined-only --extern-only "$static" | sed -n 's/^[0-9a-f]* . //p' | LC_ALL=C sort >"$made/in_archive"
+diff "$made/names" "$made/in_archive" || fails "the library without malloc shows other names than the headers declare"
+asked=$(nm -u "$static" | sed -n 's/^ *U //p' | LC_ALL=C sort -u | tr '\n' ' ')
+[ "$asked" = "memcpy memmove memset " ] || fails "the library without malloc asks for $asked"
+counted "names of the library" "$(wc -l <"$made/shown")" 55
+"$python" "$top/tests/unit/symbols.py" "$shared" $(cat "$made/shown") || fails "the calls as symbols"
 needed=$(objdump -p "$shared" | sed -n 's/^ *NEEDED *//p' | tr '\n' ' ')
 soname=$(objdump -p "$shared" | sed -n 's/^ *SONAME *//p')
 [ "$needed" = "libc.so.6 " ] || fails "the shared library needs $needed"
@@ -177,12 +191,38 @@ gcc -std=gnu11 -O2 -fPIC -shared "$top/tests/hostile/refuse.c" -o "$made/refuse.
 
 others=$(nm -u "$archive" | grep -Ew 'calloc|aligned_alloc|posix_memalign|memalign|mmap|sbrk' | tr -s ' \n' ' ')
 [ -z "$others" ] || fails "the library takes memory in a way that no test refuses:$others"
+
+# ---- memory of the maker's own: the allocator beside a plain model, what a unit needs at most, and refusals by the buffer
+
+link=("$archive")
+for name in pieces string_calls; do
+    words=(-I "$top/surroundings" -fno-builtin)
+    [ "$name" != pieces ] || words+=("$top/surroundings/pieces.c")
+    build "$name.gcc" "$top/tests/unit/$name.c" gcc -x c -std=c11 -O2 "${words[@]}"
+    build "$name.checked" "$top/tests/unit/$name.c" gcc -x c -std=c11 -O1 "${sanitizers[@]}" "${words[@]}"
+done
+runs_well "$made/pieces.gcc" 1000 7
+runs_well "$made/pieces.checked"
+runs_well "$made/string_calls.gcc"
+runs_well "$made/string_calls.checked"
+link=("$static")
+build bounded.gcc "$top/tests/unit/bounded.c" gcc -x c -std=c99 -O2
+"$python" "$top/tests/unit/bounded_lives.py" "$made/bounded.gcc" || status=1
+"$python" "$top/tests/unit/bounded_lives.py" "$made/bounded.gcc" hours 1 || status=1
+# (the archive as the toolchain built it, which asks for memory by three names)
+raw=${ETCS_UNIT_ARCHIVE:-$top/crates/etcs_unit/out/libetcs_unit.a}
+link=("$raw" -Wl,--wrap=rattle_alloc,--wrap=rattle_realloc,--wrap=rattle_dealloc)
+build refused.pieces "$top/tests/unit/refused.c" gcc -x c -std=c99 -O2 -DOVER_PIECES -I "$top/surroundings" "$top/surroundings/pieces.c" "$top/surroundings/heap_of_pieces.c"
+
+# ---- refused memory, by malloc and by the buffer
+
 for program in "$made"/refused.*; do "$python" "$top/tests/unit/refused_lives.py" "$program" || status=1; done
 
-# ---- the package in Python, and the page
+# ---- the package in Python, and the pages
 
 (cd "$top/python" && "$python" -m unittest -q tests.test_unit) >"$made/said" 2>&1 && grep -q '^Ran 14 tests' "$made/said" && ! grep -q skipped "$made/said" ||
     { cat "$made/said"; fails "python/tests/test_unit.py: failures, or other than 14 tests"; }
-ETCS_LAB=$lab ETCS_UNIT_ARCHIVE=$archive ETCS_C_ARCHIVE=$archive "$python" "$top/tests/pages.py" EMBEDDING || status=1
+"$python" "$top/tests/unit/integration.py" || status=1
+ETCS_LAB=$lab ETCS_UNIT_ARCHIVE=$raw ETCS_C_ARCHIVE=${ETCS_C_ARCHIVE:-$top/crates/etcs_c/out/libetcs_c.a} "$python" "$top/tests/pages.py" EMBEDDING || status=1
 echo "the unit: $([ $status -eq 0 ] && echo "no failures" || echo "failures, see above")"
 exit $status

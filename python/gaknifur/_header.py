@@ -63,6 +63,21 @@ class Status(enum.IntEnum):
     OUT_OF_RANGE = 255
 
 
+class StatusKind(enum.IntEnum):
+    """What an answer is (etcs_status_kind)."""
+
+    OK = 0
+    MISTAKE = 1
+    FAULT = 2
+
+
+class Source(enum.IntEnum):
+    """Whom a call's values come from."""
+
+    DRIVER = 0
+    EQUIPMENT = 1
+
+
 class Cold(enum.IntEnum):
     """Whether the train was moved while the unit was without power."""
 

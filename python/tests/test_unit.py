@@ -16,7 +16,7 @@ from unittest import mock
 import gaknifur
 from gaknifur import lives
 from gaknifur import unit as units
-from gaknifur._header import Fault, RequestKind
+from gaknifur._header import Fault, RequestKind, Source, StatusKind
 from gaknifur.lives import BrakeCause, Datum, KeptField, LimitCause, RecordField, TripCause, Verdict
 from gaknifur.unit import (Action, Brake, Cold, FileMedium, Indication, Kind, Level, MemoryMedium, Mode, Output, Record, Refused,
                            SlotState, Status, TrainData, Unit)
@@ -32,7 +32,7 @@ class Names(unittest.TestCase):
 
     def test_enums(self) -> None:
         enums: list[type[enum.IntEnum | enum.IntFlag]] = [
-            Fault, Status, Cold, Action, Mode, Level, Brake, Indication, RequestKind, SlotState, Kind, Datum, Verdict,
+            Fault, Status, StatusKind, Source, Cold, Action, Mode, Level, Brake, Indication, RequestKind, SlotState, Kind, Datum, Verdict,
             RecordField, KeptField, BrakeCause, TripCause, LimitCause]
         text = "".join((INCLUDE / name).read_text() for name in ("etcs.h", "etcs_unit.h", "etcs_image.h"))
         bodies = re.findall(r"^enum \w+ \{(.*?)\};", text, re.DOTALL | re.MULTILINE)
@@ -45,7 +45,7 @@ class Names(unittest.TestCase):
     def test_the_texts_of_statuses(self) -> None:
         """The header's text of each status is its name, and docs/REFUSALS.md explains each."""
         text = HEADER.read_text()
-        told = dict(re.findall(r'case ETCS_UNIT_(\w+): return "(\w+)";', text))
+        told = dict(re.findall(r'case \(uint32_t\)ETCS_UNIT_(\w+): text = "(\w+)";', text))
         self.assertEqual(told, {one.name: one.name for one in Status})
         page = (INCLUDE.parent / "docs" / "REFUSALS.md").read_text()
         part = page[page.index("## The unit from C"):page.index("## The program")]

@@ -339,8 +339,26 @@ static void formatting(void) {
     is("the first sector is written last", first, 1);
 }
 
+/* What an answer is, of the driver's values and of the equipment's: by hand, from what etcs_unit.h says of each status. */
+static void kinds(void) {
+    static const uint8_t mistakes[] = {10, 22, 41, 248, 249, 251, 252, 253};
+    for (uint32_t status = 0; status < 300; status++) {
+        uint32_t driver = status == 0 ? ETCS_KIND_OK : ETCS_KIND_FAULT, equipment;
+        for (size_t i = 0; i < sizeof mistakes; i++)
+            if (mistakes[i] == status)
+                driver = ETCS_KIND_MISTAKE;
+        equipment = driver;
+        if (status == 255)
+            driver = ETCS_KIND_MISTAKE;
+        is("kind of an answer to the driver", etcs_status_kind(status, ETCS_OF_DRIVER), driver);
+        is("kind of an answer to the equipment", etcs_status_kind(status, ETCS_OF_EQUIPMENT), equipment);
+        is("kind of an answer to who knows", etcs_status_kind(status, 7), equipment);
+    }
+}
+
 int main(void) {
     medium on = formatted(4);
+    kinds();
     null_pointers(&on);
     version();
     etcs_unit unit = {0};
@@ -351,5 +369,5 @@ int main(void) {
     failing(&on);
     formatting();
     free(on.bytes);
-    return told("misuse", 310);
+    return told("misuse", 1240);
 }

@@ -5,7 +5,13 @@
  *
  * A call that is refused memory says so and changes nothing that is told; it is made once more. All else is as in a run without a refusal:
  * each status, request, byte and output, and what the medium holds in the end. Only `open` and the inputs ask for memory, and behind the
- * life all of it is given back. Where the life meets no refusal the run fails. Built with --wrap for malloc, realloc and free. */
+ * life all of it is given back. Where the life meets no refusal the run fails. Built with --wrap for malloc, realloc and free; or, over memory of
+ * the maker's own (etcs_memory.h), with OVER_PIECES and --wrap for rattle_alloc, rattle_realloc and rattle_dealloc, by which the proved
+ * library asks. */
+#ifdef OVER_PIECES
+#include "etcs_memory.h"
+#include "heap.h"
+#endif
 #include "inputs.h"
 #include "medium.h"
 
@@ -17,19 +23,57 @@ static unsigned long asked, refused_at; /* requests so far in this run; which on
 static long held;                       /* how many pieces are out */
 static int is_refused;                  /* whether the call that runs met the refusal */
 
-void *__real_malloc(size_t size);
-void *__real_realloc(void *old, size_t size);
-void __real_free(void *old);
-void *__wrap_malloc(size_t size);
-void *__wrap_realloc(void *old, size_t size);
-void __wrap_free(void *old);
-
 static int refuses(void) {
     if (++asked != refused_at)
         return 0;
     is_refused = 1;
     return 1;
 }
+
+#ifdef OVER_PIECES
+
+rattle_tried __real_rattle_alloc(uint64_t size, uint64_t align);
+rattle_tried __real_rattle_realloc(void *old, uint64_t kept, uint64_t size, uint64_t align);
+void __real_rattle_dealloc(void *old);
+rattle_tried __wrap_rattle_alloc(uint64_t size, uint64_t align);
+rattle_tried __wrap_rattle_realloc(void *old, uint64_t kept, uint64_t size, uint64_t align);
+void __wrap_rattle_dealloc(void *old);
+
+rattle_tried __wrap_rattle_alloc(uint64_t size, uint64_t align) {
+    const rattle_tried made = refuses() ? rattle_tells(NULL) : __real_rattle_alloc(size, align);
+    held += made.is_there != 0;
+    return made;
+}
+
+rattle_tried __wrap_rattle_realloc(void *old, uint64_t kept, uint64_t size, uint64_t align) {
+    return refuses() ? rattle_tells(NULL) : __real_rattle_realloc(old, kept, size, align);
+}
+
+void __wrap_rattle_dealloc(void *old) {
+    held--;
+    __real_rattle_dealloc(old);
+}
+
+/* The bytes of the buffer that are out. */
+static uint64_t used(void) {
+    etcs_memory_told state = {0, 0, 0, 0, 0};
+    is("state", etcs_memory_state(&state), ETCS_UNIT_OK);
+    return state.used;
+}
+
+static void begin(void) {
+    static uint8_t buffer[ETCS_MEMORY_BYTES(16, 264, 300, 9000, 9000)];
+    is("use", etcs_memory_use(buffer, sizeof buffer), ETCS_UNIT_OK);
+}
+
+#else
+
+void *__real_malloc(size_t size);
+void *__real_realloc(void *old, size_t size);
+void __real_free(void *old);
+void *__wrap_malloc(size_t size);
+void *__wrap_realloc(void *old, size_t size);
+void __wrap_free(void *old);
 
 void *__wrap_malloc(size_t size) {
     void *const made = refuses() ? NULL : __real_malloc(size);
@@ -47,6 +91,15 @@ void __wrap_free(void *old) {
     held -= old != NULL;
     __real_free(old);
 }
+
+static uint64_t used(void) {
+    return 0;
+}
+
+static void begin(void) {
+}
+
+#endif
 
 /* ---- a run */
 
@@ -135,7 +188,7 @@ static void live(unsigned long at, answer *found) {
     for (unsigned i = 0; i < many; i++)
         found[i] = answer_to(lines[i]);
     etcs_unit_close(&unit);
-    is("what is held behind the life", (uint64_t)held, 0);
+    is("what is held behind the life", (uint64_t)held + used(), 0);
 }
 
 /* That a run was answered as the undisturbed one, and left the same bytes. */
@@ -165,6 +218,7 @@ int main(int count, char **words) {
     static uint8_t left[MOST_BYTES];
     if (count != 2 || !read_all(words[1]))
         return 2;
+    begin();
     live(0, wanted);
     memcpy(left, bytes, on.len);
     for (unsigned i = 0; i < many; i++)

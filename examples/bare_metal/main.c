@@ -1,0 +1,200 @@
+/* The unit on a board without an operating system and without a C library: QEMU's `virt`, 64 bits of ARM. Its memory is a
+ * buffer, its journal lies where a reset leaves it, and what is commanded goes to the serial line.
+ *
+ * A cycle of 100 ms, as a timer would call it: the odometer, the clock, and where there is one a telegram; then all of it
+ * goes onto the medium, and what is released is obeyed. The train is simulated: it gets an authority of 2,000 m, and
+ * doesn't heed it. Where it stands, the board is reset, and the next life goes on from the medium. */
+#include "board.h"
+#include "etcs_memory.h"
+
+enum { CYCLE_MS = 100, MOST_CYCLES = 2000, SLOTS = 64, SECTORS = 1 + 6 * SLOTS };
+
+/* What the unit may take: groups of at most 16 packets, 32 restrictions, 100 gradients, 100 static speeds at once. */
+static _Alignas(16) uint8_t memory[ETCS_MEMORY_BYTES(SLOTS, 16, 32, 100, 100)];
+
+/* The medium: memory that keeps what it has where the board is reset. A driver of a flash stands in its place. */
+static uint8_t (*const medium)[ETCS_UNIT_SECTOR] = (uint8_t (*)[ETCS_UNIT_SECTOR])UINT64_C(0x4A000000);
+
+typedef struct {
+    uint64_t moment_ms;
+    int64_t rest; /* what of a movement is no whole centimetre, in 1/36,000 cm: it goes into the next reading */
+    uint32_t speed_m_per_h;
+    uint8_t brake;
+} train;
+
+/* ---- the serial line */
+
+static void say(const char *text) {
+    while (*text != 0) {
+        board_put(*text++);
+    }
+}
+
+static void say_number(uint64_t number) {
+    char digits[20];
+    unsigned count = 0;
+    do {
+        digits[count++] = (char)('0' + (number % 10u));
+        number /= 10u;
+    } while (number > 0u);
+    while (count > 0u) {
+        board_put(digits[--count]);
+    }
+}
+
+/* ---- the medium */
+
+/* Carries out one request; 0 where the medium failed. A sync waits until all that was written is kept: here it is. */
+static int carries_out(const etcs_unit_request_told *request, const uint8_t *bytes) {
+    const uint64_t length = request->sectors * ETCS_UNIT_SECTOR;
+    if ((request->kind == ETCS_REQUEST_WRITE) && ((request->sector + request->sectors) > SECTORS)) {
+        return 0;
+    }
+    for (uint64_t i = 0; i < length; i++) {
+        medium[request->sector][i] = bytes[i];
+    }
+    return 1;
+}
+
+/* Carries out the list, one request after the other, and releases what was held back. */
+static uint32_t release(etcs_unit *unit, etcs_unit_output *outputs, uint32_t *count) {
+    static uint8_t bytes[ETCS_UNIT_REQUEST_BYTES];
+    etcs_unit_request_told request;
+    uint32_t index = 0, status;
+    while ((status = etcs_unit_request(unit, index, &request, bytes, sizeof bytes)) == ETCS_UNIT_OK) {
+        if (carries_out(&request, bytes) == 0) {
+            (void)etcs_unit_fail(unit);
+            return ETCS_UNIT_FAILED;
+        }
+        index++;
+    }
+    status = (status == ETCS_UNIT_NO_SUCH_REQUEST) ? etcs_unit_done(unit, index) : status;
+    return (status == ETCS_UNIT_OK) ? etcs_unit_release(unit, outputs, ETCS_UNIT_OUTPUTS, count) : status;
+}
+
+static uint32_t format(void) {
+    static uint8_t bytes[ETCS_UNIT_SECTOR];
+    etcs_unit_request_told request;
+    uint32_t index = 0, status;
+    while ((status = etcs_unit_format_request(SLOTS, index, &request, bytes, sizeof bytes)) == ETCS_UNIT_OK) {
+        (void)carries_out(&request, bytes);
+        index++;
+    }
+    return (status == ETCS_UNIT_NO_SUCH_REQUEST) ? (uint32_t)ETCS_UNIT_OK : status;
+}
+
+/* ---- the train */
+
+/* Its movement in one cycle, in whole centimetres: it pulls with 0.5 m/s^2, and slows with 0.7 and 1. */
+static int64_t moved(train *our) {
+    static const int64_t gained[] = {180, -252, -360}; /* m/h in 100 ms */
+    const int64_t speed = (int64_t)our->speed_m_per_h + gained[our->brake];
+    our->speed_m_per_h = (speed < 0) ? 0u : ((speed > 100000) ? 100000u : (uint32_t)speed);
+    const int64_t way = ((int64_t)our->speed_m_per_h * CYCLE_MS) + our->rest;
+    our->rest = way % 36000;
+    return way / 36000;
+}
+
+static void obey(train *our, const etcs_unit_output *output) {
+    static const char *const brakes[] = {"none", "service", "emergency"};
+    if (output->brake != our->brake) {
+        say("event ");
+        say_number(output->event);
+        say(": brake ");
+        say(brakes[output->brake]);
+        say(", limit ");
+        say_number(output->limit_m_per_h);
+        say(" m/h\n");
+    }
+    our->brake = output->brake;
+}
+
+/* The driver makes the train ready, and a group gives the authority. */
+static uint32_t make_ready(etcs_unit *unit) {
+    static const uint8_t authority[] = {0x90, 0x00, 0x7F, 0x80, 0x20, 0x01, 0x43, 0x20, 0x24, 0xA8, 0x00, 0x7F, 0xE0, 0x07, 0xD0, 0x02,
+                                        0xB0, 0x0D, 0x90, 0x00, 0x10, 0x00, 0x0D, 0xC0, 0x3A, 0x40, 0x00, 0x20, 0x80, 0x1F, 0xE0};
+    static const etcs_train_data data = {20000, 160000, 70, 0, 15}; /* 200 m, 160 km/h, 0.7 m/s^2, category 15 */
+    uint32_t status = etcs_unit_telegram(unit, authority, sizeof authority);
+    if (status == ETCS_UNIT_OK) {
+        status = etcs_unit_identity(unit, (const uint8_t *)"IC 704", 6);
+    }
+    if (status == ETCS_UNIT_OK) {
+        status = etcs_unit_action(unit, ETCS_CHOOSE_LEVEL_1);
+    }
+    if (status == ETCS_UNIT_OK) {
+        status = etcs_unit_train_data(unit, &data);
+    }
+    return (status == ETCS_UNIT_OK) ? etcs_unit_action(unit, ETCS_START) : status;
+}
+
+/* One cycle: what the sensors say, onto the medium, and what comes of it. */
+static uint32_t cycle(etcs_unit *unit, train *our) {
+    etcs_unit_output outputs[ETCS_UNIT_OUTPUTS];
+    uint32_t count = 0;
+    our->moment_ms += CYCLE_MS;
+    const int64_t movement = moved(our); /* (first, since the speed goes with it) */
+    uint32_t status = etcs_unit_odometer(unit, movement, our->speed_m_per_h);
+    if (status == ETCS_UNIT_OK) {
+        status = etcs_unit_clock(unit, our->moment_ms);
+    }
+    if (status == ETCS_UNIT_OK) {
+        status = etcs_unit_prepare(unit);
+    }
+    if (status == ETCS_UNIT_OK) {
+        status = release(unit, outputs, &count);
+    }
+    for (uint32_t i = 0; (status == ETCS_UNIT_OK) && (i < count); i++) {
+        obey(our, &outputs[i]);
+    }
+    return status;
+}
+
+/* A life: from the power-up until the train stands, or for so many cycles. */
+static uint32_t live(int is_ready, int cycles) {
+    train our = {0, 0, 0, ETCS_BRAKE_EMERGENCY};
+    etcs_unit unit = {0};
+    etcs_unit_output outputs[ETCS_UNIT_OUTPUTS];
+    uint32_t count = 0, status = etcs_unit_open(&unit, medium[0], sizeof medium[0] * SECTORS, ETCS_COLD_UNKNOWN);
+    if (status == ETCS_UNIT_OK) {
+        status = release(&unit, outputs, &count);
+    }
+    if ((status == ETCS_UNIT_OK) && (is_ready != 0)) {
+        status = make_ready(&unit);
+    }
+    for (int at = 0; (status == ETCS_UNIT_OK) && (at < cycles) && ((at < 2) || (our.speed_m_per_h > 0u)); at++) {
+        status = cycle(&unit, &our);
+    }
+    say("the train stands after ");
+    say_number(our.moment_ms);
+    say(" ms, ");
+    say((our.brake == ETCS_BRAKE_EMERGENCY) ? "emergency brake\n" : "no emergency brake\n");
+    (void)etcs_unit_close(&unit);
+    return status;
+}
+
+int main(void) {
+    etcs_memory_told told = {0, 0, 0, 0, 0};
+    board_paint();
+    uint32_t status = etcs_memory_use(memory, sizeof memory);
+    if (status == ETCS_UNIT_OK) {
+        status = format();
+    }
+    if (status == ETCS_UNIT_OK) {
+        status = live(1, MOST_CYCLES);
+    }
+    if (status == ETCS_UNIT_OK) {
+        status = live(0, 2); /* the board was reset */
+    }
+    if (status == ETCS_UNIT_OK) {
+        status = etcs_memory_state(&told);
+    }
+    say((status == ETCS_UNIT_OK) ? "memory: " : "emergency brake: ");
+    say((status == ETCS_UNIT_OK) ? "" : etcs_status_text(status));
+    say_number(told.most_used);
+    say(" of ");
+    say_number(told.size);
+    say(" bytes; stack: ");
+    say_number(board_stack());
+    say(" bytes\n");
+    return 0;
+}

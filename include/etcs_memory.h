@@ -1,0 +1,76 @@
+/*
+ * Memory of the maker's own for the onboard unit: of the variant of the library that takes none from a C library
+ * (libetcs_unit_static.a, and all libraries for machines without one).
+ *
+ *     static uint8_t arena[ETCS_MEMORY_BYTES(64, 16, 32, 100, 100)];
+ *
+ *     if (etcs_memory_use(arena, sizeof arena) != ETCS_UNIT_OK)
+ *         brake();
+ *     ...
+ *     if (etcs_unit_open(&unit, image, size, ETCS_COLD_UNKNOWN) != ETCS_UNIT_OK)
+ *
+ * All that the library takes comes from this buffer, and goes back there. Each request takes a time that doesn't depend
+ * on what was taken and given back before, but for the bytes that a piece has which is moved: the allocator is TLSF (two
+ * levels of lists, each of sizes within a 16th of each other, and a map of which lists have a piece), as M. Masmano, I.
+ * Ripoll, A. Crespo and J. Real describe it in "TLSF: a new dynamic memory allocator for real-time systems" (16th
+ * Euromicro Conference on Real-Time Systems, 2004).
+ *
+ * A request that finds no piece is refused: opening answers OPEN_NO_MEMORY, an input, etcs_image_replay and
+ * etcs_image_why NO_MEMORY, and nothing has changed. The buffer is one for all units of the program. So calls that take
+ * or give memory (etcs_unit_open and _close, the inputs, etcs_image_replay and _why, and those below) are for one task
+ * at a time, also where they are for different units.
+ *
+ * The caller owes that nobody else reads or writes the buffer until another one is used.
+ */
+#ifndef ETCS_MEMORY_H
+#define ETCS_MEMORY_H
+
+#include "etcs_unit.h"
+
+#ifdef __cplusplus
+extern "C" {
+#endif
+
+/* The bytes of a buffer, at least and at most. */
+#define ETCS_MEMORY_LEAST UINT64_C(4096)
+#define ETCS_MEMORY_MOST UINT64_C(0x400000000)
+
+/* What one unit, alone on a buffer, needs at most, in bytes, of:
+ *
+ * - slots: of its medium, which has 1 + 6 * slots sectors;
+ * - packets: that the telegrams of one group have together, at most (264: eight telegrams of 33);
+ * - restrictions: temporary speed restrictions in force at once, from 1 km behind the train on, with those ahead;
+ * - gradients, speeds: segments of the gradient profile and of the static speed profile, from 1 km behind the train on,
+ *   with those ahead.
+ *
+ * A unit that got so much is never refused memory behind its opening, as long as the track keeps to these numbers:
+ * docs/INTEGRATION.md tells why, and what showed it. */
+#define ETCS_MEMORY_BYTES(slots, packets, restrictions, gradients, speeds)                                             \
+    (UINT64_C(32768) + UINT64_C(3072) * (uint64_t)(slots) + UINT64_C(7168) * (uint64_t)(packets)                       \
+     + UINT64_C(136) * (uint64_t)(restrictions) + UINT64_C(68) * (uint64_t)(gradients)                                 \
+     + UINT64_C(136) * (uint64_t)(speeds))
+
+/* What of the buffer is out. */
+typedef struct {
+    uint64_t size;      /* what all pieces together may take of the buffer, with 16 bytes that each takes for itself */
+    uint64_t used;      /* what they take now */
+    uint64_t most_used; /* the most that they took at once since the buffer is used */
+    uint64_t pieces;    /* how many there are now */
+    uint64_t refused;   /* how many requests were refused since the buffer is used */
+} etcs_memory_told;
+
+ETCS_UNIT_ASSERT(sizeof(etcs_memory_told) == 40u && offsetof(etcs_memory_told, most_used) == 16u && offsetof(etcs_memory_told, refused) == 32u);
+
+/* From now on memory comes from this buffer, which may lie anywhere. Answers OK; OUT_OF_RANGE where it has fewer bytes
+ * than ETCS_MEMORY_LEAST or more than ETCS_MEMORY_MOST; IS_OPEN where a piece of the one before is out (a unit is open);
+ * NULL_POINTER. But for OK nothing changes. Before the first one every request is refused. */
+uint32_t etcs_memory_use(void *buffer, uint64_t size);
+
+/* Tells what is used. Answers OK; NOT_OPEN where no buffer is used; NULL_POINTER. */
+uint32_t etcs_memory_state(etcs_memory_told *told);
+
+#ifdef __cplusplus
+}
+#endif
+
+#endif

@@ -1,0 +1,12 @@
+# A version is fit for who asks for it, or for one before it of the same first number.
+set(PACKAGE_VERSION "@VERSION@")
+string(REGEX REPLACE "[.].*" "" etcs_unit_is "${PACKAGE_VERSION}")
+string(REGEX REPLACE "[.].*" "" etcs_unit_asked "${PACKAGE_FIND_VERSION}")
+if(PACKAGE_FIND_VERSION VERSION_EQUAL PACKAGE_VERSION)
+    set(PACKAGE_VERSION_EXACT TRUE)
+endif()
+if(etcs_unit_is STREQUAL etcs_unit_asked AND NOT PACKAGE_VERSION VERSION_LESS PACKAGE_FIND_VERSION)
+    set(PACKAGE_VERSION_COMPATIBLE TRUE)
+endif()
+unset(etcs_unit_is)
+unset(etcs_unit_asked)

@@ -1,0 +1,133 @@
+#!/bin/bash
+# The library on each machine that tools/library names: built and installed for it, and asked the same there as here. A script of lives with losses
+# of power, of calls in any order with wild numbers, and of telegrams (tests/targets/scripts.py) is carried out by a driver on x86-64, on aarch64 under
+# Linux (by qemu-user), on a bare board of aarch64 (by qemu-system), and in WebAssembly (by node); each answer, output and byte of the medium is the
+# same. Then the tests of the unit from C, and the examples, on aarch64; and find_package and pkg-config.
+#
+#     tests/targets.sh [LIVES CALLS TELEGRAMS]    40 2000 300; the long form is 400 20000 20000
+#
+# It needs gcc, gcc-aarch64-linux-gnu, qemu-user, qemu-system-arm, nodejs, cmake, pkg-config and valgrind. $TARGETS names a folder that has the libraries
+# already, one folder for each target.
+export PYTHONDONTWRITEBYTECODE=1
+top=$(cd "$(dirname "$(readlink -f -- "$0")")/.." && pwd) || exit 1
+python=/usr/bin/python3
+here=$top/tests/targets
+made=$(mktemp -d) || exit 1
+trap 'rm -rf "$made"' EXIT
+status=0
+lives=${1:-40} calls=${2:-2000} telegrams=${3:-300}
+
+fails() { echo "$*"; status=1; }
+
+targets=(x86_64-linux-gnu aarch64-linux-gnu aarch64-none-elf wasm64)
+libraries=${TARGETS:-$made}
+if [ -z "$TARGETS" ]; then
+    for target in "${targets[@]}"; do
+        "$top/tools/library" --target "$target" "$made/$target" >"$made/said" 2>&1 || { cat "$made/said"; echo "targets: the library for $target isn't built"; exit 1; }
+        tail -n 1 "$made/said"
+    done
+fi
+here_prefix=$libraries/x86_64-linux-gnu arm=$libraries/aarch64-linux-gnu bare=$libraries/aarch64-none-elf wasm=$libraries/wasm64
+strict=(-Wall -Wextra -Werror -Wconversion -Wsign-conversion -pedantic)
+cross=aarch64-linux-gnu-gcc
+bare_words=(-ffreestanding -nostdlib -static -no-pie -Wl,--build-id=none,--no-warn-rwx-segments -I "$bare/include" -I "$top/examples/bare_metal"
+    "$top/examples/bare_metal/start.S" -T "$top/examples/bare_metal/board.ld")
+
+# board FILE [SCRIPT]: runs a program on the board, and prints what comes on its serial line
+board() {
+    rm -f "$made/serial"
+    timeout 600 qemu-system-aarch64 -M virt -cpu cortex-a53 -m 256 -display none -monitor none -nic none -serial "file:$made/serial" -kernel "$1" \
+        ${2:+-device loader,file="$2",addr=0x48000000,force-raw=on} || fails "the board ends with another status than 0"
+    cat "$made/serial"
+}
+
+# ---- the same script everywhere
+
+for one in "gcc here $here_prefix/lib/libetcs_unit.a" "gcc here_static $here_prefix/lib/libetcs_unit_static.a -DOWN_MEMORY" \
+    "$cross aarch64 $arm/lib/libetcs_unit.a -static" "$cross aarch64_static $arm/lib/libetcs_unit_static.a -static -DOWN_MEMORY"; do
+    read -r compiler name library words <<<"$one"
+    # shellcheck disable=SC2086
+    "$compiler" -std=c99 -O2 "${strict[@]}" $words -I "$here_prefix/include" -I "$here" "$here/driver.c" "$here/hosted.c" "$library" -o "$made/$name" ||
+        fails "the driver doesn't compile: $name"
+done
+"$cross" -std=c11 -O2 "${strict[@]}" "${bare_words[@]}" -I "$here" "$here/driver.c" "$here/bare.c" "$bare/lib/libetcs_unit_static.a" -o "$made/board.elf" ||
+    fails "the driver doesn't compile for the board"
+"$python" "$here/scripts.py" script "$lives" "$calls" "$telegrams" >"$made/script" || fails "there is no script"
+"$made/here" <"$made/script" >"$made/told.x86_64" || fails "the driver ends with another status than 0"
+"$made/here_static" <"$made/script" >"$made/told.x86_64_own_memory" || fails "the driver over a buffer ends with another status than 0"
+qemu-aarch64 "$made/aarch64" <"$made/script" >"$made/told.aarch64" || fails "the driver on aarch64 ends with another status than 0"
+qemu-aarch64 "$made/aarch64_static" <"$made/script" >"$made/told.aarch64_own_memory" || fails "the driver over a buffer on aarch64 ends with another status than 0"
+board "$made/board.elf" "$made/script" >"$made/told.board"
+# (behind a version of node that has such memories as they are, the word is unknown)
+wide=--experimental-wasm-memory64
+node $wide -e '' 2>/dev/null || wide=
+node $wide --no-warnings "$here/driver.mjs" "$wasm/lib/etcs.wasm" <"$made/script" >"$made/told.wasm64" || fails "the driver in WebAssembly ends with another status than 0"
+"$python" "$here/scripts.py" compare "$made/script" "$made"/told.{x86_64,x86_64_own_memory,aarch64,aarch64_own_memory,board,wasm64} || status=1
+
+# ---- the tests of the unit from C, on aarch64
+
+rows=0
+for name in misuse two reading; do
+    "$cross" -x c -std=c99 -O2 "${strict[@]}" -static -I "$arm/include" -I "$top/tests/unit" "$top/tests/unit/$name.c" -x none "$arm/lib/libetcs_unit.a" -pthread -o "$made/$name" ||
+        fails "$name.c doesn't compile for aarch64"
+    qemu-aarch64 "$made/$name" >"$made/said" 2>&1 && rows=$((rows + 1)) || { cat "$made/said"; fails "$name.c on aarch64"; }
+    tail -n 1 "$made/said"
+done
+"$cross" -std=c11 -O2 "${strict[@]}" -static -fno-builtin -I "$arm/include" -I "$top/surroundings" -I "$top/tests/unit" "$top/tests/unit/pieces.c" "$top/surroundings/pieces.c" \
+    "$arm/lib/libetcs_unit.a" -o "$made/pieces" && qemu-aarch64 "$made/pieces" >"$made/said" 2>&1 && rows=$((rows + 1)) || { cat "$made/said"; fails "pieces.c on aarch64"; }
+"$python" "$top/tests/unit/layout.py" --program >"$made/places.c" && "$cross" -std=c99 "${strict[@]}" -static -I "$arm/include" "$made/places.c" -o "$made/layout.elf" &&
+    printf '#!/bin/bash\nexec qemu-aarch64 %q\n' "$made/layout.elf" >"$made/layout" && chmod +x "$made/layout" && "$python" "$top/tests/unit/layout.py" "$made/layout" && rows=$((rows + 1)) ||
+    fails "sizes and places on aarch64"
+[ $rows -eq 5 ] || fails "of the tests from C there are 5 to be run on aarch64"
+
+# ---- the examples
+
+"$cross" -std=c11 -O2 "${strict[@]}" "${bare_words[@]}" "$top/examples/bare_metal/main.c" "$bare/lib/libetcs_unit_static.a" -o "$made/example.elf" || fails "the example for a bare board doesn't compile"
+board "$made/example.elf" >"$made/said"
+"$python" "$here/examples.py" board "$made/said" || { cat "$made/said"; fails "the example on the board"; }
+gcc -std=c99 -O2 "${strict[@]}" -I "$here_prefix/include" "$top/examples/cortex_a/cyclic.c" "$here_prefix/lib/libetcs_unit_static.a" -pthread -o "$made/cyclic" &&
+    "$cross" -std=c99 -O2 "${strict[@]}" -static -I "$arm/include" "$top/examples/cortex_a/cyclic.c" "$arm/lib/libetcs_unit_static.a" -pthread -o "$made/cyclic.aarch64" ||
+    fails "the cyclic task doesn't compile"
+"$made/cyclic" "$made/image" 20 5 >"$made/said.here" 2>/dev/null || fails "the cyclic task"
+qemu-aarch64 "$made/cyclic.aarch64" "$made/image.aarch64" 20 5 >"$made/said.aarch64" 2>/dev/null || fails "the cyclic task on aarch64"
+for one in here aarch64; do "$python" "$here/examples.py" cyclic "$made/said.$one" || { cat "$made/said.$one"; fails "the cyclic task says other things ($one)"; }; done
+cmp "$made/image" "$made/image.aarch64" || fails "the cyclic tasks leave other bytes"
+valgrind -q --tool=drd --error-exitcode=9 "$made/cyclic" "$made/image.drd" 10 5 >/dev/null 2>"$made/said" || { cat "$made/said"; fails "the unit isn't handed from task to task in order"; }
+
+# ---- find_package and pkg-config
+
+mkdir "$made/project"
+cp "$top/examples/embedding/why.c" "$made/project/why.c"
+cat >"$made/project/CMakeLists.txt" <<'CMAKE'
+cmake_minimum_required(VERSION 3.16)
+project(own C)
+find_package(etcs_unit 0.1 REQUIRED)
+foreach(kind etcs_unit static shared)
+    add_executable(why_${kind} why.c)
+    target_link_libraries(why_${kind} PRIVATE etcs_unit::${kind})
+endforeach()
+CMAKE
+packages=0
+for one in "$here_prefix gcc" "$arm $cross"; do
+    read -r prefix compiler <<<"$one"
+    rm -rf "$made/build"
+    if cmake -S "$made/project" -B "$made/build" -DCMAKE_PREFIX_PATH="$prefix" -DCMAKE_C_COMPILER="$compiler" \
+        $([ "$compiler" = gcc ] || echo -DCMAKE_SYSTEM_NAME=Linux -DCMAKE_SYSTEM_PROCESSOR=aarch64) >"$made/said" 2>&1 && cmake --build "$made/build" >>"$made/said" 2>&1; then
+        packages=$((packages + $(find "$made/build" -maxdepth 1 -name 'why_*' | wc -l)))
+    else
+        cat "$made/said"
+    fi
+done
+sed -i 's/etcs_unit 0.1/etcs_unit 9.0/' "$made/project/CMakeLists.txt"
+rm -rf "$made/build"
+! cmake -S "$made/project" -B "$made/build" -DCMAKE_PREFIX_PATH="$here_prefix" >/dev/null 2>&1 || fails "find_package takes a version that isn't there"
+for name in etcs_unit etcs_unit_static; do
+    # shellcheck disable=SC2046
+    gcc "$made/project/why.c" $(PKG_CONFIG_PATH=$here_prefix/lib/pkgconfig pkg-config --cflags --libs "$name") -o "$made/by_$name" && packages=$((packages + 1))
+done
+echo "programs by find_package and pkg-config: $packages"
+[ "$packages" -eq 8 ] || fails "there are 8 programs to be made by find_package and pkg-config"
+times >"$made/times"
+echo "targets: processor time in programs and in the system $(tail -n 1 "$made/times")"
+echo "targets: $([ $status -eq 0 ] && echo "no failures" || echo "failures, see above")"
+exit $status

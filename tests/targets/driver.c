@@ -1,0 +1,431 @@
+/* Carries out a script of calls of the library, and prints what each answers: the same program on every machine (platform.h has what differs), so
+ * that what two machines print can be compared byte by byte. It needs no C library.
+ *
+ * A line of the script is a word and numbers. `unit N` chooses one of two handles for the lines behind it, `medium N` one of two media.
+ *
+ *     slots N                      the medium gets so many slots, and is formatted
+ *     open COLD, flush, close      as etcs_unit.h says; open and flush carry out all requests, and release
+ *     cut REQUESTS BYTES           prepares, and carries out so many requests and so many bytes of the next one; then power is lost
+ *     telegram HEX, odometer CM SPEED, clock MS, action N, identity HEX, number N, train LENGTH MAXIMUM DECELERATION REACTION CATEGORY
+ *     prepare, request INDEX ROOM, done COUNT, fail, release ROOM, state, version ROOM, format SLOTS INDEX ROOM
+ *     image                        a digest of the medium
+ *     whole, size BYTES            reads all of the medium, or so many bytes of it, from now on
+ *     flip OFFSET BITS             alters a byte of the medium
+ *     facts, slot NEWEST SLOT, block NUMBER, record NUMBER INDEX, why NUMBER EVENT
+ *     journal, next, replay, cursor BLOCK LAST INDEX
+ *     decode HEX
+ *     null                         each call once with each of its pointers null
+ *
+ * Each line is answered by its number, the status, and a digest of what was written (FNV-1a); released outputs each have a line. */
+#include "etcs_image.h"
+#include "platform.h"
+
+#define SECTORS (1 + 6 * 64)
+
+static uint8_t media[2][SECTORS * ETCS_UNIT_SECTOR];
+static size_t lengths[2];
+static etcs_unit units[2];
+static etcs_journal journal;
+static size_t reads_at_most;
+static unsigned on, which, line_number;
+
+static char line[1024];
+static const char *at;
+
+/* ---- texts */
+
+static void put(const char *text) {
+    while (*text != 0)
+        put_char(*text++);
+}
+
+static void put_number(uint64_t number, unsigned base) {
+    char digits[24];
+    unsigned count = 0;
+    do {
+        digits[count++] = "0123456789abcdef"[number % base];
+        number /= base;
+    } while (number > 0);
+    while (count > 0)
+        put_char(digits[--count]);
+}
+
+static int read_line(void) {
+    unsigned length = 0;
+    int byte;
+    while ((byte = next_char()) > 0 && byte != '\n')
+        if (length + 1 < sizeof line)
+            line[length++] = (char)byte;
+    line[length] = 0;
+    at = line;
+    return byte > 0 || length > 0;
+}
+
+/* Whether the line's next word is this one; then it is passed. */
+static int word(const char *wanted) {
+    const char *here = at;
+    while (*wanted != 0)
+        if (*here++ != *wanted++)
+            return 0;
+    if (*here != 0 && *here != ' ')
+        return 0;
+    at = *here == ' ' ? here + 1 : here;
+    return 1;
+}
+
+/* The next number of the line, modulo 2^64. */
+static uint64_t number(void) {
+    uint64_t found = 0;
+    const int is_negative = *at == '-';
+    if (is_negative)
+        at++;
+    while (*at >= '0' && *at <= '9')
+        found = 10 * found + (uint64_t)(*at++ - '0');
+    if (*at == ' ')
+        at++;
+    return is_negative ? 0 - found : found;
+}
+
+static unsigned digit(char of) {
+    return of >= 'a' ? (unsigned)(of - 'a') + 10 : of >= 'A' ? (unsigned)(of - 'A') + 10 : (unsigned)(of - '0');
+}
+
+static size_t bytes_of_line(uint8_t *bytes, size_t room) {
+    size_t length = 0;
+    for (; at[0] > ' ' && at[1] > ' ' && length < room; at += 2)
+        bytes[length++] = (uint8_t)(16 * digit(at[0]) + digit(at[1]));
+    return length;
+}
+
+/* ---- answers */
+
+static uint64_t digest;
+
+static void add(const void *from, size_t length) {
+    const uint8_t *const bytes = (const uint8_t *)from;
+    for (size_t i = 0; i < length; i++)
+        digest = (digest ^ bytes[i]) * UINT64_C(0x100000001B3);
+}
+
+static void answer(uint32_t status) {
+    put_number(line_number, 10);
+    put(" ");
+    put_number(status, 10);
+    put(" ");
+    put_number(digest, 16);
+    put("\n");
+}
+
+static void tell(const etcs_unit_output *outputs, uint32_t count) {
+    for (uint32_t i = 0; i < count; i++) {
+        put("event ");
+        put_number(outputs[i].event, 10);
+        put(" mode ");
+        put_number(outputs[i].mode, 10);
+        put(" level ");
+        put_number(outputs[i].level, 10);
+        put(" brake ");
+        put_number(outputs[i].brake, 10);
+        put(" limit ");
+        put_number(outputs[i].limit_m_per_h, 10);
+        put(" ind ");
+        put_number(outputs[i].indications, 10);
+        put("\n");
+    }
+}
+
+/* ---- the medium */
+
+static etcs_unit *unit(void) {
+    return &units[which];
+}
+
+static void carries_out(const etcs_unit_request_told *request, const uint8_t *bytes, size_t length) {
+    if (request->kind == ETCS_REQUEST_WRITE)
+        for (size_t i = 0; i < length && request->sector * ETCS_UNIT_SECTOR + i < sizeof media[0]; i++)
+            media[on][request->sector * ETCS_UNIT_SECTOR + i] = bytes[i];
+}
+
+/* Carries out all requests, or so many and then some bytes of the next one. */
+static uint32_t carry_out(uint64_t most, uint64_t rest) {
+    static uint8_t bytes[ETCS_UNIT_REQUEST_BYTES];
+    etcs_unit_request_told request;
+    uint32_t count = 0, status;
+    while ((status = etcs_unit_request(unit(), count, &request, bytes, sizeof bytes)) == ETCS_UNIT_OK) {
+        const size_t length = (size_t)request.sectors * ETCS_UNIT_SECTOR;
+        add(&request, sizeof request);
+        add(bytes, length);
+        if (count == most) {
+            carries_out(&request, bytes, rest < length ? (size_t)rest : length);
+            return ETCS_UNIT_FAILED;
+        }
+        carries_out(&request, bytes, length);
+        count++;
+    }
+    return status == ETCS_UNIT_NO_SUCH_REQUEST ? etcs_unit_done(unit(), count) : status;
+}
+
+static uint32_t release(size_t room) {
+    etcs_unit_output outputs[ETCS_UNIT_OUTPUTS];
+    uint32_t count = 0;
+    const uint32_t status = etcs_unit_release(unit(), outputs, room < ETCS_UNIT_OUTPUTS ? room : ETCS_UNIT_OUTPUTS, &count);
+    if (status == ETCS_UNIT_OK)
+        tell(outputs, count);
+    return status;
+}
+
+static uint32_t format(uint32_t slots) {
+    static uint8_t bytes[ETCS_UNIT_SECTOR];
+    etcs_unit_request_told request;
+    uint32_t index = 0, status;
+    lengths[on] = (1 + 6 * (size_t)slots) * ETCS_UNIT_SECTOR;
+    if (lengths[on] > sizeof media[0])
+        lengths[on] = sizeof media[0];
+    for (size_t i = 0; i < sizeof media[0]; i++)
+        media[on][i] = 0;
+    while ((status = etcs_unit_format_request(slots, index, &request, bytes, sizeof bytes)) == ETCS_UNIT_OK && index < SECTORS) {
+        carries_out(&request, bytes, (size_t)request.sectors * ETCS_UNIT_SECTOR);
+        index++;
+    }
+    return status;
+}
+
+static size_t size(void) {
+    return reads_at_most < lengths[on] ? reads_at_most : lengths[on];
+}
+
+/* ---- each word */
+
+static int about_units(uint32_t *status) {
+    static uint8_t bytes[ETCS_UNIT_REQUEST_BYTES];
+    etcs_unit_request_told request;
+    etcs_unit_state_told state;
+    uint32_t first, second;
+    if (word("open")) {
+        *status = etcs_unit_open(unit(), media[on], lengths[on], (uint32_t)number());
+        if (*status == ETCS_UNIT_OK)
+            *status = carry_out(UINT64_MAX, 0);
+        if (*status == ETCS_UNIT_OK)
+            *status = release(ETCS_UNIT_OUTPUTS);
+    } else if (word("flush")) {
+        *status = etcs_unit_prepare(unit());
+        if (*status == ETCS_UNIT_OK)
+            *status = carry_out(UINT64_MAX, 0);
+        if (*status == ETCS_UNIT_OK)
+            *status = release(ETCS_UNIT_OUTPUTS);
+    } else if (word("cut")) {
+        const uint64_t most = number();
+        *status = etcs_unit_prepare(unit());
+        if (*status == ETCS_UNIT_OK)
+            *status = carry_out(most, number());
+        (void)etcs_unit_close(unit());
+    } else if (word("close")) {
+        *status = etcs_unit_close(unit());
+    } else if (word("prepare")) {
+        *status = etcs_unit_prepare(unit());
+    } else if (word("request")) {
+        first = (uint32_t)number();
+        second = (uint32_t)number();
+        *status = etcs_unit_request(unit(), first, &request, bytes, second < sizeof bytes ? second : sizeof bytes);
+        if (*status == ETCS_UNIT_OK) {
+            add(&request, sizeof request);
+            add(bytes, (size_t)request.sectors * ETCS_UNIT_SECTOR);
+        }
+    } else if (word("done")) {
+        *status = etcs_unit_done(unit(), (uint32_t)number());
+    } else if (word("fail")) {
+        *status = etcs_unit_fail(unit());
+    } else if (word("release")) {
+        *status = release((size_t)number());
+    } else if (word("state")) {
+        *status = etcs_unit_state(unit(), &state);
+        if (*status == ETCS_UNIT_OK)
+            add(&state, sizeof state);
+    } else {
+        return 0;
+    }
+    return 1;
+}
+
+static int about_inputs(uint32_t *status) {
+    uint8_t bytes[256];
+    if (word("telegram")) {
+        const size_t length = bytes_of_line(bytes, sizeof bytes);
+        *status = etcs_unit_telegram(unit(), bytes, length);
+    } else if (word("odometer")) {
+        const int64_t movement = (int64_t)number();
+        *status = etcs_unit_odometer(unit(), movement, (uint32_t)number());
+    } else if (word("clock")) {
+        *status = etcs_unit_clock(unit(), number());
+    } else if (word("action")) {
+        *status = etcs_unit_action(unit(), (uint32_t)number());
+    } else if (word("identity")) {
+        const size_t length = bytes_of_line(bytes, sizeof bytes);
+        *status = etcs_unit_identity(unit(), bytes, length);
+    } else if (word("number")) {
+        *status = etcs_unit_running_number(unit(), (uint32_t)number());
+    } else if (word("train")) {
+        etcs_train_data data;
+        data.length_cm = (uint32_t)number();
+        data.maximum_m_per_h = (uint32_t)number();
+        data.deceleration_cm_per_s2 = (uint32_t)number();
+        data.reaction_ms = (uint32_t)number();
+        data.category = (uint32_t)number();
+        *status = etcs_unit_train_data(unit(), &data);
+    } else {
+        return 0;
+    }
+    return 1;
+}
+
+static int about_media(uint32_t *status) {
+    static uint8_t bytes[ETCS_UNIT_SECTOR];
+    etcs_unit_request_told request;
+    uint32_t first, second, length = 0;
+    *status = 0;
+    if (word("slots")) {
+        *status = format((uint32_t)number());
+        add(media[on], lengths[on]);
+    } else if (word("image")) {
+        add(media[on], lengths[on]);
+    } else if (word("whole")) {
+        reads_at_most = SIZE_MAX;
+    } else if (word("size")) {
+        reads_at_most = (size_t)number();
+    } else if (word("flip")) {
+        const uint64_t offset = number();
+        media[on][offset % sizeof media[0]] ^= (uint8_t)number();
+    } else if (word("unit")) {
+        which = (unsigned)number() % 2;
+    } else if (word("medium")) {
+        on = (unsigned)number() % 2;
+    } else if (word("format")) {
+        first = (uint32_t)number();
+        second = (uint32_t)number();
+        const uint64_t room = number();
+        *status = etcs_unit_format_request(first, second, &request, bytes, room < sizeof bytes ? (size_t)room : sizeof bytes);
+        if (*status == ETCS_UNIT_OK) {
+            add(&request, sizeof request);
+            add(bytes, (size_t)request.sectors * ETCS_UNIT_SECTOR);
+        }
+    } else if (word("version")) {
+        const uint64_t room = number();
+        *status = etcs_version(bytes, room < sizeof bytes ? (size_t)room : sizeof bytes, &length);
+        if (*status == ETCS_UNIT_OK)
+            add(bytes, length);
+    } else if (word("decode")) {
+        const size_t count = bytes_of_line(bytes, sizeof bytes);
+        *status = etcs_decode(bytes, count);
+        length = etcs_packet_count(bytes, count);
+        add(&length, sizeof length);
+    } else {
+        return 0;
+    }
+    return 1;
+}
+
+static int about_images(uint32_t *status) {
+    static etcs_replay replay;
+    static etcs_block block;
+    etcs_image facts;
+    etcs_slot slot;
+    etcs_record record;
+    etcs_why why;
+    const void *told = NULL;
+    size_t length = 0;
+    if (word("facts")) {
+        *status = etcs_image_facts(media[on], size(), &facts);
+        told = &facts, length = sizeof facts;
+    } else if (word("slot")) {
+        const uint64_t newest = number();
+        *status = etcs_image_slot(media[on], size(), newest, number(), &slot);
+        told = &slot, length = sizeof slot;
+    } else if (word("block")) {
+        *status = etcs_image_block(media[on], size(), number(), &block);
+        told = &block, length = sizeof block;
+    } else if (word("record")) {
+        const uint64_t of = number();
+        *status = etcs_image_record(media[on], size(), of, (uint32_t)number(), &record);
+        told = &record, length = sizeof record;
+    } else if (word("why")) {
+        const uint64_t of = number();
+        *status = etcs_image_why(media[on], size(), of, number(), &why);
+        told = &why, length = sizeof why;
+    } else if (word("journal")) {
+        *status = etcs_journal_open(media[on], size(), &journal);
+        told = &journal, length = sizeof journal;
+    } else if (word("next")) {
+        *status = etcs_journal_next(media[on], size(), &journal, &record);
+        told = &record, length = sizeof record;
+    } else if (word("replay")) {
+        *status = etcs_image_replay(media[on], size(), &journal, &replay);
+        told = &replay, length = sizeof replay;
+    } else if (word("cursor")) {
+        journal.block = number();
+        journal.last = number();
+        journal.index = number();
+        *status = 0;
+    } else {
+        return 0;
+    }
+    if (*status == ETCS_UNIT_OK && told != NULL)
+        add(told, length);
+    return 1;
+}
+
+/* Each call, with each of its pointers null: how many answered NULL_POINTER. */
+static uint32_t nulls(void) {
+    static uint8_t bytes[ETCS_UNIT_SECTOR];
+    static etcs_replay replay;
+    static etcs_block block;
+    etcs_unit none = {0};
+    etcs_unit_request_told request;
+    etcs_unit_state_told state;
+    etcs_unit_output outputs[ETCS_UNIT_OUTPUTS];
+    etcs_image facts;
+    etcs_slot slot;
+    etcs_record record;
+    etcs_why why;
+    uint32_t length = 0;
+    const uint32_t found[] = {
+        etcs_version(NULL, 32, &length), etcs_version(bytes, 32, NULL),
+        etcs_unit_open(NULL, media[on], lengths[on], 0), etcs_unit_open(&none, NULL, 512, 0),
+        etcs_unit_telegram(NULL, bytes, 1), etcs_unit_telegram(&none, NULL, 1),
+        etcs_unit_odometer(NULL, 0, 0), etcs_unit_clock(NULL, 0), etcs_unit_action(NULL, 1),
+        etcs_unit_identity(NULL, bytes, 1), etcs_unit_identity(&none, NULL, 1),
+        etcs_unit_running_number(NULL, 1), etcs_unit_train_data(NULL, &(etcs_train_data){1, 1, 1, 1, 1}), etcs_unit_train_data(&none, NULL),
+        etcs_unit_prepare(NULL),
+        etcs_unit_request(NULL, 0, &request, bytes, 512), etcs_unit_request(&none, 0, NULL, bytes, 512), etcs_unit_request(&none, 0, &request, NULL, 512),
+        etcs_unit_done(NULL, 0), etcs_unit_fail(NULL),
+        etcs_unit_release(NULL, outputs, 8, &length), etcs_unit_release(&none, NULL, 8, &length), etcs_unit_release(&none, outputs, 8, NULL),
+        etcs_unit_state(NULL, &state), etcs_unit_state(&none, NULL), etcs_unit_close(NULL),
+        etcs_unit_format_request(2, 0, NULL, bytes, 512), etcs_unit_format_request(2, 0, &request, NULL, 512),
+        etcs_image_facts(NULL, 512, &facts), etcs_image_facts(media[on], 512, NULL),
+        etcs_image_slot(NULL, 512, 0, 0, &slot), etcs_image_slot(media[on], 512, 0, 0, NULL),
+        etcs_image_block(NULL, 512, 1, &block), etcs_image_block(media[on], 512, 1, NULL),
+        etcs_image_record(NULL, 512, 1, 0, &record), etcs_image_record(media[on], 512, 1, 0, NULL),
+        etcs_journal_open(NULL, 512, &journal), etcs_journal_open(media[on], 512, NULL),
+        etcs_journal_next(NULL, 512, &journal, &record), etcs_journal_next(media[on], 512, NULL, &record), etcs_journal_next(media[on], 512, &journal, NULL),
+        etcs_image_replay(NULL, 512, &journal, &replay), etcs_image_replay(media[on], 512, NULL, &replay), etcs_image_replay(media[on], 512, &journal, NULL),
+        etcs_image_why(NULL, 512, 1, 0, &why), etcs_image_why(media[on], 512, 1, 0, NULL),
+    };
+    uint32_t count = 0;
+    for (size_t i = 0; i < sizeof found / sizeof found[0]; i++)
+        count += found[i] == ETCS_UNIT_NULL_POINTER;
+    return count;
+}
+
+void drive(void) {
+    reads_at_most = SIZE_MAX;
+    while (read_line()) {
+        uint32_t status = 0;
+        line_number++;
+        digest = UINT64_C(0xCBF29CE484222325);
+        if (word("null"))
+            status = nulls();
+        else if (!about_units(&status) && !about_inputs(&status) && !about_media(&status) && !about_images(&status))
+            put("no such word\n");
+        answer(status);
+    }
+    put("end\n");
+}

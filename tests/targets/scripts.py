@@ -1,0 +1,122 @@
+#!/usr/bin/env python3
+"""A script of calls for the driver (driver.c), the same in every run, and the comparison of what two machines answer.
+
+    tests/targets/scripts.py script LIVES CALLS TELEGRAMS [SEED]    prints lives with cuts, calls in any order with wild numbers, and telegrams
+    tests/targets/scripts.py compare SCRIPT WANTED FOUND..          whether the answers in FOUND are those in WANTED; tells how much was compared
+
+A comparison fails too where the answers show too few lives, cuts, outputs, statuses or telegrams for the lines of the script.
+"""
+import random
+import sys
+from collections import Counter
+from pathlib import Path
+
+TESTS = Path(__file__).resolve().parents[1]
+sys.path[:0] = [str(TESTS), str(TESTS / "unit"), str(TESTS / "hostile"), str(TESTS / "plain"), str(TESTS.parent / "python")]
+
+from compared import Compared  # noqa: E402
+from lives import LIVES, scenario_of, word_of  # noqa: E402
+from program import inputs_of  # noqa: E402
+from random_inputs import headed, mutated  # noqa: E402
+
+PENDING, MOST_SLOTS = 8, 64
+CUT_KINDS, LEAST_STATUSES, END, NULL_CALLS = 21, 22, 241, 46
+EDGES = (0, 1, 2, 7, 8, 9, 104, 105, 255, 256, 511, 512, 8_191, 8_192, 10_000, 10_001, 600_000, 600_001, 99_999_999, 100_000_000, (1 << 31) - 1, 1 << 31,
+         (1 << 32) - 1, 1 << 32, (1 << 40) - 1, 1 << 40, (1 << 63) - 1, 1 << 63, (1 << 64) - 1)
+
+
+def wild(r):
+    return r.choice((r.choice(EDGES), r.randrange(16), r.randrange(1 << r.randrange(1, 65))))
+
+
+def life(r):
+    """A life on the medium: whole, or cut off in one of its flushes."""
+    scenario = scenario_of(r)
+    lines, pending = [f"open {scenario.get('cold', 0)}"], 0
+    for asked in inputs_of(scenario):
+        one = word_of(asked)
+        if one == "flush" or pending == PENDING:
+            lines.append("flush")
+            pending = 0
+        if one != "flush":
+            lines.append(one)
+            pending += 1
+    lines.append("flush")
+    if r.randrange(2):
+        at = r.choice([place for place, one in enumerate(lines) if one == "flush"])
+        return [*lines[:at], f"cut {r.randrange(9)} {r.randrange(4_097)}", "image"]
+    return [*lines, "state", "close", "image"]
+
+
+def reading(r):
+    """What is asked of the image behind a life."""
+    asked = ["facts", "journal", *["next"] * r.randrange(12), "journal", *["replay"] * r.randrange(1, 5)]
+    return [*asked, *(f"why {r.randrange(1, 40)} {r.randrange(120)}" for _ in range(2)), *(f"slot {r.randrange(40)} {r.randrange(10)}" for _ in range(2)),
+            f"block {r.randrange(1, 40)}", f"record {r.randrange(1, 40)} {r.randrange(9)}"]
+
+
+def call(r):
+    """A call with numbers of any kind, also where the unit isn't open or its requests are owed."""
+    kind = r.randrange(36)
+    if kind < 6:
+        return r.choice(("prepare", "flush", f"open {r.randrange(4)}", f"done {r.randrange(6)}", f"release {r.randrange(10)}", "close"))
+    if kind < 12:
+        return r.choice((f"odometer {r.randrange(-300, 3_000)} {r.randrange(200_000)}", f"clock {r.randrange(1 << 20)}", f"action {r.randrange(17)}",
+                         f"telegram {(headed if r.randrange(2) else mutated)(r)[:r.choice((104, 104, 105, 1))].hex()}", "train 20000 160000 70 0 15"))
+    if kind < 18:
+        return r.choice((f"odometer {wild(r) - (1 << 63) if r.randrange(2) else r.choice((-10_000, -10_001))} {wild(r)}", f"clock {wild(r)}", f"action {wild(r)}",
+                         f"identity {r.randbytes(r.randrange(18)).hex()}", f"number {wild(r)}", f"train {' '.join(str(wild(r)) for _ in range(5))}",
+                         f"telegram {r.randbytes(r.choice((0, 1, 104, 105, 250))).hex()}"))
+    if kind < 24:
+        return r.choice((f"request {r.randrange(5)} {r.choice((0, 511, 512, 8_192))}", f"request {wild(r)} {wild(r)}", f"done {wild(r)}", f"release {wild(r)}",
+                         "state", f"version {wild(r)}", f"format {wild(r)} {wild(r)} {wild(r)}", f"unit {r.randrange(2)}", f"medium {r.randrange(2)}"))
+    if kind < 34:
+        return r.choice(("facts", "journal", "next", "next", "replay", f"cursor {wild(r)} {wild(r)} {wild(r)}", f"slot {wild(r)} {wild(r)}", f"block {wild(r)}",
+                         f"record {wild(r)} {wild(r)}", f"why {wild(r)} {wild(r)}", f"why {r.randrange(1, 30)} {r.randrange(60)}", f"size {wild(r)}", "whole",
+                         "whole"))
+    return r.choice(("fail", f"flip {wild(r)} {1 << r.randrange(8)}", f"flip {r.randrange(4_096)} {1 << r.randrange(8)}", "null",
+                     f"slots {r.choice((0, 1, 2, 3, 8, MOST_SLOTS, 65, 1 << 20, (1 << 20) + 1))}", f"slots {r.randrange(2, 9)}", "cut 1 100"))
+
+
+def script(lives, calls, telegrams, seed=2026):
+    r, lines = random.Random(seed), ["null", "version 32"]
+    for number in range(lives):
+        if number % LIVES == 0:
+            lines.append(f"slots {2 + r.randrange(8)}")
+        lines += life(r)
+        if r.randrange(4) == 0:
+            lines += reading(r)
+    lines += ["slots 4", *(call(r) for _ in range(calls)), "unit 0", "close", "unit 1", "close", "null"]
+    return lines + ["decode " + (headed if r.randrange(2) else mutated)(r)[:256].hex() for _ in range(telegrams)]
+
+
+def compare(asked, wanted, *found):
+    """The first answers are the wanted ones."""
+    compared = Compared()
+    lines = Path(asked).read_text().splitlines()
+    told = Path(wanted).read_text().splitlines()
+    answers = [line.split() for line in told if line[:1].isdigit()]
+    compared.unless(len(answers) == len(lines) and told[-1:] == ["end"], f"{wanted}: {len(answers)} answers to {len(lines)} lines")
+    statuses = Counter(int(status) for _, status, _ in answers)
+    words = [line.split()[0] for line in lines]
+    cuts = sum(word == "cut" and int(status) == CUT_KINDS for word, (_, status, _) in zip(words, answers))
+    outputs, lives = sum(line.startswith("event ") for line in told), words.count("open")
+    decoded = [int(status) for word, (_, status, _) in zip(words, answers) if word == "decode"]
+    compared.unless(all(int(status) == NULL_CALLS for word, (_, status, _) in zip(words, answers) if word == "null") and "null" in words, "null pointers aren't answered")
+    compared.unless("no such word" not in told, "a word that the driver doesn't have")
+    compared.unless(outputs >= 4 * lives // 3 and cuts >= words.count("cut") // 4 > 0, f"{outputs} outputs of {lives} lives, {cuts} of them cut off")
+    compared.unless(len(statuses) >= LEAST_STATUSES, f"{len(statuses)} kinds of answers")
+    compared.unless(decoded.count(0) * 10 >= len(decoded) > 0, f"{decoded.count(0)} of {len(decoded)} telegrams can be read")
+    for path in found:
+        other = Path(path).read_text().splitlines()
+        compared.unless(len(other) == len(told), f"{path}: {len(other)} lines, wanted {len(told)}")
+        compared.same(path, [pair for pair in zip(other, told) if pair[0] != pair[1]][:5], [])
+    return compared.end(f"{len(found)} machines beside the first: {len(lines)} calls with {outputs} outputs, {lives} openings, {cuts} losses of power, "
+                        f"{len(statuses)} kinds of answers, {len(decoded)} telegrams")
+
+
+if __name__ == "__main__":
+    if sys.argv[1] == "script":
+        print("\n".join(script(*map(int, sys.argv[2:]))))
+    else:
+        sys.exit(compare(*sys.argv[2:]))

@@ -1,10 +1,14 @@
 #!/bin/bash
 # The lines of `etcs_lab events`, read back as JSON and compared with what plain readers find in the same images: of the program's rows and
-# examples, whole and damaged, and of pseudo-random blocks in all three formats.
+# examples, whole and damaged, and of pseudo-random blocks in all three formats. And all that the program prints as JSON, compared with
+# docs/JSON.md.
 #
 #     tests/events.sh [PROGRAM [RINGS [SEED]]]    on another program, with more or other rings
 program=$(realpath "${1:-$(dirname "$(readlink -f -- "$0")")/../crates/etcs_lab/out/etcs_lab}") || exit 1
 cd "$(dirname "$(readlink -f -- "$0")")" || exit 1
 export PYTHONDONTWRITEBYTECODE=1
 [ -x "$program" ] || { echo "there is no program $program: rt ci makes it"; exit 1; }
-python3 events/event_rows.py "$program" "${@:2}"
+status=0
+python3 events/event_rows.py "$program" "${@:2}" || status=1
+python3 json_page.py "$program" || status=1
+exit $status

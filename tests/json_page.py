@@ -1,0 +1,293 @@
+#!/usr/bin/env python3
+"""Compares docs/JSON.md with the JSON that `etcs_lab` prints of images, scenarios and telegrams.
+
+    tests/json_page.py PROGRAM..
+
+Each object has to have the members of its table, in their order, with values of their kinds; and each member, each word and each null of a
+table has to come up in some object, unless the page's last table names it.
+"""
+import json
+import re
+import sys
+import tempfile
+from itertools import islice
+from pathlib import Path
+
+HERE = Path(__file__).resolve().parent
+TOP = HERE.parent
+sys.path[:0] = [str(HERE), *(str(HERE / part) for part in ("plain", "hostile", "lab", "events", "telegrams"))]
+import event_rows  # noqa: E402
+import image_cases  # noqa: E402
+import lint_faults  # noqa: E402
+import replay_rows  # noqa: E402
+import why_rows  # noqa: E402
+from compared import Compared, run  # noqa: E402
+from images import known_telegrams  # noqa: E402
+
+PAGE = TOP / "docs/JSON.md"
+LONG = 105  # bytes: more than any telegram has
+EACH = 7  # of the cases of other tests one in so many
+LEAST_OBJECTS, LEAST_TABLES = 20_000, 25
+TOKEN = re.compile(r"`([^`]+)`|\[[^]]*\]\(#([\w-]+)\)|\b(number|text|true or false|true|null|a name and a number|\d+)\b|(list of)")
+
+
+# ---- reading the page
+
+def alternatives(text):
+    """What a value may be: kinds and words, as (kind, word or table)."""
+    found, inside = [], None
+    for word, table, plain, many in TOKEN.findall(text):
+        if many:
+            inside = []
+            found.append(("list", inside))
+            continue
+        one = ("word", word) if word else ("object", table) if table else ("number is", int(plain)) if plain.isdigit() else (plain, None)
+        (found if inside is None or one[0] == "null" else inside).append(one)
+    return found
+
+
+def members_of(row, anchor):
+    """The members of a row: their names, and for each case what the value may be and when the member is there."""
+    names, value = re.findall(r"`([^`]+)`", row[0]), row[1]
+    cases = []
+    for case in value.split("; "):
+        what, _, when = case.partition(" - ")
+        cases.append((what, when))
+    return [(name, cases, anchor) for name in names]
+
+
+def page_tables(text):
+    """By the anchor of its heading the rows of each table whose first column is `Member`, and the rows of the last table."""
+    tables, unshown, anchor, kind = {}, [], None, None
+    for line in text.splitlines():
+        if line.startswith("#"):
+            anchor, kind = line.lstrip("# ").lower().replace(" ", "-"), None
+        elif line.startswith("|"):
+            cells = [cell.strip() for cell in line.strip("|").split("|")]
+            if set(line) <= set("|-"):
+                continue
+            if kind is None or cells[0] in ("Member", "Command", "Object", "Reason"):
+                kind = cells[0]
+                if kind == "Member":
+                    tables.setdefault(anchor, [])
+                continue
+            if kind == "Member":
+                tables[anchor] += members_of(cells, anchor)
+            elif kind == "Object":
+                unshown.append(cells)
+        else:
+            kind = None
+    return tables, unshown
+
+
+# ---- comparing objects with tables
+
+class Page(Compared):
+    """The page's tables, what of them came up, and what differs."""
+
+    def __init__(self, text):
+        super().__init__()
+        self.tables, self.unshown = page_tables(text)
+        self.seen = set()
+
+    def member(self, table, name):
+        return next((row for row in self.tables[table] if row[0] == name), None)
+
+    def cases_of(self, table, name):
+        """The cases of a member, with those of another table where it is as there."""
+        _, cases, _ = self.member(table, name)
+        for what, when in cases:
+            if what.startswith("as in"):
+                other = re.search(r"\(#([\w-]+)\)", what)[1]
+                yield from ((more, when) for more, _ in self.member(other, name)[1])
+            else:
+                yield what, when
+
+    def is_there(self, when, value):
+        """Whether a member is there by its condition: True, False, or None where the condition has no word to judge by."""
+        if not when:
+            return True
+        words = re.findall(r"`([^`-][^`]*)`", when)
+        if not words:
+            return None
+        texts = {one for one in value.values() if isinstance(one, str)}
+        return not texts & set(words) if when.startswith("but") else bool(texts & set(words))
+
+    def fits(self, table, name, what, value):
+        """Whether a value is what the page says; notes what came up."""
+        for kind, more in alternatives(what):
+            if self.is_kind(kind, more, value):
+                self.seen.add((table, name, kind if more is None or kind == "list" else more))
+                if kind == "list":
+                    for one in value:
+                        self.fits_one(table, name, more, one)
+                return True
+        return False
+
+    def fits_one(self, table, name, kinds, one):
+        for kind, more in kinds:
+            if self.is_kind(kind, more, one):
+                self.seen.add((table, name, kind if more is None else more))
+                return
+        self.tell(f"{table}, {name}: {one!r} is none of {kinds}")
+
+    def is_kind(self, kind, more, value):
+        if kind == "number":
+            return type(value) is int
+        if kind == "number is":
+            return type(value) is int and value == more
+        if kind == "word":
+            return value == more and isinstance(value, str)
+        if kind == "text":
+            return isinstance(value, str)
+        if kind in ("true or false", "true"):
+            return value is True or (kind != "true" and value is False)
+        if kind == "null":
+            return value is None
+        if kind == "a name and a number":
+            return isinstance(value, list) and len(value) == 2 and isinstance(value[0], str) and type(value[1]) is int
+        if kind == "list":
+            return isinstance(value, list)
+        return isinstance(value, dict) and self.object(more, value)
+
+    def object(self, table, value):
+        """Compares an object with its table, whole: that it can't be another one is known where it is called."""
+        if table not in self.tables:
+            self.tell(f"the page has no table {table}")
+            return True
+        names = [name for name, *_ in self.tables[table]]
+        if table in ("a-telegram", "a-refusal") and ("refused" in value) != (table == "a-refusal"):
+            return False
+        if table in ("answer", "counts") and ("events" in value) != (table == "counts"):
+            return False
+        self.count += 1
+        if [name for name in names if name in value] != list(value):
+            self.tell(f"{table}: members {list(value)}, where the page has {names}")
+            return True
+        for name in names:
+            cases = list(self.cases_of(table, name))
+            wanted = [self.is_there(when, value) for _, when in cases]
+            if name not in value:
+                if True in wanted:
+                    self.tell(f"{table}: {name} is missing in {value}")
+                continue
+            self.seen.add((table, name, "is there"))
+            if not any(where is not False and self.fits(table, name, what, value[name]) for (what, _), where in zip(cases, wanted)):
+                self.tell(f"{table}: {name} is {value[name]!r} in {value}, where the page has {[what for what, _ in cases]}")
+        self.groups(table, value)
+        return True
+
+    def groups(self, table, value):
+        """Members whose condition has no word to judge by come together, all or none."""
+        by_condition = {}
+        for name, cases, _ in self.tables[table]:
+            for what, when in cases:
+                if when and self.is_there(when, value) is None:
+                    by_condition.setdefault(when, []).append(name in value)
+        for when, there in by_condition.items():
+            if any(there) and not all(there):
+                self.tell(f"{table}: {when}: only some members are there in {value}")
+        if not value:
+            self.tell(f"{table}: an object without members")
+
+    # ---- what came up
+
+    def wanted(self):
+        """All that has to come up: of each member of each table, each kind and word."""
+        for table, rows in self.tables.items():
+            for name, _, _ in rows:
+                yield table, name, "is there"
+                for what, _ in self.member(table, name)[1]:
+                    if what.startswith("as in"):
+                        continue
+                    for kind, more in alternatives(what):
+                        yield table, name, kind if more is None or kind == "list" else more
+                        if kind == "list":
+                            yield from ((table, name, inner if word is None else word) for inner, word in more)
+
+    def close(self):
+        """Whether each came up that the page has, but for those that it says never do."""
+        given = {(re.search(r"\(#([\w-]+)\)", table)[1], *re.findall(r"`([^`]+)`", what)) for table, what, _ in self.unshown}
+        for table, name, what in dict.fromkeys(self.wanted()):
+            excused = (table, name, str(what)) in given or (table, name) in given
+            self.count += 1
+            if ((table, name, what) in self.seen) == excused:
+                self.tell(f"{table}, {name}, {what}: " + ("comes up, though the page says that it doesn't" if excused else "never comes up"))
+        if self.count < LEAST_OBJECTS or len(self.tables) < LEAST_TABLES:
+            self.tell(f"too few: {self.count} comparisons, {len(self.tables)} tables")
+
+
+# ---- what the program prints
+
+LINES = {  # of each command the tables that one of its lines may have, by a member that shows which
+    "examine": [("", "examination")],
+    "events": [("kind", "record"), ("", "events")],
+    "check": [("power_up", "examination"), ("check", "a-verdict"), ("end", "the-end-of-a-replay"), ("", "replay")],
+    "why": [("replay", "replay"), ("brake", "causes")],
+    "run": [("scenario", "a-life-that-is-played"), ("end", "the-end-of-a-life"), ("step", "played-output")],
+    "decode": [("refused", "a-refusal"), ("", "a-telegram")],
+    "lint": [("", "advice-on-a-scenario")],
+}
+PLAYED = ("step", "mode", "level", "indications", "place_cm", "uncertainty_cm")
+
+
+def read(page, program, word, *words):
+    """Runs a command, and compares each line."""
+    printed, _, _ = run(program, [word, *words])
+    for line in printed.splitlines():
+        value = json.loads(line)
+        table = next((table for member, table in LINES[word] if not member or member in value), None)
+        if table == "played-output":
+            page.unless(list(value)[6:12] == list(PLAYED), f"run: members {list(value)}")
+            page.object("causes", {name: one for name, one in value.items() if name not in PLAYED})
+            value = {name: value[name] for name in PLAYED if name in value}
+        elif table == "events":
+            page.unless(len(value) == 1, f"events: {value}")
+        page.object(table, value)
+
+
+def images():
+    """Images, with the number of slots that they are read to have, or none."""
+    yield from ((image, slots) for _, image, slots in islice(image_cases.all_cases(), 0, None, EACH))
+    yield from ((image, None) for _, image in event_rows.random_images(30, 5))
+    yield from ((image, None) for _, image in islice(replay_rows.cases(), 0, None, 2))
+
+
+def all_read(page, program, room):
+    file = room / "file"
+    with file.open("wb") as hole:  # more bytes than the greatest image has
+        hole.truncate(3_221_225_985)
+    read(page, program, "examine", "--json", file)
+    for image, slots in images():
+        file.write_bytes(image)
+        given = [] if slots is None else ["--slots", str(slots)]
+        read(page, program, "check", "--json", *given, file)
+        read(page, program, "events", "--all", *given, file)
+    for _, image, *_ in [*why_rows.by_hand(), *islice(why_rows.more_lives(), 10)]:
+        file.write_bytes(image)
+        read(page, program, "why", "--json", file)
+    for path in sorted([*TOP.glob("tests/programs/*.json"), *TOP.glob("examples/*/*.json")]):
+        read(page, program, "run", path)
+        read(page, program, "lint", "--json", path)
+    for cold in range(3):
+        file.write_text(json.dumps({"cold": cold, "groups": [], "steps": [{"clock": 5}, {"clock": 5 - cold}]}))
+        read(page, program, "run", file)
+    file.write_text('{"groups": [], "groups": [], "steps": []}')
+    read(page, program, "lint", "--json", file)
+    for told, _ in lint_faults.FAULTS:
+        file.write_text(told if isinstance(told, str) else json.dumps(told))
+        read(page, program, "lint", "--json", file)
+    for data in [bytes(LONG), *islice(known_telegrams(), 0, None, 4)]:
+        read(page, program, "decode", "--json", data.hex())
+
+
+def main(program):
+    page = Page(PAGE.read_text())
+    with tempfile.TemporaryDirectory() as folder:
+        all_read(page, program, Path(folder))
+    page.close()
+    return page.end(f"docs/JSON.md: {len(page.tables)} tables, {page.count} comparisons")
+
+
+if __name__ == "__main__":
+    sys.exit(main(sys.argv[1:]))

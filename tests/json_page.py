@@ -220,7 +220,6 @@ class Page(Compared):
 # ---- what the program prints
 
 LINES = {  # of each command the tables that one of its lines may have, by a member that shows which
-    "examine": [("", "examination")],
     "events": [("kind", "record"), ("", "events")],
     "check": [("power_up", "examination"), ("check", "a-verdict"), ("end", "the-end-of-a-replay"), ("", "replay")],
     "why": [("replay", "replay"), ("brake", "causes")],
@@ -250,14 +249,12 @@ def images():
     """Images, with the number of slots that they are read to have, or none."""
     yield from ((image, slots) for _, image, slots in islice(image_cases.all_cases(), 0, None, EACH))
     yield from ((image, None) for _, image in event_rows.random_images(30, 5))
-    yield from ((image, None) for _, image in islice(replay_rows.cases(), 0, None, 2))
+    yield from ((image, None) for _, image in islice(replay_rows.cases(), 0, None, EACH))
+    yield from ((image, None) for *_, name, image in replay_rows.altered() if "trip outstanding" in name)
 
 
 def all_read(page, program, room):
     file = room / "file"
-    with file.open("wb") as hole:  # more bytes than the greatest image has
-        hole.truncate(3_221_225_985)
-    read(page, program, "examine", "--json", file)
     for image, slots in images():
         file.write_bytes(image)
         given = [] if slots is None else ["--slots", str(slots)]

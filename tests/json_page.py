@@ -3,8 +3,8 @@
 
     tests/json_page.py PROGRAM..
 
-Each object has to have the members of its table, in their order, with values of their kinds; and each member, each word and each null of a
-table has to come up in some object, unless the page's last table names it.
+Each object has to have the members of its table, in their order, with values of their kinds; and each member, each word
+and each null of a table has to come up in some object, unless the page's last table names it.
 """
 import json
 import re
@@ -28,7 +28,8 @@ PAGE = TOP / "docs/JSON.md"
 LONG = 105  # bytes: more than any telegram has
 EACH = 7  # of the cases of other tests one in so many
 LEAST_OBJECTS, LEAST_TABLES = 20_000, 25
-TOKEN = re.compile(r"`([^`]+)`|\[[^]]*\]\(#([\w-]+)\)|\b(number|text|true or false|true|null|a name and a number|\d+)\b|(list of)")
+PLAIN = r"\b(number|text|true or false|true|null|a name and a number|\d+)\b"
+TOKEN = re.compile(r"`([^`]+)`|\[[^]]*\]\(#([\w-]+)\)|" + PLAIN + "|(list of)")
 
 
 # ---- reading the page
@@ -41,7 +42,9 @@ def alternatives(text):
             inside = []
             found.append(("list", inside))
             continue
-        one = ("word", word) if word else ("object", table) if table else ("number is", int(plain)) if plain.isdigit() else (plain, None)
+        one = ("word", word) if word else ("object", table) if table else (plain, None)
+        if plain.isdigit():
+            one = ("number is", int(plain))
         (found if inside is None or one[0] == "null" else inside).append(one)
     return found
 
@@ -57,7 +60,7 @@ def members_of(row, anchor):
 
 
 def page_tables(text):
-    """By the anchor of its heading the rows of each table whose first column is `Member`, and the rows of the last table."""
+    """By the anchor of its heading the rows of each table of members, and the rows of the last table."""
     tables, unshown, anchor, kind = {}, [], None, None
     for line in text.splitlines():
         if line.startswith("#"):
@@ -104,7 +107,7 @@ class Page(Compared):
                 yield what, when
 
     def is_there(self, when, value):
-        """Whether a member is there by its condition: True, False, or None where the condition has no word to judge by."""
+        """Whether a member is there by its condition: None where the condition has no word to judge by."""
         if not when:
             return True
         words = re.findall(r"`([^`-][^`]*)`", when)
@@ -172,8 +175,9 @@ class Page(Compared):
                     self.tell(f"{table}: {name} is missing in {value}")
                 continue
             self.seen.add((table, name, "is there"))
-            if not any(where is not False and self.fits(table, name, what, value[name]) for (what, _), where in zip(cases, wanted)):
-                self.tell(f"{table}: {name} is {value[name]!r} in {value}, where the page has {[what for what, _ in cases]}")
+            may_be = [what for (what, _), where in zip(cases, wanted) if where is not False]
+            if not any(self.fits(table, name, what, value[name]) for what in may_be):
+                self.tell(f"{table}: {name} is {value[name]!r} in {value}, where the page has {may_be}")
         self.groups(table, value)
         return True
 
@@ -207,12 +211,14 @@ class Page(Compared):
 
     def close(self):
         """Whether each came up that the page has, but for those that it says never do."""
-        given = {(re.search(r"\(#([\w-]+)\)", table)[1], *re.findall(r"`([^`]+)`", what)) for table, what, _ in self.unshown}
+        anchors = ((re.search(r"\(#([\w-]+)\)", table)[1], what) for table, what, _ in self.unshown)
+        given = {(anchor, *re.findall(r"`([^`]+)`", what)) for anchor, what in anchors}
         for table, name, what in dict.fromkeys(self.wanted()):
             excused = (table, name, str(what)) in given or (table, name) in given
             self.count += 1
             if ((table, name, what) in self.seen) == excused:
-                self.tell(f"{table}, {name}, {what}: " + ("comes up, though the page says that it doesn't" if excused else "never comes up"))
+                why = "comes up, though the page says that it doesn't" if excused else "never comes up"
+                self.tell(f"{table}, {name}, {what}: {why}")
         if self.count < LEAST_OBJECTS or len(self.tables) < LEAST_TABLES:
             self.tell(f"too few: {self.count} comparisons, {len(self.tables)} tables")
 

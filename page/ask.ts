@@ -1,44 +1,56 @@
 // Asking an image: what is dropped goes to the worker, and what that reports is shown.
-import { draw } from "./chart";
-import { Records, END, OK } from "./calls";
-import { Dial, shownOf } from "./dial";
-import { at, make, row, say, show, table } from "./dom";
-import { fieldsOf, placeOf, showBytes, sizeOf } from "./fields";
-import { Block, Facts, JournalRecord, Replay, Slot, Why, SECTOR } from "./layouts";
-import { Intervention, interventionsOf, LifeRange, livesOf, speedsOf } from "./lives";
-import { Head, Order, Report } from "./messages";
-import { drawRing } from "./ring";
-import { brakeReason, brakeText, causeTexts, count, eventText, indicationTexts, keptTexts, kmh, levelText, limitText, metres, modeName, modeWord, seconds } from "./shown";
-import { KEPT_FIELDS, RECORD_FIELDS, SAY, SLOTS, STATUSES, VERDICTS, WORDS } from "./texts";
-import { isWhole } from "./whole";
+import {imageTexts, interventionTexts, slotText, verdictText} from "./answers";
+import {draw} from "./chart";
+import {Records, END, OK} from "./calls";
+import {Dial, shownOf} from "./dial";
+import {at, make, row, say, show, table} from "./dom";
+import {fieldsOf, placeOf, showBytes, sizeOf} from "./fields";
+import {Block, Facts, JournalRecord, Replay, Slot, Why, SECTOR} from "./layouts";
+import {Intervention, interventionsOf, LifeRange, livesOf, speedsOf} from "./lives";
+import {Head, Order, Report} from "./messages";
+import {drawRing} from "./ring";
+import {brakeReason, brakeText, count, eventText, indicationTexts, keptTexts, kmh, levelText, limitText} from "./shown";
+import {metres, modeName, seconds} from "./shown";
+import {SAY, SLOTS, STATUSES, WORDS} from "./texts";
+import {isWhole} from "./whole";
 
 const MOST_BYTES = 256 * 1024 * 1024;
 
 export class Ask {
-    private id = 0;
+    id = 0;
     private name = "";
     private bytes = new Uint8Array();
-    private facts: Facts | null = null;
-    private records: Records | null = null;
+    private facts: Facts|null = null;
+    private records: Records|null = null;
     private lives: LifeRange[] = [];
     private speeds = new Float64Array();
     private interventions: Intervention[] = [];
     private slots: Slot[] = [];
     private heads = new Map<number, Head>();
-    private newest: Block | null = null;
+    private newest: Block|null = null;
     private unreadable: number[] = [];
     private journalStatus = OK;
-    private causes = new Map<number, Why | null>();
-    private whys = new Map<number, { status: number; why: Why | null }>();
-    private replays: Replay[] | null = null;
+    private causes = new Map<number, Why|null>();
+    private whys = new Map < number, {
+        status: number;
+        why: Why|null
+    }
+    > ();
+    private replays: Replay[]|null = null;
     private digest = "";
     index = 0;
+    /** Whether all is told of the image. */
+    isDone = false;
+    private isWhole = false;
     private asking = 0;
     private readonly dial = new Dial(at("ask-dial"));
 
     constructor(private readonly worker: { postMessage(order: Order, transfer?: Transferable[]): void }) {
         const drop = at("drop"), file = at<HTMLInputElement>("file");
-        document.addEventListener("dragover", event => { event.preventDefault(); drop.classList.add("over"); });
+        document.addEventListener("dragover", event => {
+            event.preventDefault();
+            drop.classList.add("over");
+        });
         document.addEventListener("dragleave", () => drop.classList.remove("over"));
         document.addEventListener("drop", event => {
             event.preventDefault();
@@ -47,11 +59,16 @@ export class Ask {
             if (files && files.length > 1) this.refuse(SAY.oneFile);
             else if (files?.[0]) void this.open(files[0]);
         });
-        file.addEventListener("change", () => { if (file.files?.[0]) void this.open(file.files[0]); });
+        file.addEventListener("change", () => {
+            if (file.files?.[0]) void this.open(file.files[0]);
+        });
         at("scrub").addEventListener("input", () => this.choose(Number(at<HTMLInputElement>("scrub").value)));
-        at("event-number").addEventListener("change", () => this.chooseEvent(Number(at<HTMLInputElement>("event-number").value)));
-        const move: [string, () => number][] = [["first", () => 0], ["before", () => this.index - 1], ["after", () => this.index + 1],
-            ["last", () => (this.records?.count ?? 1) - 1]];
+        at("event-number")
+            .addEventListener("change", () => this.chooseEvent(Number(at<HTMLInputElement>("event-number").value)));
+        const move: [string, () => number][] = [
+            ["first", () => 0], ["before", () => this.index - 1], ["after", () => this.index + 1],
+            ["last", () => (this.records?.count ?? 1) - 1]
+        ];
         for (const [id, to] of move) at(id).addEventListener("click", () => this.choose(to()));
         at("print").addEventListener("click", () => print());
         addEventListener("hashchange", () => this.followHash());
@@ -66,13 +83,17 @@ export class Ask {
 
     /** Reads a file, where it can be an image. */
     async open(file: File): Promise<void> {
-        if (file.size > MOST_BYTES) { this.refuse(SAY.tooBig(file.name)); return; }
-        if (file.size < SECTOR) { this.refuse(SAY.tooSmall(file.name)); return; }
+        if (file.size > MOST_BYTES) {
+            this.refuse(SAY.tooBig(file.name));
+            return;
+        }
+        if (file.size < SECTOR) {
+            this.refuse(SAY.tooSmall(file.name));
+            return;
+        }
         try {
             await this.ask(file.name, new Uint8Array(await file.arrayBuffer()));
-        } catch (error) {
-            this.refuse(SAY.noImage(file.name, String(error)));
-        }
+        } catch (error) { this.refuse(SAY.noImage(file.name, String(error))); }
     }
 
     /** Asks the bytes of an image. The digest is taken before anything reads them. */
@@ -86,6 +107,7 @@ export class Ask {
         this.heads.clear();
         this.slots = [];
         this.index = 0;
+        this.isDone = false;
         say("ask-error", "");
         say("ask-progress", SAY.reading);
         for (const part of ["lives", "interventions", "hex", "fields", "kept", "ring", "ring-legend"]) show(part);
@@ -100,7 +122,8 @@ export class Ask {
     hear(report: Report): void {
         if (report.id !== this.id) return;
         if (report.kind === "facts") this.showFacts(report.status, report.facts);
-        else if (report.kind === "records") this.takeRecords(report.status, new Uint8Array(report.bytes), report.unreadable);
+        else if (report.kind === "records")
+            this.takeRecords(report.status, new Uint8Array(report.bytes), report.unreadable);
         else if (report.kind === "slots") this.takeSlots(report.slots, report.newest, report.heads);
         else if (report.kind === "replay") this.takeReplay(report.lives, report.unreadable);
         else if (report.kind === "causes") {
@@ -110,13 +133,19 @@ export class Ask {
             this.whys.set(report.event, report);
             this.asking = 0;
             this.showWhy();
-        } else if (report.kind === "progress") say("ask-progress", SAY.progress(report.done, report.all || report.done, report.what));
-        else if (report.kind === "done") say("ask-progress", "");
-        else this.refuse(SAY.noImage(this.name, report.says));
+        } else if (report.kind === "progress")
+            say("ask-progress", SAY.progress(report.done, report.all || report.done, report.what));
+        else if (report.kind === "done") {
+            say("ask-progress", "");
+            this.isDone = true;
+        } else this.refuse(SAY.noImage(this.name, report.says));
     }
 
-    private showFacts(status: number, facts: Facts | null): void {
-        if (!facts) { this.refuse(SAY.noImage(this.name, STATUSES[status] ?? `status ${status}`)); return; }
+    private showFacts(status: number, facts: Facts|null): void {
+        if (!facts) {
+            this.refuse(SAY.noImage(this.name, STATUSES[status] ?? `status ${status}`));
+            return;
+        }
         this.facts = facts;
         at("answers").hidden = false;
         this.showImage();
@@ -125,11 +154,8 @@ export class Ask {
     private showImage(): void {
         const facts = this.facts;
         if (!facts) return;
-        const { records, lives } = this, rest = this.bytes.length % SECTOR;
-        const told: [string, string][] = [["file", this.name], ["SHA-256", this.digest], ["bytes", `${count(this.bytes.length)}${rest ? `, of which ${rest} stand behind the last whole sector` : ""}`],
-            ["sectors", count(facts.sectors)], ["slots", `${count(facts.slots)}, ${count(facts.whole)} whole`], ["newest block", facts.newest ? count(facts.newest) : "none"]];
-        if (records?.count) told.push(["events", `${count(records.event(0))} to ${count(records.event(records.count - 1))}, ${count(records.count)} can be read`], ["lives", count(lives.length)]);
-        if (this.unreadable.length) told.push(["can't be read", `block${this.unreadable.length > 1 ? "s" : ""} ${this.unreadable.slice(0, 20).join(", ")}`]);
+        const told = imageTexts(
+            this.name, this.digest, this.bytes.length, facts, this.records, this.lives.length, this.unreadable);
         show("facts", ...told.flatMap(([name, value]) => [make("dt", {}, name), make("dd", {}, value)]));
     }
 
@@ -150,45 +176,60 @@ export class Ask {
         else say("event-said", SAY.noRecord);
     }
 
-    private takeSlots(slots: Slot[], newest: Block | null, heads: Head[]): void {
+    private takeSlots(slots: Slot[], newest: Block|null, heads: Head[]): void {
         this.slots = slots;
         this.newest = newest;
         for (const head of heads) this.heads.set(head.number, head);
         const counts = SLOTS.map((_, state) => slots.filter(slot => slot.state === state).length);
-        show("ring-legend", ...counts.flatMap((number, state) => number ? [make("li", { title: SLOTS[state]?.[1] ?? "" },
-            make("span", { class: `swatch state-${state}` }), `${count(number)} ${SLOTS[state]?.[0]}: ${SLOTS[state]?.[1]}`)] : []));
-        const whole = this.facts !== null && this.records !== null && isWhole(this.facts, slots, heads, this.journalStatus, this.bytes.length);
+        show("ring-legend",
+            ...counts.flatMap((number, state) => number
+                    ? [make("li", { title: SLOTS[state]?.[1] ?? "" }, make("span", { class: `swatch state-${state}` }),
+                          `${count(number)} ${SLOTS[state]?.[0]}: ${SLOTS[state]?.[1]}`)]
+                    : []));
+        const whole = this.isWhole = this.facts !== null && this.records !== null &&
+            isWhole(this.facts, slots, heads, this.records, this.journalStatus);
         say("verdict", whole ? SAY.whole : SAY.notWhole);
         at("verdict").className = `verdict ${whole ? "good" : "bad"}`;
-        if (newest) show("kept", ...keptTexts(newest.kept).flatMap(([name, value]) => [make("dt", {}, name), make("dd", {}, value)]));
+        if (newest)
+            show("kept",
+                ...keptTexts(newest.kept).flatMap(([name, value]) => [make("dt", {}, name), make("dd", {}, value)]));
         const bad = slots.findIndex(slot => !slot.isSound);
         this.chooseSlot(bad >= 0 ? bad : null);
         this.showBytes();
     }
 
-    private chooseSlot(slot: number | null): void {
-
-        drawRing(at("ring") as unknown as SVGSVGElement, this.slots, this.facts?.newest ?? 0, slot, n => this.chooseSlot(n));
+    private chooseSlot(slot: number|null): void {
+        drawRing(
+            at("ring") as unknown as SVGSVGElement, this.slots, this.facts?.newest ?? 0, slot, n => this.chooseSlot(n));
         const told = slot === null ? undefined : this.slots[slot];
-        if (!told || slot === null) { say("slot-said", ""); return; }
-        const head = this.heads.get(told.number), first = SECTOR * (1 + 6 * slot);
-        say("slot-said", `Slot ${count(slot)}, from byte ${count(first)} on: ${SLOTS[told.state]?.[0]}${told.number ? ` ${count(told.number)}` : ""}; ${SLOTS[told.state]?.[1]}.`
-            + (head && told.state === 1 ? ` Events ${count(head.firstEvent)} to ${count(head.events - 1)}.` : "")
-            + (told.hasFault ? ` The first field that isn't one is at byte ${count(first + SECTOR + told.faultAt)}${told.faultRecord ? `, in record ${told.faultRecord}` : ", in the head"}.` : "")
-            + (told.state === 1 && !told.isSound ? " Its gate isn't its own." : ""));
+        if (!told || slot === null) {
+            say("slot-said", "");
+            return;
+        }
+        say("slot-said", slotText(told, slot, this.heads.get(told.number)));
     }
 
     private takeReplay(lives: Replay[], unreadable: number[]): void {
         this.replays = lives;
         const rows = lives.map(life => {
             const isGood = life.verdict === 1, isBad = life.verdict === 2 || life.verdict === 3;
-            const line = row(count(life.life), `${count(life.first)} to ${count(life.last)}`, this.wordOf(life.first), make("span", { class: isGood ? "good" : isBad ? "bad" : "" },
-                this.verdictText(life)));
+            const line = row(count(life.life), `${count(life.first)} to ${count(life.last)}`, this.wordOf(life.first),
+                make("span", { class: isGood ? "good"
+                        : isBad              ? "bad"
+                                             : "" },
+                    verdictText(life)));
             return this.linked(line, life.verdict === 2 ? life.event : life.first);
         });
         show("lives", table(["life", "events", "power-up", "replay"], rows));
-        const differs = lives.some(life => life.verdict === 2 || life.verdict === 3), agrees = lives.some(life => life.verdict === 1);
-        say("replay-said", `${differs ? SAY.differs : agrees ? SAY.agrees : ""}${unreadable.length ? ` Can't be read: block ${unreadable.join(", ")}.` : ""} ${agrees ? SAY.authentic : ""}`.trim());
+        const differs = lives.some(life => life.verdict === 2 || life.verdict === 3),
+              agrees = lives.some(life => life.verdict === 1);
+        say("replay-said",
+            `${
+                differs      ? SAY.differs
+                    : agrees ? SAY.agrees
+                             : ""}${unreadable.length ? ` Can't be read: block ${unreadable.join(", ")}.` : ""} ${
+                agrees ? SAY.authentic : ""}`
+                .trim());
     }
 
     private wordOf(event: number): string {
@@ -196,55 +237,34 @@ export class Ask {
         return record && record.kind === 1 ? WORDS[record.payload[0] ?? 0] ?? "" : "not there";
     }
 
-    private recordOf(event: number): JournalRecord | null {
+    private recordOf(event: number): JournalRecord|null {
         const index = this.indexOf(event);
         return index === null || !this.records ? null : this.records.get(index);
-    }
-
-    private verdictText(life: Replay): string {
-        const says = VERDICTS[life.verdict] ?? "";
-        if (life.verdict === 2) {
-            const one = (record: JournalRecord): string => `${modeWord(record.mode)}, level ${levelText(record.level)}, ${brakeText(record.brake)}, indications ${record.indications}, `
-                + `${metres(record.front)} ± ${metres(record.uncertainty)}, limit ${kmh(record.limit)} km/h, ${seconds(record.moment)}`;
-            return `${says}: event ${count(life.event)} in ${RECORD_FIELDS[life.field]}. The journal has ${one(life.journal)}. The kernel answers ${one(life.kernel)}.`;
-        }
-        return life.verdict === 3 ? `${says}: block ${count(life.block)} in ${KEPT_FIELDS[life.field]}` : says;
     }
 
     private linked(line: HTMLTableRowElement, event: number): HTMLTableRowElement {
         line.tabIndex = 0;
         line.addEventListener("click", () => this.chooseEvent(event));
-        line.addEventListener("keydown", key => { if (key.key === "Enter") this.chooseEvent(event); });
+        line.addEventListener("keydown", key => {
+            if (key.key === "Enter") this.chooseEvent(event);
+        });
         return line;
     }
 
     private showInterventions(): void {
         const { records } = this;
         if (!records) return;
-        const rows = this.interventions.slice(0, 500).map(one => {
-            const why = this.causes.get(one.first), last = records.event(one.last);
-            const causes = why === undefined ? "…" : why ? causeTexts(why).join("; ") || SAY.noCause : SAY.notReplayed;
-            return this.linked(row(`${count(records.event(one.first))} to ${count(last)}`, metres(records.front(one.first)), seconds(records.moment(one.first)),
-                `${kmh(this.speeds[one.first] ?? 0)} of ${kmh(records.limit(one.first))} km/h`, make("strong", { class: one.brake === 2 ? "bad" : "" }, brakeText(one.brake)), causes),
-                records.event(one.first));
-        });
+        const rows = this.interventions.slice(0, 500).map(
+            one => this.linked(
+                row(...interventionTexts(records, one, this.speeds[one.first] ?? 0, this.causes.get(one.first))),
+                records.event(one.first)));
         show("interventions", table(["events", "place", "time", "speed", "command", "causes where it began"], rows),
             this.interventions.length > 500 && make("p", {}, `The first 500 of ${count(this.interventions.length)}.`));
     }
 
     // ---- an event
 
-    private indexOf(event: number): number | null {
-        const { records } = this;
-        if (!records) return null;
-        let low = 0, high = records.count;
-        while (low < high) {
-            const middle = (low + high) >> 1;
-            if (records.event(middle) < event) low = middle + 1;
-            else high = middle;
-        }
-        return low < records.count && records.event(low) === event ? low : null;
-    }
+    private indexOf(event: number): number|null { return this.records ? this.records.find(event) : null; }
 
     private followHash(): void {
         const event = /^#event=(\d+)$/.exec(location.hash)?.[1];
@@ -276,37 +296,60 @@ export class Ask {
         const { records, index } = this;
         if (!records) return;
         const record = records.get(index), speed = this.speeds[index] ?? 0;
-        say("event-said", `Event ${count(record.event)} of life ${record.life}, block ${count(record.block)}: ${eventText(record)}`);
-        say("ask-texts", [`Behind it: ${modeName(record.mode)}, level ${levelText(record.level)}, ${brakeText(record.brake)}`,
-            record.hasPlace ? `limit ${kmh(record.limit)} km/h, front at ${metres(record.front)} ± ${metres(record.uncertainty)}` : "",
-            `moment ${seconds(record.moment)}`, `shown: ${indicationTexts(record.indications).join(", ") || "nothing"}`].filter(text => text).join("; ") + ".");
+        say("event-said",
+            `Event ${count(record.event)} of life ${record.life}, block ${count(record.block)}: ${eventText(record)}`);
+        say("ask-texts",
+            [
+                `Behind it: ${modeName(record.mode)}, level ${levelText(record.level)}, ${brakeText(record.brake)}`,
+                record.hasPlace ? `limit ${kmh(record.limit)} km/h, front at ${metres(record.front)} ± ${
+                                      metres(record.uncertainty)}`
+                                : "",
+                `moment ${seconds(record.moment)}`,
+                `shown: ${indicationTexts(record.indications).join(", ") || "nothing"}`
+            ].filter(text => text)
+                    .join("; ") +
+                ".");
         say("ask-mode", modeName(record.mode));
         say("ask-level", `level ${levelText(record.level)}`);
         say("ask-brake", brakeText(record.brake));
         at("ask-brake").className = `lamp brake-${record.brake}`;
         say("ask-dial-said", `${kmh(speed)} km/h, limit ${kmh(record.limit)} km/h`);
-        this.dial.setScale(Math.max(speed, record.limit) > 250_000 ? 400 : Math.max(speed, record.limit) > 180_000 ? 250 : 180);
+        this.dial.setScale(Math.max(speed, record.limit) > 250_000 ? 400
+                : Math.max(speed, record.limit) > 180_000          ? 250
+                                                                   : 180);
     }
 
     private showWhy(): void {
         const { records, index } = this;
         if (!records || !records.count) return;
         const record = records.get(index), told = this.whys.get(record.event);
-        this.dial.show(shownOf(this.speeds[index] ?? 0, record.limit, record.brake, record.indications, told?.why ?? null));
-        const output = { event: record.event, limit: record.limit, mode: record.mode, level: record.level, brake: record.brake, indications: record.indications };
+        this.dial.show(
+            shownOf(this.speeds[index] ?? 0, record.limit, record.brake, record.indications, told?.why ?? null));
+        const output = {
+            event: record.event,
+            limit: record.limit,
+            mode: record.mode,
+            level: record.level,
+            brake: record.brake,
+            indications: record.indications
+        };
         if (!told) {
             show("ask-causes", make("li", {}, "…"));
             say("ask-limit", "");
             clearTimeout(this.asking);
-            this.asking = setTimeout(() => this.worker.postMessage({ kind: "why", id: this.id, block: record.block, event: record.event }), 40) as unknown as number;
+            this.asking = setTimeout(() => this.worker.postMessage(
+                                         { kind: "why", id: this.id, block: record.block, event: record.event }),
+                              40) as unknown as number;
             return;
         }
-        show("ask-causes", ...(told.why ? brakeReason(told.why, output) : [SAY.notReplayed]).map(text => make("li", {}, text)));
+        show("ask-causes",
+            ...(told.why ? brakeReason(told.why, output) : [SAY.notReplayed]).map(text => make("li", {}, text)));
         say("ask-limit", told.why ? limitText(told.why) : "");
     }
 
     private showBytes(): void {
-        const { records, facts } = this, record = records?.count ? records.get(this.index) : null, head = record && this.heads.get(record.block);
+        const { records, facts } = this, record = records?.count ? records.get(this.index) : null,
+                               head = record && this.heads.get(record.block);
         if (!record || !head || !facts) return;
         const place = placeOf(record, head.firstEvent, facts.slots);
         showBytes(at("hex"), at("fields"), this.bytes.slice(place, place + sizeOf(record)), place, fieldsOf(record));
@@ -322,15 +365,31 @@ export class Ask {
             speed.push(this.speeds[n] ?? 0);
             limit.push(records.limit(n));
         }
-        const marks = this.interventions.filter(one => one.first > life.from && one.first < life.end).map(one => ({ index: one.first - life.from, brake: one.brake }));
-        const both = { speed, limit, cursor: index - life.from, marks, pick: (n: number) => this.choose(life.from + n) };
-        draw(at("place-chart") as unknown as SVGSVGElement, { ...both, x: places, unit: "m", per: 100, title: "Speed and limit over distance" });
-        draw(at("time-chart") as unknown as SVGSVGElement, { ...both, x: moments, unit: "s", per: 1000, title: "Speed and limit over time" });
+        const marks = this.interventions.filter(one => one.first > life.from && one.first < life.end)
+                          .map(one => ({ index: one.first - life.from, brake: one.brake }));
+        const
+            both = { speed, limit, cursor: index - life.from, marks, pick: (n: number) => this.choose(life.from + n) };
+        draw(at("place-chart") as unknown as SVGSVGElement,
+            {...both, x: places, unit: "m", per: 100, title: "Speed and limit over distance" });
+        draw(at("time-chart") as unknown as SVGSVGElement,
+            {...both, x: moments, unit: "s", per: 1000, title: "Speed and limit over time" });
     }
 
     /** What tests ask. */
     get told(): object {
-        return { facts: this.facts, slots: this.slots, status: this.journalStatus, unreadable: this.unreadable, lives: this.replays, digest: this.digest,
-            interventions: this.interventions, causes: [...this.causes], count: this.records?.count ?? 0, newest: this.newest, verdict: at("verdict").textContent };
+        return {
+            facts: this.facts,
+            slots: this.slots,
+            status: this.journalStatus,
+            unreadable: this.unreadable,
+            lives: this.replays,
+            digest: this.digest,
+            interventions: this.interventions,
+            causes: [...this.causes],
+            count: this.records?.count ?? 0,
+            newest: this.newest,
+            isWhole: this.isWhole,
+            firsts: this.interventions.map(one => this.records?.event(one.first))
+        };
     }
 }

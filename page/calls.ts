@@ -1,8 +1,7 @@
-// The calls of include/etcs_unit.h and include/etcs_image.h, of the library for WebAssembly. Nothing here knows a rule of the
-// unit: it puts bytes into the memory, calls, and reads what was written there. An address is a BigInt.
-import {
-    Block, BYTES, Facts, JournalRecord, Output, Reader, Replay, Request, SECTOR, Slot, State, TrainData, Why,
-} from "./layouts";
+// The calls of include/etcs_unit.h and include/etcs_image.h, of the library for WebAssembly. Nothing here knows a rule
+// of the unit: it puts bytes into the memory, calls, and reads what was written there. An address is a BigInt.
+import {Block, BYTES, Facts, JournalRecord, Output, Reader} from "./layouts";
+import {Replay, Request, SECTOR, Slot, State, TrainData, Why} from "./layouts";
 
 export const OK = 0, END = 38, DAMAGED = 32, NO_SUCH_REQUEST = 249;
 const ABI = 2, OUTPUTS = 8;
@@ -38,10 +37,16 @@ interface Exports {
 }
 
 /** What a call answers: its status, and where that is OK what it told. */
-export interface Told<T> { status: number; value: T | null }
+export interface Told<T> {
+    status: number;
+    value: T|null
+}
 
 /** Bytes that lie in the memory of the calls. */
-export interface Held { at: bigint; size: number }
+export interface Held {
+    at: bigint;
+    size: number
+}
 
 export class Calls {
     private readonly told: bigint;
@@ -77,7 +82,9 @@ export class Calls {
 
     private with<T>(bytes: Uint8Array, use: (held: Held) => T): T {
         const held = this.hold(bytes);
-        try { return use(held); } finally { this.drop(held); }
+        try {
+            return use(held);
+        } finally { this.drop(held); }
     }
 
     private answer<T>(status: number, read: (reader: Reader, at: number) => T): Told<T> {
@@ -93,11 +100,13 @@ export class Calls {
     // ---- an image
 
     facts(image: Held): Told<Facts> {
-        return this.answer(this.x.etcs_image_facts_(image.at, BigInt(image.size), ABI, this.told), (r, at) => r.facts(at));
+        return this.answer(
+            this.x.etcs_image_facts_(image.at, BigInt(image.size), ABI, this.told), (r, at) => r.facts(at));
     }
 
     slot(image: Held, newest: number, slot: number): Told<Slot> {
-        return this.answer(this.x.etcs_image_slot_(image.at, BigInt(image.size), ABI, BigInt(newest), BigInt(slot), this.told),
+        return this.answer(
+            this.x.etcs_image_slot_(image.at, BigInt(image.size), ABI, BigInt(newest), BigInt(slot), this.told),
             (r, at) => r.slot(at));
     }
 
@@ -107,11 +116,14 @@ export class Calls {
     }
 
     why(image: Held, block: number, event: number): Told<Why> {
-        return this.answer(this.x.etcs_image_why_(image.at, BigInt(image.size), ABI, BigInt(block), BigInt(event), this.told),
+        return this.answer(
+            this.x.etcs_image_why_(image.at, BigInt(image.size), ABI, BigInt(block), BigInt(event), this.told),
             (r, at) => r.why(at));
     }
 
-    journal(image: Held): Journal { return new Journal(this.x, image, this.take(BYTES.journal), this.take(BYTES.replay)); }
+    journal(image: Held): Journal {
+        return new Journal(this.x, image, this.take(BYTES.journal), this.take(BYTES.replay));
+    }
 
     // ---- formatting, and a unit
 
@@ -122,7 +134,10 @@ export class Calls {
 
     private asked(reader: Reader, at: number): { request: Request; bytes: Uint8Array } {
         const request = reader.request(at);
-        return { request, bytes: request.isWrite ? reader.bytes(Number(this.room), SECTOR * request.sectors) : new Uint8Array() };
+        return {
+            request,
+            bytes: request.isWrite ? reader.bytes(Number(this.room), SECTOR * request.sectors) : new Uint8Array()
+        };
     }
 
     newUnit(): bigint {
@@ -145,13 +160,14 @@ export class Calls {
     clock(unit: bigint, moment: number): number { return this.x.etcs_unit_clock_(unit, BigInt(moment)); }
     action(unit: bigint, action: number): number { return this.x.etcs_unit_action_(unit, action); }
     identity(unit: bigint, text: string): number {
-        return this.with(new TextEncoder().encode(text), held => this.x.etcs_unit_identity_(unit, held.at, BigInt(held.size)));
+        return this.with(
+            new TextEncoder().encode(text), held => this.x.etcs_unit_identity_(unit, held.at, BigInt(held.size)));
     }
     runningNumber(unit: bigint, number: number): number { return this.x.etcs_unit_running_number_(unit, number); }
     trainData(unit: bigint, data: TrainData): number {
         const view = new DataView(new ArrayBuffer(BYTES.train));
-        [data.length, data.maximum, data.deceleration, data.reaction, data.category]
-            .forEach((number, n) => view.setUint32(4 * n, number, true));
+        [data.length, data.maximum, data.deceleration, data.reaction, data.category].forEach(
+            (number, n) => view.setUint32(4 * n, number, true));
         return this.with(new Uint8Array(view.buffer), held => this.x.etcs_unit_train_data_(unit, held.at));
     }
     prepare(unit: bigint): number { return this.x.etcs_unit_prepare_(unit); }
@@ -160,12 +176,14 @@ export class Calls {
         return this.answer(status, (r, at) => this.asked(r, at));
     }
     done(unit: bigint, count: number): number { return this.x.etcs_unit_done_(unit, count); }
-    state(unit: bigint): Told<State> { return this.answer(this.x.etcs_unit_state_(unit, this.told), (r, at) => r.state(at)); }
+    state(unit: bigint): Told<State> {
+        return this.answer(this.x.etcs_unit_state_(unit, this.told), (r, at) => r.state(at));
+    }
     release(unit: bigint): Told<Output[]> {
         const count = this.told + BigInt(BYTES.output * OUTPUTS);
         const status = this.x.etcs_unit_release_(unit, this.told, BigInt(OUTPUTS), count);
-        return this.answer(status, (r, at) =>
-            Array.from({ length: r.u32(Number(count)) }, (_, n) => r.output(at + BYTES.output * n)));
+        return this.answer(
+            status, (r, at) => Array.from({ length: r.u32(Number(count)) }, (_, n) => r.output(at + BYTES.output * n)));
     }
 }
 
@@ -212,6 +230,17 @@ export class Records {
     }
 
     get(index: number): JournalRecord { return this.reader.record(BYTES.record * index); }
+    /** The index of the record of an event; null where there is none. */
+    find(event: number): number|null {
+        let low = 0, high = this.count;
+        while (low < high) {
+            const middle = (low + high) >> 1;
+            if (this.event(middle) < event) low = middle + 1;
+            else high = middle;
+        }
+        return low < this.count && this.event(low) === event ? low : null;
+    }
+
     event(index: number): number { return this.reader.u64(BYTES.record * index); }
     block(index: number): number { return this.reader.u64(BYTES.record * index + 8); }
     moment(index: number): number { return this.reader.u64(BYTES.record * index + 16); }
@@ -224,6 +253,7 @@ export class Records {
     /** The speed that an odometer reading tells. */
     readSpeed(index: number): number {
         const at = BYTES.record * index + 56 + 4;
-        return this.reader.u8(at) * 0x1000000 + this.reader.u8(at + 1) * 0x10000 + this.reader.u8(at + 2) * 0x100 + this.reader.u8(at + 3);
+        return this.reader.u8(at) * 0x1000000 + this.reader.u8(at + 1) * 0x10000 + this.reader.u8(at + 2) * 0x100 +
+            this.reader.u8(at + 3);
     }
 }

@@ -1,21 +1,30 @@
 // Speed and limit over distance or time. Thousands of points come as the least and the greatest of each column.
-import { svg } from "./dom";
+import {svg} from "./dom";
 
 export interface Plot {
     /** In the unit of the axis; speeds in m/h; a limit that isn't told is null. */
-    x: number[]; speed: number[]; limit: (number | null)[];
-    unit: string; per: number; cursor: number | null; marks: { index: number; brake: number }[];
-    pick: ((index: number) => void) | null; title: string;
+    x: number[];
+    speed: number[];
+    limit: (number|null)[];
+    unit: string;
+    per: number;
+    cursor: number|null;
+    marks: { index: number; brake: number }[];
+    pick: ((index: number) => void)|null;
+    title: string;
 }
 const LEFT = 46, RIGHT = 12, TOP = 12, BOTTOM = 34, COLUMNS = 700;
 
 /** The indexes that are drawn: of each column the first, the last, and the least and the greatest of some values. */
-export function thinned(x: number[], values: (number | null)[]): number[] {
+export function thinned(x: number[], values: (number|null)[]): number[] {
     if (x.length <= 4 * COLUMNS) return x.map((_, n) => n);
-    const least = Math.min(x[0] ?? 0, x[x.length - 1] ?? 0), most = Math.max(...bounds(x)), width = (most - least) / COLUMNS || 1;
+    const least = Math.min(x[0] ?? 0, x[x.length - 1] ?? 0), most = Math.max(...bounds(x)),
+          width = (most - least) / COLUMNS || 1;
     const kept = new Set<number>();
     let column = NaN, low = 0, high = 0, last = 0;
-    const close = (): void => { kept.add(low).add(high).add(last); };
+    const close = (): void => {
+        kept.add(low).add(high).add(last);
+    };
     x.forEach((place, n) => {
         const now = Math.floor((place - least) / width);
         if (now !== column) {
@@ -64,15 +73,23 @@ export function draw(root: SVGSVGElement, plot: Plot): void {
             svg("text", { x: LEFT - 6, y: Y(1000 * v) + 4, "text-anchor": "end", class: "axis" }, String(v)));
     }
     for (const x of steps(low / plot.per, high / plot.per, 8)) {
-        parts.push(svg("line", { x1: X(x * plot.per), x2: X(x * plot.per), y1: height - BOTTOM, y2: height - BOTTOM + 4, class: "grid" }),
-            svg("text", { x: X(x * plot.per), y: height - BOTTOM + 17, "text-anchor": "middle", class: "axis" }, x.toLocaleString("en")));
+        parts.push(svg("line", {
+            x1: X(x * plot.per),
+            x2: X(x * plot.per),
+            y1: height - BOTTOM,
+            y2: height - BOTTOM + 4,
+            class: "grid"
+        }),
+            svg("text", { x: X(x * plot.per), y: height - BOTTOM + 17, "text-anchor": "middle", class: "axis" },
+                x.toLocaleString("en")));
     }
     parts.push(svg("text", { x: width - RIGHT, y: height - 3, "text-anchor": "end", class: "axis" }, plot.unit),
-        svg("text", { x: LEFT, y: height - 3, class: "axis" }, "km/h"),
-        line(plot.limit, plot, X, Y, "limit-line"), line(plot.speed, plot, X, Y, "speed-line"));
+        svg("text", { x: LEFT, y: height - 3, class: "axis" }, "km/h"), line(plot.limit, plot, X, Y, "limit-line"),
+        line(plot.speed, plot, X, Y, "speed-line"));
     for (const { index, brake } of plot.marks) {
         const x = X(plot.x[index] ?? low);
-        parts.push(svg("path", { d: `M${x} ${height - BOTTOM - 9} l-5 9 h10 z`, class: brake === 2 ? "mark emergency" : "mark service" }));
+        parts.push(svg("path",
+            { d: `M${x} ${height - BOTTOM - 9} l-5 9 h10 z`, class: brake === 2 ? "mark emergency" : "mark service" }));
     }
     if (plot.cursor !== null && plot.x[plot.cursor] !== undefined) {
         const x = X(plot.x[plot.cursor] ?? low);
@@ -81,18 +98,26 @@ export function draw(root: SVGSVGElement, plot: Plot): void {
     root.replaceChildren(...parts);
     root.onclick = event => {
         if (!plot.pick || !plot.x.length) return;
-        const box = root.getBoundingClientRect(), at = low + (high - low) * ((event.clientX - box.left) * width / box.width - LEFT) / (width - LEFT - RIGHT);
+        const box = root.getBoundingClientRect(),
+              at =
+                  low + (high - low) * ((event.clientX - box.left) * width / box.width - LEFT) / (width - LEFT - RIGHT);
         let best = 0;
-        plot.x.forEach((x, n) => { if (Math.abs(x - at) < Math.abs((plot.x[best] ?? 0) - at)) best = n; });
+        plot.x.forEach((x, n) => {
+            if (Math.abs(x - at) < Math.abs((plot.x[best] ?? 0) - at)) best = n;
+        });
         plot.pick(best);
     };
 }
 
-function line(values: (number | null)[], plot: Plot, X: (x: number) => number, Y: (v: number) => number, kind: string): Element {
+function line(
+    values: (number|null)[], plot: Plot, X: (x: number) => number, Y: (v: number) => number, kind: string): Element {
     let path = "", isDown = false;
     for (const n of thinned(plot.x, values)) {
         const value = values[n];
-        if (value === null || value === undefined) { isDown = false; continue; }
+        if (value === null || value === undefined) {
+            isDown = false;
+            continue;
+        }
         path += `${isDown ? "L" : "M"}${X(plot.x[n] ?? 0).toFixed(1)} ${Y(value).toFixed(1)}`;
         isDown = true;
     }

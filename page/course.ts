@@ -1,23 +1,47 @@
-// A train on a track with a unit on board, step by step, as python/gaknifur/driving.py has it: in each time step the train moves,
-// and the unit is told the moment, the way up to each balise with its telegram, and the rest of the way.
-import { Calls, Held } from "./calls";
-import { Output, State } from "./layouts";
-import { Group, Life, Scenario, Step } from "./life";
-import { LONGEST_CM, Motion, round, Train } from "./train";
+// A train on a track with a unit on board, step by step, as python/gaknifur/driving.py has it: in each time step the
+// train moves, and the unit is told the moment, the way up to each balise with its telegram, and the rest of the way.
+import {Calls, Held} from "./calls";
+import {Output, State} from "./layouts";
+import {Group, Life, Scenario, Step} from "./life";
+import {LONGEST_CM, Motion, round, Train} from "./train";
 
-export interface Balise { at: number; origin: number; telegram: string }
-export interface Heard { place: number; telegram: string }
-export interface Point { event: number; place: number; moment: number; speed: number; limit: number; brake: number }
+export interface Balise {
+    at: number;
+    origin: number;
+    telegram: string
+}
+export interface Heard {
+    place: number;
+    telegram: string
+}
+export interface Point {
+    event: number;
+    place: number;
+    moment: number;
+    speed: number;
+    limit: number;
+    brake: number
+}
 export const STEP_MS = 250, IDLE_MS = 1000;
+const LOOKS_S = 3, BELOW = 4000, BAND = 5000, LEAST = 0.2;
 
 /** The balises of some groups, as a train passes them. */
 export function balisesOf(groups: Group[]): Balise[] {
-    return groups.flatMap(group => group.balises.map((telegram, n) =>
-        ({ at: group.at + n * group.spacing, origin: group.at, telegram }))).sort((one, other) => one.at - other.at);
+    return groups
+        .flatMap(group => group.balises.map(
+                     (telegram, n) => ({ at: group.at + n * group.spacing, origin: group.at, telegram })))
+        .sort((one, other) => one.at - other.at);
 }
 
 /** What holds until the first output of a life: the power-up's is never released. */
-export const BEFORE: Output = { event: 0, limit: 0, mode: 6, level: 255, brake: 2, indications: 32 };
+export const BEFORE: Output = {
+    event: 0,
+    limit: 0,
+    mode: 6,
+    level: 255,
+    brake: 2,
+    indications: 32
+};
 
 export class Course {
     life: Life;
@@ -30,7 +54,8 @@ export class Course {
     private toldCm = 0;
     private base = 0;
 
-    constructor(private readonly calls: Calls, readonly medium: Held, train: Train, readonly balises: Balise[], cold: number) {
+    constructor(
+        private readonly calls: Calls, readonly medium: Held, train: Train, readonly balises: Balise[], cold: number) {
         this.motion = new Motion(train);
         this.life = new Life(calls, medium, cold);
         this.lives.push(this.life);
@@ -67,7 +92,7 @@ export class Course {
     }
 
     /** An action of the driver, recorded at once. */
-    act(...values: (number | string)[]): void {
+    act(...values: (number|string)[]): void {
         this.accept({ driver: values });
         this.flush();
         this.note();
@@ -127,15 +152,24 @@ export class Course {
 
     private note(): void {
         const last = this.points[this.points.length - 1];
-        const point = { event: this.output.event, place: this.motion.place, moment: this.moment, speed: this.speed,
-            limit: this.output.limit, brake: this.output.brake };
+        const point = {
+            event: this.output.event,
+            place: this.motion.place,
+            moment: this.moment,
+            speed: this.speed,
+            limit: this.output.limit,
+            brake: this.output.brake
+        };
         if (last && last.event === point.event) this.points[this.points.length - 1] = point;
         else this.points.push(point);
     }
 
     /** Hands the unit the steps of a scenario as they are written, and passes the balises of this track. */
     play(scenario: Scenario): void {
-        const flush = (): void => { this.flush(); this.note(); };
+        const flush = (): void => {
+            this.flush();
+            this.note();
+        };
         for (const step of scenario.steps) {
             if ("drive" in step) {
                 const [way, speed] = step.drive;
@@ -163,5 +197,22 @@ export class Course {
         this.motion.speed = this.motion.braking = 0;
         this.motion.stands = true;
         return way;
+    }
+}
+
+/**
+ * A driver who heeds the limit, as python/gaknifur/driving.py has him: he aims below the limit as it will be in some
+ * seconds.
+ */
+export class Heeding {
+    private before = 0;
+
+    /** How he pulls the lever, from -1 to 1. */
+    lever(speed: number, limit: number): number {
+        const fall = Math.max(0, ((this.before || limit) - limit) / STEP_MS * 1000);
+        this.before = limit;
+        const aim = limit - BELOW - LOOKS_S * fall;
+        if (speed > aim) return -Math.max(LEAST, Math.min(1, (speed - aim) / BAND));
+        return speed < aim - BAND / 2 ? 1 : 0;
     }
 }

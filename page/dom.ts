@@ -1,7 +1,7 @@
 // Elements without markup: each text is set as text, so nothing that a file says becomes part of the page.
 
-export type Child = Node | string | null | false;
-type Attributes = Record<string, string | number | boolean | ((event: Event) => void) | null>;
+export type Child = Node|string|null|false;
+type Attributes = Record<string, string|number|boolean|((event: Event) => void)|null>;
 
 function fill<E extends Element>(element: E, attributes: Attributes, children: Child[]): E {
     for (const [name, value] of Object.entries(attributes)) {
@@ -9,15 +9,18 @@ function fill<E extends Element>(element: E, attributes: Attributes, children: C
         else if (value === true) element.setAttribute(name, "");
         else if (value !== false && value !== null) element.setAttribute(name, String(value));
     }
-    for (const child of children) if (child) element.append(child);
+    for (const child of children)
+        if (child) element.append(child);
     return element;
 }
 
-export function make<K extends keyof HTMLElementTagNameMap>(tag: K, attributes: Attributes = {}, ...children: Child[]): HTMLElementTagNameMap[K] {
+export function make<K extends keyof HTMLElementTagNameMap>(
+    tag: K, attributes: Attributes = {}, ...children: Child[]): HTMLElementTagNameMap[K] {
     return fill(document.createElement(tag), attributes, children);
 }
 
-export function svg<K extends keyof SVGElementTagNameMap>(tag: K, attributes: Attributes = {}, ...children: Child[]): SVGElementTagNameMap[K] {
+export function svg<K extends keyof SVGElementTagNameMap>(
+    tag: K, attributes: Attributes = {}, ...children: Child[]): SVGElementTagNameMap[K] {
     return fill(document.createElementNS("http://www.w3.org/2000/svg", tag), attributes, children);
 }
 
@@ -28,7 +31,7 @@ export function at<E extends HTMLElement = HTMLElement>(id: string): E {
 }
 
 export function show(id: string, ...children: Child[]): void {
-    at(id).replaceChildren(...children.filter((child): child is Node | string => !!child));
+    at(id).replaceChildren(...children.filter((child): child is Node|string => !!child));
 }
 
 /** Sets a text where it changed. */
@@ -42,7 +45,8 @@ export function row(...cells: Child[]): HTMLTableRowElement {
 }
 
 export function table(heads: string[], rows: HTMLTableRowElement[]): HTMLTableElement {
-    return make("table", {}, make("thead", {}, make("tr", {}, ...heads.map(head => make("th", { scope: "col" }, head)))),
+    return make("table", {},
+        make("thead", {}, make("tr", {}, ...heads.map(head => make("th", { scope: "col" }, head)))),
         make("tbody", {}, ...rows));
 }
 

@@ -1,38 +1,46 @@
-// Driving: the desk, the track, time, and power. All that the desk shows is what the unit released, and what its calls tell of it.
-import { ask as askImage } from "./tabs";
-import { draw } from "./chart";
-import { Calls, Held, OK, Records } from "./calls";
-import { Course, IDLE_MS, STEP_MS, balisesOf } from "./course";
-import { askHow } from "./cutting";
-import { Dial, distanceBar, shownOf } from "./dial";
-import { at, make, save, say, show } from "./dom";
-import { State, Why } from "./layouts";
-import { formatted, Refused, Scenario, Step, recordsOf } from "./life";
-import { aheadOf, drawPlan } from "./planning";
-import { brakeReason, brakeText, count, indicationTexts, keptTexts, kmh, levelText, limitText, metres, modeName, seconds } from "./shown";
-import { AHEAD, SAY, STATUSES, WORDS } from "./texts";
-import { given, Track } from "./tracks";
+// Driving: the desk, the track, time, and power. All that the desk shows is what the unit released, and what its calls
+// tell of it.
+import {ask as askImage} from "./tabs";
+import {draw} from "./chart";
+import {Calls, Held, OK} from "./calls";
+import {balisesOf, Course, Heeding, IDLE_MS, STEP_MS} from "./course";
+import {askHow} from "./cutting";
+import {Dial, distanceBar, shownOf} from "./dial";
+import {at, make, save, say, show} from "./dom";
+import {State, Why} from "./layouts";
+import {formatted, Refused, Scenario, textOf} from "./life";
+import {aheadOf, drawPlan} from "./planning";
+import {brakeReason, brakeText, count, indicationTexts, keptTexts, kmh} from "./shown";
+import {levelText, limitText, metres, modeName, seconds} from "./shown";
+import {AHEAD, SAY, STATUSES, WORDS} from "./texts";
+import {showMission, showSteps} from "./mission";
+import {given, Track} from "./tracks";
 
-const SLOTS = 2048, TRAIN = { acceleration: 60, service: 70, emergency: 100, reaction: 500, buildUp: 1500 };
-const LOOKS_S = 3, BELOW = 4000, BAND = 5000, LEAST = 0.2;
+const SLOTS = 2048, TRAIN = {
+    acceleration: 60,
+    service: 70,
+    emergency: 100,
+    reaction: 500,
+    buildUp: 1500
+};
 /** The share of time that the causes may take, and how long they may be out of date. */
 const SHARE = 0.15, STALE_MS = 400;
 
 export class Drive {
-    course: Course | null = null;
+    course: Course|null = null;
     private medium: Held;
     private track: Track;
     private isOff = false;
     private time = 0;
     private lever = 0;
     private heeds = false;
-    private limitBefore = 0;
-    private why: Why | null = null;
+    private driver = new Heeding();
+    private why: Why|null = null;
     private whyOf = -1;
     private whyCost = 0;
     private whyAt = 0;
     private due = 0;
-    private state: State | null = null;
+    private state: State|null = null;
     private readonly dial = new Dial(at("dial"));
 
     constructor(private readonly calls: Calls) {
@@ -46,15 +54,24 @@ export class Drive {
         at("restart").addEventListener("click", () => this.board(Number(select.value)));
         at("story").addEventListener("click", () => this.guard(() => this.story()));
         for (const factor of [0, 1, 4, 16]) at(`time-${factor}`).addEventListener("click", () => this.setTime(factor));
-        at("one-step").addEventListener("click", () => { this.setTime(0); this.guard(() => this.step()); });
+        at("one-step").addEventListener("click", () => {
+            this.setTime(0);
+            this.guard(() => this.step());
+        });
         at("cut").addEventListener("click", () => this.askCut());
         at("lever").addEventListener("input", () => this.pull(Number(at<HTMLInputElement>("lever").value)));
         const levers: [string, number][] = [["full", 100], ["coast", 0], ["slow", -100]];
         for (const [id, value] of levers) at(id).addEventListener("click", () => this.pull(value));
-        at("heed").addEventListener("click", () => { this.heeds = !this.heeds; this.showLever(); });
+        at("heed").addEventListener("click", () => {
+            this.heeds = !this.heeds;
+            this.showLever();
+        });
         at("save-image").addEventListener("click", () => save("image", this.image(), "application/octet-stream"));
         at("save-scenario").addEventListener("click", () => this.saveScenarios());
-        at("ask-this").addEventListener("click", () => { this.setTime(0); askImage("the image of this desk", this.image()); });
+        at("ask-this").addEventListener("click", () => {
+            this.setTime(0);
+            askImage("the image of this desk", this.image());
+        });
         this.board(0);
         setInterval(() => this.tick(), 50);
     }
@@ -71,9 +88,10 @@ export class Drive {
         this.isOff = false;
         this.pull(0);
         this.setTime(0);
-        this.showMission();
+        showMission();
         this.guard(() => {
-            this.course = new Course(this.calls, this.medium, TRAIN, balisesOf(this.track.scenario.groups), this.track.scenario.cold ?? 0);
+            this.course = new Course(
+                this.calls, this.medium, TRAIN, balisesOf(this.track.scenario.groups), this.track.scenario.cold ?? 0);
             this.hearStart();
         });
         this.render(true);
@@ -94,7 +112,8 @@ export class Drive {
         this.board(number);
         this.course?.life.cut();
         this.calls.put(this.medium, 0, formatted(this.calls, SLOTS));
-        this.course = new Course(this.calls, this.medium, TRAIN, balisesOf(this.track.scenario.groups), this.track.scenario.cold ?? 0);
+        this.course = new Course(
+            this.calls, this.medium, TRAIN, balisesOf(this.track.scenario.groups), this.track.scenario.cold ?? 0);
         this.course.play(this.track.scenario);
         if (this.track.restart) {
             this.course.life.cut();
@@ -110,7 +129,9 @@ export class Drive {
             work();
         } catch (error) {
             this.time = 0;
-            say("drive-error", error instanceof Refused ? SAY.refused(STATUSES[error.status] ?? `status ${error.status}`) : String(error));
+            say("drive-error",
+                error instanceof Refused ? SAY.refused(STATUSES[error.status] ?? `status ${error.status}`)
+                                         : String(error));
         }
         this.render(true);
     }
@@ -129,7 +150,11 @@ export class Drive {
 
     private showLever(): void {
         at<HTMLInputElement>("lever").value = String(this.lever);
-        say("lever-said", this.heeds ? "heeds the limit" : this.lever > 0 ? `${this.lever} % traction` : this.lever < 0 ? `${-this.lever} % service brake` : "0");
+        say("lever-said",
+            this.heeds           ? "heeds the limit"
+                : this.lever > 0 ? `${this.lever} % traction`
+                : this.lever < 0 ? `${- this.lever} % service brake`
+                                 : "0");
         at("heed").setAttribute("aria-pressed", String(this.heeds));
     }
 
@@ -150,29 +175,27 @@ export class Drive {
     private wantsToMove(): boolean { return (this.heeds || this.lever > 0) && this.course?.output.brake === 0; }
 
     private guardStep(): void {
-        try { this.step(); } catch (error) { this.guard(() => { throw error; }); }
+        try {
+            this.step();
+        } catch (error) {
+            this.guard(() => {
+                throw error;
+            });
+        }
     }
 
     step(): void {
         if (!this.course || this.isOff) return;
-        this.course.step(this.heeds ? this.heeding() : this.lever / 100);
-    }
-
-    /** The driver of a closed loop who heeds the limit: python/gaknifur/driving.py. */
-    private heeding(): number {
-        const { course } = this;
-        if (!course) return 0;
-        const limit = course.output.limit, fall = Math.max(0, ((this.limitBefore || limit) - limit) / STEP_MS * 1000);
-        this.limitBefore = limit;
-        const aim = limit - BELOW - LOOKS_S * fall, speed = course.motion.metresPerHour;
-        if (speed > aim) return -Math.max(LEAST, Math.min(1, (speed - aim) / BAND));
-        return speed < aim - BAND / 2 ? 1 : 0;
+        this.course.step(this.heeds ? this.driver.lever(this.course.motion.metresPerHour, this.course.output.limit)
+                                    : this.lever / 100);
     }
 
     /** An action of the driver. */
-    act(...values: (number | string)[]): void { this.guard(() => { if (!this.isOff) this.course?.act(...values); }); }
-
-    hear(step: Step): void { this.guard(() => { this.course?.accept(step); this.course?.flush(); }); }
+    act(...values: (number|string)[]): void {
+        this.guard(() => {
+            if (!this.isOff) this.course?.act(...values);
+        });
+    }
 
     image(): Uint8Array { return this.calls.bytesOf(this.medium); }
     scenarios(): { scenario: Scenario; isTorn: boolean }[] {
@@ -182,8 +205,7 @@ export class Drive {
     private saveScenarios(): void {
         this.scenarios().forEach(({ scenario, isTorn }, n) => {
             if (isTorn) say("drive-error", SAY.torn);
-            const steps = scenario.steps.map(step => "    " + JSON.stringify(step)).join(",\n");
-            save(`life${n + 1}.json`, `{\n${scenario.cold ? `  "cold": ${scenario.cold},\n` : ""}  "groups": [],\n  "steps": [\n${steps}\n  ]\n}\n`, "application/json");
+            save(`life${n + 1}.json`, textOf(scenario), "application/json");
         });
     }
 
@@ -194,11 +216,26 @@ export class Drive {
         if (!course || this.isOff) return;
         this.setTime(0);
         askHow({
-            now: () => { course.life.cut(); this.powerOff(); },
-            prepare: () => { course.run(this.lever / 100); return course.life.prepare(); },
-            within: (list, index, left) => { course.life.cutWithin(list, index, left); this.powerOff(); },
+            now: () => {
+                course.life.cut();
+                this.powerOff();
+            },
+            prepare: () => {
+                course.run(this.lever / 100);
+                return course.life.prepare();
+            },
+            within: (list, index, left) => {
+                course.life.cutWithin(list, index, left);
+                this.powerOff();
+            },
         });
-        at("cutting").onclose = () => { if (!this.isOff && course.life.state.requests) this.guard(() => { course.life.resume(); course.flush(); }); };
+        at("cutting").onclose = () => {
+            if (!this.isOff && course.life.state.requests)
+                this.guard(() => {
+                    course.life.resume();
+                    course.flush();
+                });
+        };
     }
 
     private powerOff(): void {
@@ -208,8 +245,12 @@ export class Drive {
         this.isOff = true;
         this.why = null;
         this.whyOf = -1;
-        const buttons = [2, 1, 0].map(word => make("button", { id: `up-${word}`, disabled: word === 2 && way > 0, click: () => this.powerUp(word) }, `Power up: ${WORDS[word]}`));
-        show("owed", make("div", {}, make("p", {}, `${way > 0 ? SAY.ran(metres(way)) + " " : ""}${SAY.powerOff}`), ...buttons));
+        const buttons =
+            [2, 1, 0].map(word => make("button",
+                              { id: `up-${word}`, disabled: word === 2 && way > 0, click: () => this.powerUp(word) },
+                              `Power up: ${WORDS[word]}`));
+        show("owed",
+            make("div", {}, make("p", {}, `${way > 0 ? SAY.ran(metres(way)) + " " : ""}${SAY.powerOff}`), ...buttons));
         this.render(true);
     }
 
@@ -230,13 +271,22 @@ export class Drive {
         if (!this.isOff) this.findWhy(isFresh);
         const most = Math.max(course.speed, output.limit) > 180_000 ? 250 : 180;
         this.dial.setScale(most);
-        this.dial.show(shownOf(course.speed, this.isOff ? 0 : output.limit, this.isOff ? 0 : output.brake, this.isOff ? 0 : output.indications, this.why));
-        say("dial-said", this.isOff ? "Power is off." : `${kmh(course.speed)} km/h, limit ${kmh(output.limit)} km/h` + (this.why && this.why.limitCause >= AHEAD && this.why.causeAt !== null ? `, target ${kmh(this.why.causeSpeed)} km/h` : ""));
+        this.dial.show(shownOf(course.speed, this.isOff ? 0 : output.limit, this.isOff ? 0 : output.brake,
+            this.isOff ? 0 : output.indications, this.why));
+        say("dial-said",
+            this.isOff ? "Power is off."
+                       : `${kmh(course.speed)} km/h, limit ${kmh(output.limit)} km/h` +
+                    (this.why && this.why.limitCause >= AHEAD && this.why.causeAt !== null
+                            ? `, target ${kmh(this.why.causeSpeed)} km/h`
+                            : ""));
         say("mode", this.isOff ? "off" : modeName(output.mode));
         say("level", this.isOff ? "" : `level ${levelText(output.level)}`);
         say("brake", this.isOff ? "" : brakeText(output.brake));
         at("brake").className = `lamp brake-${this.isOff ? 0 : output.brake}`;
-        say("shown-texts", this.isOff ? SAY.powerOff : `Shown: ${indicationTexts(output.indications).join(", ") || "nothing"}. ${seconds(course.moment)} of this life.`);
+        say("shown-texts",
+            this.isOff ? SAY.powerOff
+                       : `Shown: ${indicationTexts(output.indications).join(", ") || "nothing"}. ${
+                             seconds(course.moment)} of this life.`);
         this.renderWhy();
         this.renderPlan();
         if (!this.isOff) this.renderOwed();
@@ -247,24 +297,29 @@ export class Drive {
     /** Asks why, where that takes little of the time; always where the train stands still in time. */
     private findWhy(isFresh: boolean): void {
         const { course } = this;
-        if (!course || this.whyOf === course.output.event) return;
+        if (!course) return;
+        const { newest } = this.calls.facts(this.medium).value ?? { newest: 0 },
+                       head = this.calls.block(this.medium, newest).value;
+        const event = course.life.outputs.length ? course.output.event : (head?.events ?? 1) - 1;
+        if (this.whyOf === event && this.why) return;
         const now = performance.now(), wait = Math.max(STALE_MS, this.whyCost / SHARE);
         if (!isFresh && this.time && now - this.whyAt < wait && this.why?.brake === course.output.brake) return;
-        const facts = this.calls.facts(this.medium).value;
-        const told = facts && this.calls.why(this.medium, facts.newest, course.output.event);
-        this.why = told && told.status === OK ? told.value : null;
-        this.whyOf = course.output.event;
+        const told = this.calls.why(this.medium, newest, event);
+        this.why = told.status === OK ? told.value : null;
+        this.whyOf = event;
         this.whyAt = performance.now();
         this.whyCost = this.whyAt - now;
     }
 
     private renderWhy(): void {
         const { why, course } = this;
-        const texts = !course || this.isOff ? [] : course.output === course.life.outputs[course.life.outputs.length - 1] ? (why || !course.life.outputs.length ? brakeReason(why, course.output) : [SAY.notReplayed])
-            : brakeReason(why, course.output);
+        const texts = !course || this.isOff ? [] : why ? brakeReason(why, course.output) : [SAY.notReplayed];
         show("causes", ...texts.map(text => make("li", {}, text)));
         say("limit-cause", why && !this.isOff ? limitText(why) : "");
-        say("as-of", why && course && why.event !== course.output.event && !this.isOff ? SAY.slow(why.event) : "");
+        say("as-of",
+            why && course && course.life.outputs.length && why.event !== course.output.event && !this.isOff
+                ? SAY.slow(why.event)
+                : "");
     }
 
     private renderPlan(): void {
@@ -273,58 +328,67 @@ export class Drive {
         if (!this.isOff) this.state = course.state;
         const ahead = aheadOf(course.heard, given.decoded), front = this.state;
         if (!front) return;
-        const target = why && why.limitCause >= AHEAD && why.causeAt !== null && !this.isOff ? { distance: why.causeAt - front.front, speed: why.causeSpeed } : null;
+        const target = why && why.limitCause >= AHEAD && why.causeAt !== null && !this.isOff
+            ? { distance: why.causeAt - front.front, speed: why.causeSpeed }
+            : null;
         drawPlan(at("plan"), ahead, course.motion.place, course.balises.map(balise => balise.at), target);
         distanceBar(at("distance"), target ? target.distance / 100 : null);
-        say("plan-said", this.isOff ? "" : `The unit takes the front to be at ${metres(front.front)} ± ${metres(front.uncertainty)}` + (target ? `; its target is ${metres(target.distance)} ahead.` : "."));
+        say("plan-said",
+            this.isOff ? ""
+                       : `The unit takes the front to be at ${metres(front.front)} ± ${metres(front.uncertainty)}` +
+                    (target ? `; its target is ${metres(target.distance)} ahead.` : "."));
     }
 
     private renderOwed(): void {
         const bits = this.course?.output.indications ?? 0;
-        const kinds: [number, number, string, string][] = [[1, 8, "Acknowledge the trip", "A"], [2, 1, "Acknowledge On Sight", "A"], [3, 2, "Acknowledge Shunting", "A"], [4, 4, "Acknowledge level 0", "A"]];
+        const kinds: [number, number, string, string][] = [
+            [1, 8, "Acknowledge the trip", "A"], [2, 1, "Acknowledge On Sight", "A"],
+            [3, 2, "Acknowledge Shunting", "A"], [4, 4, "Acknowledge level 0", "A"]
+        ];
         const owed = kinds.filter(([, bit]) => bits & bit), key = owed.map(([kind]) => kind).join();
         if (at("owed").dataset["kinds"] === key && at("owed").childElementCount === owed.length) return;
         at("owed").dataset["kinds"] = key;
-        show("owed", ...owed.map(([kind, , text]) => make("button", { id: `acknowledge-${kind}`, class: "due", click: () => this.act(10, kind) }, text)));
+        show("owed",
+            ...owed.map(([kind, , text]) => make("button",
+                            { id: `acknowledge-${kind}`, class: "due", click: () => this.act(10, kind) }, text)));
     }
 
     /** Acknowledges all that is asked for. */
     acknowledge(): void {
         const bits = this.course?.output.indications ?? 0;
-        for (const [kind, bit] of [[1, 8], [2, 1], [3, 2], [4, 4]] as const) if (bits & bit) { this.act(10, kind); return; }
+        for (const [kind, bit] of [[1, 8], [2, 1], [3, 2], [4, 4]] as const)
+            if (bits & bit) {
+                this.act(10, kind);
+                return;
+            }
     }
 
     private renderChart(): void {
         const points = this.course?.points ?? [];
-        const marks = points.flatMap((point, n) => point.brake && n && points[n - 1]?.brake !== point.brake ? [{ index: n, brake: point.brake }] : []);
-        draw(at("drive-chart") as unknown as SVGSVGElement, { x: points.map(point => point.place), speed: points.map(point => point.speed), limit: points.map(point => point.limit),
-            unit: "m", per: 100, cursor: points.length ? points.length - 1 : null, marks, pick: null, title: "Speed and limit over distance" });
+        const marks = points.flatMap((point, n) => point.brake && n && points[n - 1]?.brake !== point.brake
+                ? [{ index: n, brake: point.brake }]
+                : []);
+        draw(at("drive-chart") as unknown as SVGSVGElement, {
+            x: points.map(point => point.place),
+            speed: points.map(point => point.speed),
+            limit: points.map(point => point.limit),
+            unit: "m",
+            per: 100,
+            cursor: points.length ? points.length - 1 : null,
+            marks,
+            pick: null,
+            title: "Speed and limit over distance"
+        });
     }
 
     private renderLife(): void {
         const { course } = this, newest = this.calls.facts(this.medium).value?.newest ?? 0;
         const head = newest ? this.calls.block(this.medium, newest).value : null;
         if (!course || !head) return;
-        const text = `Life ${head.lives}, block ${count(head.number)}, events to ${count(head.events - 1)}. ${SAY.kept}: ` + keptTexts(head.kept).map(([name, value]) => `${name} ${value}`).join("; ") + ".";
+        const text =
+            `Life ${head.lives}, block ${count(head.number)}, events to ${count(head.events - 1)}. ${SAY.kept}: ` +
+            keptTexts(head.kept).map(([name, value]) => `${name} ${value}`).join("; ") + ".";
         if (at("life-said").textContent !== text) say("life-said", text);
-        this.showSteps(head.kept.identity !== null, head.kept.levelStatus === 1, head.kept.train !== null);
-    }
-
-    private showSteps(hasIdentity: boolean, hasLevel: boolean, hasTrain: boolean): void {
-        const isRevalidated = !((this.course?.output.indications ?? 32) & 32);
-        const done = [hasIdentity, hasLevel, hasTrain, isRevalidated];
-        for (const [n, is] of done.entries()) at(`mission-${n}`).className = is ? "done" : "owes";
-    }
-
-    private showMission(): void {
-        const texts = ["The identity is known: enter or confirm it", "The level is valid: choose or confirm it", "The train data are known: enter or confirm them", "Start (or Shunting): the driver has revalidated"];
-        show("mission", ...texts.map((text, n) => make("li", { id: `mission-${n}` }, text)));
-    }
-
-    /** What tests ask of the desk. */
-    records(): Records {
-        const { bytes } = recordsOf(this.calls, this.medium), all = new Uint8Array(bytes.reduce((sum, one) => sum + one.length, 0));
-        bytes.reduce((from, one) => { all.set(one, from); return from + one.length; }, 0);
-        return new Records(all);
+        showSteps(head.kept, course.output.indications);
     }
 }

@@ -1,24 +1,39 @@
-// A unit on a medium that lies in the page's memory: what it is handed, what it asks of the medium, what it releases; and a loss
-// of power, also within a write. What the unit was handed is kept as the steps of a scenario, as `etcs run` reads it.
-import { Calls, END, Held, NO_SUCH_REQUEST, OK } from "./calls";
-import { Output, Request, SECTOR, State } from "./layouts";
+// A unit on a medium that lies in the page's memory: what it is handed, what it asks of the medium, what it releases;
+// and a loss of power, also within a write. What the unit was handed is kept as the steps of a scenario, as `etcs run`
+// reads it.
+import {Calls, END, Held, NO_SUCH_REQUEST, OK} from "./calls";
+import {Output, Request, SECTOR, State} from "./layouts";
 
 export const PENDING = 8;
-export type Step = { telegram: string } | { drive: [number, number] } | { clock: number } | { driver: (number | string)[] }
-    | { flush: true };
-export interface Group { at: number; spacing: number; balises: string[] }
-export interface Scenario { cold?: number; groups: Group[]; steps: Step[] }
+export type Step = {
+    telegram: string
+}|{drive: [number, number]}|{clock: number}|{driver: (number|string)[]}|{flush: true};
+export interface Group {
+    at: number;
+    spacing: number;
+    balises: string[]
+}
+export interface Scenario {
+    cold?: number;
+    groups: Group[];
+    steps: Step[]
+}
 
 /** A request of the unit, as it stands in its list. */
-export interface Asked { request: Request; bytes: Uint8Array }
+export interface Asked {
+    request: Request;
+    bytes: Uint8Array
+}
 /** What power left of a sector. */
-export type Left = "old" | "new" | "foreign";
+export type Left = "old"|"new"|"foreign";
 
 export class Refused extends Error {
     constructor(readonly status: number) { super(`status ${status}`); }
 }
 
-function must(status: number): void { if (status !== OK) throw new Refused(status); }
+function must(status: number): void {
+    if (status !== OK) throw new Refused(status);
+}
 
 export function bytesOfHex(text: string): Uint8Array {
     return Uint8Array.from(text.match(/../g) ?? [], digits => parseInt(digits, 16));
@@ -26,6 +41,13 @@ export function bytesOfHex(text: string): Uint8Array {
 
 export function hexOf(bytes: Uint8Array): string {
     return Array.from(bytes, byte => byte.toString(16).padStart(2, "0")).join("");
+}
+
+/** A scenario as a file has it, a step on a line. */
+export function textOf(scenario: Scenario): string {
+    const steps = scenario.steps.map(step => "    " + JSON.stringify(step)).join(",\n");
+    return `{\n${scenario.cold ? `  "cold": ${scenario.cold},\n` : ""}  "groups": [],\n  "steps": [\n${
+        steps}\n  ]\n}\n`;
 }
 
 /** Bytes that are neither old nor new, the same ones each time. */
@@ -36,7 +58,7 @@ function foreign(sector: number): Uint8Array {
 /** An empty journal. */
 export function formatted(calls: Calls, slots: number): Uint8Array {
     const image = new Uint8Array(SECTOR * (1 + 6 * slots));
-    for (let index = 0; ; index++) {
+    for (let index = 0;; index++) {
         const { status, value } = calls.formatRequest(slots, index);
         if (status === NO_SUCH_REQUEST) return image;
         must(status);
@@ -44,9 +66,15 @@ export function formatted(calls: Calls, slots: number): Uint8Array {
     }
 }
 
-export const ACTIONS: Record<number, (values: (number | string)[]) => number> = {
-    4: ([level]) => level === 1 ? 2 : 1, 5: ([item]) => 2 + Number(item), 6: () => 7, 7: () => 8, 8: () => 9, 9: () => 10,
-    10: ([kind]) => 10 + Number(kind), 11: () => 15,
+export const ACTIONS: Record<number, (values: (number|string)[]) => number> = {
+    4: ([level]) => level === 1 ? 2 : 1,
+    5: ([item]) => 2 + Number(item),
+    6: () => 7,
+    7: () => 8,
+    8: () => 9,
+    9: () => 10,
+    10: ([kind]) => 10 + Number(kind),
+    11: () => 15,
 };
 
 export class Life {
@@ -80,7 +108,10 @@ export class Life {
 
     /** Hands the unit one event; where no more may be pending, what is pending is recorded first. */
     accept(step: Step): void {
-        if ("flush" in step) { this.flush(); return; }
+        if ("flush" in step) {
+            this.flush();
+            return;
+        }
         if (this.pending === PENDING) this.flush(false);
         must(this.hand(step));
         this.pending++;
@@ -113,7 +144,8 @@ export class Life {
 
     private carryOut(): Output[] {
         const list = this.asked();
-        for (const { request, bytes } of list) if (request.isWrite) this.write(request, bytes);
+        for (const { request, bytes } of list)
+            if (request.isWrite) this.write(request, bytes);
         must(this.calls.done(this.unit, list.length));
         const { status, value } = this.calls.release(this.unit);
         must(status);
@@ -125,7 +157,7 @@ export class Life {
     /** The requests of the list. */
     asked(): Asked[] {
         const list: Asked[] = [];
-        for (let index = 0; ; index++) {
+        for (let index = 0;; index++) {
             const { status, value } = this.calls.request(this.unit, index);
             if (status === NO_SUCH_REQUEST) return list;
             must(status);
@@ -133,7 +165,9 @@ export class Life {
         }
     }
 
-    private write(request: Request, bytes: Uint8Array): void { this.calls.put(this.medium, SECTOR * request.sector, bytes); }
+    private write(request: Request, bytes: Uint8Array): void {
+        this.calls.put(this.medium, SECTOR * request.sector, bytes);
+    }
 
     /** Prepares what is pending, and carries nothing out: the requests within which power may be lost. */
     prepare(): Asked[] {
@@ -157,11 +191,14 @@ export class Life {
         this.end();
     }
 
-    /** Power is lost within a request of a list that was prepared, a write or the sync behind it: those before it are done, and of
-     * the sectors that are open each is left as told. */
+    /**
+     * Power is lost within a request of a list that was prepared, a write or the sync behind it: those before it are
+     * done, and of the sectors that are open each is left as told.
+     */
     cutWithin(list: Asked[], index: number, left: Left[]): void {
         const open = openAt(list, index);
-        for (const { request, bytes } of list.slice(0, index)) if (request.isWrite) this.write(request, bytes);
+        for (const { request, bytes } of list.slice(0, index))
+            if (request.isWrite) this.write(request, bytes);
         const one = list[open];
         if (one) left.forEach((what, n) => this.leave(one, n, what, open < index));
         this.isTorn = true;
@@ -170,7 +207,8 @@ export class Life {
 
     private leave(one: Asked, n: number, what: Left, isWritten: boolean): void {
         const sector = one.request.sector + n;
-        if (what === "new" && !isWritten) this.calls.put(this.medium, SECTOR * sector, one.bytes.slice(SECTOR * n, SECTOR * (n + 1)));
+        if (what === "new" && !isWritten)
+            this.calls.put(this.medium, SECTOR * sector, one.bytes.slice(SECTOR * n, SECTOR * (n + 1)));
         if (what === "foreign") this.calls.put(this.medium, SECTOR * sector, foreign(sector));
     }
 
@@ -186,14 +224,17 @@ export function openAt(list: Asked[], index: number): number {
 }
 
 /** The records that a medium holds, as the calls write them, and the blocks that can't be read. */
-export function recordsOf(calls: Calls, image: Held): { status: number; bytes: Uint8Array[]; unreadable: number[] } {
+export function recordsOf(calls: Calls, image: Held): {status: number; bytes: Uint8Array[]; unreadable: number[]} {
     const journal = calls.journal(image), bytes: Uint8Array[] = [], unreadable: number[] = [];
     let status = journal.status;
     while (status === OK) {
         const block = journal.block(), told = journal.next();
         status = told.status;
         if (told.value) bytes.push(told.value);
-        else if (status !== END && journal.block() !== block) { unreadable.push(block); status = OK; }
+        else if (status !== END && journal.block() !== block) {
+            unreadable.push(block);
+            status = OK;
+        }
     }
     journal.drop();
     return { status, bytes, unreadable };

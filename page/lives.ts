@@ -1,12 +1,22 @@
 // The records of an image by lives, and the interventions of its brakes.
-import { Records } from "./calls";
+import {Records} from "./calls";
 
-export interface LifeRange { from: number; end: number; number: number }
-export interface Intervention { first: number; last: number; brake: number }
+export interface LifeRange {
+    from: number;
+    end: number;
+    number: number
+}
+export interface Intervention {
+    first: number;
+    last: number;
+    brake: number
+}
 const POWER_UP = 1, ODOMETER = 3;
 
-/** Each life with the indexes of its records; one whose power-up is overwritten begins with the first record. A power-up ends the life
- * before, and so does a gap in the numbers of events. */
+/**
+ * Each life with the indexes of its records; one whose power-up is overwritten begins with the first record. A
+ * power-up ends the life before, and so does a gap in the numbers of events.
+ */
 export function livesOf(records: Records): LifeRange[] {
     const found: LifeRange[] = [];
     for (let n = 0; n < records.count; n++) {
@@ -22,7 +32,7 @@ export function livesOf(records: Records): LifeRange[] {
 export function interventionsOf(records: Records, lives: LifeRange[]): Intervention[] {
     const found: Intervention[] = [];
     for (const { from, end } of lives) {
-        let open: Intervention | null = null;
+        let open: Intervention|null = null;
         for (let n = from; n < end; n++) {
             const brake = records.brake(n);
             if (open && open.brake === brake) open.last = n;

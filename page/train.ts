@@ -1,9 +1,13 @@
-// The train of a closed loop: a point that moves on level track. The same numbers as python/gaknifur/driving.py, operation by
-// operation. Nothing of it is proved.
+// The train of a closed loop: a point that moves on level track. The same numbers as python/gaknifur/driving.py,
+// operation by operation. Nothing of it is proved.
 
 export interface Train {
     /** In cm/s2, ms and ms. */
-    acceleration: number; service: number; emergency: number; reaction: number; buildUp: number;
+    acceleration: number;
+    service: number;
+    emergency: number;
+    reaction: number;
+    buildUp: number;
 }
 
 export const CM_PER_S = 36;
@@ -30,7 +34,8 @@ export class Motion {
     }
 
     private due(moment: number): number {
-        for (let next = this.asked[1]; next && next[0] + this.train.reaction <= moment; next = this.asked[1]) this.asked.shift();
+        for (let next = this.asked[1]; next && next[0] + this.train.reaction <= moment; next = this.asked[1])
+            this.asked.shift();
         return this.asked[0]?.[1] ?? 0;
     }
 
@@ -48,7 +53,8 @@ export class Motion {
     /** Moves for some ms from a moment on. */
     move(moment: number, ms: number, power: number): void {
         const seconds = ms / 1000, braking = this.brake(this.due(moment), seconds);
-        const change = power * this.train.acceleration - braking, before = this.speed, after = before + change * seconds;
+        const change = power * this.train.acceleration - braking, before = this.speed,
+              after = before + change * seconds;
         if (after > 0) this.place += (before + after) / 2 * seconds;
         else if (before) this.place += before * before / (2 * -change);
         this.speed = Math.max(0, after);

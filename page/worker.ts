@@ -1,15 +1,16 @@
-// Reads an image beside the page, so that the page never waits: facts, records, slots, replays and causes, in this order.
-import { Calls, END, Held, OK, Records } from "./calls";
-import { Block, BYTES, Replay, Slot, Why } from "./layouts";
-import { interventionsOf, livesOf } from "./lives";
-import { Head, Order, Report } from "./messages";
+// Reads an image beside the page, so that the page never waits: facts, records, slots, replays and causes, in this
+// order.
+import {Calls, END, Held, OK, Records} from "./calls";
+import {Block, BYTES, Replay, Slot, Why} from "./layouts";
+import {interventionsOf, livesOf} from "./lives";
+import {Head, Order, Report} from "./messages";
 
 const tell = (report: Report, transfer: Transferable[] = []): void =>
     (postMessage as (message: Report, transfer: Transferable[]) => void)(report, transfer);
 const EACH_MS = 50;
 const channel = new MessageChannel();
-let calls: Promise<Calls> | null = null;
-let image: { id: number; held: Held } | null = null;
+let calls: Promise<Calls>|null = null;
+let image: { id: number; held: Held }|null = null;
 
 /** Lets other orders in. */
 function pause(): Promise<void> {
@@ -31,7 +32,7 @@ async function pieces(id: number, what: string, all: number, work: (done: number
     return image?.id === id;
 }
 
-async function readRecords(calls: Calls, id: number, held: Held): Promise<Records | null> {
+async function readRecords(calls: Calls, id: number, held: Held): Promise<Records|null> {
     const journal = calls.journal(held), unreadable: number[] = [];
     let room = new Uint8Array(BYTES.record * 1024), count = 0, status = journal.status;
     const isRead = status !== OK || await pieces(id, "events", 0, () => {
@@ -46,7 +47,10 @@ async function readRecords(calls: Calls, id: number, held: Held): Promise<Record
             room.set(told.value, BYTES.record * count++);
             return true;
         }
-        if (status !== END && journal.block() !== block) { unreadable.push(block); return true; }
+        if (status !== END && journal.block() !== block) {
+            unreadable.push(block);
+            return true;
+        }
         return false;
     });
     journal.drop();
@@ -59,16 +63,19 @@ async function readRecords(calls: Calls, id: number, held: Held): Promise<Record
 async function readSlots(calls: Calls, id: number, held: Held, whole: number, newest: number): Promise<boolean> {
     const slots: Slot[] = [], heads: Head[] = [];
     if (!await pieces(id, "slots", whole, done => {
-        if (done >= whole) return false;
-        const { value } = calls.slot(held, newest, done);
-        if (value) slots.push(value);
-        if (value?.state === 1) {
-            const head = calls.block(held, value.number).value;
-            if (head) heads.push({ number: head.number, firstEvent: head.firstEvent, events: head.events });
-        }
-        return true;
-    })) return false;
-    const block: Block | null = newest ? calls.block(held, newest).value : null;
+            if (done >= whole) return false;
+            const { value } = calls.slot(held, newest, done);
+            if (value) slots.push(value);
+            if (value?.state === 1) {
+                const head = calls.block(held, value.number).value;
+                if (head)
+                    heads.push(
+                        { number: head.number, firstEvent: head.firstEvent, events: head.events, lives: head.lives });
+            }
+            return true;
+        }))
+        return false;
+    const block: Block|null = newest ? calls.block(held, newest).value : null;
     tell({ kind: "slots", id, slots, newest: block, heads });
     return true;
 }
@@ -91,12 +98,15 @@ async function replay(calls: Calls, id: number, held: Held): Promise<boolean> {
 
 async function causes(calls: Calls, id: number, held: Held, records: Records): Promise<boolean> {
     const list = interventionsOf(records, livesOf(records));
-    let found: [number, Why | null][] = [];
+    let found: [number, Why|null][] = [];
     const isDone = await pieces(id, "causes", list.length, done => {
         const one = list[done];
         if (!one) return false;
         found.push([one.first, calls.why(held, records.block(one.first), records.event(one.first)).value]);
-        if (found.length >= 20) { tell({ kind: "causes", id, causes: found }); found = []; }
+        if (found.length >= 20) {
+            tell({ kind: "causes", id, causes: found });
+            found = [];
+        }
         return true;
     });
     tell({ kind: "causes", id, causes: found });
@@ -111,8 +121,9 @@ async function read(calls: Calls, id: number, bytes: Uint8Array): Promise<void> 
     tell({ kind: "facts", id, status, facts: value });
     if (value) {
         const records = await readRecords(calls, id, held);
-        if (!records || !await readSlots(calls, id, held, value.whole, value.newest) || !await replay(calls, id, held)
-            || !await causes(calls, id, held, records)) return;
+        if (!records || !await readSlots(calls, id, held, value.whole, value.newest) ||
+            !await replay(calls, id, held) || !await causes(calls, id, held, records))
+            return;
     }
     tell({ kind: "done", id });
 }
@@ -133,5 +144,6 @@ async function obey(order: Order): Promise<void> {
 
 onmessage = (event: MessageEvent<Order>) => {
     const order = event.data;
-    obey(order).catch((error: unknown) => tell({ kind: "failed", id: order.kind === "module" ? 0 : order.id, says: String(error) }));
+    obey(order).catch(
+        (error: unknown) => tell({ kind: "failed", id: order.kind === "module" ? 0 : order.id, says: String(error) }));
 };

@@ -4,7 +4,8 @@ import {Child, make} from "./dom";
 import {Facts, JournalRecord, Replay, SECTOR, Slot, Why} from "./layouts";
 import {Intervention} from "./lives";
 import {Head} from "./messages";
-import {brakeText, causeTexts, count, kmh, levelText, metres, modeWord, seconds} from "./shown";
+import {brakeText, causeTexts, count, indicationTexts, kmh, levelText} from "./shown";
+import {metres, modeName, modeWord, seconds} from "./shown";
 import {KEPT_FIELDS, RECORD_FIELDS, SAY, SLOTS, VERDICTS} from "./texts";
 
 /** What an image is. */
@@ -69,4 +70,33 @@ export function interventionTexts(
         seconds(records.moment(one.first)), `${kmh(speed)} of ${kmh(records.limit(one.first))} km/h`,
         make("strong", { class: one.brake === 2 ? "bad" : "" }, brakeText(one.brake)), causes
     ];
+}
+
+/** What holds after the event of a record. */
+export function behindText(record: JournalRecord): string {
+    const told = [`After it: ${modeName(record.mode)}, level ${levelText(record.level)}, ${brakeText(record.brake)}`];
+    if (record.hasPlace) {
+        const place = `front at ${metres(record.front)} ± ${metres(record.uncertainty)}`;
+        told.push(`limit ${kmh(record.limit)} km/h, ${place}`);
+    }
+    told.push(
+        `moment ${seconds(record.moment)}`, `shown: ${indicationTexts(record.indications).join(", ") || "nothing"}`);
+    return told.join("; ") + ".";
+}
+
+/** The blocks that are missing between two that are there, with their events. */
+export function lostTexts(heads: Head[]): string[] {
+    const sorted = [...heads].sort((one, other) => one.number - other.number);
+    return sorted.flatMap((head, n) => {
+        const before = sorted[n - 1];
+        if (!before || head.number <= before.number + 1) return [];
+        const blocks = rangeText("block", before.number + 1, head.number - 1);
+        return [head.firstEvent > before.events
+                ? `${blocks} with ${rangeText("event", before.events, head.firstEvent - 1)}`
+                : blocks];
+    });
+}
+
+function rangeText(word: string, first: number, last: number): string {
+    return first === last ? `${word} ${count(first)}` : `${word}s ${count(first)} to ${count(last)}`;
 }

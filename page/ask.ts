@@ -1,7 +1,7 @@
 // Asking an image: what is dropped goes to the worker, and what that reports is shown.
-import {imageTexts, interventionTexts, slotText, verdictText} from "./answers";
+import {behindText, imageTexts, interventionTexts, lostTexts, slotText, verdictText} from "./answers";
 import {draw} from "./chart";
-import {Records, END, OK} from "./calls";
+import {Calls, Records, END, OK} from "./calls";
 import {Dial, shownOf} from "./dial";
 import {at, make, row, say, show, table} from "./dom";
 import {fieldsOf, placeOf, showBytes, sizeOf} from "./fields";
@@ -9,8 +9,8 @@ import {Block, Facts, JournalRecord, Replay, Slot, Why, SECTOR} from "./layouts"
 import {Intervention, interventionsOf, LifeRange, livesOf, speedsOf} from "./lives";
 import {Head, Order, Report} from "./messages";
 import {drawRing} from "./ring";
-import {brakeReason, brakeText, count, eventText, indicationTexts, keptTexts, kmh, levelText, limitText} from "./shown";
-import {metres, modeName, seconds} from "./shown";
+import {brakeReason, brakeText, count, eventText, keptTexts, kmh, levelText, limitText} from "./shown";
+import {modeName} from "./shown";
 import {SAY, SLOTS, STATUSES, WORDS} from "./texts";
 import {isWhole} from "./whole";
 
@@ -42,10 +42,13 @@ export class Ask {
     /** Whether all is told of the image. */
     isDone = false;
     private isWhole = false;
+    /** The life that the charts show. */
+    private drawn: { life: LifeRange; moves: ((index: number) => void)[] }|null = null;
     private asking = 0;
     private readonly dial = new Dial(at("ask-dial"));
 
-    constructor(private readonly worker: { postMessage(order: Order, transfer?: Transferable[]): void }) {
+    constructor(private readonly worker: { postMessage(order: Order, transfer?: Transferable[]): void },
+        private readonly calls: Calls) {
         const drop = at("drop"), file = at<HTMLInputElement>("file");
         document.addEventListener("dragover", event => {
             event.preventDefault();
@@ -108,6 +111,7 @@ export class Ask {
         this.slots = [];
         this.index = 0;
         this.isDone = false;
+        this.drawn = null;
         say("ask-error", "");
         say("ask-progress", SAY.reading);
         for (const part of ["lives", "interventions", "hex", "fields", "kept", "ring", "ring-legend"]) show(part);
@@ -184,11 +188,13 @@ export class Ask {
         show("ring-legend",
             ...counts.flatMap((number, state) => number
                     ? [make("li", { title: SLOTS[state]?.[1] ?? "" }, make("span", { class: `swatch state-${state}` }),
-                          `${count(number)} ${SLOTS[state]?.[0]}: ${SLOTS[state]?.[1]}`)]
+                          `${count(number)} × ${SLOTS[state]?.[0]}: ${SLOTS[state]?.[1]}`)]
                     : []));
         const whole = this.isWhole = this.facts !== null && this.records !== null &&
             isWhole(this.facts, slots, heads, this.records, this.journalStatus);
-        say("verdict", whole ? SAY.whole : SAY.notWhole);
+        const lost = lostTexts(heads);
+        say("verdict",
+            whole ? SAY.whole : SAY.notWhole + (lost.length ? ` Lost: ${lost.slice(0, 20).join("; ")}.` : ""));
         at("verdict").className = `verdict ${whole ? "good" : "bad"}`;
         if (newest)
             show("kept",
@@ -298,17 +304,7 @@ export class Ask {
         const record = records.get(index), speed = this.speeds[index] ?? 0;
         say("event-said",
             `Event ${count(record.event)} of life ${record.life}, block ${count(record.block)}: ${eventText(record)}`);
-        say("ask-texts",
-            [
-                `Behind it: ${modeName(record.mode)}, level ${levelText(record.level)}, ${brakeText(record.brake)}`,
-                record.hasPlace ? `limit ${kmh(record.limit)} km/h, front at ${metres(record.front)} ± ${
-                                      metres(record.uncertainty)}`
-                                : "",
-                `moment ${seconds(record.moment)}`,
-                `shown: ${indicationTexts(record.indications).join(", ") || "nothing"}`
-            ].filter(text => text)
-                    .join("; ") +
-                ".");
+        say("ask-texts", behindText(record));
         say("ask-mode", modeName(record.mode));
         say("ask-level", `level ${levelText(record.level)}`);
         say("ask-brake", brakeText(record.brake));
@@ -325,14 +321,6 @@ export class Ask {
         const record = records.get(index), told = this.whys.get(record.event);
         this.dial.show(
             shownOf(this.speeds[index] ?? 0, record.limit, record.brake, record.indications, told?.why ?? null));
-        const output = {
-            event: record.event,
-            limit: record.limit,
-            mode: record.mode,
-            level: record.level,
-            brake: record.brake,
-            indications: record.indications
-        };
         if (!told) {
             show("ask-causes", make("li", {}, "…"));
             say("ask-limit", "");
@@ -343,7 +331,7 @@ export class Ask {
             return;
         }
         show("ask-causes",
-            ...(told.why ? brakeReason(told.why, output) : [SAY.notReplayed]).map(text => make("li", {}, text)));
+            ...(told.why ? brakeReason(told.why, record) : [SAY.notReplayed]).map(text => make("li", {}, text)));
         say("ask-limit", told.why ? limitText(told.why) : "");
     }
 
@@ -352,12 +340,17 @@ export class Ask {
                                head = record && this.heads.get(record.block);
         if (!record || !head || !facts) return;
         const place = placeOf(record, head.firstEvent, facts.slots);
-        showBytes(at("hex"), at("fields"), this.bytes.slice(place, place + sizeOf(record)), place, fieldsOf(record));
+        showBytes(at("hex"), at("fields"), this.bytes.slice(place, place + sizeOf(record)), place,
+            fieldsOf(record, this.calls));
     }
 
     private showCharts(): void {
         const { records, index } = this, life = this.lives.find(one => one.from <= index && index < one.end);
         if (!records || !life) return;
+        if (this.drawn?.life === life) {
+            for (const move of this.drawn.moves) move(index - life.from);
+            return;
+        }
         const places: number[] = [], moments: number[] = [], speed: number[] = [], limit: number[] = [];
         for (let n = life.from; n < life.end; n++) {
             places.push(records.front(n));
@@ -369,10 +362,11 @@ export class Ask {
                           .map(one => ({ index: one.first - life.from, brake: one.brake }));
         const
             both = { speed, limit, cursor: index - life.from, marks, pick: (n: number) => this.choose(life.from + n) };
-        draw(at("place-chart") as unknown as SVGSVGElement,
+        const place = draw(at("place-chart") as unknown as SVGSVGElement,
             {...both, x: places, unit: "m", per: 100, title: "Speed and limit over distance" });
-        draw(at("time-chart") as unknown as SVGSVGElement,
+        const time = draw(at("time-chart") as unknown as SVGSVGElement,
             {...both, x: moments, unit: "s", per: 1000, title: "Speed and limit over time" });
+        this.drawn = { life, moves: [place, time] };
     }
 
     /** What tests ask. */

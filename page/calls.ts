@@ -11,6 +11,8 @@ interface Exports {
     etcs_memory_take(bytes: bigint): bigint;
     etcs_memory_give(at: bigint): void;
     etcs_abi(): number;
+    etcs_decode(bytes: bigint, len: bigint): number;
+    etcs_packet_count(bytes: bigint, len: bigint): number;
     etcs_version_(out: bigint, room: bigint, len: bigint): number;
     etcs_unit_open_(unit: bigint, image: bigint, size: bigint, cold: number, abi: number): number;
     etcs_unit_telegram_(unit: bigint, bytes: bigint, len: bigint): number;
@@ -95,6 +97,13 @@ export class Calls {
         const status = this.x.etcs_version_(this.room, BigInt(BYTES.room), this.told);
         const count = this.reader().u32(Number(this.told));
         return status === OK ? new TextDecoder().decode(this.reader().bytes(Number(this.room), count)) : "?";
+    }
+
+    /** The number of the fault of a telegram, 0 where it has none, and how many packets it has. */
+    decode(bytes: Uint8Array): [number, number] {
+        return this.with(bytes,
+            held => [this.x.etcs_decode(held.at, BigInt(held.size)),
+                this.x.etcs_packet_count(held.at, BigInt(held.size))]);
     }
 
     // ---- an image

@@ -1,5 +1,6 @@
 // Speed and limit over distance or time. Thousands of points come as the least and the greatest of each column.
 import {svg} from "./dom";
+import {NOTHING_TO_DRAW} from "./texts";
 
 export interface Plot {
     /** In the unit of the axis; speeds in m/h; a limit that isn't told is null. */
@@ -47,7 +48,7 @@ function bounds(numbers: number[]): [number, number] {
         if (number < low) low = number;
         if (number > high) high = number;
     }
-    return low <= high ? [low, high] : [0, 1];
+    return low <= high ? [low, high] : [0, 0];
 }
 
 /** Even steps of an axis. */
@@ -59,10 +60,16 @@ export function steps(low: number, high: number, about: number): number[] {
     return found;
 }
 
-export function draw(root: SVGSVGElement, plot: Plot): void {
+/** Draws a plot; what it answers moves the cursor. */
+export function draw(root: SVGSVGElement, plot: Plot): (index: number) => void {
     const width = 760, height = 250;
     root.setAttribute("viewBox", `0 0 ${width} ${height}`);
     let [low, high] = bounds(plot.x);
+    if (high <= low) {
+        root.replaceChildren(svg("text", { x: LEFT, y: height / 2, class: "axis" }, NOTHING_TO_DRAW));
+        root.onclick = null;
+        return () => undefined;
+    }
     if (high - low < plot.per) high = low + plot.per;
     const most = 1.08 * Math.max(10_000, bounds(plot.speed)[1], bounds(plot.limit.map(limit => limit ?? 0))[1]);
     const X = (x: number): number => LEFT + (width - LEFT - RIGHT) * (x - low) / (high - low);
@@ -91,9 +98,15 @@ export function draw(root: SVGSVGElement, plot: Plot): void {
         parts.push(svg("path",
             { d: `M${x} ${height - BOTTOM - 9} l-5 9 h10 z`, class: brake === 2 ? "mark emergency" : "mark service" }));
     }
-    if (plot.cursor !== null && plot.x[plot.cursor] !== undefined) {
-        const x = X(plot.x[plot.cursor] ?? low);
-        parts.push(svg("line", { x1: x, x2: x, y1: TOP, y2: height - BOTTOM, class: "cursor" }));
+    const cursor = svg("line", { y1: TOP, y2: height - BOTTOM, class: "cursor" });
+    const move = (index: number): void => {
+        const x = X(plot.x[index] ?? low);
+        cursor.setAttribute("x1", String(x));
+        cursor.setAttribute("x2", String(x));
+    };
+    if (plot.cursor !== null) {
+        move(plot.cursor);
+        parts.push(cursor);
     }
     root.replaceChildren(...parts);
     root.onclick = event => {
@@ -107,6 +120,7 @@ export function draw(root: SVGSVGElement, plot: Plot): void {
         });
         plot.pick(best);
     };
+    return move;
 }
 
 function line(

@@ -1,8 +1,9 @@
 // Where in an image the fields of a record stand (docs/FORMAT.md), and their bytes beside what the calls read there.
+import {Calls} from "./calls";
 import {make} from "./dom";
 import {JournalRecord, SECTOR} from "./layouts";
 import {reading, brakeText, count, indicationTexts, kmh, levelText, metres, modeName, seconds} from "./shown";
-import {KINDS, KINDS_OWED, PLAIN_ACTIONS, SUBJECTS, WORDS} from "./texts";
+import {KINDS, KINDS_OWED, PLAIN_ACTIONS, SUBJECTS, TELEGRAM_FAULTS, WORDS} from "./texts";
 
 export interface Field {
     name: string;
@@ -43,6 +44,11 @@ function head(record: JournalRecord): Field[] {
     ];
 }
 
+function telegramText(fault: number, packets: number): string {
+    return fault ? `carries no telegram: ${fault} ${TELEGRAM_FAULTS[fault] ?? ""}`
+                 : `${packets} packet${packets === 1 ? "" : "s"}`;
+}
+
 function driver(payload: Uint8Array): [string, number, number, string][] {
     const view = new DataView(payload.buffer, payload.byteOffset, payload.byteLength), code = payload[0] ?? 0;
     const names: Record<number, string> = {
@@ -71,10 +77,10 @@ function driver(payload: Uint8Array): [string, number, number, string][] {
     return [action];
 }
 
-function payload(record: JournalRecord): [string, number, number, string][] {
+function payload(record: JournalRecord, calls: Calls): [string, number, number, string][] {
     const bytes = record.payload;
     if (record.kind === 1) return bytes.length ? [["word on movement", 0, 1, WORDS[bytes[0] ?? 0] ?? ""]] : [];
-    if (record.kind === 2) return [["telegram", 0, bytes.length, `${bytes.length} bytes`]];
+    if (record.kind === 2) return [["telegram", 0, bytes.length, telegramText(...calls.decode(bytes))]];
     if (record.kind === 3) {
         const [movement, speed] = reading(bytes);
         return [["movement", 0, 4, metres(movement)], ["speed", 4, 4, `${kmh(speed)} km/h`]];
@@ -84,11 +90,11 @@ function payload(record: JournalRecord): [string, number, number, string][] {
 }
 
 /** The fields of a record in the order of its bytes. */
-export function fieldsOf(record: JournalRecord): Field[] {
+export function fieldsOf(record: JournalRecord, calls: Calls): Field[] {
     const at = record.format === 1 ? 24 : 48;
     return [
         ...head(record),
-        ...payload(record).map(([name, offset, size, value]) => ({ name, offset: at + offset, size, value }))
+        ...payload(record, calls).map(([name, offset, size, value]) => ({ name, offset: at + offset, size, value }))
     ];
 }
 

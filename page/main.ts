@@ -26,7 +26,7 @@ async function begin(): Promise<void> {
     const calls = Calls.of(await WebAssembly.instantiate(module, {}));
     const url = URL.createObjectURL(new Blob([given.worker], { type: "text/javascript" })), worker = new Worker(url);
     worker.postMessage({ kind: "module", module } as Order);
-    const ask = new Ask(worker);
+    const ask = new Ask(worker, calls);
     worker.onmessage = (event: MessageEvent<Report>) => ask.hear(event.data);
     whenAsked((name, bytes) => void ask.ask(name, bytes));
     const drive = new Drive(calls);

@@ -1,5 +1,5 @@
 // Events, causes and numbers as people read them.
-import {JournalRecord, Kept, Output, Why} from "./layouts";
+import {JournalRecord, Kept, Why} from "./layouts";
 import {hexOf} from "./life";
 import {BRAKES, CAUSES, DATUM, INDICATIONS, KINDS_OWED, LIMITS, MODES} from "./texts";
 import {PLAIN_ACTIONS, SAY, SUBJECTS, TRIPS, WORDS} from "./texts";
@@ -77,7 +77,7 @@ export function tripText(why: Why): string|null {
                          : `The train was tripped: ${TRIPS[0]}.`;
 }
 
-export function brakeReason(why: Why|null, output: Output): string[] {
+export function brakeReason(why: Why|null, output: {brake: number}): string[] {
     if (!why) return [SAY.noCause];
     const causes = causeTexts(why), trip = tripText(why);
     return [...(causes.length ? causes : [output.brake ? SAY.noCause : SAY.noBrake]), ...(trip ? [trip] : [])];

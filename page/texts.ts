@@ -159,7 +159,7 @@ export const SAY = {
     reading: "The image is read.",
     progress: (done: number, all: number, what: string): string => `${what}: ${done} of ${all}`,
     whole: "Each slot is as a unit leaves it, and no block of the journal is missing.",
-    notWhole: "Not whole: the slots below say what is lost.",
+    notWhole: "Not whole: the slots say what is lost.",
     agrees: "The kernel would have answered so to each event that is run again.",
     differs: "The kernel would have answered otherwise.",
     authentic: "Agreement means that the journal is consistent with this kernel, and not that it is authentic.",
@@ -174,3 +174,4 @@ export const MISSION = [
     "The identity is known: enter or confirm it", "The level is valid: choose or confirm it",
     "The train data are known: enter or confirm them", "Start (or Shunting): the driver has revalidated"
 ];
+export const NOTHING_TO_DRAW = "Nothing to draw: all events have one value here.";

@@ -193,10 +193,12 @@ def case(browser: Browser, page: Path, folder: Path) -> int:
     shown = browser.run("document.querySelectorAll('#fields tbody tr')[6].click();"
                         "return [...document.querySelectorAll('#hex .on')].map(span => span.textContent).join('')")
     assert shown == "0000000000000018"
-    assert "1 unreadable" in browser.text("ring-legend") and "1 unwritten" in browser.text("ring-legend")
+    telegram = browser.run("window.gaknifur.ask.chooseEvent(17); return document.getElementById('fields').textContent")
+    assert "3 packets" in telegram and "1,584, 31 B" in telegram, telegram
+    assert "1 × unreadable" in browser.text("ring-legend") and "1 × unwritten" in browser.text("ring-legend")
     browser.run("document.querySelectorAll('#ring .slot')[4].dispatchEvent(new MouseEvent('click', {bubbles: true}))")
     assert "byte 14,352, in record 3" in browser.text("slot-said")
-    assert "IC 704" in browser.text("kept") and browser.text("verdict").startswith("Not whole")
+    assert "IC 704" in browser.text("kept") and "Lost: block 4 with events 10 to 15." in browser.text("verdict")
     lives = browser.text("lives")
     assert "was overwritten" in lives and "are missing before" in lives
     assert browser.text("ask-causes").startswith("Why can't be told")
@@ -204,7 +206,7 @@ def case(browser: Browser, page: Path, folder: Path) -> int:
     assert "is in no block" in browser.text("event-said")
     browser.run("location.hash = '#event=9'")
     browser.until("return document.getElementById('ask-causes').textContent.includes('has not revalidated')")
-    return 14
+    return 15
 
 
 def places(browser: Browser, _page: Path, folder: Path) -> int:
@@ -220,4 +222,4 @@ def places(browser: Browser, _page: Path, folder: Path) -> int:
     return int(count)
 
 
-CHECKS = {"alterations": (alterations, 500), "case": (case, 14), "places": (places, 33)}
+CHECKS = {"alterations": (alterations, 500), "case": (case, 15), "places": (places, 33)}

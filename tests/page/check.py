@@ -1,4 +1,4 @@
-#!/usr/bin/env -S python3 -I -B
+#!/usr/bin/python3 -IB
 """The page of tools/page in headless Chromium, beside the programs `etcs` and `etcs_lab`.
 
     tests/page/check.py PAGE [NAME..]    all checks of a page, or those of these names

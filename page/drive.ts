@@ -2,7 +2,8 @@
 // tell of it.
 import {ask as askImage} from "./tabs";
 import {draw} from "./chart";
-import {Calls, Held, OK} from "./calls";
+import {Asker} from "./asker";
+import {Calls, Held} from "./calls";
 import {balisesOf, Course, Heeding, IDLE_MS, STEP_MS} from "./course";
 import {askHow} from "./cutting";
 import {Dial, distanceBar, shownOf} from "./dial";
@@ -13,7 +14,7 @@ import {aheadOf, drawPlan} from "./planning";
 import {brakeReason, brakeText, count, indicationTexts, keptTexts, kmh} from "./shown";
 import {levelText, limitText, metres, modeName, seconds} from "./shown";
 import {AHEAD, SAY, STATUSES, WORDS} from "./texts";
-import {showMission, showSteps} from "./mission";
+import {owedIn, showMission, showSteps} from "./mission";
 import {given, Track} from "./tracks";
 
 const SLOTS = 2048, TRAIN = {
@@ -23,8 +24,8 @@ const SLOTS = 2048, TRAIN = {
     reaction: 500,
     buildUp: 1500
 };
-/** The share of time that the causes may take, and how long they may be out of date. */
-const SHARE = 0.15, STALE_MS = 400;
+/** How long the causes may be out of date while time runs, beside what a question takes. */
+const STALE_MS = 250;
 
 export class Drive {
     course: Course|null = null;
@@ -37,13 +38,14 @@ export class Drive {
     private driver = new Heeding();
     private why: Why|null = null;
     private whyOf = -1;
-    private whyCost = 0;
+    /** Whether the asker answered in this life. */
+    private isKnown = false;
     private whyAt = 0;
     private due = 0;
     private state: State|null = null;
     private readonly dial = new Dial(at("dial"));
 
-    constructor(private readonly calls: Calls) {
+    constructor(private readonly calls: Calls, private readonly asker: Asker) {
         const [first] = given.tracks;
         if (!first) throw new Error("there is no track");
         this.track = first;
@@ -85,6 +87,7 @@ export class Drive {
         this.calls.drop(this.medium);
         this.medium = this.calls.hold(formatted(this.calls, SLOTS));
         this.course = null;
+        this.forget();
         this.isOff = false;
         this.pull(0);
         this.setTime(0);
@@ -243,8 +246,7 @@ export class Drive {
         if (!course) return;
         const way = course.rollOut();
         this.isOff = true;
-        this.why = null;
-        this.whyOf = -1;
+        this.forget();
         const buttons =
             [2, 1, 0].map(word => make("button",
                               { id: `up-${word}`, disabled: word === 2 && way > 0, click: () => this.powerUp(word) },
@@ -252,6 +254,12 @@ export class Drive {
         show("owed",
             make("div", {}, make("p", {}, `${way > 0 ? SAY.ran(metres(way)) + " " : ""}${SAY.powerOff}`), ...buttons));
         this.render(true);
+    }
+
+    private forget(): void {
+        this.why = null;
+        this.whyOf = -1;
+        this.isKnown = false;
     }
 
     private powerUp(word: number): void {
@@ -294,26 +302,30 @@ export class Drive {
         this.renderLife();
     }
 
-    /** Asks why, where that takes little of the time; always where the train stands still in time. */
+    /** Asks why, one question at a time, and not too often while time runs. */
     private findWhy(isFresh: boolean): void {
-        const { course } = this;
-        if (!course) return;
-        const { newest } = this.calls.facts(this.medium).value ?? { newest: 0 },
-                       head = this.calls.block(this.medium, newest).value;
+        const { course } = this, now = performance.now();
+        if (!course || this.asker.isBusy || (!isFresh && now - this.whyAt < STALE_MS)) return;
+        const { newest } = this.calls.facts(this.medium).value ?? { newest: 0 };
+        const head = this.calls.block(this.medium, newest).value;
         const event = course.life.outputs.length ? course.output.event : (head?.events ?? 1) - 1;
-        if (this.whyOf === event && this.why) return;
-        const now = performance.now(), wait = Math.max(STALE_MS, this.whyCost / SHARE);
-        if (!isFresh && this.time && now - this.whyAt < wait && this.why?.brake === course.output.brake) return;
-        const told = this.calls.why(this.medium, newest, event);
-        this.why = told.status === OK ? told.value : null;
+        if (this.whyOf === event) return;
+        const { life } = course;
         this.whyOf = event;
-        this.whyAt = performance.now();
-        this.whyCost = this.whyAt - now;
+        this.whyAt = now;
+        this.asker.ask(this.image(), newest, event, why => {
+            if (this.course?.life !== life || this.isOff) return;
+            this.why = why;
+            this.isKnown = true;
+            this.render(!this.time);
+        });
     }
 
     private renderWhy(): void {
         const { why, course } = this;
-        const texts = !course || this.isOff ? [] : why ? brakeReason(why, course.output) : [SAY.notReplayed];
+        const texts = !course || this.isOff || !this.isKnown ? []
+            : why                                            ? brakeReason(why, course.output)
+                                                             : [SAY.notReplayed];
         show("causes", ...texts.map(text => make("li", {}, text)));
         say("limit-cause", why && !this.isOff ? limitText(why) : "");
         say("as-of",
@@ -340,27 +352,18 @@ export class Drive {
     }
 
     private renderOwed(): void {
-        const bits = this.course?.output.indications ?? 0;
-        const kinds: [number, number, string, string][] = [
-            [1, 8, "Acknowledge the trip", "A"], [2, 1, "Acknowledge On Sight", "A"],
-            [3, 2, "Acknowledge Shunting", "A"], [4, 4, "Acknowledge level 0", "A"]
-        ];
-        const owed = kinds.filter(([, bit]) => bits & bit), key = owed.map(([kind]) => kind).join();
+        const owed = owedIn(this.course?.output.indications ?? 0), key = owed.map(([kind]) => kind).join();
         if (at("owed").dataset["kinds"] === key && at("owed").childElementCount === owed.length) return;
         at("owed").dataset["kinds"] = key;
-        show("owed",
-            ...owed.map(([kind, , text]) => make("button",
-                            { id: `acknowledge-${kind}`, class: "due", click: () => this.act(10, kind) }, text)));
+        const button = (kind: number, text: string): Node =>
+            make("button", { id: `acknowledge-${kind}`, class: "due", click: () => this.act(10, kind) }, text);
+        show("owed", ...owed.map(([kind, , text]) => button(kind, text)));
     }
 
-    /** Acknowledges all that is asked for. */
+    /** Acknowledges the first that is asked for. */
     acknowledge(): void {
-        const bits = this.course?.output.indications ?? 0;
-        for (const [kind, bit] of [[1, 8], [2, 1], [3, 2], [4, 4]] as const)
-            if (bits & bit) {
-                this.act(10, kind);
-                return;
-            }
+        const [first] = owedIn(this.course?.output.indications ?? 0);
+        if (first) this.act(10, first[0]);
     }
 
     private renderChart(): void {

@@ -1,6 +1,8 @@
 // Where the page begins: the module is compiled once, for the desk and for the worker.
 import {Ask} from "./ask";
+import {Asker} from "./asker";
 import {Calls} from "./calls";
+import {balisesOf, Course} from "./course";
 import {at, say} from "./dom";
 import {Drive} from "./drive";
 import {setKeys} from "./keys";
@@ -24,18 +26,24 @@ async function begin(): Promise<void> {
     say("sentence", SAY.loading);
     const module = await WebAssembly.compile(bytesOf64(given.wasm));
     const calls = Calls.of(await WebAssembly.instantiate(module, {}));
-    const url = URL.createObjectURL(new Blob([given.worker], { type: "text/javascript" })), worker = new Worker(url);
-    worker.postMessage({ kind: "module", module } as Order);
-    const ask = new Ask(worker, calls);
-    worker.onmessage = (event: MessageEvent<Report>) => ask.hear(event.data);
+    const url = URL.createObjectURL(new Blob([given.worker], { type: "text/javascript" }));
+    const start = (hear: (report: Report) => void): Worker => {
+        const worker = new Worker(url);
+        worker.onmessage = (event: MessageEvent<Report>) => hear(event.data);
+        worker.postMessage({ kind: "module", module } as Order);
+        return worker;
+    };
+    const ask: Ask = new Ask(start(report => ask.hear(report)), calls);
+    const asker: Asker = new Asker(start(report => asker.hear(report)));
     whenAsked((name, bytes) => void ask.ask(name, bytes));
-    const drive = new Drive(calls);
+    const drive = new Drive(calls, asker);
     setKeys(drive);
     say("version", `unit ${calls.version()}, page ${given.commit}`);
     say("sentence", "");
     choose(/^#event=/.test(location.hash) ? "ask" : "drive");
-    Object.assign(
-        window, { gaknifur: { calls, drive, ask, parts: { Life, formatted, openAt, recordsOf, Motion, round } } });
+    Object.assign(window, {
+        gaknifur: { calls, drive, ask, parts: { Course, balisesOf, Life, formatted, openAt, recordsOf, Motion, round } }
+    });
 }
 
 const dark = matchMedia("(prefers-color-scheme: dark)");

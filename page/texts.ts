@@ -175,3 +175,9 @@ export const MISSION = [
     "The train data are known: enter or confirm them", "Start (or Shunting): the driver has revalidated"
 ];
 export const NOTHING_TO_DRAW = "Nothing to draw: all events have one value here.";
+export const OWED: [number, number, string][] = [
+    [1, 8, "Acknowledge the trip"],
+    [2, 1, "Acknowledge On Sight"],
+    [3, 2, "Acknowledge Shunting"],
+    [4, 4, "Acknowledge level 0"],
+];

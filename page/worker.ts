@@ -136,9 +136,11 @@ async function obey(order: Order): Promise<void> {
     if (!calls) throw new Error("there is no module yet");
     const ready = await calls;
     if (order.kind === "image") await read(ready, order.id, new Uint8Array(order.bytes));
-    else if (image?.id === order.id) {
-        const { status, value } = ready.why(image.held, order.block, order.event);
+    else if (order.kind === "once" || image?.id === order.id) {
+        const held = order.kind === "once" ? ready.hold(new Uint8Array(order.bytes)) : (image as { held: Held }).held;
+        const { status, value } = ready.why(held, order.block, order.event);
         tell({ kind: "why", id: order.id, event: order.event, block: order.block, status, why: value });
+        if (order.kind === "once") ready.drop(held);
     }
 }
 

@@ -197,18 +197,17 @@ export class Life {
      */
     cutWithin(list: Asked[], index: number, left: Left[]): void {
         const open = openAt(list, index);
-        for (const { request, bytes } of list.slice(0, index))
+        for (const { request, bytes } of list.slice(0, open))
             if (request.isWrite) this.write(request, bytes);
         const one = list[open];
-        if (one) left.forEach((what, n) => this.leave(one, n, what, open < index));
+        if (one) left.forEach((what, n) => this.leave(one, n, what));
         this.isTorn = true;
         this.end();
     }
 
-    private leave(one: Asked, n: number, what: Left, isWritten: boolean): void {
+    private leave(one: Asked, n: number, what: Left): void {
         const sector = one.request.sector + n;
-        if (what === "new" && !isWritten)
-            this.calls.put(this.medium, SECTOR * sector, one.bytes.slice(SECTOR * n, SECTOR * (n + 1)));
+        if (what === "new") this.calls.put(this.medium, SECTOR * sector, one.bytes.slice(SECTOR * n, SECTOR * (n + 1)));
         if (what === "foreign") this.calls.put(this.medium, SECTOR * sector, foreign(sector));
     }
 

@@ -1,0 +1,102 @@
+// What is said of an image, of its slots, lives and interventions.
+import {Records} from "./calls";
+import {Child, make} from "./dom";
+import {Facts, JournalRecord, Replay, SECTOR, Slot, Why} from "./layouts";
+import {Intervention} from "./lives";
+import {Head} from "./messages";
+import {brakeText, causeTexts, count, indicationTexts, kmh, levelText} from "./shown";
+import {metres, modeName, modeWord, seconds} from "./shown";
+import {KEPT_FIELDS, RECORD_FIELDS, SAY, SLOTS, VERDICTS} from "./texts";
+
+/** What an image is. */
+export function imageTexts(name: string, digest: string, bytes: number, facts: Facts, records: Records|null,
+    lives: number, unreadable: number[]): [string, string][] {
+    const rest = bytes % SECTOR, told: [string, string][] = [
+        ["file", name], ["SHA-256", digest],
+        ["bytes", `${count(bytes)}${rest ? `, of which ${rest} stand after the last whole sector` : ""}`],
+        ["sectors", count(facts.sectors)], ["slots", `${count(facts.slots)}, ${count(facts.whole)} whole`],
+        ["newest block", facts.newest ? count(facts.newest) : "none"]
+    ];
+    if (records?.count) {
+        told.push([
+            "events",
+            `${count(records.event(0))} to ${count(records.event(records.count - 1))}, ${
+                count(records.count)} can be read`
+        ]);
+        told.push(["lives", count(lives)]);
+    }
+    if (unreadable.length)
+        told.push(["can't be read", `block${unreadable.length > 1 ? "s" : ""} ${unreadable.slice(0, 20).join(", ")}`]);
+    return told;
+}
+
+/** What a slot holds, with the place of the first field that isn't one. */
+export function slotText(slot: Slot, number: number, head: Head|undefined): string {
+    const first = SECTOR * (1 + 6 * number), [name, says] = SLOTS[slot.state] ?? ["", ""];
+    let text = `Slot ${count(number)}, from byte ${count(first)} on: ${name}${
+        slot.number ? ` ${count(slot.number)}` : ""}; ${says}.`;
+    if (head && slot.state === 1) text += ` Events ${count(head.firstEvent)} to ${count(head.events - 1)}.`;
+    if (slot.hasFault) {
+        const where = slot.faultRecord ? `in record ${slot.faultRecord}` : "in the head";
+        text += ` The first field that isn't one is at byte ${count(first + SECTOR + slot.faultAt)}, ${where}.`;
+    }
+    return slot.state === 1 && !slot.isSound ? text + " Its gate isn't its own." : text;
+}
+
+function answerText(record: JournalRecord): string {
+    return `${modeWord(record.mode)}, level ${levelText(record.level)}, ${brakeText(record.brake)}, indications ${
+               record.indications}, ` +
+        `${metres(record.front)} ± ${metres(record.uncertainty)}, limit ${kmh(record.limit)} km/h, ${
+            seconds(record.moment)}`;
+}
+
+/** What a life came to that was run again. */
+export function verdictText(life: Replay): string {
+    const says = VERDICTS[life.verdict] ?? "";
+    if (life.verdict === 2) {
+        return `${says}: event ${count(life.event)} in ${RECORD_FIELDS[life.field]}. The journal has ${
+                   answerText(life.journal)}. ` +
+            `The kernel answers ${answerText(life.kernel)}.`;
+    }
+    return life.verdict === 3 ? `${says}: block ${count(life.block)} in ${KEPT_FIELDS[life.field]}` : says;
+}
+
+/** The cells of an intervention; its causes come later. */
+export function interventionTexts(
+    records: Records, one: Intervention, speed: number, why: Why|null|undefined): Child[] {
+    const causes = why === undefined ? "…" : why ? causeTexts(why).join("; ") || SAY.noCause : SAY.notReplayed;
+    return [
+        `${count(records.event(one.first))} to ${count(records.event(one.last))}`, metres(records.front(one.first)),
+        seconds(records.moment(one.first)), `${kmh(speed)} of ${kmh(records.limit(one.first))} km/h`,
+        make("strong", { class: one.brake === 2 ? "bad" : "" }, brakeText(one.brake)), causes
+    ];
+}
+
+/** What holds after the event of a record. */
+export function behindText(record: JournalRecord): string {
+    const told = [`After it: ${modeName(record.mode)}, level ${levelText(record.level)}, ${brakeText(record.brake)}`];
+    if (record.hasPlace) {
+        const place = `front at ${metres(record.front)} ± ${metres(record.uncertainty)}`;
+        told.push(`limit ${kmh(record.limit)} km/h, ${place}`);
+    }
+    told.push(
+        `moment ${seconds(record.moment)}`, `shown: ${indicationTexts(record.indications).join(", ") || "nothing"}`);
+    return told.join("; ") + ".";
+}
+
+/** The blocks that are missing between two that are there, with their events. */
+export function lostTexts(heads: Head[]): string[] {
+    const sorted = [...heads].sort((one, other) => one.number - other.number);
+    return sorted.flatMap((head, n) => {
+        const before = sorted[n - 1];
+        if (!before || head.number <= before.number + 1) return [];
+        const blocks = rangeText("block", before.number + 1, head.number - 1);
+        return [head.firstEvent > before.events
+                ? `${blocks} with ${rangeText("event", before.events, head.firstEvent - 1)}`
+                : blocks];
+    });
+}
+
+function rangeText(word: string, first: number, last: number): string {
+    return first === last ? `${word} ${count(first)}` : `${word}s ${count(first)} to ${count(last)}`;
+}

@@ -1,0 +1,389 @@
+// Asking an image: what is dropped goes to the worker, and what that reports is shown.
+import {behindText, imageTexts, interventionTexts, lostTexts, slotText, verdictText} from "./answers";
+import {draw} from "./chart";
+import {Calls, Records, END, OK} from "./calls";
+import {Dial, shownOf} from "./dial";
+import {at, make, row, say, show, table} from "./dom";
+import {fieldsOf, placeOf, showBytes, sizeOf} from "./fields";
+import {Block, Facts, JournalRecord, Replay, Slot, Why, SECTOR} from "./layouts";
+import {Intervention, interventionsOf, LifeRange, livesOf, speedsOf} from "./lives";
+import {Head, Order, Report} from "./messages";
+import {drawRing} from "./ring";
+import {brakeReason, brakeText, count, eventText, keptTexts, kmh, levelText, limitText} from "./shown";
+import {modeName} from "./shown";
+import {SAY, SLOTS, STATUSES, WORDS} from "./texts";
+import {isWhole} from "./whole";
+
+const MOST_BYTES = 256 * 1024 * 1024;
+
+export class Ask {
+    id = 0;
+    private name = "";
+    private bytes = new Uint8Array();
+    private facts: Facts|null = null;
+    private records: Records|null = null;
+    private lives: LifeRange[] = [];
+    private speeds = new Float64Array();
+    private interventions: Intervention[] = [];
+    private slots: Slot[] = [];
+    private heads = new Map<number, Head>();
+    private newest: Block|null = null;
+    private unreadable: number[] = [];
+    private journalStatus = OK;
+    private causes = new Map<number, Why|null>();
+    private whys = new Map < number, {
+        status: number;
+        why: Why|null
+    }
+    > ();
+    private replays: Replay[]|null = null;
+    private digest = "";
+    index = 0;
+    /** Whether all is told of the image. */
+    isDone = false;
+    private isWhole = false;
+    /** The life that the charts show. */
+    private drawn: { life: LifeRange; moves: ((index: number) => void)[] }|null = null;
+    private asking = 0;
+    private readonly dial = new Dial(at("ask-dial"));
+
+    constructor(private readonly worker: { postMessage(order: Order, transfer?: Transferable[]): void },
+        private readonly calls: Calls) {
+        const drop = at("drop"), file = at<HTMLInputElement>("file");
+        document.addEventListener("dragover", event => {
+            event.preventDefault();
+            drop.classList.add("over");
+        });
+        document.addEventListener("dragleave", () => drop.classList.remove("over"));
+        document.addEventListener("drop", event => {
+            event.preventDefault();
+            drop.classList.remove("over");
+            const files = event.dataTransfer?.files;
+            if (files && files.length > 1) this.refuse(SAY.oneFile);
+            else if (files?.[0]) void this.open(files[0]);
+        });
+        file.addEventListener("change", () => {
+            if (file.files?.[0]) void this.open(file.files[0]);
+        });
+        at("scrub").addEventListener("input", () => this.choose(Number(at<HTMLInputElement>("scrub").value)));
+        at("event-number")
+            .addEventListener("change", () => this.chooseEvent(Number(at<HTMLInputElement>("event-number").value)));
+        const move: [string, () => number][] = [
+            ["first", () => 0], ["before", () => this.index - 1], ["after", () => this.index + 1],
+            ["last", () => (this.records?.count ?? 1) - 1]
+        ];
+        for (const [id, to] of move) at(id).addEventListener("click", () => this.choose(to()));
+        at("print").addEventListener("click", () => print());
+        addEventListener("hashchange", () => this.followHash());
+    }
+
+    private refuse(sentence: string): void {
+        this.id++;
+        at("answers").hidden = true;
+        say("ask-progress", "");
+        say("ask-error", sentence);
+    }
+
+    /** Reads a file, where it can be an image. */
+    async open(file: File): Promise<void> {
+        if (file.size > MOST_BYTES) {
+            this.refuse(SAY.tooBig(file.name));
+            return;
+        }
+        if (file.size < SECTOR) {
+            this.refuse(SAY.tooSmall(file.name));
+            return;
+        }
+        try {
+            await this.ask(file.name, new Uint8Array(await file.arrayBuffer()));
+        } catch (error) { this.refuse(SAY.noImage(file.name, String(error))); }
+    }
+
+    /** Asks the bytes of an image. The digest is taken before anything reads them. */
+    async ask(name: string, bytes: Uint8Array): Promise<void> {
+        const id = ++this.id;
+        this.name = name;
+        this.bytes = bytes;
+        this.records = this.replays = this.newest = this.facts = null;
+        this.causes.clear();
+        this.whys.clear();
+        this.heads.clear();
+        this.slots = [];
+        this.index = 0;
+        this.isDone = false;
+        this.drawn = null;
+        say("ask-error", "");
+        say("ask-progress", SAY.reading);
+        for (const part of ["lives", "interventions", "hex", "fields", "kept", "ring", "ring-legend"]) show(part);
+        for (const part of ["replay-said", "slot-said", "verdict"]) say(part, "");
+        const digest = await crypto.subtle.digest("SHA-256", bytes);
+        if (this.id !== id) return;
+        this.digest = Array.from(new Uint8Array(digest), byte => byte.toString(16).padStart(2, "0")).join("");
+        const copy = bytes.slice();
+        this.worker.postMessage({ kind: "image", id, bytes: copy.buffer }, [copy.buffer]);
+    }
+
+    hear(report: Report): void {
+        if (report.id !== this.id) return;
+        if (report.kind === "facts") this.showFacts(report.status, report.facts);
+        else if (report.kind === "records")
+            this.takeRecords(report.status, new Uint8Array(report.bytes), report.unreadable);
+        else if (report.kind === "slots") this.takeSlots(report.slots, report.newest, report.heads);
+        else if (report.kind === "replay") this.takeReplay(report.lives, report.unreadable);
+        else if (report.kind === "causes") {
+            for (const [index, why] of report.causes) this.causes.set(index, why);
+            this.showInterventions();
+        } else if (report.kind === "why") {
+            this.whys.set(report.event, report);
+            this.asking = 0;
+            this.showWhy();
+        } else if (report.kind === "progress")
+            say("ask-progress", SAY.progress(report.done, report.all || report.done, report.what));
+        else if (report.kind === "done") {
+            say("ask-progress", "");
+            this.isDone = true;
+        } else this.refuse(SAY.noImage(this.name, report.says));
+    }
+
+    private showFacts(status: number, facts: Facts|null): void {
+        if (!facts) {
+            this.refuse(SAY.noImage(this.name, STATUSES[status] ?? `status ${status}`));
+            return;
+        }
+        this.facts = facts;
+        at("answers").hidden = false;
+        this.showImage();
+    }
+
+    private showImage(): void {
+        const facts = this.facts;
+        if (!facts) return;
+        const told = imageTexts(
+            this.name, this.digest, this.bytes.length, facts, this.records, this.lives.length, this.unreadable);
+        show("facts", ...told.flatMap(([name, value]) => [make("dt", {}, name), make("dd", {}, value)]));
+    }
+
+    private takeRecords(status: number, bytes: Uint8Array, unreadable: number[]): void {
+        this.journalStatus = status;
+        this.unreadable = unreadable;
+        this.records = new Records(bytes);
+        this.lives = livesOf(this.records);
+        this.speeds = speedsOf(this.records, this.lives);
+        this.interventions = interventionsOf(this.records, this.lives);
+        this.showImage();
+        this.showInterventions();
+        const scrub = at<HTMLInputElement>("scrub");
+        scrub.max = String(Math.max(0, this.records.count - 1));
+        scrub.disabled = this.records.count === 0;
+        if (status !== END) say("ask-error", `${this.name}: ${STATUSES[status] ?? `status ${status}`}.`);
+        if (this.records.count) this.followHash();
+        else say("event-said", SAY.noRecord);
+    }
+
+    private takeSlots(slots: Slot[], newest: Block|null, heads: Head[]): void {
+        this.slots = slots;
+        this.newest = newest;
+        for (const head of heads) this.heads.set(head.number, head);
+        const counts = SLOTS.map((_, state) => slots.filter(slot => slot.state === state).length);
+        show("ring-legend",
+            ...counts.flatMap((number, state) => number
+                    ? [make("li", { title: SLOTS[state]?.[1] ?? "" }, make("span", { class: `swatch state-${state}` }),
+                          `${count(number)} × ${SLOTS[state]?.[0]}: ${SLOTS[state]?.[1]}`)]
+                    : []));
+        const whole = this.isWhole = this.facts !== null && this.records !== null &&
+            isWhole(this.facts, slots, heads, this.records, this.journalStatus);
+        const lost = lostTexts(heads);
+        say("verdict",
+            whole ? SAY.whole : SAY.notWhole + (lost.length ? ` Lost: ${lost.slice(0, 20).join("; ")}.` : ""));
+        at("verdict").className = `verdict ${whole ? "good" : "bad"}`;
+        if (newest)
+            show("kept",
+                ...keptTexts(newest.kept).flatMap(([name, value]) => [make("dt", {}, name), make("dd", {}, value)]));
+        const bad = slots.findIndex(slot => !slot.isSound);
+        this.chooseSlot(bad >= 0 ? bad : null);
+        this.showBytes();
+    }
+
+    private chooseSlot(slot: number|null): void {
+        drawRing(
+            at("ring") as unknown as SVGSVGElement, this.slots, this.facts?.newest ?? 0, slot, n => this.chooseSlot(n));
+        const told = slot === null ? undefined : this.slots[slot];
+        if (!told || slot === null) {
+            say("slot-said", "");
+            return;
+        }
+        say("slot-said", slotText(told, slot, this.heads.get(told.number)));
+    }
+
+    private takeReplay(lives: Replay[], unreadable: number[]): void {
+        this.replays = lives;
+        const rows = lives.map(life => {
+            const isGood = life.verdict === 1, isBad = life.verdict === 2 || life.verdict === 3;
+            const line = row(count(life.life), `${count(life.first)} to ${count(life.last)}`, this.wordOf(life.first),
+                make("span", { class: isGood ? "good"
+                        : isBad              ? "bad"
+                                             : "" },
+                    verdictText(life)));
+            return this.linked(line, life.verdict === 2 ? life.event : life.first);
+        });
+        show("lives", table(["life", "events", "power-up", "replay"], rows));
+        const differs = lives.some(life => life.verdict === 2 || life.verdict === 3),
+              agrees = lives.some(life => life.verdict === 1);
+        say("replay-said",
+            `${
+                differs      ? SAY.differs
+                    : agrees ? SAY.agrees
+                             : ""}${unreadable.length ? ` Can't be read: block ${unreadable.join(", ")}.` : ""} ${
+                agrees ? SAY.authentic : ""}`
+                .trim());
+    }
+
+    private wordOf(event: number): string {
+        const record = this.recordOf(event);
+        return record && record.kind === 1 ? WORDS[record.payload[0] ?? 0] ?? "" : "not there";
+    }
+
+    private recordOf(event: number): JournalRecord|null {
+        const index = this.indexOf(event);
+        return index === null || !this.records ? null : this.records.get(index);
+    }
+
+    private linked(line: HTMLTableRowElement, event: number): HTMLTableRowElement {
+        line.tabIndex = 0;
+        line.addEventListener("click", () => this.chooseEvent(event));
+        line.addEventListener("keydown", key => {
+            if (key.key === "Enter") this.chooseEvent(event);
+        });
+        return line;
+    }
+
+    private showInterventions(): void {
+        const { records } = this;
+        if (!records) return;
+        const rows = this.interventions.slice(0, 500).map(
+            one => this.linked(
+                row(...interventionTexts(records, one, this.speeds[one.first] ?? 0, this.causes.get(one.first))),
+                records.event(one.first)));
+        show("interventions", table(["events", "place", "time", "speed", "command", "causes where it began"], rows),
+            this.interventions.length > 500 && make("p", {}, `The first 500 of ${count(this.interventions.length)}.`));
+    }
+
+    // ---- an event
+
+    private indexOf(event: number): number|null { return this.records ? this.records.find(event) : null; }
+
+    private followHash(): void {
+        const event = /^#event=(\d+)$/.exec(location.hash)?.[1];
+        if (event !== undefined) this.chooseEvent(Number(event));
+        else this.choose(0);
+    }
+
+    chooseEvent(event: number): void {
+        const index = this.indexOf(event);
+        if (index !== null) this.choose(index);
+        else say("event-said", `Event ${count(event)} is in no block of the journal that can be read.`);
+    }
+
+    choose(index: number): void {
+        const { records } = this;
+        if (!records || !records.count) return;
+        this.index = Math.max(0, Math.min(records.count - 1, index));
+        const event = records.event(this.index);
+        at<HTMLInputElement>("scrub").value = String(this.index);
+        at<HTMLInputElement>("event-number").value = String(event);
+        if (location.hash !== `#event=${event}`) history.replaceState(null, "", `#event=${event}`);
+        this.showEvent();
+        this.showWhy();
+        this.showBytes();
+        this.showCharts();
+    }
+
+    private showEvent(): void {
+        const { records, index } = this;
+        if (!records) return;
+        const record = records.get(index), speed = this.speeds[index] ?? 0;
+        say("event-said",
+            `Event ${count(record.event)} of life ${record.life}, block ${count(record.block)}: ${eventText(record)}`);
+        say("ask-texts", behindText(record));
+        say("ask-mode", modeName(record.mode));
+        say("ask-level", `level ${levelText(record.level)}`);
+        say("ask-brake", brakeText(record.brake));
+        at("ask-brake").className = `lamp brake-${record.brake}`;
+        say("ask-dial-said", `${kmh(speed)} km/h, limit ${kmh(record.limit)} km/h`);
+        this.dial.setScale(Math.max(speed, record.limit) > 250_000 ? 400
+                : Math.max(speed, record.limit) > 180_000          ? 250
+                                                                   : 180);
+    }
+
+    private showWhy(): void {
+        const { records, index } = this;
+        if (!records || !records.count) return;
+        const record = records.get(index), told = this.whys.get(record.event);
+        this.dial.show(
+            shownOf(this.speeds[index] ?? 0, record.limit, record.brake, record.indications, told?.why ?? null));
+        if (!told) {
+            show("ask-causes", make("li", {}, "…"));
+            say("ask-limit", "");
+            clearTimeout(this.asking);
+            this.asking = setTimeout(() => this.worker.postMessage(
+                                         { kind: "why", id: this.id, block: record.block, event: record.event }),
+                              40) as unknown as number;
+            return;
+        }
+        show("ask-causes",
+            ...(told.why ? brakeReason(told.why, record) : [SAY.notReplayed]).map(text => make("li", {}, text)));
+        say("ask-limit", told.why ? limitText(told.why) : "");
+    }
+
+    private showBytes(): void {
+        const { records, facts } = this, record = records?.count ? records.get(this.index) : null,
+                               head = record && this.heads.get(record.block);
+        if (!record || !head || !facts) return;
+        const place = placeOf(record, head.firstEvent, facts.slots);
+        showBytes(at("hex"), at("fields"), this.bytes.slice(place, place + sizeOf(record)), place,
+            fieldsOf(record, this.calls));
+    }
+
+    private showCharts(): void {
+        const { records, index } = this, life = this.lives.find(one => one.from <= index && index < one.end);
+        if (!records || !life) return;
+        if (this.drawn?.life === life) {
+            for (const move of this.drawn.moves) move(index - life.from);
+            return;
+        }
+        const places: number[] = [], moments: number[] = [], speed: number[] = [], limit: number[] = [];
+        for (let n = life.from; n < life.end; n++) {
+            places.push(records.front(n));
+            moments.push(records.moment(n));
+            speed.push(this.speeds[n] ?? 0);
+            limit.push(records.limit(n));
+        }
+        const marks = this.interventions.filter(one => one.first > life.from && one.first < life.end)
+                          .map(one => ({ index: one.first - life.from, brake: one.brake }));
+        const
+            both = { speed, limit, cursor: index - life.from, marks, pick: (n: number) => this.choose(life.from + n) };
+        const place = draw(at("place-chart") as unknown as SVGSVGElement,
+            {...both, x: places, unit: "m", per: 100, title: "Speed and limit over distance" });
+        const time = draw(at("time-chart") as unknown as SVGSVGElement,
+            {...both, x: moments, unit: "s", per: 1000, title: "Speed and limit over time" });
+        this.drawn = { life, moves: [place, time] };
+    }
+
+    /** What tests ask. */
+    get told(): object {
+        return {
+            facts: this.facts,
+            slots: this.slots,
+            status: this.journalStatus,
+            unreadable: this.unreadable,
+            lives: this.replays,
+            digest: this.digest,
+            interventions: this.interventions,
+            causes: [...this.causes],
+            count: this.records?.count ?? 0,
+            newest: this.newest,
+            isWhole: this.isWhole,
+            firsts: this.interventions.map(one => this.records?.event(one.first))
+        };
+    }
+}

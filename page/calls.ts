@@ -1,0 +1,268 @@
+// The calls of include/etcs_unit.h and include/etcs_image.h, of the library for WebAssembly. Nothing here knows a rule
+// of the unit: it puts bytes into the memory, calls, and reads what was written there. An address is a BigInt.
+import {Block, BYTES, Facts, JournalRecord, Output, Reader} from "./layouts";
+import {Replay, Request, SECTOR, Slot, State, TrainData, Why} from "./layouts";
+
+export const OK = 0, END = 38, DAMAGED = 32, NO_SUCH_REQUEST = 249;
+const ABI = 2, OUTPUTS = 8;
+
+interface Exports {
+    memory: WebAssembly.Memory;
+    etcs_memory_take(bytes: bigint): bigint;
+    etcs_memory_give(at: bigint): void;
+    etcs_abi(): number;
+    etcs_decode(bytes: bigint, len: bigint): number;
+    etcs_packet_count(bytes: bigint, len: bigint): number;
+    etcs_version_(out: bigint, room: bigint, len: bigint): number;
+    etcs_unit_open_(unit: bigint, image: bigint, size: bigint, cold: number, abi: number): number;
+    etcs_unit_telegram_(unit: bigint, bytes: bigint, len: bigint): number;
+    etcs_unit_odometer_(unit: bigint, movement: bigint, speed: number): number;
+    etcs_unit_clock_(unit: bigint, moment: bigint): number;
+    etcs_unit_action_(unit: bigint, action: number): number;
+    etcs_unit_identity_(unit: bigint, bytes: bigint, len: bigint): number;
+    etcs_unit_running_number_(unit: bigint, number: number): number;
+    etcs_unit_train_data_(unit: bigint, data: bigint): number;
+    etcs_unit_prepare_(unit: bigint): number;
+    etcs_unit_request_(unit: bigint, index: number, request: bigint, bytes: bigint, room: bigint): number;
+    etcs_unit_done_(unit: bigint, count: number): number;
+    etcs_unit_release_(unit: bigint, outputs: bigint, room: bigint, count: bigint): number;
+    etcs_unit_state_(unit: bigint, state: bigint): number;
+    etcs_unit_close_(unit: bigint): number;
+    etcs_unit_format_request_(slots: number, index: number, request: bigint, bytes: bigint, room: bigint): number;
+    etcs_image_facts_(image: bigint, size: bigint, abi: number, facts: bigint): number;
+    etcs_image_slot_(image: bigint, size: bigint, abi: number, newest: bigint, slot: bigint, told: bigint): number;
+    etcs_image_block_(image: bigint, size: bigint, abi: number, number: bigint, block: bigint): number;
+    etcs_journal_open_(image: bigint, size: bigint, abi: number, journal: bigint): number;
+    etcs_journal_next_(image: bigint, size: bigint, journal: bigint, record: bigint): number;
+    etcs_image_replay_(image: bigint, size: bigint, abi: number, journal: bigint, replay: bigint): number;
+    etcs_image_why_(image: bigint, size: bigint, abi: number, number: bigint, event: bigint, why: bigint): number;
+}
+
+/** What a call answers: its status, and where that is OK what it told. */
+export interface Told<T> {
+    status: number;
+    value: T|null
+}
+
+/** Bytes that lie in the memory of the calls. */
+export interface Held {
+    at: bigint;
+    size: number
+}
+
+export class Calls {
+    private readonly told: bigint;
+    private readonly room: bigint;
+
+    constructor(private readonly x: Exports) {
+        if (x.etcs_abi() !== ABI) throw new Error("the library is of another interface");
+        this.told = this.take(BYTES.replay);
+        this.room = this.take(BYTES.room);
+    }
+
+    static of(instance: WebAssembly.Instance): Calls { return new Calls(instance.exports as unknown as Exports); }
+
+    private memory(): Uint8Array { return new Uint8Array(this.x.memory.buffer); }
+    private reader(): Reader { return new Reader(new DataView(this.x.memory.buffer)); }
+
+    private take(bytes: number): bigint {
+        const at = this.x.etcs_memory_take(BigInt(Math.max(1, bytes)));
+        if (at === 0n) throw new Error("there is no memory");
+        return at;
+    }
+
+    /** Puts bytes into the memory, until they are dropped. */
+    hold(bytes: Uint8Array): Held {
+        const at = this.take(bytes.length);
+        this.memory().set(bytes, Number(at));
+        return { at, size: bytes.length };
+    }
+
+    drop(held: Held): void { this.x.etcs_memory_give(held.at); }
+    bytesOf(held: Held): Uint8Array { return this.memory().slice(Number(held.at), Number(held.at) + held.size); }
+    put(held: Held, from: number, bytes: Uint8Array): void { this.memory().set(bytes, Number(held.at) + from); }
+
+    private with<T>(bytes: Uint8Array, use: (held: Held) => T): T {
+        const held = this.hold(bytes);
+        try {
+            return use(held);
+        } finally { this.drop(held); }
+    }
+
+    private answer<T>(status: number, read: (reader: Reader, at: number) => T): Told<T> {
+        return { status, value: status === OK ? read(this.reader(), Number(this.told)) : null };
+    }
+
+    version(): string {
+        const status = this.x.etcs_version_(this.room, BigInt(BYTES.room), this.told);
+        const count = this.reader().u32(Number(this.told));
+        return status === OK ? new TextDecoder().decode(this.reader().bytes(Number(this.room), count)) : "?";
+    }
+
+    /** The number of the fault of a telegram, 0 where it has none, and how many packets it has. */
+    decode(bytes: Uint8Array): [number, number] {
+        return this.with(bytes,
+            held => [this.x.etcs_decode(held.at, BigInt(held.size)),
+                this.x.etcs_packet_count(held.at, BigInt(held.size))]);
+    }
+
+    // ---- an image
+
+    facts(image: Held): Told<Facts> {
+        return this.answer(
+            this.x.etcs_image_facts_(image.at, BigInt(image.size), ABI, this.told), (r, at) => r.facts(at));
+    }
+
+    slot(image: Held, newest: number, slot: number): Told<Slot> {
+        return this.answer(
+            this.x.etcs_image_slot_(image.at, BigInt(image.size), ABI, BigInt(newest), BigInt(slot), this.told),
+            (r, at) => r.slot(at));
+    }
+
+    block(image: Held, number: number): Told<Block> {
+        return this.answer(this.x.etcs_image_block_(image.at, BigInt(image.size), ABI, BigInt(number), this.told),
+            (r, at) => r.block(at));
+    }
+
+    why(image: Held, block: number, event: number): Told<Why> {
+        return this.answer(
+            this.x.etcs_image_why_(image.at, BigInt(image.size), ABI, BigInt(block), BigInt(event), this.told),
+            (r, at) => r.why(at));
+    }
+
+    journal(image: Held): Journal {
+        return new Journal(this.x, image, this.take(BYTES.journal), this.take(BYTES.replay));
+    }
+
+    // ---- formatting, and a unit
+
+    formatRequest(slots: number, index: number): Told<{ request: Request; bytes: Uint8Array }> {
+        const status = this.x.etcs_unit_format_request_(slots, index, this.told, this.room, BigInt(BYTES.room));
+        return this.answer(status, (r, at) => this.asked(r, at));
+    }
+
+    private asked(reader: Reader, at: number): { request: Request; bytes: Uint8Array } {
+        const request = reader.request(at);
+        return {
+            request,
+            bytes: request.isWrite ? reader.bytes(Number(this.room), SECTOR * request.sectors) : new Uint8Array()
+        };
+    }
+
+    newUnit(): bigint {
+        const unit = this.take(BYTES.unit);
+        this.memory().fill(0, Number(unit), Number(unit) + BYTES.unit);
+        return unit;
+    }
+
+    freeUnit(unit: bigint): void { this.x.etcs_memory_give(unit); }
+    open(unit: bigint, image: Held, cold: number): number {
+        return this.x.etcs_unit_open_(unit, image.at, BigInt(image.size), cold, ABI);
+    }
+    close(unit: bigint): number { return this.x.etcs_unit_close_(unit); }
+    telegram(unit: bigint, bytes: Uint8Array): number {
+        return this.with(bytes, held => this.x.etcs_unit_telegram_(unit, held.at, BigInt(held.size)));
+    }
+    odometer(unit: bigint, movement: number, speed: number): number {
+        return this.x.etcs_unit_odometer_(unit, BigInt(movement), speed);
+    }
+    clock(unit: bigint, moment: number): number { return this.x.etcs_unit_clock_(unit, BigInt(moment)); }
+    action(unit: bigint, action: number): number { return this.x.etcs_unit_action_(unit, action); }
+    identity(unit: bigint, text: string): number {
+        return this.with(
+            new TextEncoder().encode(text), held => this.x.etcs_unit_identity_(unit, held.at, BigInt(held.size)));
+    }
+    runningNumber(unit: bigint, number: number): number { return this.x.etcs_unit_running_number_(unit, number); }
+    trainData(unit: bigint, data: TrainData): number {
+        const view = new DataView(new ArrayBuffer(BYTES.train));
+        [data.length, data.maximum, data.deceleration, data.reaction, data.category].forEach(
+            (number, n) => view.setUint32(4 * n, number, true));
+        return this.with(new Uint8Array(view.buffer), held => this.x.etcs_unit_train_data_(unit, held.at));
+    }
+    prepare(unit: bigint): number { return this.x.etcs_unit_prepare_(unit); }
+    request(unit: bigint, index: number): Told<{ request: Request; bytes: Uint8Array }> {
+        const status = this.x.etcs_unit_request_(unit, index, this.told, this.room, BigInt(BYTES.room));
+        return this.answer(status, (r, at) => this.asked(r, at));
+    }
+    done(unit: bigint, count: number): number { return this.x.etcs_unit_done_(unit, count); }
+    state(unit: bigint): Told<State> {
+        return this.answer(this.x.etcs_unit_state_(unit, this.told), (r, at) => r.state(at));
+    }
+    release(unit: bigint): Told<Output[]> {
+        const count = this.told + BigInt(BYTES.output * OUTPUTS);
+        const status = this.x.etcs_unit_release_(unit, this.told, BigInt(OUTPUTS), count);
+        return this.answer(
+            status, (r, at) => Array.from({ length: r.u32(Number(count)) }, (_, n) => r.output(at + BYTES.output * n)));
+    }
+}
+
+/** A journal that is read, or run again, from its oldest block on. */
+export class Journal {
+    readonly status: number;
+
+    constructor(private readonly x: Exports, private readonly image: Held, private readonly at: bigint,
+        private readonly told: bigint) {
+        this.status = x.etcs_journal_open_(image.at, BigInt(image.size), ABI, at);
+    }
+
+    private reader(): Reader { return new Reader(new DataView(this.x.memory.buffer)); }
+
+    /** The bytes of the next record, as the call writes them. Behind DAMAGED it goes on. */
+    next(): Told<Uint8Array> {
+        const status = this.x.etcs_journal_next_(this.image.at, BigInt(this.image.size), this.at, this.told);
+        return { status, value: status === OK ? this.reader().bytes(Number(this.told), BYTES.record) : null };
+    }
+
+    /** The number of the block at which the journal is. */
+    block(): number { return this.reader().u64(Number(this.at)); }
+
+    /** The next life, run again. */
+    replay(): Told<Replay> {
+        const status = this.x.etcs_image_replay_(this.image.at, BigInt(this.image.size), ABI, this.at, this.told);
+        return { status, value: status === OK ? this.reader().replay(Number(this.told)) : null };
+    }
+
+    drop(): void {
+        this.x.etcs_memory_give(this.at);
+        this.x.etcs_memory_give(this.told);
+    }
+}
+
+/** Records as the calls wrote them, one behind the other. */
+export class Records {
+    private readonly reader: Reader;
+    readonly count: number;
+
+    constructor(bytes: Uint8Array) {
+        this.reader = new Reader(new DataView(bytes.buffer, bytes.byteOffset, bytes.byteLength));
+        this.count = bytes.byteLength / BYTES.record;
+    }
+
+    get(index: number): JournalRecord { return this.reader.record(BYTES.record * index); }
+    /** The index of the record of an event; null where there is none. */
+    find(event: number): number|null {
+        let low = 0, high = this.count;
+        while (low < high) {
+            const middle = (low + high) >> 1;
+            if (this.event(middle) < event) low = middle + 1;
+            else high = middle;
+        }
+        return low < this.count && this.event(low) === event ? low : null;
+    }
+
+    event(index: number): number { return this.reader.u64(BYTES.record * index); }
+    block(index: number): number { return this.reader.u64(BYTES.record * index + 8); }
+    moment(index: number): number { return this.reader.u64(BYTES.record * index + 16); }
+    front(index: number): number { return this.reader.i64(BYTES.record * index + 24); }
+    limit(index: number): number { return this.reader.u32(BYTES.record * index + 40); }
+    kind(index: number): number { return this.reader.u8(BYTES.record * index + 49); }
+    brake(index: number): number { return this.reader.u8(BYTES.record * index + 52); }
+    mode(index: number): number { return this.reader.u8(BYTES.record * index + 50); }
+    indications(index: number): number { return this.reader.u8(BYTES.record * index + 53); }
+    /** The speed that an odometer reading tells. */
+    readSpeed(index: number): number {
+        const at = BYTES.record * index + 56 + 4;
+        return this.reader.u8(at) * 0x1000000 + this.reader.u8(at + 1) * 0x10000 + this.reader.u8(at + 2) * 0x100 +
+            this.reader.u8(at + 3);
+    }
+}

@@ -1,0 +1,90 @@
+// Buttons of the driver's actions, and the keys: every action has one.
+import {at, make, row, show, table} from "./dom";
+import {Drive} from "./drive";
+import {choose} from "./tabs";
+
+interface Action {
+    id: string;
+    text: string;
+    key: string;
+    act(drive: Drive): void
+}
+
+function text(id: string): string { return at<HTMLInputElement>(id).value; }
+function number(id: string, scale: number): number { return Math.round(Number(text(id)) * scale); }
+
+const ACTIONS: Action[] = [
+    { id: "enter-identity", text: "Enter identity", key: "i", act: drive => drive.act(1, text("identity")) },
+    { id: "enter-running", text: "Enter running number", key: "n", act: drive => drive.act(2, number("running", 1)) },
+    { id: "level-1", text: "Level 1", key: "1", act: drive => drive.act(4, 1) },
+    { id: "level-0", text: "Level 0", key: "0", act: drive => drive.act(4, 0) },
+    {
+        id: "enter-train",
+        text: "Enter train data",
+        key: "d",
+        act: drive => drive.act(3, number("length", 100), number("maximum", 1000), number("deceleration", 100),
+            number("reaction", 1000), 15)
+    },
+    { id: "confirm-1", text: "Confirm identity", key: "I", act: drive => drive.act(5, 1) },
+    { id: "confirm-2", text: "Confirm running number", key: "N", act: drive => drive.act(5, 2) },
+    { id: "confirm-3", text: "Confirm train data", key: "D", act: drive => drive.act(5, 3) },
+    { id: "confirm-4", text: "Confirm level", key: "L", act: drive => drive.act(5, 4) },
+    { id: "start", text: "Start", key: "s", act: drive => drive.act(6) },
+    { id: "shunting", text: "Shunting", key: "h", act: drive => drive.act(7) },
+    { id: "leave", text: "Leave Shunting", key: "H", act: drive => drive.act(8) },
+    { id: "override", text: "Override", key: "o", act: drive => drive.act(9) },
+    { id: "close", text: "Close the desk", key: "c", act: drive => drive.act(11) },
+];
+
+const click = (id: string) => (): void => at(id).click();
+const OTHERS: [string, string, (drive: Drive, lever: number) => void][] = [
+    ["a", "acknowledge what is asked for", drive => drive.acknowledge()],
+    ["ArrowUp", "lever up by 10 %", (drive, lever) => drive.pull(lever + 10)],
+    ["ArrowDown", "lever down by 10 %", (drive, lever) => drive.pull(lever - 10)],
+    ["p", "pull", click("full")],
+    ["r", "coast", click("coast")],
+    ["b", "brake", click("slow")],
+    ["f", "heed the limit", click("heed")],
+    [" ", "pause, or go on", drive => drive.setTime(at("time-0").getAttribute("aria-pressed") === "true" ? 1 : 0)],
+    [".", "one step", click("one-step")],
+    ["x", "time ×1", click("time-1")],
+    ["y", "time ×4", click("time-4")],
+    ["z", "time ×16", click("time-16")],
+    ["q", "cut the power", click("cut")],
+    ["t", "new train", click("restart")],
+    ["g", "play the story of the track", click("story")],
+    ["S", "save the scenarios", click("save-scenario")],
+    ["M", "save the image", click("save-image")],
+    ["Q", "ask this image", click("ask-this")],
+];
+
+export function setKeys(drive: Drive): void {
+    show("actions",
+        ...ACTIONS.map(
+            one => make("button", { id: one.id, title: `key ${one.key}`, click: () => one.act(drive) }, one.text)));
+    const name = (key: string): string => key === " " ? "space" : key;
+    show("keys", table(["key", "does"], [
+        ...ACTIONS.map(one => row(one.key, one.text)), ...OTHERS.map(([key, does]) => row(name(key), does)),
+        row("?", "this help"), row("← →", "on the scrubber of an image: one event back or on")
+    ]));
+    const help = at<HTMLDialogElement>("help");
+    at("help-button").addEventListener("click", () => help.showModal());
+    document.addEventListener("keydown", event => {
+        const on = event.target as HTMLElement;
+        if (event.ctrlKey || event.altKey || event.metaKey || document.querySelector("dialog[open]")) return;
+        if (on instanceof HTMLInputElement && on.type !== "range" || on instanceof HTMLSelectElement) return;
+        if (event.key === "?") {
+            help.showModal();
+            event.preventDefault();
+            return;
+        }
+        if (at("drive").hidden || (event.key === " " && on instanceof HTMLButtonElement)) return;
+        const action = ACTIONS.find(one => one.key === event.key), other = OTHERS.find(([key]) => key === event.key);
+        if (action) action.act(drive);
+        else if (other) other[2](drive, Number(at<HTMLInputElement>("lever").value));
+        else return;
+        event.preventDefault();
+    });
+    at("tab-drive").addEventListener("click", () => choose("drive"));
+    at("tab-ask").addEventListener("click", () => choose("ask"));
+}

@@ -1,0 +1,52 @@
+// Where the page begins: the module is compiled once, for the desk and for the worker.
+import {Ask} from "./ask";
+import {Asker} from "./asker";
+import {Calls} from "./calls";
+import {balisesOf, Course} from "./course";
+import {at, say} from "./dom";
+import {Drive} from "./drive";
+import {setKeys} from "./keys";
+import {formatted, Life, openAt, recordsOf} from "./life";
+import {Order, Report} from "./messages";
+import {choose, whenAsked} from "./tabs";
+import {SAY} from "./texts";
+import {given} from "./tracks";
+import {Motion, round} from "./train";
+
+/** A module with a memory of 64 bits, and nothing else. */
+const PROBE = Uint8Array.of(0, 0x61, 0x73, 0x6d, 1, 0, 0, 0, 5, 3, 1, 4, 1);
+
+function bytesOf64(text: string): Uint8Array { return Uint8Array.from(atob(text), letter => letter.charCodeAt(0)); }
+
+async function begin(): Promise<void> {
+    if (typeof WebAssembly !== "object" || !WebAssembly.validate(PROBE)) {
+        say("sentence", SAY.old);
+        return;
+    }
+    say("sentence", SAY.loading);
+    const module = await WebAssembly.compile(bytesOf64(given.wasm));
+    const calls = Calls.of(await WebAssembly.instantiate(module, {}));
+    const url = URL.createObjectURL(new Blob([given.worker], { type: "text/javascript" }));
+    const start = (hear: (report: Report) => void): Worker => {
+        const worker = new Worker(url);
+        worker.onmessage = (event: MessageEvent<Report>) => hear(event.data);
+        worker.postMessage({ kind: "module", module } as Order);
+        return worker;
+    };
+    const ask: Ask = new Ask(start(report => ask.hear(report)), calls);
+    const asker: Asker = new Asker(start(report => asker.hear(report)));
+    whenAsked((name, bytes) => void ask.ask(name, bytes));
+    const drive = new Drive(calls, asker);
+    setKeys(drive);
+    say("version", `unit ${calls.version()}, page ${given.commit}`);
+    say("sentence", "");
+    choose(/^#event=/.test(location.hash) ? "ask" : "drive");
+    Object.assign(window, {
+        gaknifur: { calls, drive, ask, parts: { Course, balisesOf, Life, formatted, openAt, recordsOf, Motion, round } }
+    });
+}
+
+const dark = matchMedia("(prefers-color-scheme: dark)");
+document.documentElement.classList.toggle("dark", dark.matches);
+at("theme").addEventListener("click", () => document.documentElement.classList.toggle("dark"));
+begin().catch((error: unknown) => say("sentence", String(error)));

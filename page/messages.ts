@@ -1,0 +1,97 @@
+// What the page and its worker say to each other.
+import {Block, Facts, Replay, Slot, Why} from "./layouts";
+
+/** The module, before all other orders. */
+export interface ModuleOrder {
+    kind: "module";
+    module: WebAssembly.Module
+}
+/** Reads an image. */
+export interface ImageOrder {
+    kind: "image";
+    id: number;
+    bytes: ArrayBuffer
+}
+/** Asks why an event of the image that was read last was answered so. */
+export interface WhyOrder {
+    kind: "why";
+    id: number;
+    block: number;
+    event: number
+}
+/** The same of an image that comes along. */
+export interface OnceOrder {
+    kind: "once";
+    id: number;
+    bytes: ArrayBuffer;
+    block: number;
+    event: number
+}
+export type Order = ModuleOrder|ImageOrder|WhyOrder|OnceOrder;
+
+export interface FactsReport {
+    kind: "facts";
+    id: number;
+    status: number;
+    facts: Facts|null
+}
+export interface RecordsReport {
+    kind: "records";
+    id: number;
+    status: number;
+    bytes: ArrayBuffer;
+    unreadable: number[]
+}
+export interface SlotsReport {
+    kind: "slots";
+    id: number;
+    slots: Slot[];
+    newest: Block|null;
+    heads: Head[]
+}
+export interface ReplayReport {
+    kind: "replay";
+    id: number;
+    lives: Replay[];
+    unreadable: number[];
+    status: number
+}
+export interface CausesReport {
+    kind: "causes";
+    id: number;
+    causes: [number, Why|null][]
+}
+export interface WhyReport {
+    kind: "why";
+    id: number;
+    event: number;
+    block: number;
+    status: number;
+    why: Why|null
+}
+export interface ProgressReport {
+    kind: "progress";
+    id: number;
+    what: string;
+    done: number;
+    all: number
+}
+export interface DoneReport {
+    kind: "done";
+    id: number
+}
+export interface FailedReport {
+    kind: "failed";
+    id: number;
+    says: string
+}
+export type Report =
+    FactsReport|RecordsReport|SlotsReport|ReplayReport|CausesReport|WhyReport|ProgressReport|DoneReport|FailedReport;
+
+/** What of the head of a block is asked for all of them: whether one follows the other. */
+export interface Head {
+    number: number;
+    firstEvent: number;
+    events: number;
+    lives: number
+}

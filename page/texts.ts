@@ -1,0 +1,183 @@
+// All texts of the page. The words of causes, trips and limits are those of `etcs_lab why` (docs/BRAKES.md).
+
+export const MODES: Record<number, [string, string]> = {
+    0: ["FS", "Full Supervision"],
+    1: ["OS", "On Sight"],
+    2: ["SR", "Staff Responsible"],
+    3: ["SH", "Shunting"],
+    4: ["UN", "Unfitted"],
+    6: ["SB", "Stand By"],
+    7: ["TR", "Trip"],
+    8: ["PT", "Post Trip"],
+    9: ["SF", "System Failure"],
+};
+export const BRAKES = ["no brake", "service brake", "emergency brake"];
+export const KINDS = ["", "power-up", "telegram", "odometer", "clock", "driver"];
+export const INDICATIONS: [number, string][] = [
+    [1, "acknowledge On Sight"],
+    [2, "acknowledge Shunting"],
+    [4, "acknowledge level 0"],
+    [8, "trip outstanding"],
+    [16, "override"],
+    [32, "not revalidated"],
+    [64, "above the limit"],
+];
+export const CAUSES: [string, string][] = [
+    ["the driver has not revalidated since the power-up", "ends when the driver has revalidated"],
+    ["the mode is Trip", "ends when the driver acknowledges the trip at standstill"],
+    ["the mode is System Failure", "ends at a power-up alone"],
+    ["a trip is not acknowledged", "ends when the driver acknowledges the trip at standstill"],
+    [
+        "the speed was above the limit by more than 10 km/h, and the train has not stood since",
+        "ends when the train stands"
+    ],
+    [
+        "the train rolled backward too far since it stood",
+        "ends when the train stands, or a greater D_NVROLL comes into force"
+    ],
+    [
+        "linking or a balise group asked for the service brake, and the train has not stood since",
+        "ends when the train stands"
+    ],
+    [
+        "the speed was above the limit by more than 5 km/h, and not within it since",
+        "ends when the speed is within the limit"
+    ],
+    ["the train moves where it must stand", "ends when the train stands, or in another mode"],
+    [
+        "an acknowledgement has been owed for 5 s or longer",
+        "ends when the driver acknowledges, a mode deletes it, or a further transition begins it anew"
+    ],
+];
+export const TRIPS = [
+    "it was tripped before the power-up, and why isn't known",
+    "the minimum safe front was past the end of authority (4.6.3)",
+    "linking or a balise group asked for it (3.4.4, 3.16.2)",
+    "an authority with V_MAIN 0 was used (3.11.6)",
+    "the path in Staff Responsible was above D_NVSTFF (4.4)",
+    "the level was 1, and the authority or the track ahead was not known (5.10)",
+];
+export const LIMITS: [string, string][] = [
+    ["", ""],
+    ["no train may run in this mode", "4.4"],
+    ["the train data are not valid", "this project's profile"],
+    ["the limit is the national value V_NVSTFF", "3.11.7, 3.18.2"],
+    ["an override is active, and the limit is the national value V_NVSUPOVTRP", "3.11.7, 3.18.2"],
+    ["the limit is the national value V_NVSHUNT", "3.11.7, 3.18.2"],
+    ["the limit is the national value V_NVUNFIT", "3.11.7, 3.18.2"],
+    ["the limit is the greatest speed of the train", "3.11.8"],
+    ["the limit is V_MAIN of the authority", "3.11.6"],
+    ["the limit is V_LOA, the end of authority being reached", "3.8"],
+    ["the limit is the static speed over the train", "3.11.3"],
+    ["the limit is that of a temporary speed restriction over the train", "3.11.5"],
+    ["the limit is that of a mode area over the train", "3.12.4"],
+    ["the limit is that of a static speed ahead", "3.11.3, 3.13"],
+    ["the limit is that of a stop where no static speed is known", "3.11.3, 3.13"],
+    ["the limit is that of a temporary speed restriction ahead", "3.11.5, 3.13"],
+    ["the limit is that of a mode area ahead", "3.12.4, 3.13"],
+    ["the limit is that of the end of authority", "3.8, 3.13"],
+    ["the limit is that of the supervised location", "3.8, 3.13"],
+    ["the limit is the release speed of the authority", "3.8, 3.13"],
+    ["the limit is the national release speed V_NVREL", "3.8, 3.13"],
+];
+/** The first cause of a limit that lies ahead, and the two release speeds. */
+export const AHEAD = 13, RELEASE = 19, NATIONAL_RELEASE = 20;
+
+export const STATUSES: Record<number, string> = {
+    1: "the device failed",
+    2: "the image isn't formatted: its first sector isn't that of a journal",
+    3: "the image is damaged: its size isn't that of its slots, or the newest block can't be read",
+    4: "there is no memory",
+    6: "the journal is worn out",
+    10: "eight events are pending",
+    11: "the moment lies before the last one",
+    12: "there is no memory",
+    13: "the medium failed",
+    21: "the medium failed",
+    22: "requests are owed",
+    23: "the journal is worn out",
+    31: "this isn't the image of a journal: its first sector isn't that of one, or there is none",
+    32: "the size of the image isn't that of its slots, so no journal is read; its slots are told",
+    36: "there is no such block",
+    37: "there is no such record",
+    39: "the life of this event can't be run again",
+    255: "a number or a length is outside its limits",
+};
+export const SLOTS: [string, string][] = [
+    ["empty", "all its bytes are zero"],
+    ["block", "holds a block that can be read"],
+    ["unreadable", "its head has this number, but its bytes spell no block"],
+    ["misplaced", "its head has a number that belongs to another slot"],
+    ["foreign", "its gate is open, and its head begins with no mark and number"],
+    ["unwritten", "the block after the newest, behind a closed gate: none of its outputs was released"],
+    ["replaced", "an older block, whose gate was closed to write another one over it"],
+    ["remains", "its gate is closed, and behind it are neither zeros nor a block"],
+];
+export const SLOT_SYMBOLS = ["", "", "unreadable", "misplaced", "foreign", "unwritten", "replaced", "remains"];
+export const VERDICTS = [
+    "", "agrees", "a record differs", "the head of a block differs",
+    "can't be run again: what was kept before its power-up was overwritten",
+    "can't be run again: blocks or events are missing before", "can't be run again: it begins in an earlier block"
+];
+export const RECORD_FIELDS = [
+    "", "event", "word", "moment", "mode", "level", "brake", "indications", "place and limit", "place", "uncertainty",
+    "limit"
+];
+export const KEPT_FIELDS = [
+    "", "events", "lives", "trip outstanding", "identity", "running number", "train data", "level", "position",
+    "national values", "countries"
+];
+export const WORDS = ["nobody knows whether the train moved", "the train was moved", "the train was not moved"];
+export const DATUM = ["unknown", "valid", "invalid"];
+export const SUBJECTS = ["", "the identity", "the running number", "the train data", "the level"];
+export const KINDS_OWED = ["", "the trip", "On Sight", "Shunting", "level 0"];
+export const PLAIN_ACTIONS: Record<number, string> = {
+    6: "starts",
+    7: "chooses Shunting",
+    8: "leaves Shunting",
+    9: "overrides the trip",
+    11: "closes the desk",
+};
+export const TELEGRAM_FAULTS = [
+    "", "Truncated", "WrongLength", "Spare", "OutOfRange", "WrongVersion", "NotUplink", "NotBalise", "NoEnd", "TooLong"
+];
+
+export const SAY = {
+    old: "This browser has no WebAssembly with memories of 64 bits. Chromium has it since 133, Firefox since 134.",
+    loading: "The page is loading.",
+    noBrake: "No brake is commanded.",
+    noCause: "The cause isn't known yet.",
+    notReplayed: "Why can't be told: the beginning of this life was overwritten or can't be read.",
+    slow: (event: number): string => `As of event ${event}.`,
+    refused: (what: string): string => `The unit refuses this: ${what}. Nothing changed.`,
+    tooBig: (name: string): string =>
+        `${name} isn't read: it has more than 256 MB, and the page reads images up to that size.`,
+    tooSmall: (name: string): string => `${name} isn't an image: it has less than one sector of 512 bytes.`,
+    noImage: (name: string, why: string): string => `${name}: ${why}.`,
+    oneFile: "Drop one file at a time.",
+    notScenario: (why: string): string => `This isn't a scenario that the page plays: ${why}.`,
+    reading: "The image is read.",
+    progress: (done: number, all: number, what: string): string => `${what}: ${done} of ${all}`,
+    whole: "Each slot is as a unit leaves it, and no block of the journal is missing.",
+    notWhole: "Not whole: the slots say what is lost.",
+    agrees: "The kernel would have answered so to each event that is run again.",
+    differs: "The kernel would have answered otherwise.",
+    authentic: "Agreement means that the journal is consistent with this kernel, and not that it is authentic.",
+    noRecord: "No record can be read.",
+    ran: (m: string): string => `Without power the train ran on for ${m}, and stands.`,
+    powerOff: "Power is off. Say what is known of movements, and power up.",
+    kept: "What the unit kept",
+    torn: "This life ended within a write. No scenario can say so; the image has it.",
+};
+
+export const MISSION = [
+    "The identity is known: enter or confirm it", "The level is valid: choose or confirm it",
+    "The train data are known: enter or confirm them", "Start (or Shunting): the driver has revalidated"
+];
+export const NOTHING_TO_DRAW = "Nothing to draw: all events have one value here.";
+export const OWED: [number, number, string][] = [
+    [1, 8, "Acknowledge the trip"],
+    [2, 1, "Acknowledge On Sight"],
+    [3, 2, "Acknowledge Shunting"],
+    [4, 4, "Acknowledge level 0"],
+];

@@ -1,0 +1,151 @@
+// Reads an image beside the page, so that the page never waits: facts, records, slots, replays and causes, in this
+// order.
+import {Calls, END, Held, OK, Records} from "./calls";
+import {Block, BYTES, Replay, Slot, Why} from "./layouts";
+import {interventionsOf, livesOf} from "./lives";
+import {Head, Order, Report} from "./messages";
+
+const tell = (report: Report, transfer: Transferable[] = []): void =>
+    (postMessage as (message: Report, transfer: Transferable[]) => void)(report, transfer);
+const EACH_MS = 50;
+const channel = new MessageChannel();
+let calls: Promise<Calls>|null = null;
+let image: { id: number; held: Held }|null = null;
+
+/** Lets other orders in. */
+function pause(): Promise<void> {
+    return new Promise(resolve => {
+        channel.port1.onmessage = () => resolve();
+        channel.port2.postMessage(null);
+    });
+}
+
+/** Works in short pieces, with progress, as long as the image is the one that is asked for. */
+async function pieces(id: number, what: string, all: number, work: (done: number) => boolean): Promise<boolean> {
+    let begun = Date.now();
+    for (let done = 0; image?.id === id && work(done); done++) {
+        if (Date.now() - begun < EACH_MS) continue;
+        tell({ kind: "progress", id, what, done, all });
+        await pause();
+        begun = Date.now();
+    }
+    return image?.id === id;
+}
+
+async function readRecords(calls: Calls, id: number, held: Held): Promise<Records|null> {
+    const journal = calls.journal(held), unreadable: number[] = [];
+    let room = new Uint8Array(BYTES.record * 1024), count = 0, status = journal.status;
+    const isRead = status !== OK || await pieces(id, "events", 0, () => {
+        const block = journal.block(), told = journal.next();
+        status = told.status;
+        if (told.value) {
+            if (room.length < BYTES.record * (count + 1)) {
+                const more = new Uint8Array(2 * room.length);
+                more.set(room);
+                room = more;
+            }
+            room.set(told.value, BYTES.record * count++);
+            return true;
+        }
+        if (status !== END && journal.block() !== block) {
+            unreadable.push(block);
+            return true;
+        }
+        return false;
+    });
+    journal.drop();
+    if (!isRead) return null;
+    const bytes = room.slice(0, BYTES.record * count), records = new Records(bytes.slice());
+    tell({ kind: "records", id, status, bytes: bytes.buffer, unreadable }, [bytes.buffer]);
+    return records;
+}
+
+async function readSlots(calls: Calls, id: number, held: Held, whole: number, newest: number): Promise<boolean> {
+    const slots: Slot[] = [], heads: Head[] = [];
+    if (!await pieces(id, "slots", whole, done => {
+            if (done >= whole) return false;
+            const { value } = calls.slot(held, newest, done);
+            if (value) slots.push(value);
+            if (value?.state === 1) {
+                const head = calls.block(held, value.number).value;
+                if (head)
+                    heads.push(
+                        { number: head.number, firstEvent: head.firstEvent, events: head.events, lives: head.lives });
+            }
+            return true;
+        }))
+        return false;
+    const block: Block|null = newest ? calls.block(held, newest).value : null;
+    tell({ kind: "slots", id, slots, newest: block, heads });
+    return true;
+}
+
+async function replay(calls: Calls, id: number, held: Held): Promise<boolean> {
+    const journal = calls.journal(held), lives: Replay[] = [], unreadable: number[] = [];
+    let status = journal.status;
+    const isDone = status !== OK || await pieces(id, "lives run again", 0, () => {
+        const block = journal.block(), told = journal.replay();
+        status = told.status;
+        if (told.value) lives.push(told.value);
+        else if (status !== END && journal.block() !== block) unreadable.push(block);
+        else return false;
+        return true;
+    });
+    journal.drop();
+    if (isDone) tell({ kind: "replay", id, lives, unreadable, status });
+    return isDone;
+}
+
+async function causes(calls: Calls, id: number, held: Held, records: Records): Promise<boolean> {
+    const list = interventionsOf(records, livesOf(records));
+    let found: [number, Why|null][] = [];
+    const isDone = await pieces(id, "causes", list.length, done => {
+        const one = list[done];
+        if (!one) return false;
+        found.push([one.first, calls.why(held, records.block(one.first), records.event(one.first)).value]);
+        if (found.length >= 20) {
+            tell({ kind: "causes", id, causes: found });
+            found = [];
+        }
+        return true;
+    });
+    tell({ kind: "causes", id, causes: found });
+    return isDone;
+}
+
+async function read(calls: Calls, id: number, bytes: Uint8Array): Promise<void> {
+    if (image) calls.drop(image.held);
+    const held = calls.hold(bytes);
+    image = { id, held };
+    const { status, value } = calls.facts(held);
+    tell({ kind: "facts", id, status, facts: value });
+    if (value) {
+        const records = await readRecords(calls, id, held);
+        if (!records || !await readSlots(calls, id, held, value.whole, value.newest) ||
+            !await replay(calls, id, held) || !await causes(calls, id, held, records))
+            return;
+    }
+    tell({ kind: "done", id });
+}
+
+async function obey(order: Order): Promise<void> {
+    if (order.kind === "module") {
+        calls = WebAssembly.instantiate(order.module, {}).then(instance => Calls.of(instance));
+        return;
+    }
+    if (!calls) throw new Error("there is no module yet");
+    const ready = await calls;
+    if (order.kind === "image") await read(ready, order.id, new Uint8Array(order.bytes));
+    else if (order.kind === "once" || image?.id === order.id) {
+        const held = order.kind === "once" ? ready.hold(new Uint8Array(order.bytes)) : (image as { held: Held }).held;
+        const { status, value } = ready.why(held, order.block, order.event);
+        tell({ kind: "why", id: order.id, event: order.event, block: order.block, status, why: value });
+        if (order.kind === "once") ready.drop(held);
+    }
+}
+
+onmessage = (event: MessageEvent<Order>) => {
+    const order = event.data;
+    obey(order).catch(
+        (error: unknown) => tell({ kind: "failed", id: order.kind === "module" ? 0 : order.id, says: String(error) }));
+};

@@ -1,0 +1,25 @@
+#!/bin/bash
+# The page of tools/page in headless Chromium, on the programs that the gate leaves behind: its types; what is driven beside `etcs run`, also with
+# cuts of power; what is asked beside `etcs_lab`, also of altered images; hostile files and texts; that it connects to nobody; contrast and names.
+#
+#     tests/page.sh [ETCS_LAB ETCS [PAGE [NAME..]]]    on other programs, of a page that is there, these checks alone
+cd "$(dirname "$(readlink -f -- "$0")")/.." || exit 1
+lab=${1:-crates/etcs_lab/out/etcs_lab} etcs=${2:-crates/etcs/out/etcs}
+lab=$(realpath "$lab") && etcs=$(realpath "$etcs") || exit 1
+for program in "$lab" "$etcs"; do
+    [ -x "$program" ] || { echo "there is no program $program: rt ci makes it"; exit 1; }
+done
+export PYTHONDONTWRITEBYTECODE=1 GAKNIFUR_ETCS_LAB=$lab GAKNIFUR_ETCS=$etcs
+folder=$(mktemp -d) || exit 1
+trap 'rm -rf "$folder"' EXIT
+page=${3:-}
+if [ -z "$page" ]; then
+    page=$folder/gaknifur.html
+    tools/page "$page" || exit 1
+    tools/page "$page" >"$folder/said" 2>&1 && { echo "page: tools/page wrote over a file without --force"; exit 1; }
+    grep -q 'is there; --force writes over' "$folder/said" || { cat "$folder/said"; exit 1; }
+    printf 'a letter\n' >"$folder/letter"
+    tools/page --force "$folder/letter" >/dev/null 2>&1 && { echo "page: tools/page wrote over a letter"; exit 1; }
+    [ "$(cat "$folder/letter")" = "a letter" ] || { echo "page: the letter is gone"; exit 1; }
+fi
+/usr/bin/python3 -I -B tests/page/check.py "$page" "${@:4}"

@@ -1,0 +1,225 @@
+"""Asking images: what the page tells is what `etcs_lab` tells, also of altered ones."""
+import hashlib
+import json
+import random
+import subprocess
+from pathlib import Path
+from typing import Any
+
+from browsing import Browser
+from desks import TOP, etcs, random_steps
+from gaknifur import program
+
+ALTERED = 60
+STATES = ("empty", "block", "unreadable", "misplaced", "foreign", "unwritten", "replaced", "remains")
+RECORD = ("", "event", "word", "time_ms", "mode", "level", "brake", "indications", "place", "place_cm", "uncertainty_cm", "limit_m_per_h")
+HEAD = ("", "events", "lives", "trip_outstanding", "identity", "running_number", "train", "level", "position", "national_values", "countries")
+REASONS = {4: "before_oldest_block", 5: "gap", 6: "within_block"}
+CAUSES = ("not_revalidated", "in_trip", "in_system_failure", "owes_trip", "far_too_fast", "rolled_too_far", "asked_for_service", "too_fast",
+          "must_stand", "owes_too_long")
+LIMITS = ("", "no_speed", "no_train_data", "national_staff_responsible", "national_override", "national_shunting", "national_unfitted",
+          "train_maximum", "main_speed", "end_speed", "static_speed", "restriction", "mode_area", "static_speed_ahead", "unknown_speed_ahead",
+          "restriction_ahead", "mode_area_ahead", "end_of_authority", "supervised_location", "release_speed", "national_release_speed")
+TRIPS = (None, "end_passed", "linking", "stop", "staff_distance", "level")
+SECTOR, SLOT = 512, 6 * 512
+
+
+def lab(*words: str) -> tuple[int, list[Any]]:
+    """The status of a run of `etcs_lab`, and the objects that it prints."""
+    done = subprocess.run([program.find(), *words], stdin=subprocess.DEVNULL, capture_output=True, text=True, check=False)
+    return done.returncode, [json.loads(line) for line in done.stdout.splitlines()]
+
+
+def image(folder: Path, lives: list[Any], slots: int) -> bytes:
+    """The image of some lives."""
+    path = folder / "made"
+    etcs("format", str(path), str(slots))
+    for life in lives:
+        scenario = folder / "scenario.json"
+        scenario.write_text(json.dumps({"cold": life.get("cold", 0), "groups": life.get("groups", []), "steps": life["steps"]}), encoding="utf-8")
+        etcs("run", str(scenario), str(path))
+    return path.read_bytes()
+
+
+def example(name: str, file: str = "scenario.json") -> Any:
+    """The scenario of an example."""
+    return json.loads((TOP / "examples" / name / file).read_bytes())
+
+
+def bases(folder: Path, dice: random.Random) -> list[bytes]:
+    """Images that nothing happened to."""
+    three = [example("power_cut"), example("power_cut", "restart.json"), example("trip")]
+    made = [image(folder, three, 16), image(folder, three, 6), image(folder, [example("on_sight")], 16)]
+    return made + [image(folder, [{"cold": dice.randrange(3), "steps": random_steps(dice)} for _ in range(4)], slots) for slots in (2, 5, 9, 12)]
+
+
+def altered(data: bytes, dice: random.Random) -> bytes:
+    """An image to which something happened."""
+    it, slots = bytearray(data), (len(data) // SECTOR - 1) // 6
+    used = [slot for slot in range(slots) if any(data[SECTOR + SLOT * slot:SECTOR + SLOT * (slot + 1)])]
+    first = SECTOR + SLOT * dice.choice(used)
+    kind = dice.randrange(-2, 9)
+    if kind < 3:  # a byte of a record
+        it[first + 2 * SECTOR + 256 * dice.randrange(3) + dice.choice((0, 1, 2, 4, 7, 15, 23, 31, 39, 42, 43, 50, 51))] ^= 1 << dice.randrange(8)
+    elif kind == 3:  # a byte of a head
+        it[first + SECTOR + dice.choice((15, 23, 27, 28, 29, 33, 51, 62, 71, 87, 90))] ^= 1 << dice.randrange(8)
+    elif kind == 4:  # a gate
+        it[first:first + SECTOR] = bytes(SECTOR) if dice.random() < 0.7 else bytes(range(256)) * 2
+    elif kind == 5:  # a slot is put elsewhere
+        to = SECTOR + SLOT * dice.randrange(slots)
+        it[to:to + SLOT] = data[first:first + SLOT]
+    elif kind == 6:  # cut off, or more behind it
+        return bytes(it[:dice.randrange(SECTOR, len(it))]) if dice.random() < 0.7 else bytes(it) + bytes(dice.randrange(1, 1600))
+    elif kind == 7:  # a slot is wiped
+        it[first:first + SLOT] = bytes(SLOT)
+    else:  # sectors of zeros
+        at = first + SECTOR * dice.randrange(6)
+        it[at:at + SECTOR] = bytes(SECTOR)
+    return bytes(it)
+
+
+def compare_slots(told: dict[str, Any], wanted: dict[str, Any], at: str) -> int:
+    """What each slot holds, and whether all is whole."""
+    found = {number: (STATES[slot["state"]], slot["number"] or None) for number, slot in enumerate(told["slots"]) if slot["state"]}
+    slots = {slot["slot"]: (slot["state"], slot.get("block")) for slot in wanted["slots"]}
+    assert found == slots, (at, found, slots)
+    for number, slot in ((slot["slot"], slot) for slot in wanted["slots"] if slot["state"] == "unreadable"):
+        one = told["slots"][number]
+        byte = SECTOR + SLOT * number + SECTOR + one["faultAt"] if one["hasFault"] else None
+        assert byte == slot.get("byte"), (at, byte, slot)
+    assert told["digest"] == wanted["image"]["sha256"], at
+    assert (told["facts"]["slots"], told["facts"]["whole"]) == (wanted["image"]["slots"] if "slots" in wanted["image"] else
+                                                              wanted["image"]["first_sector"]["slots"], wanted["image"]["whole_slots"]), at
+    assert told["isWhole"] == wanted["whole"], (at, told["isWhole"], wanted["whole"], wanted["between"])
+    return len(slots)
+
+
+def lines_of(life: dict[str, Any]) -> list[Any]:
+    """The lines of `etcs_lab replay` that a life comes to."""
+    first, last, event = life["first"], life["last"], life["event"]
+    if life["verdict"] == 1:
+        return [("agrees", first, last)]
+    if life["verdict"] == 2:
+        return [("agrees", first, event - 1)] * (event > first) + [("differs", event, RECORD[life["field"]])]
+    if life["verdict"] == 3:
+        return [("head", life["block"], HEAD[life["field"]])]
+    return [(REASONS[life["verdict"]], first, last)]
+
+
+def line_of(line: dict[str, Any]) -> Any:
+    """A line of `etcs_lab replay`."""
+    if line.get("replay") == "agrees":
+        return "agrees", line["first_event"], line["last_event"]
+    if line.get("replay") == "record_differs":
+        return "differs", line["event"], line["field"]
+    if line.get("replay") == "head_differs":
+        return "head", line["block"], line["field"]
+    return (line["reason"], line["first_event"], line["last_event"]) if line.get("replay") == "not_replayed" else None
+
+
+def compare_replay(told: dict[str, Any], path: Path, at: str) -> int:
+    """What each life came to."""
+    _, lines = lab("replay", "--json", str(path))
+    wanted, count = [line_of(line) for line in lines], 0
+    unreadable = [line["block"] for line in lines if line.get("replay") == "unreadable"]
+    assert told["unreadable"] == unreadable, (at, told["unreadable"], unreadable)
+    for life in told["lives"] or []:
+        for line in lines_of(life):
+            assert line in wanted, (at, line, lines)
+            count += 1
+    bad = sum(life["verdict"] in (2, 3) for life in told["lives"] or [])
+    assert bool(bad) == any(one and one[0] in ("differs", "head") for one in wanted), (at, told["lives"], lines)
+    return count
+
+
+def compare_why(index: int, why: dict[str, Any] | None, event: int, path: Path) -> int:
+    """The causes where an intervention began."""
+    status, lines = lab("why", "--json", str(path), str(event))
+    told = next((line for line in lines if line.get("event") == event and "limit_cause" in line), None)
+    if why is None:
+        assert status and told is None, (index, event, lines)
+        return 0
+    assert told is not None, (path, event, lines)
+    assert {CAUSES[n]: why["since"][n] for n, holds in enumerate(why["holds"]) if holds} == {
+        cause: told[cause] for cause in CAUSES if told[cause] is not None}, (event, why, told)
+    assert (LIMITS[why["limitCause"]], why["causeAt"], why["causeSpeed"], why["restriction"], TRIPS[why["tripCause"]]) == (
+        told["limit_cause"], told["limit_cause_place_cm"], told["limit_cause_speed_m_per_h"], told["limit_cause_number"],
+        told["trip_cause"]), (event, why, told)
+    return 1
+
+
+def alterations(browser: Browser, _page: Path, folder: Path) -> int:
+    """Images, whole and altered: slots, digest, lives, and the causes of interventions."""
+    dice, count, lost, differs, whole = random.Random(21), 0, 0, 0, 0
+    made = bases(folder, dice)
+    tried = made + [altered(dice.choice(made), dice) for _ in range(ALTERED)]
+    for number, data in enumerate(tried):
+        path, at = folder / f"image{number}", f"image {number}"
+        path.write_bytes(data)
+        told = browser.ask(path)
+        status, found = lab("examine", "--json", str(path))
+        if not told["facts"]:
+            assert status == 1, (at, status)
+            continue
+        [wanted] = found
+        count += compare_slots(told, wanted, at)
+        whole += told["isWhole"]
+        if told["status"] == 38:
+            count += compare_replay(told, path, at)
+            differs += any(life["verdict"] in (2, 3) for life in told["lives"])
+            causes = {index: why for index, why in told["causes"]}
+            assert set(causes) == {one["first"] for one in told["interventions"]}, at
+            for one, event in zip(told["interventions"][:6], told["firsts"]):
+                count += compare_why(one["first"], causes[one["first"]], event, path)
+        lost += not wanted["whole"]
+    assert whole >= 7 and lost >= 20 and differs >= 8, (whole, lost, differs)
+    return count
+
+
+def case(browser: Browser, page: Path, folder: Path) -> int:
+    """The case of docs/INVESTIGATING.md: its questions are answered."""
+    data = bytearray(image(folder, [example("power_cut"), example("power_cut", "restart.json"), example("trip")], 6))
+    data[512 * 7:512 * 8] = bytes(512)
+    data[14352] = 0o377
+    path = folder / "case"
+    path.write_bytes(data)
+    browser.open(page, "#event=24")
+    told = browser.ask(path)
+    assert told["digest"] == hashlib.sha256(data).hexdigest() == "ee636b1dfea516705c04c8235a93cf1eb4f86594fcdce11bc49e9be9cd547df3"
+    assert "Event 24 of life 3, block 6: moved 100.00 m, at 15.0 km/h" in browser.text("event-said")
+    assert "emergency brake; limit 0.0 km/h, front at 300.00 m ± 20.00 m" in browser.text("ask-texts")
+    fields = browser.run("return [...document.querySelectorAll('#fields tr')].map(row => [...row.cells].map(cell => cell.textContent))")
+    assert ["speed", "15.0 km/h", "3,380, 4 B"] in fields and ["event", "24", "3,336, 8 B"] in fields
+    shown = browser.run("document.querySelectorAll('#fields tbody tr')[6].click();"
+                        "return [...document.querySelectorAll('#hex .on')].map(span => span.textContent).join('')")
+    assert shown == "0000000000000018"
+    telegram = browser.run("window.gaknifur.ask.chooseEvent(17); return document.getElementById('fields').textContent")
+    assert "3 packets" in telegram and "1,584, 31 B" in telegram, telegram
+    assert "1 × unreadable" in browser.text("ring-legend") and "1 × unwritten" in browser.text("ring-legend")
+    browser.run("document.querySelectorAll('#ring .slot')[4].dispatchEvent(new MouseEvent('click', {bubbles: true}))")
+    assert "byte 14,352, in record 3" in browser.text("slot-said")
+    assert "IC 704" in browser.text("kept") and "Lost: block 4 with events 10 to 15." in browser.text("verdict")
+    lives = browser.text("lives")
+    assert "was overwritten" in lives and "are missing before" in lives
+    assert browser.text("ask-causes").startswith("Why can't be told")
+    browser.run("window.gaknifur.ask.chooseEvent(12)")
+    assert "is in no block" in browser.text("event-said")
+    browser.run("location.hash = '#event=9'")
+    browser.until("return document.getElementById('ask-causes').textContent.includes('has not revalidated')")
+    return 15
+
+
+def places(browser: Browser, _page: Path, folder: Path) -> int:
+    """Of each record the bytes that the page takes are those of the record: its number stands there."""
+    path = folder / "image"
+    path.write_bytes(image(folder, [example("power_cut"), example("power_cut", "restart.json"), example("trip")], 16))
+    count = browser.ask(path)["count"]
+    for index in range(count):
+        event, digits = browser.run("window.gaknifur.ask.choose(arguments[0]); const row = [...document.querySelectorAll('#fields tbody tr')]"
+                                    ".find(row => row.cells[0].textContent === 'event'); row.click(); return [row.cells[1].textContent,"
+                                    "[...document.querySelectorAll('#hex .on')].map(span => span.textContent).join('')]", index)
+        assert int(event.replace(",", "")) == int(digits, 16) == index
+    return int(count)
+
+
+CHECKS = {"alterations": (alterations, 500), "case": (case, 15), "places": (places, 33)}

@@ -167,7 +167,7 @@ static void tell_groups(uint8_t *telegrams, uint32_t number) {
     }
 }
 
-/* The line of a telegram for bench/plain_kernel.rs. */
+/* The line of a telegram for the peer (bench/peer). */
 static void print_telegram(const uint8_t *telegram) {
     printf("hear ");
     for (int i = 0; i < TELEGRAM; i++) {
@@ -176,7 +176,7 @@ static void print_telegram(const uint8_t *telegram) {
     printf("\n");
 }
 
-/* The same events for bench/plain_kernel.rs, a line each; those that are counted stand behind the line count. */
+/* The same events for the peer (bench/peer), a line each; those that are counted stand behind the line count. */
 static void print_lines(const uint8_t *before, uint32_t number, const uint8_t *telegrams, uint32_t turns, const struct counted *counted) {
     printf("enter-identity A\nchoose-level 1\nenter-train-data 20000 160000 70 0 15\n");
     for (uint32_t i = 0; i < number; i++) {

@@ -1,8 +1,8 @@
 #!/bin/sh
 # Prints the instructions of the kernel per event, and of the permitted speed per call: what callgrind
 # counts within the call for twice as many less what it counts for so many, by so many. So what is told at the start
-# falls out, and the harness and the making of the inputs don't count. Beside them those of a kernel in plain Rust
-# (bench/plain_kernel.rs) on the same events; it answers random lives as tests/plain does, and the same limits here.
+# falls out, and the harness and the making of the inputs don't count. Beside them those of the peer (bench/peer)
+# on the same events; it answers random lives as tests/plain does, and the same limits here.
 # Then how often some functions were called in so many events. Builds what it needs first; what the builds have to say
 # goes to standard error.
 #
@@ -15,12 +15,17 @@ calls=${2:-200}
 # What the library calls to take memory is in the toolchain's C library.
 memory=$(dirname "$(rt doc)")/c/liblibc_c.a
 
-"$top/bench/library" kernel >&2
 mkdir -p "$out"
-gcc -O2 -Wall -Wextra "$top/bench/kernel.c" "$out/libbench_kernel.a" "$memory" \
-    -o "$out/kernel" >&2
-rustc --edition 2021 -O -C target-cpu=x86-64-v2 -g "$top/bench/plain_kernel.rs" -o "$out/plain_kernel" >&2
-"$top/bench/plain_check.py" "$out/plain_kernel" >&2
+library=$out/libbench_kernel.a
+if [ -n "${UNPROVED:-}" ]; then
+    library=$out/kernel.o
+    "$top/bench/unproved" kernel "$library" >&2
+else
+    "$top/bench/library" kernel >&2
+fi
+gcc -O2 -Wall -Wextra "$top/bench/kernel.c" "$library" "$memory" -o "$out/kernel" >&2
+"$top/bench/peer.sh" --build >&2
+cp "$out/peer/release/rows" "$out/peer_rows"
 
 # counted PROGRAM FUNCTION WORD..: the instructions within the function, with all that it calls, where the program is called with these
 # words. The profile of the run stays in bench/out/callgrind.
@@ -58,24 +63,24 @@ row() {
 
 # agree KERNEL PLAIN WHAT: whether both have the same sum of limits
 agree() {
-    [ "$1" = "$2" ] || { echo "$3: the sum of the limits is $1, and $2 in plain Rust" >&2; return 1; }
+    [ "$1" = "$2" ] || { echo "$3: the sum of the limits is $1, and $2 in the peer" >&2; return 1; }
 }
 
-# plain WORD..: an event of these in plain Rust
+# plain WORD..: an event of these, by the peer
 plain() {
     ./kernel lines "$@" "$events" >lines
-    agree "$(./kernel limits "$@" "$events")" "$(./plain_kernel sum <lines)" "$*" || return 1
-    few=$(counted ./plain_kernel plain_kernel::State::apply sum)
+    agree "$(./kernel limits "$@" "$events")" "$(./peer_rows lines <lines)" "$*" || return 1
+    few=$(counted ./peer_rows '*State*input*' lines)
     ./kernel lines "$@" $((2 * events)) >lines
-    many=$(counted ./plain_kernel plain_kernel::State::apply sum)
+    many=$(counted ./peer_rows '*State*input*' lines)
     echo $(((many - few + events / 2) / events))
 }
 
 # permitted TITLE GRADIENT
 permitted() {
-    agree "$(./kernel permitted "$2" "$calls")" "$(./plain_kernel permitted "$2" "$calls")" "permitted $2" || return 1
+    agree "$(./kernel permitted "$2" "$calls")" "$(./peer_rows permitted "$2" "$calls")" "permitted $2" || return 1
     printf '%-60s %10d %10d\n' "$1" "$(one ./kernel '*permitted_from*' "$calls" permitted "$2")" \
-        "$(one ./plain_kernel plain_kernel::permitted "$calls" permitted "$2")"
+        "$(one ./peer_rows '*permitted_from*' "$calls" permitted "$2")"
 }
 
 # each TITLE FUNCTION COUNT CALL: one call after another, of so many inputs in turn
@@ -104,7 +109,7 @@ called() {
 on() {
     printf '%-60s %10d %10d\n' "$1" "$(one ./kernel '*output_after*' "$events" limits "$2" "$3" "$4")" "$(plain "$2" "$3" "$4")"
 }
-printf '%-60s %10s %10s\n' call kernel plain_Rust
+printf '%-60s %10s %10s\n' call kernel peer
 on 'a reading of 1 cm' 30r reading 1
 on 'a reading of 10 cm' 30r reading 10
 on 'a reading of 1 cm in Staff Responsible' 0 reading 1

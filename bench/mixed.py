@@ -2,9 +2,9 @@
 """A life in which every second event is a telegram, and which has every action of the driver, each accepted at least once.
 
     bench/mixed.py life     its lines, for bench/out/worst
-    bench/mixed.py plain    its lines, for bench/out/plain_kernel
+    bench/mixed.py plain    its lines, for the peer (bench/peer, rows)
     bench/mixed.py check    whether each action is accepted, by the plain program of tests/plain
-    bench/mixed.py count    what the unit and the plain kernel take for it: KIND, CALLS, MEAN, MOST, MEAN IN PLAIN RUST; both answer the same
+    bench/mixed.py count    what the unit and the peer take for it: KIND, CALLS, MEAN, MOST, MEAN OF THE PEER; both answer the same
 """
 import re
 import subprocess
@@ -91,7 +91,11 @@ PLAIN_WORDS = {"telegram": "hear", "odometer": "move", "clock": "clock", "identi
 
 def plain_lines():
     """The same in the words of tests/plain, without the power-up."""
-    for line in list(lines())[1:]:
+    return in_plain_words(list(lines())[1:])
+
+
+def in_plain_words(told):
+    for line in told:
         word, _, value = line.partition(" ")
         word, value = PLAIN_ACTIONS[int(value)] if word == "action" else (PLAIN_WORDS[word], value)
         yield word, bytes.fromhex(value).decode() if word == "enter-identity" else value
@@ -118,13 +122,13 @@ def check():
 PLAIN_FUNCTIONS = {"telegram": "hear", "odometer": "read", "clock": "tick"}
 
 
-def in_plain_rust(text):
+def by_the_peer(text):
     """The instructions of each kind of event, and the mode and limit behind each event."""
     told = "".join(f"{word} {value}".strip() + "\n" for word, value in plain_lines())
     took = {}
     for function in ("hear", "read", "tick", "act"):
         done = subprocess.run(["valgrind", "--tool=callgrind", "--callgrind-out-file=/dev/null", "--collect-atstart=no",
-                               f"--toggle-collect=plain_kernel::{function}", "./plain_kernel"], input=told, capture_output=True, text=True,
+                               f"--toggle-collect=*rows::{function}", "peer/release/rows"], input=told, capture_output=True, text=True,
                               cwd=OUT, env={"PATH": "/usr/bin:/bin"}, check=True)
         took[function] = int(re.search(r"Collected : (\d+)", done.stderr)[1])
     answers = [(line.split()[0], int(line.split()[3])) for line in done.stdout.splitlines()]
@@ -135,12 +139,12 @@ def in_plain_rust(text):
 def count():
     text = list(lines())
     took = counted([(16, [text[0], "count", *text[1:]])], told=True)
-    plain, answers = in_plain_rust(text)
+    plain, answers = by_the_peer(text)
     groups = defaultdict(list)
     for kind, line, at in zip(list(kinds_of(text))[1:], text[1:], range(3, len(text) + 2)):
         instructions, _, mode, limit = took[1, at]
         if (MODES[mode], limit) != answers[at - 3]:
-            sys.exit(f"line {at} ({line}): {MODES[mode]} {limit}, and {answers[at - 3]} in plain Rust")
+            sys.exit(f"line {at} ({line}): {MODES[mode]} {limit}, and {answers[at - 3]} by the peer")
         groups[PLAIN_FUNCTIONS.get(line.split()[0], "act")].append(instructions)
         if kind.startswith("telegram"):
             groups[kind].append(instructions)

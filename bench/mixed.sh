@@ -1,17 +1,16 @@
 #!/bin/bash
 # The instructions of a call of the unit from C by kind, in a life in which every second event is a telegram, and which has every action of the
-# driver (bench/mixed.py): how many there are, the mean, the most, and the mean in plain Rust (bench/plain_kernel.rs), which answers the same
-# modes and limits. A call of the unit also makes a record of the event; the plain kernel keeps none.
+# driver (bench/mixed.py): how many there are, the mean, the most, and the mean of the peer (bench/peer), which answers the same
+# modes and limits. A call of the unit also makes a record of the event; the peer's kernel keeps none.
 #
 #     bench/mixed.sh
 set -e
 top=$(cd "$(dirname "$(readlink -f -- "$0")")/.." && pwd)
-out=$top/bench/out
 export PYTHONDONTWRITEBYTECODE=1
 
 "$top/bench/worst.sh" --build >&2
-rustc --edition 2021 -O -C target-cpu=x86-64-v2 -g "$top/bench/plain_kernel.rs" -o "$out/plain_kernel" >&2
+"$top/bench/peer.sh" --build >&2
 "$top/bench/mixed.py" check >&2
 
-printf '%-44s %8s %8s %8s %10s\n' call calls mean most plain_Rust
+printf '%-44s %8s %8s %8s %10s\n' call calls mean most peer
 "$top/bench/mixed.py" count | awk -F '\t' '{ printf "%-44s %8d %8d %8d %10s\n", $1, $2, $3, $4, $5 }'

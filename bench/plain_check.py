@@ -1,5 +1,5 @@
 #!/usr/bin/env python3
-"""Random lives, the same in every run: what bench/plain_kernel.rs answers is what the plain program of tests/plain works out.
+"""Random lives, the same in every run: what the peer (bench/peer, rows) answers is what the plain program of tests/plain works out.
 
     bench/plain_check.py PROGRAM [LIVES [SEED]]    300 lives of 60 events, seed 2026
 """
@@ -42,7 +42,7 @@ def main(words):
             if wrong <= 5:
                 print(f"life {number}, event {at} ({events[at] if at < len(events) else ''}): {found[at:at + 1]}, wanted {wanted[at:at + 1]}")
                 print(ran.stderr[-500:], end="")
-    print(f"plain kernel: {lives} lives of {EVENTS} events, {wrong} with another answer; modes: {' '.join(sorted(modes))}")
+    print(f"peer: {lives} lives of {EVENTS} events, {wrong} with another answer; modes: {' '.join(sorted(modes))}")
     return 1 if wrong else 0
 
 

@@ -1,64 +1,96 @@
 #!/bin/bash
-# Instructions an event of a whole run, of `etcs run` and of plain Rust (bench/plain_life.rs): the scenario is read as JSON, the life goes over a
-# file of 16 slots that are used again, and each output is printed. callgrind counts all of the process but what the system does; a run of twice
-# as many events less one of so many, by so many. Both have to print the same lines and leave the same image. The program must be there
-# (./etcs --prove).
+# Instructions an event of a whole run, of `etcs run` and of the peer (bench/peer): the scenario is read as JSON, the life goes over a file of
+# slots that are used again, and each output is printed. callgrind counts all of the process but what the system does; a run of twice as many
+# events less one of so many, by so many. Both have to print the same lines and leave the same image. The program must be there
+# (./etcs --prove); with UNPROVED=yes one is compiled without a proof (bench/unproved).
 #
-#     bench/run.sh [EVENTS]     4,000
+#     bench/run.sh [EVENTS]     2,000
 top=$(cd "$(dirname "$(readlink -f -- "$0")")/.." && pwd) || exit 1
-program=$top/crates/etcs/out/etcs
-events=${1:-4000}
+out=$top/bench/out
+program=${ETCS:-$top/crates/etcs/out/etcs}
+events=${1:-2000}
+mkdir -p "$out"
+if [ -n "${UNPROVED:-}" ] && [ -z "${ETCS:-}" ]; then
+    program=$out/etcs
+    "$top/bench/unproved" etcs "$program" >&2 || exit 1
+fi
 [ -x "$program" ] || { echo "there is no program $program: rt ci or ./etcs --prove makes it"; exit 1; }
+"$top/bench/peer.sh" --build >&2 || exit 1
 room=$(mktemp -d) || exit 1
 trap 'rm -rf "$room"' EXIT
-mkdir -p "$top/bench/out"
-rustc --edition 2021 -O -C target-cpu=x86-64-v2 -g "$top/bench/plain_kernel.rs" -o "$top/bench/out/plain_kernel" >&2 || exit 1
-exec python3 -I - "$program" "$top/bench/out/plain_kernel" "$room" "$events" <<'P'
+PYTHONDONTWRITEBYTECODE=1 python3 - "$top" "$program" "$out/peer/release/etcs_peer" "$room" "$events" <<'P'
 import json, os, re, subprocess, sys
 
-program, plain, room, count = *sys.argv[1:4], int(sys.argv[4])
+top, program, peer, room, count = *sys.argv[1:5], int(sys.argv[5])
+sys.path.insert(0, top + "/tests/plain")
+from named import written
+
 os.chdir(room)
 
 # Full Supervision on a track of one gradient and one speed, whose authority ends 1 km ahead.
-TRACK = "90007F802001432024A8007FE007D002B00D900010000DC03A400020801FE0"
-OTHER = "90007F802001C32024A8007FE007D002B00D900010000DC03A400020801FE0"  # of another group
-START = [{"telegram": TRACK}, {"driver": [1, "IC 704"]}, {"driver": [4, 1]}, {"driver": [3, 20000, 160000, 70, 0, 15]}, {"driver": [6]}]
+TRACK = ("12: V_MAIN 32, V_LOA 0, T_LOA 1023, N_ITER 0, L_ENDSECTION 1000, Q_SECTIONTIMER 0, Q_ENDTIMER 0, Q_DANGERPOINT 0, Q_OVERLAP 0; "
+         "21: D_GRADIENT 0, Q_GDIR 1, G_A 0, N_ITER 0; 27: D_STATIC 0, V_STATIC 32, Q_FRONT 0, N_ITER 0, N_ITER 0")
+
+
+def heard(at, balises):
+    """The telegram of a balise, of one group and of another in turn, each of so many balises."""
+    group, place = at // balises % 2, at % balises
+    return {"telegram": written(f"N_PIG {place}, N_TOTAL {balises - 1}, NID_BG {2 + group}; {TRACK}")}
+
+
+def moved(centimetres):
+    return {"drive": [centimetres, 10000]}
+
+
+START = [heard(0, 1), {"driver": [1, "IC 704"]}, {"driver": [4, 1]}, {"driver": [3, 20000, 160000, 70, 0, 15]}, {"driver": [6]}]
 LIVES = {
     "a moment of the clock in Stand By": ([], lambda at: {"clock": at}),
-    "a reading of 1 cm in Full Supervision": (START, lambda at: {"drive": [1, 10000]}),
-    "a reading of 10 cm in Full Supervision": (START, lambda at: {"drive": [10, 10000]}),
-    "the same, every eighth a telegram": (START, lambda at: {"telegram": (OTHER, TRACK)[at // 8 % 2]} if at % 8 == 7 else {"drive": [10, 10000]}),
+    "a reading of 1 cm in Full Supervision": (START, lambda at: moved(1)),
+    "a reading of 10 cm in Full Supervision": (START, lambda at: moved(10)),
+    "the same, every eighth a telegram": (START, lambda at: heard(at // 8 + 1, 1) if at % 8 == 7 else moved(10)),
+    "the same, every second a telegram": (START, lambda at: heard(at // 2 + 1, 1) if at % 2 else moved(10)),
+    "the same, of groups of two balises": (START, lambda at: heard(at // 2, 2) if at % 2 else moved(10)),
+    "the same, of groups of eight balises": (START, lambda at: heard(at // 2, 8) if at % 2 else moved(10)),
 }
 
 
-def ran(words, image):
+def ran(words, image, slots):
     """The instructions of a run on an empty image, and what it prints and leaves."""
-    subprocess.run([program, "format", image, "16"], check=True, stdout=subprocess.DEVNULL)
+    subprocess.run([program, "format", image, str(slots)], check=True, stdout=subprocess.DEVNULL)
     done = subprocess.run(["valgrind", "--tool=callgrind", "--callgrind-out-file=/dev/null", *words, "scenario", image],
                           env={"PATH": os.environ["PATH"]}, capture_output=True, text=True)
     counted = re.search(r"Collected : (\d+)", done.stderr)
     if done.returncode or not counted:
         raise SystemExit(f"{words[0]}: status {done.returncode}\n{done.stderr}")
-    left = open(image, "rb").read()
+    with open(image, "rb") as file:
+        left = file.read()
     os.remove(image)
     return int(counted[1]), (done.stdout, left)
 
 
-def cost(start, step, title):
-    """Instructions an event, of the program and of plain Rust."""
+def cost(scenarios, title, slots=16):
+    """Instructions an event, of the program and of the peer: of two scenarios, each the text and how many lines are printed."""
     counts = []
-    for events in (count, 2 * count):
+    for text, lines in scenarios:
         with open("scenario", "w") as file:
-            json.dump({"groups": [], "steps": start + [step(at) for at in range(events)]}, file)
-        (ours, told), (theirs, plainly) = ran([program, "run"], "image"), ran([plain, "run"], "image")
-        if told != plainly or told[0].count("\n") != len(start) + events:
+            file.write(text)
+        (ours, told), (theirs, plainly) = ran([program, "run"], "image", slots), ran([peer, "run"], "image", slots)
+        if told != plainly or lines and told[0].count("\n") != lines:
             raise SystemExit(f"{title}: the two runs print or leave something else, or not all")
-        counts.append((ours, theirs))
-    return [(many - few) / count for few, many in zip(*counts)]
+        counts.append((ours, theirs, told[0].count("\n")))
+    few, many = counts
+    return [(many[at] - few[at]) / (many[2] - few[2]) for at in (0, 1)]
 
 
-print(f"{'instructions an event of a whole run':<48} {'etcs':>8} {'plain':>8} {'ratio':>6}")
+def row(title, scenarios, slots=16):
+    ours, theirs = cost(scenarios, title, slots)
+    print(f"{title:<48} {ours:8.0f} {theirs:8.0f} {ours / theirs:6.2f}", flush=True)
+
+
+print(f"{'instructions an event of a whole run':<48} {'etcs':>8} {'peer':>8} {'ratio':>6}")
 for title, (start, step) in LIVES.items():
-    ours, theirs = cost(start, step, title)
-    print(f"{title:<48} {ours:8.0f} {theirs:8.0f} {ours / theirs:6.2f}")
+    row(title, [(json.dumps({"groups": [], "steps": start + [step(at) for at in range(events)]}), len(start) + events)
+                for events in (count, 2 * count)])
+row("a life in Full Supervision, 64 slots", [(subprocess.run([peer, "life", str(readings)], check=True, capture_output=True, text=True).stdout, 0)
+                                              for readings in (5 * count, 10 * count)], 64)
 P

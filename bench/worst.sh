@@ -8,6 +8,7 @@
 #     bench/worst.sh                         counts them again
 #     bench/worst.sh --search [TRIES SEED]   looks for more (10,000 tries, seed 46), keeps what takes more, and counts them
 #     bench/worst.sh --build                 builds what counts, and no more
+#     bench/worst.sh --grown                 a reading where restrictions and gradients double, of the unit and of the peer
 #
 # The search is a hill climb (bench/worst_search.py): it begins with lives at random, then changes the scenario of a kind
 # by a few steps, and keeps it where a call takes at least as much. Its figures are the greatest that were found, and no
@@ -19,9 +20,15 @@ out=$top/bench/out
 memory=$(dirname "$(rt doc)")/c/liblibc_c.a
 export PYTHONDONTWRITEBYTECODE=1
 
-"$top/tools/build_c_library" etcs_unit >&2
 mkdir -p "$out"
-gcc -O2 -Wall -Wextra -Wl,-z,now,--wrap=malloc,--wrap=realloc,--wrap=free "$top/bench/worst.c" "$top/crates/etcs_unit/out/libetcs_unit.a" "$memory" \
+library=$top/crates/etcs_unit/out/libetcs_unit.a
+if [ -n "${UNPROVED:-}" ]; then
+    library=$out/etcs_unit.o
+    "$top/bench/unproved" etcs_unit "$library" >&2
+else
+    "$top/tools/build_c_library" etcs_unit >&2
+fi
+gcc -O2 -Wall -Wextra -Wl,-z,now,--wrap=malloc,--wrap=realloc,--wrap=free "$top/bench/worst.c" "$library" "$memory" \
     -I "$top/include" -I "$top/tests/unit" -o "$out/worst" >&2
 
 search() {
@@ -30,6 +37,7 @@ search() {
 case ${1:-} in
     --search) search "${2:-10000}" "${3:-46}" ;;
     --build) exit ;;
+    --grown) "$top/bench/peer.sh" --build >&2; exec "$top/bench/worst_search.py" --grown ;;
     '') ;;
     *) sed -n '2,/^set/{/^set/d;s/^# \{0,1\}//;p}' "$0"; exit 2 ;;
 esac

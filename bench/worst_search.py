@@ -5,6 +5,7 @@
                                          those that it found and those that were kept before
     bench/worst_search.py --count        counts these again: KIND, INSTRUCTIONS, MODE, LIMIT, FOUND, a line each, tab between
     bench/worst_search.py --more         what one thing more costs: a restriction, a static speed, a gradient, a slot
+    bench/worst_search.py --grown        a reading where restrictions and gradients double: WHAT, INSTRUCTIONS, THOSE OF THE PEER
     bench/worst_search.py --memory       heap and stack of each call of the scenarios: KIND, HELD, PEAK, REQUESTS, GREATEST, STACK
 
 bench/worst.sh builds what it runs (bench/out/worst), and says more.
@@ -442,8 +443,8 @@ class Best:
             lives = [lines for _, lines in self.of.values()]
             parents = r.choices(kinds, [weights.get(kind, 1) for kind in kinds], k=BATCH)
             self.take([changed(r, self.of[kind][1], lives) for kind in parents])
+            self.write(OUT / "worst.scenarios")
             if number % (10 * BATCH) == 0:
-                self.write(OUT / "worst.scenarios")
                 print(number, *(f"{kind} {took}" for kind, (took, _) in sorted(self.of.items())), sep="; ", file=sys.stderr)
 
     def shorten(self):
@@ -548,9 +549,9 @@ def track(restricted=0, speeds=1, grades=1, reaction=0):
     return [*lines, "action 7", "odometer 1 50000", "odometer 1 50000", "odometer 1 50000"]
 
 
-def backwards(restricted, grades, step=2, reaction=0, turns=False):
+def backwards(restricted, grades, step=2, reaction=0, turns=False, near=False):
     """Full Supervision with brakes that hardly act, so many gradients ahead, one every so many metres, and so many restrictions: stops behind
-    them, one every metre, told from the farthest to the nearest; or by turns one such and one before all gradients, each 5 km/h slower."""
+    them, one every metre, told from the farthest to the nearest, or from the nearest on; or by turns one such and one before all gradients, each 5 km/h slower."""
     def heard(group, packets):
         return ("telegram", dict(zip(HEADER, (0, 0, 0, 255, 1, group, 1))), packets)
     whole = [("Q_DIR", 2), ("Q_SCALE", 1)]
@@ -563,7 +564,7 @@ def backwards(restricted, grades, step=2, reaction=0, turns=False):
         lines.append(heard(group, [(21, whole + listed([[("D_GRADIENT", first * step if at == first else step), ("Q_GDIR", 1), ("G_A", at % 2)]
                                                         for at in range(first, min(grades, first + 30))]))]))
     for group, first in enumerate(restrictions, 3 + len(firsts)):
-        lines.append(heard(group, [restricted_at(whole, grades * step + restricted - at, 0) if at % 2 or not turns else
+        lines.append(heard(group, [restricted_at(whole, grades * step + (at + 1 if near else restricted - at), 0) if at % 2 or not turns else
                                    restricted_at(whole, 1 + restricted - at, max(1, 31 - at // 2))
                                    for at in range(first, min(restricted, first + 10))]))
     return [*lines, "action 7", "odometer 1 50000", "odometer 1 50000"]
@@ -586,8 +587,32 @@ def more():
     print("power-up on 4 and 1,004 slots, all but one empty", took[1, 3][0], took[2, 3][0], sep="\t")
 
 
+def grown():
+    from mixed import in_plain_words  # noqa: PLC0415 (it takes from here)
+    for grades, restricted, order in GROWN:
+        lines = [text_of(line) for line in backwards(restricted, grades, turns=order == "by turns", near=order == "near to far")]
+        took = counted([(4, [*lines[:-1], "count", lines[-1]])])[1, len(lines) + 1][0]
+        words = [f"{word} {value}".strip() for word, value in in_plain_words(lines[1:])]
+        few, many = (peer_reading(words + words[-1:] * more) for more in (0, 1))
+        print(f"{grades} gradients, {restricted} restrictions, told {order}", took, many - few, sep="\t", flush=True)
+
+
+def peer_reading(words):
+    """What the peer takes for all readings of these lines."""
+    done = subprocess.run(["valgrind", "--tool=callgrind", "--callgrind-out-file=/dev/null", "--collect-atstart=no", "--toggle-collect=*State*input*",
+                           "peer/release/rows", "lines"], input="".join(word + "\n" for word in words), capture_output=True, text=True, cwd=OUT,
+                          env={"PATH": "/usr/bin:/bin"}, check=True)
+    return int(re.search(r"Collected : (\d+)", done.stderr)[1])
+
+
+GROWN = ((345, 32, "far to near"), (690, 8, "far to near"), (690, 16, "far to near"), (690, 32, "far to near"), (690, 64, "far to near"),
+         (690, 128, "far to near"), (1380, 32, "far to near"), (690, 32, "near to far"), (690, 32, "by turns"))
+
+
 def main(words):
-    if words == ["--count"]:
+    if words == ["--grown"]:
+        grown()
+    elif words == ["--count"]:
         count_again()
     elif words == ["--memory"]:
         memory()

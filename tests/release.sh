@@ -63,7 +63,7 @@ for number in 1 2; do
 done
 
 # ---- the same bytes
-diff -r "$room/one" "$room/two" || fails "two releases of one commit differ"
+diff -rq "$room/one" "$room/two" || fails "two releases of one commit differ"
 count=$(find "$room/one" -type f | wc -l)
 [ "$count" -ge 9 ] || fails "a release has only $count files"
 tried=$((tried + 1))
@@ -107,9 +107,17 @@ altered "another program" "the program etcs in $deb isn't the one that it tells"
 # ---- unpacked, without the kit and the sources
 root="$room/a root"
 for one in "$room"/one/*.deb; do dpkg-deb -x "$one" "$root" || fails "$one can't be unpacked"; done
+apt-get install --simulate "$room"/one/gaknifur_*.deb "$room"/one/libetcs-unit*.deb >"$room/printed" 2>&1 && grep -q '^Inst gaknifur ' "$room/printed" ||
+    { fails "apt-get wouldn't install the packages:"; tail -n 5 "$room/printed"; }
 mkdir "$room/work"
 lib=$root/usr/lib/x86_64-linux-gnu
-inside() { (cd "$room/work" && env -i "HOME=$room/work" "PATH=$root/usr/bin:/usr/bin:/bin" "PYTHONPATH=$root/usr/lib/python3/dist-packages" PYTHONDONTWRITEBYTECODE=1 "LD_LIBRARY_PATH=$lib" "$@"); }
+# (who may mount hides the kit and this folder too)
+hides=()
+kit=$(dirname "$(rt doc)")
+if unshare -m mount -t tmpfs none "$kit" 2>/dev/null; then
+    hides=(unshare -m sh -c 'for one in "$1" "$2"; do mount -t tmpfs none "$one" || exit 1; done; shift 2; exec "$@"' sh "$kit" "$top")
+fi
+inside() { (cd "$room/work" && env -i "HOME=$room/work" "PATH=$root/usr/bin:/usr/bin:/bin" "PYTHONPATH=$root/usr/lib/python3/dist-packages" PYTHONDONTWRITEBYTECODE=1 "LD_LIBRARY_PATH=$lib" "${hides[@]}" "$@"); }
 inside sh -c 'command -v rt' && fails "the kit is on the path"
 [ "$words" = --unproved ] && state="not proved: the program is not of a proved build" || state="proved: the program is that of the release"
 wants "etcs --version" "etcs $version, commit $commit" inside etcs --version

@@ -1,4 +1,4 @@
-#!/usr/bin/python3 -IB
+#!/usr/bin/env -S /usr/bin/python3 -I -B
 """The pages of a folder as HTML, by Debian's python3-markdown: each `.md` becomes a `.html` of the same place, with the
 pictures that it shows. A link to a page leads to its HTML; one to a file that isn't among the pages is left as words.
 

@@ -1,4 +1,4 @@
-#!/usr/bin/python3 -IB
+#!/usr/bin/env -S /usr/bin/python3 -I -B
 """What a release says of itself: `sbom.spdx.json` (SPDX 2.3) and `provenance.json` (a statement of in-toto with a
 predicate of SLSA, version 1), of the artefacts in a folder.
 
@@ -11,6 +11,7 @@ import os
 import re
 import subprocess
 import sys
+from collections.abc import Mapping
 from pathlib import Path
 
 KIND = "urn:gaknifur:release:1"
@@ -59,7 +60,7 @@ def sbom(top: Path, facts: dict[str, str], made: Path, stamp: str) -> dict[str, 
                             {"algorithm": "SHA1", "checksumValue": hashlib.sha1(path.read_bytes()).hexdigest()}],
               "licenseConcluded": "NOASSERTION", "copyrightText": "NOASSERTION"} for path in sorted(made.iterdir())]
 
-    def related(one: dict[str, object], kind: str, other: dict[str, object]) -> dict[str, object]:
+    def related(one: Mapping[str, object], kind: str, other: Mapping[str, object]) -> dict[str, object]:
         return {"spdxElementId": one["SPDXID"], "relationshipType": kind, "relatedSpdxElement": other["SPDXID"]}
 
     document: dict[str, object] = {"SPDXID": "SPDXRef-DOCUMENT"}

@@ -148,6 +148,20 @@ inside env "PKG_CONFIG_PATH=$lib/pkgconfig" sh "$room/build" "$root/usr/share/ga
 wants "a program in C" "the train stands behind 76500 ms" inside ./brake image.c
 readelf -d "$room/work/brake" | grep -q "libetcs_unit.so.$number" || fails "the program in C doesn't use the shared library"
 
+# a program in C, by CMake, where the library has a file for it
+if [ -d "$lib/cmake/etcs_unit" ]; then
+    mkdir "$room/work/cmake" && cat >"$room/work/cmake/CMakeLists.txt" <<END
+cmake_minimum_required(VERSION 3.16)
+project(brake C)
+find_package(etcs_unit $(cat VERSION) REQUIRED)
+add_executable(brake "$root/usr/share/gaknifur/examples/embedding/brake.c")
+target_link_libraries(brake etcs_unit::etcs_unit)
+END
+    inside cmake -S cmake -B built "-DCMAKE_PREFIX_PATH=$root/usr" >"$room/printed" 2>&1 && inside cmake --build built >>"$room/printed" 2>&1 ||
+        { fails "a program in C can't be built by CMake:"; tail -n 10 "$room/printed"; }
+    wants "a program in C by CMake" "the train stands behind 76500 ms" inside built/brake image.cmake
+fi
+
 # ---- manual pages and completion have each word
 for name in etcs etcs_lab lab; do
     case $name in

@@ -71,12 +71,6 @@ def tried(script: Path) -> Path:
     return Path(os.fsdecode(done.stdout.removesuffix(b"\n")))
 
 
-def version() -> str:
-    """Version and commit of this repository."""
-    tool = Path(__file__).resolve().parents[2] / "tools" / "version"
-    return subprocess.run([tool], stdin=subprocess.DEVNULL, capture_output=True, text=True).stdout.strip()
-
-
 @dataclass(frozen=True)
 class Told:
     """What a tool of the system told: its status, its output, and what it said on standard error."""

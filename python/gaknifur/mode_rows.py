@@ -1,10 +1,9 @@
 """The rows of the mode table, as docs/TABLES.md tells them; and the pages of the documentation."""
 import functools
-from pathlib import Path
 
-from .program import DEVICE, REFUSED, Failed
+from .program import DEVICE, REFUSED, TOP, Failed
 
-DOCS = Path(__file__).resolve().parents[2] / "docs"
+DOCS = TOP / "docs"
 Table = dict[int, tuple[list[str], str]]
 """The rows of the mode table: from which modes each leads, and where to."""
 

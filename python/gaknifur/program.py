@@ -1,11 +1,14 @@
 """The programs `etcs_lab` and `etcs`. No other module starts a process.
 
-`$GAKNIFUR_ETCS_LAB` and `$GAKNIFUR_ETCS` name the programs. Without them the scripts of this repository are asked, once
-a process, whether there is a proved program of these sources: then that is run. Else the one is that a script compiles of
-the sources, unproved, and keeps; it says so on standard error.
+`$GAKNIFUR_ETCS_LAB` and `$GAKNIFUR_ETCS` name the programs. Without them the scripts are asked, once a process, whether
+there is a proved program of these sources: then that is run. Else the one is that a script compiles of the sources,
+unproved, and keeps; it says so on standard error. The scripts are those of this repository; of a package that is
+installed, those beside it, or else on the PATH.
 """
 import functools
+import importlib.metadata
 import os
+import shutil
 import subprocess
 import tempfile
 from collections.abc import Iterator, Sequence
@@ -23,12 +26,29 @@ class Failed(Exception):
         self.status = status
 
 
+HERE = Path(__file__).resolve()
+VERSION_TOOL = HERE.parents[2] / "tools" / "version"
+TOP = HERE.parents[2] if VERSION_TOOL.exists() else HERE.parents[3] / "gaknifur"
+"""The repository that this package lies in; else the folder of an installed product, which is beside that of Python."""
+
+
+def version() -> str:
+    """The version of the product, and its commit where that is known."""
+    told = HERE.with_name("RELEASE")
+    if VERSION_TOOL.exists():
+        return subprocess.run([VERSION_TOOL], stdin=subprocess.DEVNULL, capture_output=True, text=True).stdout.strip()
+    if told.exists():
+        return told.read_text(encoding="utf-8").strip()
+    return f"{importlib.metadata.version('gaknifur')}, commit unknown"
+
+
 def script(name: str) -> Path:
     """The script of a program."""
-    found = Path(__file__).resolve().parents[2] / name
-    if found.exists():
+    if (found := TOP / name).exists():
         return found
-    raise Failed(f"there is no {name} beside this package; GAKNIFUR_{name.upper()} may name it", DEVICE)
+    if on_path := shutil.which(name):
+        return Path(on_path).resolve()
+    raise Failed(f"there is no {name} beside this package and none on the PATH; GAKNIFUR_{name.upper()} may name it", DEVICE)
 
 
 @functools.cache
@@ -37,7 +57,8 @@ def proved(script: Path) -> Path | None:
     once a process."""
     if subprocess.run([script, "--is-proved"], stdin=subprocess.DEVNULL, capture_output=True).returncode:
         return None
-    return script.parent / "crates" / script.name / "out" / script.name
+    installed = script.parent / "programs" / script.name
+    return installed if installed.exists() else script.parent / "crates" / script.name / "out" / script.name
 
 
 @functools.cache
@@ -48,12 +69,6 @@ def tried(script: Path) -> Path:
     if done.returncode:
         raise Failed(f"there is no {script.name} that can be run", DEVICE)
     return Path(os.fsdecode(done.stdout.removesuffix(b"\n")))
-
-
-def version() -> str:
-    """Version and commit of this repository."""
-    tool = Path(__file__).resolve().parents[2] / "tools" / "version"
-    return subprocess.run([tool], stdin=subprocess.DEVNULL, capture_output=True, text=True).stdout.strip()
 
 
 @dataclass(frozen=True)

@@ -5,9 +5,9 @@
         for output in unit.flush():
             obey(output)
 
-`$GAKNIFUR_ETCS_UNIT` names the library; without it the system's loader looks for `libetcs_unit.so.2`. A unit opens no
-file: its journal lies on a `Medium`, here a file (`FileMedium`) or sectors in memory (`MemoryMedium`), or a class of
-the user's own.
+`$GAKNIFUR_ETCS_UNIT` names the library; without it the one that is installed beside this package is taken, or else the
+system's loader looks for `libetcs_unit.so.2`. A unit opens no file: its journal lies on a `Medium`, here a file
+(`FileMedium`) or sectors in memory (`MemoryMedium`), or a class of the user's own.
 
 `journal(path)` iterates over the records that a file holds, and `records`, `facts` and `slots` read bytes. The module
 `lives` runs the lives of a journal again.
@@ -29,6 +29,7 @@ from typing import Protocol, Self
 from . import _header
 from ._header import (ABI, OUTPUTS, REQUEST_BYTES, SECTOR, VERSION_BYTES, Action, Brake, Cold, Indication, Kind, Level,
                       Mode, RequestKind, SlotState, Status)
+from .program import TOP
 
 __all__ = ["ABI", "OUTPUTS", "REQUEST_BYTES", "SECTOR", "VERSION_BYTES", "Action", "Brake", "Cold", "Facts",
            "FileMedium", "Indication", "Kind", "Level", "Medium", "MemoryMedium", "Mode", "Output", "Record", "Refused",
@@ -253,7 +254,8 @@ class FileMedium:
 @functools.cache
 def library() -> ctypes.CDLL:
     """The library, whose calls have their types. OTHER_ABI where it is of another interface than this module."""
-    found = ctypes.CDLL(os.environ.get("GAKNIFUR_ETCS_UNIT") or f"libetcs_unit.so.{ABI}")
+    beside = TOP / f"libetcs_unit.so.{ABI}"
+    found = ctypes.CDLL(os.environ.get("GAKNIFUR_ETCS_UNIT") or str(beside if beside.exists() else beside.name))
     for name, types in _header.CALLS.items():
         call = getattr(found, name)
         call.restype, call.argtypes = ctypes.c_uint32, types

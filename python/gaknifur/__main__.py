@@ -177,6 +177,9 @@ def out_of(told: argparse.Namespace, kind: files.Kind, source: Path) -> files.Ou
 
 def write_table(told: argparse.Namespace, progress: Progress) -> int:
     """The word `table`. (pandas, and matplotlib of a report, take a second to load, which other words needn't.)"""
+    if told.out is not None and told.out.suffix == ".parquet":
+        raise Failed(f"{told.out}: no Parquet is written, since Debian has no package for it; name it .csv or .xlsx",
+                     WRONG_WORDS)
     is_book = told.out is not None and told.out.suffix == ".xlsx"
     if is_book and not find_spec("openpyxl"):
         raise Failed("openpyxl is missing; tools/python installs it by Debian's packages", DEVICE)

@@ -15,6 +15,7 @@ from gaknifur import __main__ as lab
 from gaknifur import playing
 from gaknifur.cases import Case
 from gaknifur.playing import Keep, Played, with_speeds
+from gaknifur.program import Failed
 from gaknifur.reading import Json
 
 from .samples import journal, record
@@ -50,6 +51,17 @@ class Order(unittest.TestCase):
             with self.assertRaises(SystemExit) as ended, contextlib.redirect_stderr(io.StringIO()):
                 lab.understood(given.split())
             self.assertEqual(ended.exception.code, 2, given)
+
+
+class Names(unittest.TestCase):
+    """What a name says that `lab` can't write."""
+
+    def test_of_parquet(self) -> None:
+        with tempfile.TemporaryDirectory() as room:
+            out = Path(room) / "out.parquet"
+            with self.assertRaisesRegex(Failed, "no Parquet is written, since Debian has no package for it"):
+                lab.write_table(lab.understood(["table", "image", str(out)]), lambda *_: None)
+            self.assertFalse(out.exists())
 
 
 class Checks(unittest.TestCase):

@@ -18,7 +18,7 @@ fi
 "$top/bench/peer.sh" --build >&2 || exit 1
 room=$(mktemp -d) || exit 1
 trap 'rm -rf "$room"' EXIT
-PYTHONDONTWRITEBYTECODE=1 python3 - "$top" "$program" "$out/peer/release/etcs_peer" "$room" "$events" <<'P'
+python3 -IB - "$top" "$program" "$out/peer/release/etcs_peer" "$room" "$events" <<'P'
 import json, os, re, subprocess, sys
 
 top, program, peer, room, count = *sys.argv[1:5], int(sys.argv[5])

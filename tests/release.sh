@@ -133,6 +133,9 @@ wants "etcs decode" "end 58" inside etcs decode 90007F8020017FC0
 wants "etcs_lab check" "the image is whole, and the kernel would have answered so to each event that is replayed" inside etcs_lab check image
 inside lab report image report.html >"$room/printed" 2>&1 || fails "lab report"
 grep -q 'generator" content="gaknifur lab"' "$room/work/report.html" || fails "lab report makes no report"
+tried=$((tried + 1))
+inside lab test "$root/usr/share/gaknifur/suites" -k trip >"$room/printed" 2>&1 && grep -qE '^[1-9][0-9]* passed' "$room/printed" ||
+    { fails "lab test:"; tail -n 5 "$room/printed"; }
 wants "import gaknifur" "agrees" inside "$python" -c 'import gaknifur; print(*{one.verdict.name.lower() for one in gaknifur.replay("image")})'
 refuses "etcs --prove" "its repository proves" inside etcs --prove
 echo >>"$root/usr/lib/gaknifur/programs/etcs"

@@ -252,6 +252,8 @@ def write_scenario(told: argparse.Namespace, progress: Progress) -> None:
 WITHOUT_PYTHON = ("-c", os.devnull, "--noconftest", *(word for name in ("python", "unittest", "nose", "doctest")
                                                       for word in ("-p", f"no:{name}")))
 """Words of pytest, by which it runs nothing of the folder."""
+PLUGIN = ("-p", "no:gaknifur", "-p", "gaknifur.pytest_plugin")
+"""Words of pytest that take the plugin once, also where it is installed and pytest would find it by itself."""
 WRITING = ("--log-file", "--basetemp", "--debug", "--pastebin")
 """Words of pytest that write where they are told, or send."""
 
@@ -291,7 +293,7 @@ def run_tests(told: argparse.Namespace, progress: Progress) -> None:
     selected += [f"--keep={told.keep}"] if told.keep else []
     with results_in_xml(out) as (words, plugins):
         status = begun(told.folder, [
-            "-q", "--no-header", "-p", "gaknifur.pytest_plugin", "-o", f"cache_dir={results_of(root)}", "-W",
+            "-q", "--no-header", *PLUGIN, "-o", f"cache_dir={results_of(root)}", "-W",
             "ignore::pytest.PytestCacheWarning", f"--rootdir={root}", *([] if told.python else WITHOUT_PYTHON), *words,
             str(told.folder), *selected, *told.others], plugins)
     if status == pytest.ExitCode.NO_TESTS_COLLECTED:

@@ -14,6 +14,7 @@ from tracing.sources import Place
 
 PAGE = Path("docs/requirements.yaml")
 CONDITIONS = Path("docs/INTEGRATION.md")
+PROMISES = "docs/PROMISES.md"
 PARTS = ("introductions", "sections", "promises", "premises", "not_promised", "own", "safety", "refusals", "alone")
 HELD = ("defined", "clauses", "laws", "edits", "rows", "tests", "premises", "rests_on", "words", "unnamed", "why_none")
 KINDS = ("standard", "profile", "own")
@@ -232,14 +233,14 @@ class Reader:
             if len(found) != 1:
                 self.fault(
                     told["begins"],
-                    f'README.md has {len(found)} sentences that begin "{begins}" ({part}): write how it begins now',
+                    f'{PROMISES} has {len(found)} sentences that begin "{begins}" ({part}): write how it begins now',
                 )
                 continue
             make(identity, one, told, left.pop(found[0]))
         return left
 
     def read_promises(self, at, introductions):
-        """The promises of the top README."""
+        """The promises of their page."""
 
         def make(identity, one, told, said):
             it = Requirement(identity, "promises", said.text, "own", said.place)
@@ -247,7 +248,7 @@ class Reader:
             self.compare_names(it, one, said)
 
         said = [
-            one for one in pages.blocks("README.md", "What is promised") if not one.key.startswith(tuple(introductions))
+            one for one in pages.blocks(PROMISES, "What is promised") if not one.key.startswith(tuple(introductions))
         ]
         for one in self.read_begun(at, "What is promised", said, make).values():
             self.faults.append(
@@ -262,12 +263,12 @@ class Reader:
         for name in sorted(there - mine):
             self.fault(
                 at,
-                f"README.md names `{name}` in {it.identity}, and nothing here does: add it to clauses, laws, defined "
+                f"{PROMISES} names `{name}` in {it.identity}, and nothing here does: add it to clauses, laws, defined "
                 "or words",
             )
         for name in sorted(mine - there):
             self.fault(
-                at, f"{it.identity} names {name}, and README.md doesn't: name it there, or list its law under unnamed"
+                at, f"{it.identity} names {name}, and {PROMISES} doesn't: name it there, or list its law under unnamed"
             )
 
     def conditions(self, at):
@@ -279,7 +280,7 @@ class Reader:
             yield one.text()
 
     def read_premises(self, at, introductions):
-        """The premises of the top README."""
+        """The premises of that page."""
 
         def make(identity, _, told, said):
             by = told["by"].text() if "by" in told else ""
@@ -290,18 +291,18 @@ class Reader:
                 self.fault(told["begins"], f"{identity} doesn't say who has to meet it: add by")
 
         said = [
-            one for one in pages.blocks("README.md", "The premises") if not one.key.startswith(tuple(introductions))
+            one for one in pages.blocks(PROMISES, "The premises") if not one.key.startswith(tuple(introductions))
         ]
         for one in self.read_begun(at, "The premises", said, make).values():
             self.faults.append(f'{one.place}: the premise "{one.text[:60]}.." has no identity: give it one in {PAGE}')
 
     def read_not_promised(self, at):
-        """What the top README doesn't promise."""
-        said = pages.blocks("README.md", "What is not promised")
+        """What that page doesn't promise."""
+        said = pages.blocks(PROMISES, "What is not promised")
         begins = [one.text() for one in at.elements()]
         for one in at.elements():
             if not any(it.key.startswith(one.text()) for it in said):
-                self.fault(one, f'README.md has no sentence under "What is not promised" that begins "{one.text()}"')
+                self.fault(one, f'{PROMISES} has no sentence under "What is not promised" that begins "{one.text()}"')
         for it in said:
             if not it.key.startswith(tuple(begins)):
                 self.faults.append(

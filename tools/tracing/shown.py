@@ -8,7 +8,7 @@ from pathlib import Path
 
 PARTS = {
     "sections": "Sections of SUBSET-026",
-    "promises": "Promises of the top README",
+    "promises": "Promises",
     "own": "Beyond both",
     "safety": "Items of SAFETY.md",
     "refusals": "Refusals",
@@ -37,10 +37,10 @@ COLUMNS = (
 HEAD = """# What is required, and what holds it
 
 Written by `tools/trace` from [requirements.yaml](requirements.yaml), the sources, the rows and the test cases. A
-requirement is a sentence with an identity that stays: of a section of SUBSET-026, a promise of the top README, an item
-of [SAFETY.md](SAFETY.md), a refusal, or of this product alone. It names the definitions that say it, and what shows
-that it holds: clauses of public calls and laws, which are proved; must-fail edits, which the prover refuses; rows and
-test cases, which are run. The sentences of sections are this project's words: nobody who wrote them had a copy.
+requirement is a sentence with an identity that stays: of a section of SUBSET-026, a promise of
+[PROMISES.md](PROMISES.md), an item of [SAFETY.md](SAFETY.md), a refusal, or of this product alone. It names the
+definitions that say it, and what shows that it holds: clauses of public calls and laws, which are proved; must-fail
+edits, which the prover refuses; rows and test cases, which are run. The sentences of sections are this project's words: nobody who wrote them had a copy.
 
     tools/trace R-3.8.4-2       prints all that holds a requirement
     tools/trace end_now         prints all that a definition, a clause, a law, an edit, a row or a case holds

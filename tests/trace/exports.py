@@ -4,8 +4,8 @@
     tests/trace/exports.py
 
 The elements of ReqIF 1.2 (OMG formal/16-07-01), with what each has to have and may have, were written down from
-memory. Neither the schema of OMG nor a reader of the format is among Debian's packages, so none was tried:
-`xmllint --noout --schema reqif.xsd FILE` does it where the schema is there.
+memory: the schema of OMG is in no package of Debian. Where it is there, `xmllint --noout --schema reqif.xsd FILE` does
+it. tests/trace/opened.sh has another program read the file.
 """
 import csv
 import datetime
@@ -26,6 +26,7 @@ from tracing import reqif, shown, sources  # noqa: E402
 from tracing.requirements import Reader  # noqa: E402
 
 NAMESPACE = "{http://www.omg.org/spec/ReqIF/20110401/reqif.xsd}"
+XHTML = "{http://www.w3.org/1999/xhtml}"
 LEAST = 240  # requirements
 NAMED = ("IDENTIFIER", "LAST-CHANGE")
 FREE = ("LONG-NAME", "DESC")
@@ -50,8 +51,9 @@ FORM = {
         ("DATATYPES", "SPEC-TYPES", "SPEC-OBJECTS", "SPEC-RELATIONS", "SPECIFICATIONS", "SPEC-RELATION-GROUPS"),
         (),
     ),
-    "DATATYPES": ((), (), (), (), ("DATATYPE-DEFINITION-STRING",)),
+    "DATATYPES": ((), (), (), (), ("DATATYPE-DEFINITION-STRING", "DATATYPE-DEFINITION-XHTML")),
     "DATATYPE-DEFINITION-STRING": ((*NAMED, "MAX-LENGTH"), FREE, (), ("ALTERNATIVE-ID",), ()),
+    "DATATYPE-DEFINITION-XHTML": (NAMED, FREE, (), ("ALTERNATIVE-ID",), ()),
     "SPEC-TYPES": (
         (),
         (),
@@ -63,12 +65,25 @@ FORM = {
         name: (NAMED, FREE, (), ("ALTERNATIVE-ID", "SPEC-ATTRIBUTES"), ())
         for name in ("SPEC-OBJECT-TYPE", "SPEC-RELATION-TYPE", "SPECIFICATION-TYPE")
     },
-    "SPEC-ATTRIBUTES": ((), (), (), (), ("ATTRIBUTE-DEFINITION-STRING",)),
-    "ATTRIBUTE-DEFINITION-STRING": (NAMED, (*FREE, "IS-EDITABLE"), ("TYPE",), ("ALTERNATIVE-ID", "DEFAULT-VALUE"), ()),
+    "SPEC-ATTRIBUTES": ((), (), (), (), ("ATTRIBUTE-DEFINITION-STRING", "ATTRIBUTE-DEFINITION-XHTML")),
+    **{
+        f"ATTRIBUTE-DEFINITION-{kind}": (
+            NAMED,
+            (*FREE, "IS-EDITABLE"),
+            ("TYPE",),
+            ("ALTERNATIVE-ID", "DEFAULT-VALUE"),
+            (),
+        )
+        for kind in ("STRING", "XHTML")
+    },
     "SPEC-OBJECTS": ((), (), (), (), ("SPEC-OBJECT",)),
     "SPEC-OBJECT": (NAMED, FREE, ("TYPE",), ("ALTERNATIVE-ID", "VALUES"), ()),
-    "VALUES": ((), (), (), (), ("ATTRIBUTE-VALUE-STRING",)),
+    "VALUES": ((), (), (), (), ("ATTRIBUTE-VALUE-STRING", "ATTRIBUTE-VALUE-XHTML")),
     "ATTRIBUTE-VALUE-STRING": (("THE-VALUE",), (), ("DEFINITION",), (), ()),
+    "ATTRIBUTE-VALUE-XHTML": ((), ("IS-SIMPLIFIED",), ("THE-VALUE", "DEFINITION"), ("THE-ORIGINAL-VALUE",), ()),
+    "THE-VALUE": ((), (), (XHTML + "div",), (), ()),
+    XHTML + "div": ((), (), (), (), (XHTML + "p",)),
+    XHTML + "p": ((), (), (), (), ()),
     "SPEC-RELATIONS": ((), (), (), (), ("SPEC-RELATION",)),
     "SPEC-RELATION": (NAMED, FREE, ("TYPE", "SOURCE", "TARGET"), ("ALTERNATIVE-ID", "VALUES"), ()),
     "SPECIFICATIONS": ((), (), (), (), ("SPECIFICATION",)),
@@ -85,10 +100,12 @@ FORM = {
 # Of an element within another one: the one reference that it has, and what that leads to.
 LEADS = {
     ("ATTRIBUTE-DEFINITION-STRING", "TYPE"): "DATATYPE-DEFINITION-STRING",
+    ("ATTRIBUTE-DEFINITION-XHTML", "TYPE"): "DATATYPE-DEFINITION-XHTML",
     ("SPEC-OBJECT", "TYPE"): "SPEC-OBJECT-TYPE",
     ("SPEC-RELATION", "TYPE"): "SPEC-RELATION-TYPE",
     ("SPECIFICATION", "TYPE"): "SPECIFICATION-TYPE",
     ("ATTRIBUTE-VALUE-STRING", "DEFINITION"): "ATTRIBUTE-DEFINITION-STRING",
+    ("ATTRIBUTE-VALUE-XHTML", "DEFINITION"): "ATTRIBUTE-DEFINITION-XHTML",
     ("SPEC-RELATION", "SOURCE"): "SPEC-OBJECT",
     ("SPEC-RELATION", "TARGET"): "SPEC-OBJECT",
     ("SPEC-HIERARCHY", "OBJECT"): "SPEC-OBJECT",
@@ -200,6 +217,7 @@ def controls(document, page):
             "an identifier twice",
             document.replace('IDENTIFIER="gaknifur-object-P-1"', 'IDENTIFIER="gaknifur-object-P-2"', 1),
         ),
+        ("a text without marks", re.sub(r"<div .*?</div>", "text", document, count=1, flags=re.S)),
         ("another element", document.replace("<VALUES>", "<VALUE>", 1).replace("</VALUES>", "</VALUE>", 1)),
         ("an attribute that is missing", document.replace(' MAX-LENGTH="100000"', ' MAX-LENGTH="1"', 1)),
     ):

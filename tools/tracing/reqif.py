@@ -1,6 +1,7 @@
 """The requirements as ReqIF 1.2 (OMG formal/16-07-01), which tools for requirements read: an object for each
 requirement, law and premise, relations from requirements to what they rest on, and one specification in the order of
-the parts.
+the parts. Names of types and attributes, and which of them are XHTML, are those that tools which exchange ReqIF agreed
+on (ReqIF.ForeignID, ReqIF.Name, ReqIF.Text, ReqIF.ChapterName).
 
 Identifiers are made of identities, so that a later export is taken for the same objects.
 """
@@ -13,7 +14,9 @@ import xml.etree.ElementTree as xml
 from tracing.shown import COLUMNS, PARTS, cells
 
 NAMESPACE = "http://www.omg.org/spec/ReqIF/20110401/reqif.xsd"
-TEXT = "gaknifur-text"
+XHTML = "http://www.w3.org/1999/xhtml"
+TEXT, RICH = "gaknifur-text", "gaknifur-xhtml"
+IN_XHTML = ("ReqIF.Name", "ReqIF.Text", "ReqIF.ChapterName")
 FIELDS = ("ReqIF.ForeignID", "part", "kind", "section", "ReqIF.Text", *COLUMNS[5:])
 
 
@@ -45,25 +48,40 @@ def named(parent, name, identity, long_name, when):
     return child(parent, name, IDENTIFIER=identity, LONG_NAME=long_name, LAST_CHANGE=when)
 
 
+def kind_of(field):
+    """Of which kind an attribute is."""
+    return "XHTML" if field in IN_XHTML else "STRING"
+
+
 def type_of(parent, name, identity, long_name, when, fields=()):
-    """A type with attributes that are texts."""
+    """A type with attributes that are texts, some with marks of XHTML."""
     made = named(parent, name, identity, long_name, when)
     if fields:
         attributes = child(made, "SPEC-ATTRIBUTES")
         for field in fields:
-            one = named(attributes, "ATTRIBUTE-DEFINITION-STRING", identifier("attribute", field), field, when)
-            child(child(one, "TYPE"), "DATATYPE-DEFINITION-STRING-REF", TEXT)
+            kind = kind_of(field)
+            one = named(attributes, f"ATTRIBUTE-DEFINITION-{kind}", identifier("attribute", field), field, when)
+            child(child(one, "TYPE"), f"DATATYPE-DEFINITION-{kind}-REF", RICH if kind == "XHTML" else TEXT)
 
 
-def spec_object(parent, identity, values, when):
+def value_of(parent, field, value):
+    """The value of an attribute."""
+    if kind_of(field) == "XHTML":
+        one = child(parent, "ATTRIBUTE-VALUE-XHTML")
+        child(child(child(one, "THE-VALUE"), "div", xmlns=XHTML), "p", value)
+    else:
+        one = child(parent, "ATTRIBUTE-VALUE-STRING", THE_VALUE=value)
+    child(child(one, "DEFINITION"), f"ATTRIBUTE-DEFINITION-{kind_of(field)}-REF", identifier("attribute", field))
+
+
+def spec_object(parent, identity, values, when, of_type="requirement"):
     """An object with its values."""
     made = named(parent, "SPEC-OBJECT", identifier("object", identity), identity, when)
     held = child(made, "VALUES")
     for field, value in values:
         if value:
-            one = child(held, "ATTRIBUTE-VALUE-STRING", THE_VALUE=str(value))
-            child(child(one, "DEFINITION"), "ATTRIBUTE-DEFINITION-STRING-REF", identifier("attribute", field))
-    child(child(made, "TYPE"), "SPEC-OBJECT-TYPE-REF", identifier("requirement"))
+            value_of(held, field, str(value))
+    child(child(made, "TYPE"), "SPEC-OBJECT-TYPE-REF", identifier(of_type))
 
 
 def relations(reader):
@@ -104,29 +122,35 @@ def document(reader):
     when, root = moment(), xml.Element("REQ-IF", {"xmlns": NAMESPACE})
     header(root, when)
     content = child(child(root, "CORE-CONTENT"), "REQ-IF-CONTENT")
-    child(
-        child(content, "DATATYPES"),
-        "DATATYPE-DEFINITION-STRING",
-        IDENTIFIER=TEXT,
-        LONG_NAME="text",
-        LAST_CHANGE=when,
-        MAX_LENGTH="100000",
-    )
+    datatypes = child(content, "DATATYPES")
+    named(datatypes, "DATATYPE-DEFINITION-STRING", TEXT, "text", when).set("MAX-LENGTH", "100000")
+    named(datatypes, "DATATYPE-DEFINITION-XHTML", RICH, "text with marks", when)
     types = child(content, "SPEC-TYPES")
-    type_of(types, "SPEC-OBJECT-TYPE", identifier("requirement"), "requirement", when, FIELDS)
+    fields = (FIELDS[0], "ReqIF.Name", *FIELDS[1:])
+    type_of(types, "SPEC-OBJECT-TYPE", identifier("requirement"), "Requirement Type", when, fields)
+    type_of(types, "SPEC-OBJECT-TYPE", identifier("heading"), "Heading Type", when, ("ReqIF.ChapterName",))
     type_of(types, "SPEC-RELATION-TYPE", identifier("rests-on"), "rests on", when)
     type_of(types, "SPECIFICATION-TYPE", identifier("specification-type"), "specification", when)
     objects = child(content, "SPEC-OBJECTS")
     chapters = {**PARTS, "premises": "Premises"}
     for part, title in chapters.items():
-        spec_object(objects, f"part-{part}", [("ReqIF.ForeignID", f"part-{part}"), ("ReqIF.Text", title)], when)
+        spec_object(objects, f"part-{part}", [("ReqIF.ChapterName", title)], when, "heading")
     for it in (*reader.requirements, *reader.laws):
-        spec_object(objects, it.identity, zip(FIELDS, cells(it, reader)), when)
+        spec_object(
+            objects, it.identity, [("ReqIF.Name", it.identity), *zip(FIELDS, cells(it, reader))], when
+        )
     for name, (text, by, place) in reader.premises.items():
         spec_object(
             objects,
             name,
-            [("ReqIF.ForeignID", name), ("part", "premises"), ("ReqIF.Text", text), ("stands", place), ("by", by)],
+            [
+                ("ReqIF.Name", name),
+                ("ReqIF.ForeignID", name),
+                ("part", "premises"),
+                ("ReqIF.Text", text),
+                ("stands", place),
+                ("by", by),
+            ],
             when,
         )
     between = child(content, "SPEC-RELATIONS")

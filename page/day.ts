@@ -73,8 +73,7 @@ export class Day {
     private show(fault: string): void {
         const { times } = this;
         say("day-error", fault);
-        say("day-said",
-            times ? `${times.marks.length.toLocaleString("en")} marks. ${times.says()}. ${DAY.behind}` : DAY.noMarks);
+        say("day-said", times ? `${DAY.count(times.marks.length)}. ${times.says()}. ${DAY.behind}` : DAY.noMarks);
         show("day-faults", ...(times?.faults() ?? []).map(text => make("li", {}, text)));
     }
 

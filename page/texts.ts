@@ -176,6 +176,7 @@ export const SAY = {
 /** Of the time of day by marks (docs/INVESTIGATING.md). */
 export const DAY = {
     noMarks: "A journal has no time of day. Marks beside it may tell one, outside the journal and outside the proof.",
+    count: (marks: number): string => marks === 1 ? "1 mark" : `${marks.toLocaleString("en")} marks`,
     behind: "An event came at its UTC or behind it, before the next moment of its life.",
     outside: "outside the journal and outside the proof",
     column: "UTC by marks, outside the journal and the proof",

@@ -51,7 +51,7 @@ function answerText(record: JournalRecord): string {
 }
 
 /** What a life came to that was run again. */
-export function verdictText(life: Replay): string {
+function verdictText(life: Replay): string {
     const says = VERDICTS[life.verdict] ?? "";
     if (life.verdict === 2) {
         return `${says}: event ${count(life.event)} in ${RECORD_FIELDS[life.field]}. The journal has ${
@@ -59,6 +59,15 @@ export function verdictText(life: Replay): string {
             `The kernel answers ${answerText(life.kernel)}.`;
     }
     return life.verdict === 3 ? `${says}: block ${count(life.block)} in ${KEPT_FIELDS[life.field]}` : says;
+}
+
+/** The cells of a life that was run again. */
+export function lifeCells(life: Replay, word: string): Child[] {
+    const isBad = life.verdict === 2 || life.verdict === 3, kind = life.verdict === 1 ? "good" : isBad ? "bad" : "";
+    return [
+        count(life.life), `${count(life.first)} to ${count(life.last)}`, word,
+        make("span", { class: kind }, verdictText(life))
+    ];
 }
 
 /** The cells of an intervention; its causes come later. */

@@ -1,20 +1,20 @@
 // Asking an image: what is dropped goes to the worker, and what that reports is shown.
-import {behindText, imageTexts, interventionTexts, lostTexts, slotText, verdictText} from "./answers";
+import {behindText, imageTexts, interventionTexts, lifeCells, lostTexts, slotText} from "./answers";
 import {draw} from "./chart";
+import {bytesOfMarks, misfit, sorted, whenChosen} from "./choosing";
+import {Day, MarksFile, utcText} from "./day";
 import {Calls, Records, END, OK} from "./calls";
 import {Dial, shownOf} from "./dial";
 import {at, make, row, say, show, table} from "./dom";
 import {fieldsOf, placeOf, showBytes, sizeOf} from "./fields";
-import {Block, Facts, JournalRecord, Replay, Slot, Why, SECTOR} from "./layouts";
+import {Block, Facts, JournalRecord, Replay, Slot, Why} from "./layouts";
 import {Intervention, interventionsOf, LifeRange, livesOf, speedsOf} from "./lives";
 import {Head, Order, Report} from "./messages";
 import {drawRing} from "./ring";
 import {brakeReason, brakeText, count, eventText, keptTexts, kmh, levelText, limitText} from "./shown";
 import {modeName} from "./shown";
-import {SAY, SLOTS, STATUSES, WORDS} from "./texts";
+import {DAY, SAY, SLOTS, STATUSES, WORDS} from "./texts";
 import {isWhole} from "./whole";
-
-const MOST_BYTES = 256 * 1024 * 1024;
 
 export class Ask {
     id = 0;
@@ -46,25 +46,11 @@ export class Ask {
     private drawn: { life: LifeRange; moves: ((index: number) => void)[] }|null = null;
     private asking = 0;
     private readonly dial = new Dial(at("ask-dial"));
+    private readonly day = new Day(() => this.showDay());
 
     constructor(private readonly worker: { postMessage(order: Order, transfer?: Transferable[]): void },
         private readonly calls: Calls) {
-        const drop = at("drop"), file = at<HTMLInputElement>("file");
-        document.addEventListener("dragover", event => {
-            event.preventDefault();
-            drop.classList.add("over");
-        });
-        document.addEventListener("dragleave", () => drop.classList.remove("over"));
-        document.addEventListener("drop", event => {
-            event.preventDefault();
-            drop.classList.remove("over");
-            const files = event.dataTransfer?.files;
-            if (files && files.length > 1) this.refuse(SAY.oneFile);
-            else if (files?.[0]) void this.open(files[0]);
-        });
-        file.addEventListener("change", () => {
-            if (file.files?.[0]) void this.open(file.files[0]);
-        });
+        whenChosen(files => void this.take(files));
         at("scrub").addEventListener("input", () => this.choose(Number(at<HTMLInputElement>("scrub").value)));
         at("event-number")
             .addEventListener("change", () => this.chooseEvent(Number(at<HTMLInputElement>("event-number").value)));
@@ -79,31 +65,37 @@ export class Ask {
 
     private refuse(sentence: string): void {
         this.id++;
+        this.facts = null;
         at("answers").hidden = true;
         say("ask-progress", "");
         say("ask-error", sentence);
     }
 
-    /** Reads a file, where it can be an image. */
-    async open(file: File): Promise<void> {
-        if (file.size > MOST_BYTES) {
-            this.refuse(SAY.tooBig(file.name));
-            return;
+    /** Takes an image, or marks of the time of day, or both. */
+    async take(files: File[]): Promise<void> {
+        const chosen = await sorted(files), { image, marks } = chosen ?? {};
+        if (!chosen) this.refuse(SAY.oneFile);
+        else if (marks && !image && !this.facts) this.refuse(SAY.noImageYet);
+        else if (image && misfit(image)) this.refuse(misfit(image));
+        else {
+            const read = marks ? { name: marks.name, bytes: await bytesOfMarks(marks) } : null;
+            if (image) await this.open(image, read);
+            else if (read) this.day.take(read);
         }
-        if (file.size < SECTOR) {
-            this.refuse(SAY.tooSmall(file.name));
-            return;
-        }
+    }
+
+    private async open(file: File, marks: MarksFile|null): Promise<void> {
         try {
-            await this.ask(file.name, new Uint8Array(await file.arrayBuffer()));
+            await this.ask(file.name, new Uint8Array(await file.arrayBuffer()), marks);
         } catch (error) { this.refuse(SAY.noImage(file.name, String(error))); }
     }
 
     /** Asks the bytes of an image. The digest is taken before anything reads them. */
-    async ask(name: string, bytes: Uint8Array): Promise<void> {
+    async ask(name: string, bytes: Uint8Array, marks: MarksFile|null = null): Promise<void> {
         const id = ++this.id;
         this.name = name;
         this.bytes = bytes;
+        this.day.begin(marks);
         this.records = this.replays = this.newest = this.facts = null;
         this.causes.clear();
         this.whys.clear();
@@ -170,6 +162,7 @@ export class Ask {
         this.lives = livesOf(this.records);
         this.speeds = speedsOf(this.records, this.lives);
         this.interventions = interventionsOf(this.records, this.lives);
+        this.day.hold(this.records);
         this.showImage();
         this.showInterventions();
         const scrub = at<HTMLInputElement>("scrub");
@@ -217,16 +210,7 @@ export class Ask {
 
     private takeReplay(lives: Replay[], unreadable: number[]): void {
         this.replays = lives;
-        const rows = lives.map(life => {
-            const isGood = life.verdict === 1, isBad = life.verdict === 2 || life.verdict === 3;
-            const line = row(count(life.life), `${count(life.first)} to ${count(life.last)}`, this.wordOf(life.first),
-                make("span", { class: isGood ? "good"
-                        : isBad              ? "bad"
-                                             : "" },
-                    verdictText(life)));
-            return this.linked(line, life.verdict === 2 ? life.event : life.first);
-        });
-        show("lives", table(["life", "events", "power-up", "replay"], rows));
+        this.showLives();
         const differs = lives.some(life => life.verdict === 2 || life.verdict === 3),
               agrees = lives.some(life => life.verdict === 1);
         say("replay-said",
@@ -236,6 +220,28 @@ export class Ask {
                              : ""}${unreadable.length ? ` Can't be read: block ${unreadable.join(", ")}.` : ""} ${
                 agrees ? SAY.authentic : ""}`
                 .trim());
+    }
+
+    private showLives(): void {
+        const rows = (this.replays ?? []).map(life => {
+            const cells = [...lifeCells(life, this.wordOf(life.first)), ...this.dayCells(this.indexOf(life.first))];
+            return this.linked(row(...cells), life.verdict === 2 ? life.event : life.first);
+        });
+        show("lives", table(["life", "events", "power-up", "replay", ...this.dayHeads()], rows));
+    }
+
+    // ---- the time of day by marks
+
+    private dayHeads(): string[] { return this.day.times ? [DAY.column] : []; }
+    private dayCells(index: number|null): string[] {
+        const { records, day } = this;
+        if (!day.times) return [];
+        return [utcText(index === null || !records ? null : day.of(records.life(index), records.moment(index)))];
+    }
+    private showDay(): void {
+        if (this.replays) this.showLives();
+        this.showInterventions();
+        if (this.records?.count) this.showEvent();
     }
 
     private wordOf(event: number): string {
@@ -262,9 +268,11 @@ export class Ask {
         if (!records) return;
         const rows = this.interventions.slice(0, 500).map(
             one => this.linked(
-                row(...interventionTexts(records, one, this.speeds[one.first] ?? 0, this.causes.get(one.first))),
+                row(...interventionTexts(records, one, this.speeds[one.first] ?? 0, this.causes.get(one.first)),
+                    ...this.dayCells(one.first)),
                 records.event(one.first)));
-        show("interventions", table(["events", "place", "time", "speed", "command", "causes where it began"], rows),
+        const heads = ["events", "place", "time", "speed", "command", "causes where it began", ...this.dayHeads()];
+        show("interventions", table(heads, rows),
             this.interventions.length > 500 && make("p", {}, `The first 500 of ${count(this.interventions.length)}.`));
     }
 
@@ -305,6 +313,7 @@ export class Ask {
         say("event-said",
             `Event ${count(record.event)} of life ${record.life}, block ${count(record.block)}: ${eventText(record)}`);
         say("ask-texts", behindText(record));
+        say("ask-day", this.day.text(record));
         say("ask-mode", modeName(record.mode));
         say("ask-level", `level ${levelText(record.level)}`);
         say("ask-brake", brakeText(record.brake));
@@ -383,6 +392,7 @@ export class Ask {
             count: this.records?.count ?? 0,
             newest: this.newest,
             isWhole: this.isWhole,
+            day: this.day.told,
             firsts: this.interventions.map(one => this.records?.event(one.first))
         };
     }

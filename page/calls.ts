@@ -255,6 +255,7 @@ export class Records {
     moment(index: number): number { return this.reader.u64(BYTES.record * index + 16); }
     front(index: number): number { return this.reader.i64(BYTES.record * index + 24); }
     limit(index: number): number { return this.reader.u32(BYTES.record * index + 40); }
+    life(index: number): number { return this.reader.u32(BYTES.record * index + 44); }
     kind(index: number): number { return this.reader.u8(BYTES.record * index + 49); }
     brake(index: number): number { return this.reader.u8(BYTES.record * index + 52); }
     mode(index: number): number { return this.reader.u8(BYTES.record * index + 50); }

@@ -154,7 +154,10 @@ export const SAY = {
         `${name} isn't read: it has more than 256 MB, and the page reads images up to that size.`,
     tooSmall: (name: string): string => `${name} isn't an image: it has less than one sector of 512 bytes.`,
     noImage: (name: string, why: string): string => `${name}: ${why}.`,
-    oneFile: "Drop one file at a time.",
+    oneFile: "Drop one image at a time, with the marks beside it where there are some.",
+    noImageYet: "Choose the image first: marks are for the image that they lie beside.",
+    tooManyMarks: (name: string): string =>
+        `${name} isn't read: it has more than 16 MB, and the page reads marks up to that size.`,
     notScenario: (why: string): string => `This isn't a scenario that the page plays: ${why}.`,
     reading: "The image is read.",
     progress: (done: number, all: number, what: string): string => `${what}: ${done} of ${all}`,
@@ -168,6 +171,17 @@ export const SAY = {
     powerOff: "Power is off. Say what is known of movements, and power up.",
     kept: "What the unit kept",
     torn: "This life ended within a write. No scenario can say so; the image has it.",
+};
+
+/** Of the time of day by marks (docs/INVESTIGATING.md). */
+export const DAY = {
+    noMarks: "A journal has no time of day. Marks beside it may tell one, outside the journal and outside the proof.",
+    count: (marks: number): string => marks === 1 ? "1 mark" : `${marks.toLocaleString("en")} marks`,
+    behind: "An event came at its UTC or behind it, before the next moment of its life.",
+    outside: "outside the journal and outside the proof",
+    column: "UTC by marks, outside the journal and the proof",
+    none: "not told",
+    notOfLife: (life: number): string => `No UTC is told of this moment of life ${life} by these marks`,
 };
 
 export const MISSION = [

@@ -7,6 +7,7 @@ right, both are named, and of that life no time of day is told.
 """
 import csv
 import datetime
+import re
 from bisect import bisect_right
 from collections.abc import Iterable, Iterator
 from dataclasses import dataclass, field
@@ -26,6 +27,9 @@ DRIFT_PPM = 100
 """By how many millionths the unit's clock runs off at most, where nothing else is said: 360 ms an hour."""
 SAYS = "UTC is by marks beside the journal ({name}), which are outside the journal and outside the proof"
 EPOCH = datetime.datetime(1970, 1, 1, tzinfo=datetime.timezone.utc)
+EARLIEST, LATEST = -62_135_596_800_000, 253_402_300_799_999
+"""The times of day that can be written, in ms since 1970 UTC: of the years 1 to 9999."""
+WRITTEN = re.compile(r"[0-9]{4}-[0-9]{2}-[0-9]{2}T[0-9]{2}:[0-9]{2}:[0-9]{2}(\.[0-9]+)?Z")
 MILLION = 1_000_000
 GREATEST = 2**40
 
@@ -64,8 +68,8 @@ def iso(utc_ms: int) -> str:
 
 
 def utc_of(text: str) -> int:
-    """The time of day of a text of ISO 8601 in UTC, which ends in Z."""
-    if not text.endswith("Z"):
+    """The time of day of a text of ISO 8601 in UTC: date, T, time with seconds, which may have decimals, and Z."""
+    if not WRITTEN.fullmatch(text):
         raise ValueError
     told = datetime.datetime.fromisoformat(text.removesuffix("Z") + "+00:00")
     return (told - EPOCH) // datetime.timedelta(milliseconds=1)
@@ -228,9 +232,11 @@ class Times:
         return int(record["life"]), Bound(moment, mark.utc_ms - mark.uncertainty_ms - behind, mark.utc_ms + mark.uncertainty_ms, mark)
 
     def utc(self, life: int | None, moment_ms: int) -> tuple[int, int] | None:
-        """The time of day of a moment of a life, and how far off it may be, in ms; None where no marks tell it, or they contradict."""
+        """The time of day of a moment of a life, and how far off it may be, in ms; None where no marks tell it, they contradict, or it is of
+        no year that can be written."""
         one = self.lives.get(life) if life is not None else None
-        return None if one is None or one.contradictions else one.utc(moment_ms)
+        told = None if one is None or one.contradictions else one.utc(moment_ms)
+        return told if told and EARLIEST <= told[0] <= LATEST else None
 
     def faults(self) -> list[str]:
         """Marks that contradict one another, or aren't used; a sentence each."""

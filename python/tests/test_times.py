@@ -96,6 +96,16 @@ class Moments(Room):
         self.assertGreater(tried, 600)
 
 
+    def test_decimals_of_seconds(self) -> None:
+        for text, ms in (("Z", 0), (".5Z", 500), (".1239999Z", 123)):
+            self.assertEqual(self.times(f"{times.FIRST}\n1,0,,{TEN[:-5]}{text},50,GNSS\n").utc(1, 0), (TEN_MS + ms, 50))
+
+    def test_a_year_that_cant_be_written(self) -> None:
+        told = self.times(f"{times.FIRST}\n1,1000,,9999-12-31T23:59:59.999Z,0,a\n2,1000,,0001-01-01T00:00:00Z,0,a\n", 0)
+        self.assertEqual((told.utc(1, 1_000), told.utc(1, 1_001)), ((253_402_300_799_999, 0), None))
+        self.assertEqual((told.utc(2, 1_000), told.utc(2, 999)), ((-62_135_596_800_000, 0), None))
+
+
 class Contradictions(Room):
     """Marks that can't both be right."""
 
@@ -140,7 +150,8 @@ class Files(Room):
         good = ["1", "0", "", TEN, "50", "GNSS"]
         tried = 0
         for place, values in enumerate((("", "x", "-1", "1.5"), ("", "x", "-1", str(2**41)), ("3", "x"), ("", "10:00", TEN[:-1], TEN[:-1] + "+01:00",
-                                        "2026-02-30T10:00:00.000Z"), ("", "-1", "x"), ("", " "))):
+                                        "2026-02-30T10:00:00.000Z", "2026-03-01Z", "2026-03-01T10:00Z", "2026-03-01 10:00:00Z",
+                                        "20260301T100000Z", "2026-03-01T10:00:00,5Z"), ("", "-1", "x"), ("", " "))):
             for value in values:
                 row = [*good[:place], value, *good[place + 1:]]
                 with self.assertRaisesRegex(Failed, "image.times: line 2 is no mark") as caught:
@@ -152,7 +163,7 @@ class Files(Room):
                 self.times(text)
         with self.assertRaisesRegex(Failed, "line 2"):
             self.times(f"{times.FIRST}\n1,0,,{TEN},50\n")
-        self.assertEqual(tried, 20)
+        self.assertEqual(tried, 25)
 
     def test_a_host_writes_marks(self) -> None:
         path = self.room / "image.times"

@@ -60,15 +60,15 @@ class Browser:
         """The text of an element."""
         return str(self.run("return document.getElementById(arguments[0]).textContent", name))
 
-    def hand(self, path: Path) -> None:
-        """Chooses a file, as a user does."""
-        self.run("document.getElementById('tab-ask').click(); document.getElementById('file').value = ''")
-        self.driver.find_element(By.ID, "file").send_keys(str(path))
+    def hand(self, path: Path, name: str = "file", *others: Path) -> None:
+        """Chooses a file, as a user does; or several."""
+        self.run("document.getElementById('tab-ask').click(); document.getElementById(arguments[0]).value = ''", name)
+        self.driver.find_element(By.ID, name).send_keys("\n".join(map(str, (path, *others))))
 
-    def ask(self, path: Path) -> dict[str, Any]:
-        """Hands over an image, and answers what the page tells of it once all is told."""
+    def ask(self, path: Path, *others: Path) -> dict[str, Any]:
+        """Hands over an image, and perhaps marks, and answers what the page tells of it once all is told."""
         self.run("window.before = window.gaknifur.ask.id")
-        self.hand(path)
+        self.hand(path, "file", *others)
         self.until("const a = window.gaknifur.ask; return a.id > window.before && (document.getElementById('answers').hidden"
                    " ? document.getElementById('ask-error').textContent !== '' : a.isDone)")
         return dict(self.run("return JSON.parse(JSON.stringify(window.gaknifur.ask.told))"))

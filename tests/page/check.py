@@ -13,11 +13,12 @@ from pathlib import Path
 HERE = Path(__file__).resolve().parent
 sys.path[:0] = [str(HERE), str(HERE.parents[1] / "python")]
 import asking  # noqa: E402
+import days  # noqa: E402
 import desks  # noqa: E402
 import manners  # noqa: E402
 from browsing import Browser  # noqa: E402
 
-CHECKS = {**desks.CHECKS, **asking.CHECKS, **manners.CHECKS}
+CHECKS = {**desks.CHECKS, **asking.CHECKS, **days.CHECKS, **manners.CHECKS}
 
 
 def main() -> int:

@@ -5,13 +5,15 @@ A telegram is told as its header and its packets, one behind another:
     NID_BG 2; 12: V_MAIN 24, L_ENDSECTION 300; 65: NID_TSR 7, D_TSR 100, L_TSR 50, Q_FRONT 1, V_TSR 4
 
 The variables of a packet stand in the order of its layout (docs/CONFORMANCE.md). What follows from the others is worked
-out where it isn't told: L_PACKET, N_ITER, and a Q_ that says whether further variables follow. `USUAL` is what stands
-for other variables that aren't told. A packet that has no layout here has its head and any variables behind it.
+out where it isn't told: L_PACKET, a counter, and a Q_ that says whether further variables follow. `USUAL` is what stands
+for other variables that aren't told. A packet that the kernel skips has the layout of docs/PACKETS.md; one without a
+layout has its head and any variables behind it.
 """
 import re
 from collections.abc import Sequence
 from dataclasses import dataclass, field
 
+from . import _track_packets
 from .located import guess, shortened
 
 Pairs = list[tuple[str, int]]
@@ -42,7 +44,7 @@ WIDTHS = {
     15: "D_LINK L_SECTION L_ENDSECTION D_SECTIONTIMERSTOPLOC D_ENDTIMERSTARTLOC D_DP D_STARTOL D_OL D_GRADIENT D_STATIC "
         "D_TSR L_TSR D_VALIDNV D_NVROLL D_NVOVTRP D_NVSTFF D_LEVELTR L_ACKLEVELTR D_MAMODE L_MAMODE L_ACKMAMODE",
 }
-WIDTH = {name: width for width, names in WIDTHS.items() for name in names.split()}
+WIDTH = {name: width for width, names in WIDTHS.items() for name in names.split()} | _track_packets.WIDTHS
 
 
 class Wrong(Exception):
@@ -60,13 +62,23 @@ class Where:
 
 @dataclass(frozen=True)
 class Repeated:
-    """A list: with `is_more` a first element, N_ITER and that many more; else N_ITER and that many."""
+    """A list: with `is_more` a first element, a counter and that many more; else a counter and that many."""
 
     element: tuple["Part", ...]
     is_more: bool = False
+    counter: str = "N_ITER"
 
 
-Part = str | Where | Repeated
+@dataclass(frozen=True)
+class Choice:
+    """Variables that stand where an earlier one has a number."""
+
+    name: str
+    number: int
+    parts: tuple["Part", ...]
+
+
+Part = str | Where | Repeated | Choice
 
 
 def parts(*told: str | Where | Repeated) -> tuple[Part, ...]:
@@ -99,11 +111,50 @@ LAYOUTS: dict[int, tuple[Part, ...]] = {
 }
 
 
+def read_layout(text: str) -> tuple[Part, ...]:
+    """The layout of a text, as docs/PACKETS.md has it: `(N_ITER ..)` is a list, `[Q_SCALE=1 ..]` a choice."""
+    stack: list[list[Part]] = [[]]
+    heads: list[str] = []
+    for word in re.findall(r"[(\[][A-Z_=0-9]+|[A-Z_0-9]+|[)\]]", text):
+        if word[0] in "([":
+            heads.append(word)
+            stack.append([])
+        elif word in ")]":
+            inner, head = tuple(stack.pop()), heads.pop()
+            name, _, number = head[1:].partition("=")
+            stack[-1].append(Choice(name, int(number), inner) if number else Repeated(inner, counter=name))
+        else:
+            stack[-1].append(word)
+    return tuple(stack[0])
+
+
+SKIPPED = {number: read_layout(text) for number, text in _track_packets.LAYOUTS.items() if number not in LAYOUTS}
+"""The layouts of packets that the kernel skips."""
+
+
 def first_of(element: tuple[Part, ...]) -> str:
     """The name with which an element begins."""
     part = element[0]
-    assert not isinstance(part, Repeated)
+    assert not isinstance(part, Repeated | Choice)
     return part if isinstance(part, str) else part.name
+
+
+def begins(element: tuple[Part, ...]) -> set[str]:
+    """The names that may be told first of an element: what a qualifier that isn't told decides, too."""
+    found = {first_of(element)}
+    for part in element[1:]:
+        if not isinstance(part, Choice):
+            return found | ({part} if isinstance(part, str) and len(found) > 1 else set())
+        found.add(first_of(part.parts))
+    return found
+
+
+def answer_of(name: str, rest: Sequence[Part], comes: str | None) -> int | None:
+    """What a qualifier that isn't told has to be: the number of the choice behind it whose first variable is told."""
+    choices = [part for part in rest if isinstance(part, Choice) and part.name == name]
+    told = [part.number for part in choices if part.parts and first_of(part.parts) == comes]
+    spare = [number for number in (0, 1) if number not in {part.number for part in choices}]
+    return told[0] if told else spare[0] if choices and spare and name.startswith("Q_") else None
 
 
 @dataclass
@@ -132,9 +183,12 @@ class Told:
 
     def write(self, layout: Sequence[Part]) -> None:
         """Writes the parts of a layout."""
-        for part in layout:
+        for at, part in enumerate(layout):
             if isinstance(part, str):
-                self.take(part, USUAL.get(part))
+                self.take(part, USUAL.get(part, answer_of(part, layout[at + 1:], self.comes())))
+            elif isinstance(part, Choice):
+                if [number for name, number in self.written if name == part.name][-1:] == [part.number]:
+                    self.write(part.parts)
             elif isinstance(part, Where):
                 follows = self.comes() == first_of(part.parts)
                 usual = None if part.name.startswith("M_") else part.number if follows else 0
@@ -148,22 +202,28 @@ class Told:
         if part.is_more:
             self.write(part.element)
         at, written, left = len(self.written), 0, None
-        if self.comes() == "N_ITER":
-            left = self.take("N_ITER", None)
-        while left is None and self.comes() == first_of(part.element) or left is not None and written < left:
+        if self.comes() == part.counter:
+            left = self.take(part.counter, None)
+        names = begins(part.element)
+        while left is None and self.comes() in names or left is not None and written < left:
             self.write(part.element)
             written += 1
         if left is None:
-            self.written.insert(at, ("N_ITER", written))
+            self.written.insert(at, (part.counter, written))
 
 
 def packet_pairs(number: int, told: Pairs) -> Pairs:
     """The variables of a packet in their order, its head among them."""
     head = dict(pair for pair in told if pair[0] in HEAD)
     body = Told(number, [pair for pair in told if pair[0] not in HEAD])
-    if number in LAYOUTS:
-        body.write(LAYOUTS[number])
-        if body.left:
+    if number in SKIPPED:
+        scale = [("Q_SCALE", head.pop("Q_SCALE", USUAL["Q_SCALE"]))] if "Q_SCALE" in SKIPPED[number] else []
+        body.left = scale + body.left
+    if number in LAYOUTS or number in SKIPPED:
+        body.write(LAYOUTS.get(number) or SKIPPED[number])
+        if number in _track_packets.THEN_BITS:
+            body.written += body.left
+        elif body.left:
             name = body.left[0][0]
             raise Wrong(f"packet {number} has no {name} there" if name in WIDTH else f"packet {number} has no {name}; "
                         f"{guess(name, {one for one, _ in body.written})}")
@@ -195,7 +255,7 @@ def pairs_of(text: str) -> Pairs:
     """The names and numbers of a text."""
     found = []
     for one in filter(None, map(str.strip, text.split(","))):
-        if not re.fullmatch(r"[A-Z][A-Z_0-9]*\s+[0-9]{1,10}", one):
+        if not re.fullmatch(r"[A-Z][A-Z_0-9]*\s+[0-9]{1,20}", one):
             raise Wrong(f"\"{shortened(one)}\" is no variable with a number")
         name, number = one.split()
         width_of(name)

@@ -86,7 +86,7 @@ PLANTED = [
     ("output.py", 'return values.shunting if mode == "SH" else 0', "return values.shunting"),
     ("history.py", "self.stretch().min_front > end.place", "self.stretch().min_front >= end.place"),
     ("history.py", "self.sums.path - entered[-1] > farthest", "self.sums.path - entered[-1] >= farthest"),
-    ("history.py", "return not self.is_overridden() and (", "return ("),
+    ("history.py", "return not self.is_overridden() and bool(", "return bool("),
     ("history.py", "self.moment() - since.moment < time)", "self.moment() - since.moment <= time)"),
     ("history.py", "if live and told[-1].packet.kind == 80 else []", "if live else []"),
     ("history.py", "for profile in (self.gradients(), self.speeds())", "for profile in (self.speeds(),)"),

@@ -96,8 +96,9 @@ impl MirrorDisk {
 
     /// The bytes that a request of this disk writes; none of them where the span is none of its own.
     pub fn bytes_of(&self, span: Span) -> &[u8]
-        ensures { span.from + 512 * span.sectors ≤ length self.now.written →
+        ensures bytes { span.from + 512 * span.sectors ≤ length self.now.written →
             result.now ≡ take (512 * span.sectors) (drop span.from self.now.written) }
+        ensures beyond { length self.now.written < span.from + 512 * span.sectors → result.now ≡ [] }
     {
         let most = self.written.len();
         if span.from > most || span.sectors > ((most - span.from) / SECTOR_BYTES) as u64 {

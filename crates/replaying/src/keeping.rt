@@ -1,6 +1,6 @@
 //! What a head tells of what is kept, beside what the kernel keeps.
 ghost use Rattle.std.specs.Prelude.{◌≡◌, ◌↔◌, IsTrue, MatchOption};
-ghost use Rattle.replaying.specs.Comparing.{KeptDiffersIn};
+ghost use Rattle.replaying.specs.Comparing.{SameEntered, EnteredDiffers, FoundDiffers, KeptDiffersIn};
 
 use crate::differences::KeptField;
 use driver::{Datum, DriverIdentity, RunningNumber, TrainData};
@@ -101,8 +101,7 @@ fn same_countries(one: &[Country], other: &[Country]) -> bool
 
 // Of driver and train.
 fn entered_differs(told: &Kept, kept: &Kept) -> Option<KeptField>
-    ensures { MatchOption result ((told.now.identity ≡ kept.now.identity) × (told.now.running_number ≡ kept.now.running_number) × (told.now.train_data ≡ kept.now.train_data))
-        (λ field. KeptDiffersIn field told.now kept.now) }
+    ensures { MatchOption result (SameEntered told.now kept.now) (λ field. EnteredDiffers field told.now kept.now) }
 {
     if !same_identity(&told.identity, &kept.identity) {
         return Some(KeptField::Identity);
@@ -119,7 +118,7 @@ fn entered_differs(told: &Kept, kept: &Kept) -> Option<KeptField>
 // Of the track.
 fn found_differs(told: &Kept, kept: &Kept) -> Option<KeptField>
     ensures { MatchOption result ((told.now.level ≡ kept.now.level) × (told.now.position ≡ kept.now.position) × (told.now.national ≡ kept.now.national))
-        (λ field. KeptDiffersIn field told.now kept.now) }
+        (λ field. FoundDiffers field told.now kept.now) }
 {
     if !same_level_item(told.level, kept.level) {
         return Some(KeptField::Level);

@@ -5,7 +5,7 @@ use crate::images::{Image, Named, opened_whole};
 use crate::replayed::stopped;
 use crate::status::{Status, unwritten};
 use lab_lines::{Form, Verdict};
-use replay_lines::{Outcome, ReplayError, replay};
+use replay_lines::{Outcome, WalkError, replay};
 use std::fs::File;
 use std::io::Write;
 use std::rt::Files;
@@ -68,7 +68,7 @@ fn check<R: AllocGlobal + Eprint, W: Write>(
     let outcome = match replay(rt.alloc(), &mut image.disk, form, out) {
         Ok(outcome) => Some(outcome),
         // The examination tells which.
-        Err(ReplayError::NotFormatted | ReplayError::Damaged) => None,
+        Err(WalkError::NotFormatted | WalkError::Damaged) => None,
         Err(error) => return Err(stopped(rt, image.path, error)),
     };
     Ok(Findings { verdict, outcome })

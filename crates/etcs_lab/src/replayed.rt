@@ -2,22 +2,22 @@
 
 use crate::images::{Named, opened};
 use crate::status::{Status, fail, unwritten};
-use replay_lines::{Form, Outcome, ReplayError, replay};
+use replay_lines::{Form, Outcome, WalkError, replay};
 use std::fs::File;
 use std::io::Write;
 use std::rt::Files;
 
-/// Says why a replay did not come to its end.
-pub(crate) fn stopped<R: Eprint>(rt: &R, path: &str, error: ReplayError) -> Status {
+/// Says why a walk over an image did not come to its end.
+pub(crate) fn stopped<R: Eprint>(rt: &R, path: &str, error: WalkError) -> Status {
     let (what, status) = match error {
-        ReplayError::DeviceFault => ("can't be read", Status::Device),
-        ReplayError::NotFormatted => ("is not a formatted image", Status::Refused),
-        ReplayError::Damaged => (
+        WalkError::DeviceFault => ("can't be read", Status::Device),
+        WalkError::NotFormatted => ("is not a formatted image", Status::Refused),
+        WalkError::Damaged => (
             "has not the size that its first sector tells",
             Status::Refused,
         ),
-        ReplayError::NoMemory => ("can't be replayed: memory is refused", Status::Refused),
-        ReplayError::Write => return unwritten(rt, path),
+        WalkError::NoMemory => ("can't be replayed: memory is refused", Status::Refused),
+        WalkError::Write => return unwritten(rt, path),
     };
     fail(rt, what, path, status)
 }

@@ -1,26 +1,12 @@
 //! The command `why`.
 
 use crate::images::{Named, opened};
-use crate::status::{Status, fail, unwritten};
+use crate::replayed::stopped;
+use crate::status::{Status, fail};
 use std::fs::File;
 use std::io::Write;
 use std::rt::Files;
-use why_lines::{Form, WalkError, tell_why};
-
-// Says why an image was not gone through to its end.
-fn stopped<R: Eprint>(rt: &R, path: &str, error: WalkError) -> Status {
-    let (what, status) = match error {
-        WalkError::DeviceFault => ("can't be read", Status::Device),
-        WalkError::NotFormatted => ("is not a formatted image", Status::Refused),
-        WalkError::Damaged => (
-            "has not the size that its first sector tells",
-            Status::Refused,
-        ),
-        WalkError::NoMemory => ("can't be replayed: memory is refused", Status::Refused),
-        WalkError::Write => return unwritten(rt, path),
-    };
-    fail(rt, what, path, status)
-}
+use why_lines::{Form, tell_why};
 
 /// Tells why the brakes were commanded in an image, which is opened for reading alone, and answers the status.
 pub(crate) fn why_told<R: Files<File = File> + AllocGlobal + Eprint, W: Write>(

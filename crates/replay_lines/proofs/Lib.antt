@@ -1,3 +1,3 @@
-pub mod Added
-pub mod Lives
+pub mod Parts
+pub mod Records
 pub mod Wholeness

@@ -1,10 +1,8 @@
 pub mod Answers
-pub mod BlockLines
 pub mod Courses
 pub mod Judgements
 pub mod KeptObject
-pub mod Laws
 pub mod Lines
-pub mod Replays
+pub mod Steps
 pub mod Told
 pub mod Words

@@ -2,15 +2,14 @@
 ghost use Rattle.std.specs.Prelude.{◌≡◌, OnOk};
 ghost use Rattle.std.specs.Io.KnownBytes.{Appends};
 ghost use Rattle.replay_lines.specs.Judgements.{IsHeadFound};
-ghost use Rattle.replay_lines.specs.BlockLines.{behind_found, head_found_text, AddsHead};
+ghost use Rattle.replay_lines.specs.Steps.{behind_found, head_found_text, AddsHead};
 
-use crate::course::{Course, Judged};
-use crate::errors::LateError;
+use crate::course::{Course, Judged, finish};
 use crate::lines::write_head;
 use crate::reports::HeadReport;
-use crate::telling::finish;
 use blocks::Block;
-use pieces::{Form, write_pieces};
+use lives::LateError;
+use pieces::write_pieces;
 use replaying::{HeadFound, compare_head};
 use std::io::Write;
 
@@ -25,19 +24,20 @@ fn head_found(judged: &Judged, block: &Block) -> Option<HeadFound>
 }
 
 // Tells what is left, and a head that differs, if it does.
-fn tell_head<W: Write>(
+fn tell_found<W: Write>(
     course: &mut Course,
     block: &Block,
     found: &Option<HeadFound>,
-    form: Form,
     out: &mut W,
 ) -> Result<(), LateError>
     ensures goes_on { OnOk result (course.new ≡ behind_found course.old found.now) }
-    ensures text { OnOk result (Appends (W.contents out.old) (W.contents out.new) (head_found_text form block.now course.old found.now)) }
+    ensures text { OnOk result (Appends (W.contents out.old) (W.contents out.new)
+        (head_found_text block.now course.old found.now)) }
 {
     let Some(found) = found else {
         return Ok(());
     };
+    let form = course.form;
     let left = finish(course);
     write_pieces(form, &left, out)?;
     let report = HeadReport {
@@ -52,17 +52,14 @@ fn tell_head<W: Write>(
     Ok(())
 }
 
-/// Compares what the head of a block tells with what the kernel keeps; the next block follows it.
-pub(crate) fn replay_head<W: Write>(
+/// Compares what the head of a block tells with what the kernel keeps.
+pub(crate) fn tell_head<W: Write>(
     course: &mut Course,
     block: &Block,
-    form: Form,
     out: &mut W,
 ) -> Result<(), LateError>
-    ensures { OnOk result (AddsHead form block.now course.old course.new (W.contents out.old) (W.contents out.new)) }
+    ensures { OnOk result (AddsHead block.now course.old course.new (W.contents out.old) (W.contents out.new)) }
 {
     let found = head_found(&course.judged, block);
-    tell_head(course, block, &found, form, out)?;
-    course.before = Some(block.kept.copy());
-    Ok(())
+    tell_found(course, block, &found, out)
 }

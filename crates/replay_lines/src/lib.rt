@@ -5,18 +5,14 @@
 
 mod answers;
 mod course;
-mod errors;
 mod heads;
 mod kept;
-mod laws;
 mod lines;
 mod reports;
-mod steps;
-mod telling;
+mod visiting;
 mod walk;
 mod words;
 
-pub use errors::ReplayError;
-pub use laws::whole_is_read;
+pub use lives::WalkError;
 pub use pieces::Form;
 pub use walk::{Outcome, replay};

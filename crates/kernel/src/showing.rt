@@ -38,7 +38,7 @@ pub struct Acknowledgements {
 }
 
 // Whether the driver is waited for at this moment.
-fn waiting(now: Ms, it: Acknowledgement) -> Waiting
+fn waits_at(now: Ms, it: Acknowledgement) -> Waiting
     ensures { result ≡ waiting now it }
 {
     match it {
@@ -59,9 +59,9 @@ impl<G: ProfileStore<Permille> + Drop, S: ProfileStore<CategorySpeeds> + Drop> S
     {
         let now = self.supervision.track().moment();
         Acknowledgements {
-            on_sight: waiting(now, self.supervision.on_sight()),
-            shunting: waiting(now, self.supervision.shunting()),
-            level_0: waiting(now, self.supervision.level_0()),
+            on_sight: waits_at(now, self.supervision.on_sight()),
+            shunting: waits_at(now, self.supervision.shunting()),
+            level_0: waits_at(now, self.supervision.level_0()),
         }
     }
 

@@ -1,7 +1,7 @@
 -- Why the newest released output is what it is, and what a display shows of it, as C is told it (this project's profile).
 -- Places and distances are centimetres, speeds metres per hour, times milliseconds; lists of events have the newest
 -- first.
-use Rattle.std.specs.Prelude.{◌≡◌, ℕ, ◌-◌, ◌^◌, min, ℤ, int_lt, ◌-ℤ◌, Bool, true, false, ◌||◌, if◌then◌else◌, List, [], ◌∷◌, length, Option, Some, None, is_some, IfSome}
+use Rattle.std.specs.Prelude.{◌≡◌, ℕ, ◌-◌, ◌^◌, min, ℤ, int_lt, ◌-ℤ◌, Bool, true, false, if◌then◌else◌, List, [], ◌∷◌, length, Option, Some, None, is_some, IfSome}
 use Rattle.std.specs.Int.RustNames.{unsigned_abs}
 use Rattle.braking.specs.declared.target.Target.{Target}
 use Rattle.events.specs.declared.input.Event.{Event}

@@ -1,9 +1,8 @@
 //! Why the newest released output is what it is, as C gets it.
-ghost use Rattle.std.specs.Prelude.{◌≡◌, true, false, is_some};
+ghost use Rattle.std.specs.Prelude.{◌≡◌};
 ghost use Rattle.kernel.specs.Causes.{marked};
 ghost use Rattle.kernel.specs.StandsFor.{StandsForLife};
 ghost use Rattle.mode_control.specs.Life.{Life};
-ghost use Rattle.image_calls.specs.KeptItems.{flag_of};
 ghost use Rattle.track_store.specs.Segments.{profile_kept};
 ghost use Rattle.unit_calls.specs.Whys.{holds_in, target_of, releases, distance_to, target_distance, target_speed, waiting_number, time_left, why_with, TellsLifeWhy};
 

@@ -42,13 +42,15 @@ module _ {S : Type 0} (known : S → Knowledge (Segmented ℤ) (Segmented Catego
   pub of_released : (m : Option Moored) (found : Option S) (s : S) (events event : ℕ) (new : EtcsUnitWhy) (status : Status)
       → found ≡ Some s → event ≡ events - 1 → status ≡ a_status.Done → IfSome m (λ it. events ≡ it.unit.life.events)
       → IfSome m (λ it. (durable accepted : List Event) → IsAhead durable accepted it.unit.life
-          → IfSome found (λ s. (durable ≡ accepted) × Knows (known s) accepted))
+      → IfSome found (λ s. (durable ≡ accepted) × Knows (known s) accepted))
       → ((life : Life) → StandsForLife profile_kept profile_kept (known s) life → TellsLifeWhy event life new)
       → IfSome m (λ it. (status ≡ a_status.Done) × IsOfReleased it new)
   of_released None found s events event new status is event_is done counted released tells = tt
-  of_released (Some it) found s events event new status is event_is done counted released tells =
-      (done, λ durable accepted ahead.
-      let F : Option S → Type 0 = λ o. IfSome o (λ s. (durable ≡ accepted) × Knows (known s) accepted) in
-      let so : (durable ≡ accepted) × Knows (known s) accepted = subst F is (released durable accepted ahead) in
-      let number : event ≡ length accepted - 1 = event_is ∙ ap (λ (n : ℕ). n - 1) (counted ∙ ahead.counted) in
-      (so.0, subst (λ (n : ℕ). TellsLifeWhy n (life_of accepted) new) number (tells (life_of accepted) so.1.life_is)))
+  of_released (Some it) found s events event new status is event_is done counted released tells = (
+    done,
+    λ durable accepted ahead.
+        let F : Option S → Type 0 = λ o. IfSome o (λ s. (durable ≡ accepted) × Knows (known s) accepted) in
+        let so : (durable ≡ accepted) × Knows (known s) accepted = subst F is (released durable accepted ahead) in
+        let number : event ≡ length accepted - 1 = event_is ∙ ap (λ (n : ℕ). n - 1) (counted ∙ ahead.counted) in
+        (so.0, subst (λ (n : ℕ). TellsLifeWhy n (life_of accepted) new) number (tells (life_of accepted) so.1.life_is)),
+  )

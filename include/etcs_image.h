@@ -102,24 +102,6 @@ enum etcs_kept_field {
     ETCS_KEPT_COUNTRIES = 10
 };
 
-/* Why a brake is commanded: the rows of the brake table, by their places in etcs_why (docs/BRAKES.md). The first six
- * command the emergency brake. */
-enum etcs_brake_cause {
-    ETCS_CAUSE_NOT_REVALIDATED = 0,
-    ETCS_CAUSE_IN_TRIP = 1,
-    ETCS_CAUSE_IN_SYSTEM_FAILURE = 2,
-    ETCS_CAUSE_OWES_TRIP = 3,
-    ETCS_CAUSE_FAR_TOO_FAST = 4,
-    ETCS_CAUSE_ROLLED_TOO_FAR = 5,
-    ETCS_CAUSE_ASKED_FOR_SERVICE = 6,
-    ETCS_CAUSE_TOO_FAST = 7,
-    ETCS_CAUSE_MUST_STAND = 8,
-    ETCS_CAUSE_OWES_TOO_LONG = 9
-};
-
-/* How many they are. */
-#define ETCS_BRAKE_CAUSES 10
-
 /* Why Trip was entered (docs/BRAKES.md). */
 enum etcs_trip_cause {
     ETCS_TRIP_UNKNOWN = 0, /* no trip is owed, or it was entered in a life before */
@@ -128,30 +110,6 @@ enum etcs_trip_cause {
     ETCS_TRIP_STOP = 3,
     ETCS_TRIP_STAFF_DISTANCE = 4,
     ETCS_TRIP_LEVEL = 5
-};
-
-/* What decides a limit (docs/BRAKES.md). */
-enum etcs_limit_cause {
-    ETCS_LIMIT_NO_SPEED = 1,
-    ETCS_LIMIT_NO_TRAIN_DATA = 2,
-    ETCS_LIMIT_NATIONAL_STAFF_RESPONSIBLE = 3,
-    ETCS_LIMIT_NATIONAL_OVERRIDE = 4,
-    ETCS_LIMIT_NATIONAL_SHUNTING = 5,
-    ETCS_LIMIT_NATIONAL_UNFITTED = 6,
-    ETCS_LIMIT_TRAIN_MAXIMUM = 7,
-    ETCS_LIMIT_MAIN_SPEED = 8,
-    ETCS_LIMIT_END_SPEED = 9,
-    ETCS_LIMIT_STATIC_SPEED = 10,
-    ETCS_LIMIT_RESTRICTION = 11,
-    ETCS_LIMIT_MODE_AREA = 12,
-    ETCS_LIMIT_STATIC_SPEED_AHEAD = 13,
-    ETCS_LIMIT_UNKNOWN_SPEED_AHEAD = 14,
-    ETCS_LIMIT_RESTRICTION_AHEAD = 15,
-    ETCS_LIMIT_MODE_AREA_AHEAD = 16,
-    ETCS_LIMIT_END_OF_AUTHORITY = 17,
-    ETCS_LIMIT_SUPERVISED_LOCATION = 18,
-    ETCS_LIMIT_RELEASE_SPEED = 19,
-    ETCS_LIMIT_NATIONAL_RELEASE_SPEED = 20
 };
 
 /* What an image has at first sight. */

@@ -128,6 +128,7 @@ enum etcs_unit_status {
     ETCS_UNIT_BAD_SLOTS = 41, /* the number of slots isn't 2 to 1,048,576 */
 
     /* the call itself: nothing changed */
+    ETCS_UNIT_NOT_RELEASED = 247,    /* an input is pending, or requests aren't released yet: release first */
     ETCS_UNIT_WRONG_COUNT = 248,     /* more requests were said to be done than there are, or fewer than before */
     ETCS_UNIT_NO_SUCH_REQUEST = 249, /* the list ends before it */
     ETCS_UNIT_NOT_OPEN = 250,        /* the unit is closed, or was never opened */
@@ -203,6 +204,55 @@ enum etcs_indication {
 /* What is to be done on the medium. */
 enum etcs_request_kind { ETCS_REQUEST_WRITE = 1, ETCS_REQUEST_SYNC = 2 };
 
+/* Why a brake is commanded: the rows of the brake table, by their places in etcs_unit_why and etcs_why
+ * (docs/BRAKES.md, which tells how each ends). The first six command the emergency brake. */
+enum etcs_brake_cause {
+    ETCS_CAUSE_NOT_REVALIDATED = 0,
+    ETCS_CAUSE_IN_TRIP = 1,
+    ETCS_CAUSE_IN_SYSTEM_FAILURE = 2,
+    ETCS_CAUSE_OWES_TRIP = 3,
+    ETCS_CAUSE_FAR_TOO_FAST = 4,
+    ETCS_CAUSE_ROLLED_TOO_FAR = 5,
+    ETCS_CAUSE_ASKED_FOR_SERVICE = 6,
+    ETCS_CAUSE_TOO_FAST = 7,
+    ETCS_CAUSE_MUST_STAND = 8,
+    ETCS_CAUSE_OWES_TOO_LONG = 9
+};
+
+/* How many they are. */
+#define ETCS_BRAKE_CAUSES 10
+
+/* What decides a limit (docs/BRAKES.md). */
+enum etcs_limit_cause {
+    ETCS_LIMIT_NO_SPEED = 1,
+    ETCS_LIMIT_NO_TRAIN_DATA = 2,
+    ETCS_LIMIT_NATIONAL_STAFF_RESPONSIBLE = 3,
+    ETCS_LIMIT_NATIONAL_OVERRIDE = 4,
+    ETCS_LIMIT_NATIONAL_SHUNTING = 5,
+    ETCS_LIMIT_NATIONAL_UNFITTED = 6,
+    ETCS_LIMIT_TRAIN_MAXIMUM = 7,
+    ETCS_LIMIT_MAIN_SPEED = 8,
+    ETCS_LIMIT_END_SPEED = 9,
+    ETCS_LIMIT_STATIC_SPEED = 10,
+    ETCS_LIMIT_RESTRICTION = 11,
+    ETCS_LIMIT_MODE_AREA = 12,
+    ETCS_LIMIT_STATIC_SPEED_AHEAD = 13,
+    ETCS_LIMIT_UNKNOWN_SPEED_AHEAD = 14,
+    ETCS_LIMIT_RESTRICTION_AHEAD = 15,
+    ETCS_LIMIT_MODE_AREA_AHEAD = 16,
+    ETCS_LIMIT_END_OF_AUTHORITY = 17,
+    ETCS_LIMIT_SUPERVISED_LOCATION = 18,
+    ETCS_LIMIT_RELEASE_SPEED = 19,
+    ETCS_LIMIT_NATIONAL_RELEASE_SPEED = 20
+};
+
+/* Whether the driver is waited for (SUBSET-026, 5.7, 5.9, 5.10). */
+enum etcs_acknowledgement {
+    ETCS_ACKNOWLEDGEMENT_NONE = 0,
+    ETCS_ACKNOWLEDGEMENT_ASKED = 1, /* before the transition */
+    ETCS_ACKNOWLEDGEMENT_OWED = 2   /* behind it: 5 s later the service brake comes */
+};
+
 /* A unit, in the caller's memory. Its fields are the library's. */
 typedef struct {
     void *at;
@@ -248,6 +298,36 @@ typedef struct {
     uint64_t uncertainty_cm; /* how far that may be wrong to either side */
 } etcs_unit_state_told;
 
+/* Why the newest released output is what it is, and what a display shows of it. ERA's names for displays are in brackets.
+ * What isn't there is 0. */
+typedef struct {
+    etcs_unit_output output;            /* its limit is the permitted speed [V_PERM] */
+    uint64_t backward_cm;               /* how far the train has rolled backward since it stood */
+    uint64_t allowed_backward_cm;       /* D_NVROLL */
+    int64_t limit_cause_cm;             /* the place of what decides the limit, from where this life began */
+    uint64_t restriction;               /* NID_TSR of a restriction that decides it */
+    uint64_t target_distance_cm;        /* from the maximum safe front to what lies ahead and decides the limit [D_TARGET] */
+    uint64_t on_sight_ms;               /* how long an acknowledgement that is owed may be owed yet until the service brake comes; 0 where it has come */
+    uint64_t shunting_ms;
+    uint64_t level_0_ms;
+    uint32_t service_brake_m_per_h;     /* above this speed the service brake comes [V_SBI]: the limit and 5 km/h */
+    uint32_t emergency_brake_m_per_h;   /* above this one the emergency brake comes [V_EBI]: the limit and 10 km/h */
+    uint32_t speed_m_per_h;             /* of the last reading [V_TRAIN] */
+    uint32_t limit_cause_m_per_h;       /* of what lies ahead the speed that it asks for there, else the limit */
+    uint32_t target_m_per_h;            /* the speed that what lies ahead asks for there [V_TARGET] */
+    uint32_t release_m_per_h;           /* the release speed, where it is the limit [V_RELEASE] */
+    uint8_t holds[ETCS_BRAKE_CAUSES];   /* 1 of each enum etcs_brake_cause that holds, else 0 */
+    uint8_t limit_cause;                /* enum etcs_limit_cause */
+    uint8_t has_place;                  /* 1 where limit_cause_cm is one */
+    uint8_t has_restriction;            /* 1 where restriction is one */
+    uint8_t has_target;                 /* 1 where what decides the limit lies ahead */
+    uint8_t has_release;                /* 1 where the release speed decides it */
+    uint8_t on_sight;                   /* enum etcs_acknowledgement */
+    uint8_t shunting;
+    uint8_t level_0;
+    uint8_t reserved[6];
+} etcs_unit_why_told;
+
 ETCS_UNIT_ASSERT((sizeof(void *) == 8u) && (sizeof(size_t) == 8u));
 ETCS_UNIT_ASSERT(sizeof(etcs_unit) == 16u && offsetof(etcs_unit, is_open) == 8u);
 ETCS_UNIT_ASSERT(sizeof(etcs_unit_output) == 16u && offsetof(etcs_unit_output, limit_m_per_h) == 8u && offsetof(etcs_unit_output, mode) == 12u
@@ -257,6 +337,10 @@ ETCS_UNIT_ASSERT(sizeof(etcs_train_data) == 20u && offsetof(etcs_train_data, len
 ETCS_UNIT_ASSERT(sizeof(etcs_unit_state_told) == 80u && offsetof(etcs_unit_state_told, requests) == 16u && offsetof(etcs_unit_state_told, has_failed) == 40u
                  && offsetof(etcs_unit_state_told, pending) == 48u && offsetof(etcs_unit_state_told, moment_ms) == 56u
                  && offsetof(etcs_unit_state_told, front_cm) == 64u && offsetof(etcs_unit_state_told, uncertainty_cm) == 72u);
+ETCS_UNIT_ASSERT(sizeof(etcs_unit_why_told) == 128u && offsetof(etcs_unit_why_told, backward_cm) == 16u && offsetof(etcs_unit_why_told, on_sight_ms) == 56u
+                 && offsetof(etcs_unit_why_told, service_brake_m_per_h) == 80u && offsetof(etcs_unit_why_told, holds) == 104u
+                 && offsetof(etcs_unit_why_told, limit_cause) == 114u && offsetof(etcs_unit_why_told, level_0) == 121u
+                 && offsetof(etcs_unit_why_told, reserved) == 122u);
 
 /* ---- the library's own names; the calls below test pointers first, and then call these */
 
@@ -275,6 +359,7 @@ uint32_t etcs_unit_done_(etcs_unit *unit, uint32_t count);
 uint32_t etcs_unit_fail_(etcs_unit *unit);
 uint32_t etcs_unit_release_(etcs_unit *unit, etcs_unit_output *outputs, size_t room, uint32_t *count);
 uint32_t etcs_unit_state_(etcs_unit *unit, etcs_unit_state_told *state);
+uint32_t etcs_unit_why_(etcs_unit *unit, etcs_unit_why_told *why);
 uint32_t etcs_unit_close_(etcs_unit *unit);
 uint32_t etcs_unit_format_request_(uint32_t slots, uint32_t index, etcs_unit_request_told *request, uint8_t *bytes, size_t room);
 
@@ -315,6 +400,7 @@ static inline const char *etcs_status_text(uint32_t status) {
     case (uint32_t)ETCS_UNIT_END: text = "END"; break;
     case (uint32_t)ETCS_UNIT_NOT_REPLAYED: text = "NOT_REPLAYED"; break;
     case (uint32_t)ETCS_UNIT_BAD_SLOTS: text = "BAD_SLOTS"; break;
+    case (uint32_t)ETCS_UNIT_NOT_RELEASED: text = "NOT_RELEASED"; break;
     case (uint32_t)ETCS_UNIT_WRONG_COUNT: text = "WRONG_COUNT"; break;
     case (uint32_t)ETCS_UNIT_NO_SUCH_REQUEST: text = "NO_SUCH_REQUEST"; break;
     case (uint32_t)ETCS_UNIT_NOT_OPEN: text = "NOT_OPEN"; break;
@@ -343,6 +429,7 @@ static inline uint32_t etcs_status_kind(uint32_t status, uint32_t source) {
         break;
     case (uint32_t)ETCS_UNIT_PENDING_FULL:
     case (uint32_t)ETCS_UNIT_REQUESTS_OWED:
+    case (uint32_t)ETCS_UNIT_NOT_RELEASED:
     case (uint32_t)ETCS_UNIT_WRONG_COUNT:
     case (uint32_t)ETCS_UNIT_NO_SUCH_REQUEST:
     case (uint32_t)ETCS_UNIT_IS_OPEN:
@@ -447,6 +534,15 @@ static inline uint32_t etcs_unit_release(etcs_unit *unit, etcs_unit_output *outp
 /* Tells how far the unit is, and what is known of its life. Answers OK, or NOT_OPEN; then `state` isn't written. */
 static inline uint32_t etcs_unit_state(etcs_unit *unit, etcs_unit_state_told *state) {
     return ((unit != NULL) && (state != NULL)) ? etcs_unit_state_(unit, state) : (uint32_t)ETCS_UNIT_NULL_POINTER;
+}
+
+/* Why the newest released output is what it is, and what a display shows of it. It takes no memory, nothing of it is worked
+ * out before it is asked, and nothing changes. Behind a release it tells of the last output; behind that of the opening, of
+ * the power-up, whose output no release hands out. Since when a cause holds, and why a trip was entered, etcs_image_why tells
+ * of the medium's bytes. Answers OK, NOT_OPEN, or NOT_RELEASED, exactly while an input is pending or requests aren't
+ * released; but for OK `why` isn't written. */
+static inline uint32_t etcs_unit_why(etcs_unit *unit, etcs_unit_why_told *why) {
+    return ((unit != NULL) && (why != NULL)) ? etcs_unit_why_(unit, why) : (uint32_t)ETCS_UNIT_NULL_POINTER;
 }
 
 /* Closes it, and gives its memory back. What is pending, and what is held back, is lost to this life; what was prepared

@@ -8,9 +8,9 @@ VERSION_BYTES = 32
 SECTOR = 512
 OUTPUTS = 8
 REQUEST_BYTES = 8192
+BRAKE_CAUSES = 10
 PAYLOAD_BYTES = 104
 ENDLESS = 0xFFFFFFFF
-BRAKE_CAUSES = 10
 
 
 class Fault(enum.IntEnum):
@@ -53,6 +53,7 @@ class Status(enum.IntEnum):
     END = 38
     NOT_REPLAYED = 39
     BAD_SLOTS = 41
+    NOT_RELEASED = 247
     WRONG_COUNT = 248
     NO_SUCH_REQUEST = 249
     NOT_OPEN = 250
@@ -155,6 +156,55 @@ class RequestKind(enum.IntEnum):
     SYNC = 2
 
 
+class BrakeCause(enum.IntEnum):
+    """Why a brake is commanded: the rows of the brake table, by their places in etcs_unit_why and etcs_why
+    (docs/BRAKES.md, which tells how each ends). The first six command the emergency brake."""
+
+    NOT_REVALIDATED = 0
+    IN_TRIP = 1
+    IN_SYSTEM_FAILURE = 2
+    OWES_TRIP = 3
+    FAR_TOO_FAST = 4
+    ROLLED_TOO_FAR = 5
+    ASKED_FOR_SERVICE = 6
+    TOO_FAST = 7
+    MUST_STAND = 8
+    OWES_TOO_LONG = 9
+
+
+class LimitCause(enum.IntEnum):
+    """What decides a limit (docs/BRAKES.md)."""
+
+    NO_SPEED = 1
+    NO_TRAIN_DATA = 2
+    NATIONAL_STAFF_RESPONSIBLE = 3
+    NATIONAL_OVERRIDE = 4
+    NATIONAL_SHUNTING = 5
+    NATIONAL_UNFITTED = 6
+    TRAIN_MAXIMUM = 7
+    MAIN_SPEED = 8
+    END_SPEED = 9
+    STATIC_SPEED = 10
+    RESTRICTION = 11
+    MODE_AREA = 12
+    STATIC_SPEED_AHEAD = 13
+    UNKNOWN_SPEED_AHEAD = 14
+    RESTRICTION_AHEAD = 15
+    MODE_AREA_AHEAD = 16
+    END_OF_AUTHORITY = 17
+    SUPERVISED_LOCATION = 18
+    RELEASE_SPEED = 19
+    NATIONAL_RELEASE_SPEED = 20
+
+
+class Acknowledgement(enum.IntEnum):
+    """Whether the driver is waited for (SUBSET-026, 5.7, 5.9, 5.10)."""
+
+    NONE = 0
+    ASKED = 1
+    OWED = 2
+
+
 class SlotState(enum.IntEnum):
     """What a slot holds (docs/FORMAT.md)."""
 
@@ -228,22 +278,6 @@ class KeptField(enum.IntEnum):
     COUNTRIES = 10
 
 
-class BrakeCause(enum.IntEnum):
-    """Why a brake is commanded: the rows of the brake table, by their places in etcs_why (docs/BRAKES.md). The first
-    six command the emergency brake."""
-
-    NOT_REVALIDATED = 0
-    IN_TRIP = 1
-    IN_SYSTEM_FAILURE = 2
-    OWES_TRIP = 3
-    FAR_TOO_FAST = 4
-    ROLLED_TOO_FAR = 5
-    ASKED_FOR_SERVICE = 6
-    TOO_FAST = 7
-    MUST_STAND = 8
-    OWES_TOO_LONG = 9
-
-
 class TripCause(enum.IntEnum):
     """Why Trip was entered (docs/BRAKES.md)."""
 
@@ -253,31 +287,6 @@ class TripCause(enum.IntEnum):
     STOP = 3
     STAFF_DISTANCE = 4
     LEVEL = 5
-
-
-class LimitCause(enum.IntEnum):
-    """What decides a limit (docs/BRAKES.md)."""
-
-    NO_SPEED = 1
-    NO_TRAIN_DATA = 2
-    NATIONAL_STAFF_RESPONSIBLE = 3
-    NATIONAL_OVERRIDE = 4
-    NATIONAL_SHUNTING = 5
-    NATIONAL_UNFITTED = 6
-    TRAIN_MAXIMUM = 7
-    MAIN_SPEED = 8
-    END_SPEED = 9
-    STATIC_SPEED = 10
-    RESTRICTION = 11
-    MODE_AREA = 12
-    STATIC_SPEED_AHEAD = 13
-    UNKNOWN_SPEED_AHEAD = 14
-    RESTRICTION_AHEAD = 15
-    MODE_AREA_AHEAD = 16
-    END_OF_AUTHORITY = 17
-    SUPERVISED_LOCATION = 18
-    RELEASE_SPEED = 19
-    NATIONAL_RELEASE_SPEED = 20
 
 
 class etcs_unit(Structure):
@@ -302,6 +311,17 @@ class etcs_unit_state_told(Structure):
     _fields_ = [("last", etcs_unit_output), ("requests", c_uint64), ("done", c_uint64), ("held", c_uint64),
                 ("has_failed", c_uint64), ("pending", c_uint64), ("moment_ms", c_uint64), ("front_cm", c_int64),
                 ("uncertainty_cm", c_uint64)]
+
+
+class etcs_unit_why_told(Structure):
+    _fields_ = [("output", etcs_unit_output), ("backward_cm", c_uint64), ("allowed_backward_cm", c_uint64),
+                ("limit_cause_cm", c_int64), ("restriction", c_uint64), ("target_distance_cm", c_uint64),
+                ("on_sight_ms", c_uint64), ("shunting_ms", c_uint64), ("level_0_ms", c_uint64),
+                ("service_brake_m_per_h", c_uint32), ("emergency_brake_m_per_h", c_uint32), ("speed_m_per_h", c_uint32),
+                ("limit_cause_m_per_h", c_uint32), ("target_m_per_h", c_uint32), ("release_m_per_h", c_uint32),
+                ("holds", c_uint8 * 10), ("limit_cause", c_uint8), ("has_place", c_uint8), ("has_restriction", c_uint8),
+                ("has_target", c_uint8), ("has_release", c_uint8), ("on_sight", c_uint8), ("shunting", c_uint8),
+                ("level_0", c_uint8), ("reserved", c_uint8 * 6)]
 
 
 class etcs_image(Structure):
@@ -378,6 +398,7 @@ CALLS: dict[str, tuple[object, ...]] = {
     "etcs_unit_fail_": (POINTER(etcs_unit),),
     "etcs_unit_release_": (POINTER(etcs_unit), POINTER(etcs_unit_output), c_size_t, POINTER(c_uint32)),
     "etcs_unit_state_": (POINTER(etcs_unit), POINTER(etcs_unit_state_told)),
+    "etcs_unit_why_": (POINTER(etcs_unit), POINTER(etcs_unit_why_told)),
     "etcs_unit_close_": (POINTER(etcs_unit),),
     "etcs_unit_format_request_": (c_uint32, c_uint32, POINTER(etcs_unit_request_told), c_char_p, c_size_t),
     "etcs_abi": (),

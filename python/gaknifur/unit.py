@@ -27,14 +27,15 @@ from types import TracebackType
 from typing import Protocol, Self
 
 from . import _header
-from ._header import (ABI, OUTPUTS, REQUEST_BYTES, SECTOR, VERSION_BYTES, Action, Brake, Cold, Indication, Kind, Level,
-                      Mode, RequestKind, SlotState, Status)
+from ._header import (ABI, OUTPUTS, REQUEST_BYTES, SECTOR, VERSION_BYTES, Acknowledgement, Action, Brake, BrakeCause, Cold,
+                      Indication, Kind, Level, LimitCause, Mode, RequestKind, SlotState, Status)
 from .program import TOP
 
-__all__ = ["ABI", "OUTPUTS", "REQUEST_BYTES", "SECTOR", "VERSION_BYTES", "Action", "Brake", "Cold", "Facts",
-           "FileMedium", "Indication", "Kind", "Level", "Medium", "MemoryMedium", "Mode", "Output", "Record", "Refused",
-           "Slot", "SlotState", "State", "Status", "TrainData", "Unit", "decode", "facts", "first_request",
-           "format_medium", "journal", "library", "records", "slots", "version"]
+__all__ = ["ABI", "OUTPUTS", "REQUEST_BYTES", "SECTOR", "VERSION_BYTES", "Acknowledgement", "Action", "Brake", "BrakeCause",
+           "Cold", "Facts", "FileMedium", "Indication", "Kind", "Level", "LimitCause", "Medium", "MemoryMedium", "Mode",
+           "Output", "Record", "Refused", "Slot", "SlotState", "State", "Status", "Target", "TrainData", "Unit", "UnitWhy",
+           "Waiting", "decode", "facts", "first_request", "format_medium", "journal", "library", "records", "slots",
+           "version"]
 
 @dataclass(frozen=True, slots=True)
 class Output:
@@ -73,6 +74,49 @@ class State:
     moment_ms: int
     front_cm: int
     uncertainty_cm: int
+
+
+@dataclass(frozen=True, slots=True)
+class Target:
+    """What lies ahead and decides the limit: the speed that it asks for there, and how far it is from the maximum safe
+    front."""
+
+    speed_m_per_h: int
+    distance_cm: int
+
+
+@dataclass(frozen=True, slots=True)
+class Waiting:
+    """Whether the driver is waited for; of an acknowledgement that is owed, how long it may be owed yet until the service
+    brake comes, 0 where it has come."""
+
+    state: Acknowledgement
+    left_ms: int
+
+
+@dataclass(frozen=True, slots=True)
+class UnitWhy:
+    """Why the newest released output is what it is, and what a display shows of it. The limit of the output is the permitted
+    speed; above the two further speeds the service brake and the emergency brake come. Of what decides the limit there are
+    its speed, its place and a restriction's number; `target` where it lies ahead, `release_m_per_h` where it is a release
+    speed."""
+
+    output: Output
+    causes: tuple[BrakeCause, ...]
+    service_brake_m_per_h: int
+    emergency_brake_m_per_h: int
+    speed_m_per_h: int
+    backward_cm: int
+    allowed_backward_cm: int
+    limit_cause: LimitCause
+    limit_cause_m_per_h: int
+    limit_cause_cm: int | None
+    restriction: int | None
+    target: Target | None
+    release_m_per_h: int | None
+    on_sight: Waiting
+    shunting: Waiting
+    level_0: Waiting
 
 
 @dataclass(frozen=True, slots=True)
@@ -287,6 +331,18 @@ def _output(told: _header.etcs_unit_output) -> Output:
                   Indication(told.indications))
 
 
+def _unit_why(told: _header.etcs_unit_why_told) -> UnitWhy:
+    def waiting(name: str) -> Waiting:
+        return Waiting(Acknowledgement(getattr(told, name)), getattr(told, f"{name}_ms"))
+    return UnitWhy(
+        _output(told.output), tuple(cause for cause in BrakeCause if told.holds[cause]), told.service_brake_m_per_h,
+        told.emergency_brake_m_per_h, told.speed_m_per_h, told.backward_cm, told.allowed_backward_cm,
+        LimitCause(told.limit_cause), told.limit_cause_m_per_h, told.limit_cause_cm if told.has_place else None,
+        told.restriction if told.has_restriction else None,
+        Target(told.target_m_per_h, told.target_distance_cm) if told.has_target else None,
+        told.release_m_per_h if told.has_release else None, waiting("on_sight"), waiting("shunting"), waiting("level_0"))
+
+
 def _carry_out(medium: Medium, request: _header.etcs_unit_request_told, room: ctypes.Array[ctypes.c_char]) -> None:
     if request.kind == RequestKind.WRITE:
         medium.write(request.sector, room.raw[:SECTOR * request.sectors])
@@ -464,3 +520,9 @@ class Unit:
         self._call("state", ctypes.byref(told))
         return State(_output(told.last), told.requests, told.done, told.held, told.has_failed != 0, told.pending,
                      told.moment_ms, told.front_cm, told.uncertainty_cm)
+
+    def why(self) -> UnitWhy:
+        """Why the newest released output is what it is. NOT_RELEASED while an input is pending or requests aren't released."""
+        told = _header.etcs_unit_why_told()
+        self._call("why", ctypes.byref(told))
+        return _unit_why(told)

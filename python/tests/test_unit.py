@@ -18,8 +18,8 @@ from gaknifur import lives
 from gaknifur import unit as units
 from gaknifur._header import Fault, RequestKind, Source, StatusKind
 from gaknifur.lives import BrakeCause, Datum, KeptField, LimitCause, RecordField, TripCause, Verdict
-from gaknifur.unit import (Action, Brake, Cold, FileMedium, Indication, Kind, Level, MemoryMedium, Mode, Output, Record, Refused,
-                           SlotState, Status, TrainData, Unit)
+from gaknifur.unit import (Acknowledgement, Action, Brake, Cold, FileMedium, Indication, Kind, Level, MemoryMedium, Mode, Output, Record,
+                           Refused, SlotState, Status, TrainData, Unit, UnitWhy, Waiting)
 
 INCLUDE = Path(__file__).resolve().parents[2] / "include"
 HEADER = INCLUDE / "etcs_unit.h"
@@ -32,8 +32,8 @@ class Names(unittest.TestCase):
 
     def test_enums(self) -> None:
         enums: list[type[enum.IntEnum | enum.IntFlag]] = [
-            Fault, Status, StatusKind, Source, Cold, Action, Mode, Level, Brake, Indication, RequestKind, SlotState, Kind, Datum, Verdict,
-            RecordField, KeptField, BrakeCause, TripCause, LimitCause]
+            Fault, Status, StatusKind, Source, Cold, Action, Mode, Level, Brake, Indication, RequestKind, BrakeCause, LimitCause,
+            Acknowledgement, SlotState, Kind, Datum, Verdict, RecordField, KeptField, TripCause]
         text = "".join((INCLUDE / name).read_text() for name in ("etcs.h", "etcs_unit.h", "etcs_image.h"))
         bodies = re.findall(r"^enum \w+ \{(.*?)\};", text, re.DOTALL | re.MULTILINE)
         for one, body in zip(enums, bodies, strict=True):
@@ -266,6 +266,21 @@ class Calls(unittest.TestCase):
                 lives.why_at(image, block, event)
         with self.refused(Status.NOT_REPLAYED):
             lives.why_at(image[:512 + 3_072] + bytes(3_072) + image[512 + 6_144:], 2, 2)
+
+    def test_why_of_a_unit(self) -> None:
+        """Stand By lets no train run; 5 and 10 km/h above that the brakes come. D_NVROLL is 200 cm."""
+        nobody = (Waiting(Acknowledgement.NONE, 0),) * 3
+        with Unit(MemoryMedium.formatted(4)) as unit:
+            self.assertEqual(unit.why(), UnitWhy(BEFORE, (BrakeCause.NOT_REVALIDATED,), 5_000, 10_000, 0, 0, 200, LimitCause.NO_SPEED, 0, None,
+                                                 None, None, None, *nobody))
+            unit.odometer(-30, 300)
+            with self.refused(Status.NOT_RELEASED):
+                unit.why()
+            output, = unit.flush()
+            self.assertEqual(unit.why(), UnitWhy(output, (BrakeCause.NOT_REVALIDATED, BrakeCause.MUST_STAND), 5_000, 10_000, 300, 30, 200,
+                                                 LimitCause.NO_SPEED, 0, None, None, None, None, *nobody))
+        with self.refused(Status.NOT_OPEN):
+            unit.why()
 
     def test_the_version(self) -> None:
         changes = HEADER.parents[1] / "CHANGELOG.md"

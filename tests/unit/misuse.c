@@ -4,6 +4,7 @@
 static etcs_unit_output outputs[ETCS_UNIT_OUTPUTS];
 static etcs_unit_request_told request;
 static etcs_unit_state_told state;
+static etcs_unit_why_told why;
 static uint8_t bytes[ETCS_UNIT_REQUEST_BYTES];
 static uint32_t count;
 static const uint8_t telegram[ETCS_TELEGRAM_BYTES + 1] = {0x90, 0x00, 0x7F, 0x80, 0x20, 0x01, 0x7F, 0xC0};
@@ -37,6 +38,8 @@ static void null_pointers(medium *on) {
     is("release, no count", etcs_unit_release(&unit, outputs, 8, NULL), wanted);
     is("state, no unit", etcs_unit_state(NULL, &state), wanted);
     is("state, nowhere to tell", etcs_unit_state(&unit, NULL), wanted);
+    is("why, no unit", etcs_unit_why(NULL, &why), wanted);
+    is("why, nowhere to tell", etcs_unit_why(&unit, NULL), wanted);
     is("close, no unit", etcs_unit_close(NULL), wanted);
     is("format, nowhere to tell", etcs_unit_format_request(4, 0, NULL, bytes, 512), wanted);
     is("format, no bytes", etcs_unit_format_request(4, 0, &request, NULL, 512), wanted);
@@ -48,7 +51,7 @@ static void untouched(const char *what) {
     memset(other, 0xAA, sizeof other);
     is(what, (uint64_t)memcmp(outputs, other, sizeof outputs) | (uint64_t)memcmp(&count, other, sizeof count) |
        (uint64_t)memcmp(&request, other, sizeof request) | (uint64_t)memcmp(&state, other, sizeof state) |
-       (uint64_t)memcmp(bytes, other, sizeof bytes), 0);
+       (uint64_t)memcmp(&why, other, sizeof why) | (uint64_t)memcmp(bytes, other, sizeof bytes), 0);
 }
 
 static void touch(void) {
@@ -56,6 +59,7 @@ static void touch(void) {
     memset(&count, 0xAA, sizeof count);
     memset(&request, 0xAA, sizeof request);
     memset(&state, 0xAA, sizeof state);
+    memset(&why, 0xAA, sizeof why);
     memset(bytes, 0xAA, sizeof bytes);
 }
 
@@ -79,6 +83,7 @@ static void not_open(etcs_unit *unit) {
     is("fail, not open", etcs_unit_fail(unit), wanted);
     is("release, not open", etcs_unit_release(unit, outputs, ETCS_UNIT_OUTPUTS, &count), wanted);
     is("state, not open", etcs_unit_state(unit, &state), wanted);
+    is("why, not open", etcs_unit_why(unit, &why), wanted);
     is("close, not open", etcs_unit_close(unit), wanted);
     untouched("a call on a unit that isn't open writes nothing");
 }
@@ -219,6 +224,7 @@ static void relaying(medium *on) {
     is("and again", etcs_unit_release(&unit, outputs, 8, &count), ETCS_UNIT_REQUESTS_OWED);
     is("room for 7", etcs_unit_release(&unit, outputs, 7, &count), ETCS_UNIT_NO_ROOM);
     is("room for none", etcs_unit_release(&unit, outputs, 0, &count), ETCS_UNIT_NO_ROOM);
+    is("why, before the power-up is done", etcs_unit_why(&unit, &why), ETCS_UNIT_NOT_RELEASED);
     is("behind the list", etcs_unit_request(&unit, requests, &request, bytes, sizeof bytes), ETCS_UNIT_NO_SUCH_REQUEST);
     is("far behind the list", etcs_unit_request(&unit, UINT32_MAX, &request, bytes, sizeof bytes), ETCS_UNIT_NO_SUCH_REQUEST);
     untouched("a refusal writes nothing");
@@ -246,6 +252,9 @@ static void relaying(medium *on) {
     is("state", etcs_unit_state(&unit, &state), ETCS_UNIT_OK);
     is("how many are done", state.done, requests - 1);
     is("release before the last one is done", etcs_unit_release(&unit, outputs, 8, &count), ETCS_UNIT_REQUESTS_OWED);
+    touch();
+    is("why, before the last one is done", etcs_unit_why(&unit, &why), ETCS_UNIT_NOT_RELEASED);
+    untouched("why writes nothing before a release");
     is("an input meanwhile", etcs_unit_clock(&unit, 1), ETCS_UNIT_OK);
     is("state", etcs_unit_state(&unit, &state), ETCS_UNIT_OK);
     is("one is pending", state.pending, 1);
@@ -253,6 +262,11 @@ static void relaying(medium *on) {
     is("all", etcs_unit_done(&unit, requests), ETCS_UNIT_OK);
     is("release", etcs_unit_release(&unit, outputs, 8, &count), ETCS_UNIT_OK);
     is("a power-up releases nothing", count, 0);
+    touch();
+    is("why, with one pending", etcs_unit_why(&unit, &why), ETCS_UNIT_NOT_RELEASED);
+    count = 0xAAAAAAAA;
+    untouched("why writes nothing with one pending");
+    count = 0;
     is("done behind a release", etcs_unit_done(&unit, 1), ETCS_UNIT_WRONG_COUNT);
     for (int i = 0; i < 7; i++)
         is("eight may be pending", etcs_unit_clock(&unit, 2), ETCS_UNIT_OK);
@@ -262,6 +276,7 @@ static void relaying(medium *on) {
     is("prepare twice", etcs_unit_prepare(&unit), ETCS_UNIT_REQUESTS_OWED);
     is("state", etcs_unit_state(&unit, &state), ETCS_UNIT_OK);
     is("eight are held back", state.held, 8);
+    is("why, while they are held back", etcs_unit_why(&unit, &why), ETCS_UNIT_NOT_RELEASED);
     is("none is pending", state.pending, 0);
     is("an input while requests are owed", etcs_unit_clock(&unit, 3), ETCS_UNIT_OK);
     is("carry out", carry_out(on, &unit), ETCS_UNIT_OK);
@@ -274,6 +289,17 @@ static void relaying(medium *on) {
     is("the list is empty", state.requests, 0);
     is("flush of one", flushed(on, &unit, outputs, &count), ETCS_UNIT_OK);
     is("one", count, 1);
+    /* by hand: Stand By, no train may run; the driver hasn't revalidated */
+    is("why", etcs_unit_why(&unit, &why), ETCS_UNIT_OK);
+    is("its output", (uint64_t)memcmp(&why.output, &outputs[0], sizeof outputs[0]), 0);
+    is("what decides the limit", why.limit_cause, ETCS_LIMIT_NO_SPEED);
+    is("it has no place, no number, no target and no release speed", (uint64_t)why.has_place | why.has_restriction | why.has_target | why.has_release, 0);
+    is("the service brake", why.service_brake_m_per_h, 5000);
+    is("the emergency brake", why.emergency_brake_m_per_h, 10000);
+    for (int i = 0; i < ETCS_BRAKE_CAUSES; i++)
+        is("a cause", why.holds[i], i == ETCS_CAUSE_NOT_REVALIDATED);
+    is("no acknowledgement", (uint64_t)why.on_sight | why.shunting | why.level_0, ETCS_ACKNOWLEDGEMENT_NONE);
+    is("why, again", etcs_unit_why(&unit, &why), ETCS_UNIT_OK);
     /* -30 cm and 8,000 cm: the twentieth part of a path of 8,030 cm is 401.5 */
     is("backward", etcs_unit_odometer(&unit, -30, 300), ETCS_UNIT_OK);
     is("forward", etcs_unit_odometer(&unit, 8000, 300), ETCS_UNIT_OK);
@@ -301,6 +327,7 @@ static void failing(medium *on) {
     is("carry out", carry_out(on, &unit), ETCS_UNIT_OK);
     is("the medium failed", etcs_unit_fail(&unit), ETCS_UNIT_OK);
     touch();
+    is("why behind a failure", etcs_unit_why(&unit, &why), ETCS_UNIT_NOT_RELEASED);
     is("release behind a failure", etcs_unit_release(&unit, outputs, 8, &count), ETCS_UNIT_FAILED);
     is("room for 7 behind a failure", etcs_unit_release(&unit, outputs, 7, &count), ETCS_UNIT_NO_ROOM);
     untouched("nothing is released behind a failure");
@@ -341,7 +368,7 @@ static void formatting(void) {
 
 /* What an answer is, of the driver's values and of the equipment's: by hand, from what etcs_unit.h says of each status. */
 static void kinds(void) {
-    static const uint8_t mistakes[] = {10, 22, 41, 248, 249, 251, 252, 253};
+    static const uint8_t mistakes[] = {10, 22, 41, 247, 248, 249, 251, 252, 253};
     for (uint32_t status = 0; status < 300; status++) {
         uint32_t driver = status == 0 ? ETCS_KIND_OK : ETCS_KIND_FAULT, equipment;
         for (size_t i = 0; i < sizeof mistakes; i++)
@@ -369,5 +396,5 @@ int main(void) {
     failing(&on);
     formatting();
     free(on.bytes);
-    return told("misuse", 1240);
+    return told("misuse", 1270);
 }

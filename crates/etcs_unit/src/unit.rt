@@ -2,10 +2,10 @@
 use image_calls::abi_call;
 use std::alloc::Global;
 use unit_calls::{
-    EtcsOutput, EtcsRequest, EtcsState, EtcsTrainData, EtcsUnit, action_call, clock_call,
-    close_call, done_call, fail_call, format_request_call, identity_call, odometer_call, open_call,
-    prepare_call, release_call, request_call, running_number_call, state_call, telegram_call,
-    train_data_call, version_call,
+    EtcsOutput, EtcsRequest, EtcsState, EtcsTrainData, EtcsUnit, EtcsUnitWhy, action_call,
+    clock_call, close_call, done_call, fail_call, format_request_call, identity_call,
+    odometer_call, open_call, prepare_call, release_call, request_call, running_number_call,
+    state_call, telegram_call, train_data_call, unit_why_call, version_call,
 };
 
 /// Takes the bytes that a balise sent.
@@ -112,6 +112,12 @@ pub extern "C" fn etcs_unit_state_(
     state: &mut EtcsState,
 ) -> u32 {
     state_call(alloc, unit, state)
+}
+
+/// Tells why the newest released output is what it is.
+#[unsafe(no_mangle)]
+pub extern "C" fn etcs_unit_why_(alloc: Global, unit: &mut EtcsUnit, why: &mut EtcsUnitWhy) -> u32 {
+    unit_why_call(alloc, unit, why)
 }
 
 /// The number of this interface.

@@ -42,4 +42,5 @@ pub use slots::{EtcsSlot, slot_call};
 pub use telling::EtcsWhy;
 pub use verdicts::EtcsReplay;
 pub use version::{ABI, abi_call};
+pub use why_numbers::{flag, limit_number, or_zero, place_or_zero};
 pub use whys::why_call;

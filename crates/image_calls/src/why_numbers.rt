@@ -7,7 +7,7 @@ use kernel::TripCause;
 use reasons::{LimitKind, Runs, TripTold};
 
 /// A number, 0 where there is none.
-pub(crate) fn or_zero(number: Option<u64>) -> u64
+pub fn or_zero(number: Option<u64>) -> u64
     ensures { result ≡ or_zero number }
 {
     match number {
@@ -17,7 +17,7 @@ pub(crate) fn or_zero(number: Option<u64>) -> u64
 }
 
 /// A place, 0 where there is none.
-pub(crate) fn place_or_zero(place: Option<i64>) -> i64
+pub fn place_or_zero(place: Option<i64>) -> i64
     ensures { result ≡ place_or_zero place }
 {
     match place {
@@ -45,7 +45,7 @@ pub(crate) fn since_of(runs: &Runs) -> [u64; 10]
 }
 
 /// 1 where there is something, else 0.
-pub(crate) fn flag<T: Copy>(told: Option<T>) -> u8
+pub fn flag<T: Copy>(told: Option<T>) -> u8
     ensures { result ≡ flag_of (is_some told) }
 {
     match told {
@@ -105,7 +105,7 @@ pub(crate) fn trip_event_told(trip: Option<TripTold>) -> u64
 }
 
 /// The number of what decides a limit.
-pub(crate) fn limit_number(kind: LimitKind) -> u8
+pub fn limit_number(kind: LimitKind) -> u8
     ensures { result ≡ limit_number kind }
 {
     match kind {

@@ -7,3 +7,4 @@ pub mod StandsFor
 pub mod Laws
 pub mod Quiet
 pub mod Trips
+pub mod Showing

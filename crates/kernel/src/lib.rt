@@ -14,6 +14,7 @@ mod output;
 mod parts;
 mod position;
 mod receiving;
+mod showing;
 mod sight;
 mod state;
 mod steps;
@@ -27,5 +28,6 @@ pub use laws::{
     trips_have_causes,
 };
 pub use mode_control::TripCause;
+pub use showing::{Acknowledgements, Waiting};
 pub use state::{State, StateOver};
 pub use steps::step;

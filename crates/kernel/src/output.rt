@@ -39,7 +39,7 @@ impl<G: ProfileStore<Permille> + Drop, S: ProfileStore<CategorySpeeds> + Drop> S
     }
 
     /// What is answered after the last event.
-    pub(crate) fn output(&self) -> Output
+    pub fn output(&self) -> Output
         ensures { (life : Life) → StandsForLife G.profile S.profile self.now life → result ≡ output_of life }
     {
         Output {

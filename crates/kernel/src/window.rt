@@ -10,10 +10,10 @@ ghost use Rattle.mode_control.specs.Sentences.{begun_life};
 use crate::sight::Sight;
 
 /// Above the limit by more than this the service brake comes, in metres per hour.
-const SERVICE_MARGIN: u16 = 5_000;
+pub(crate) const SERVICE_MARGIN: u16 = 5_000;
 
 /// Above the limit by more than this the emergency brake comes, in metres per hour.
-const EMERGENCY_MARGIN: u16 = 10_000;
+pub(crate) const EMERGENCY_MARGIN: u16 = 10_000;
 
 /// What the brakes remember (this project's profile). All but `too_fast` is of the time since the last standstill, or
 /// else since the power-up.

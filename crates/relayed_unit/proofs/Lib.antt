@@ -1,3 +1,4 @@
 pub mod Refusing
+pub mod Releasing
 pub mod Room
 pub mod Standing

@@ -1,6 +1,6 @@
 -- What contracts see of a unit that hands out its requests (this project's profile). Requests are counted from the
 -- first of the list.
-use Rattle.std.specs.Prelude.{ℕ, ◌≤◌, Bool, true, false, nat_lt, if◌then◌else◌, List, [], length, Option, Some, None, option_map, Result, Ok, Err}
+use Rattle.std.specs.Prelude.{ℕ, ◌≤◌, Bool, true, false, ◌||◌, nat_lt, if◌then◌else◌, List, [], length, Option, Some, None, option_map, Result, Ok, Err}
 use Rattle.disk.specs.declared.record.Call.{Call}
 use Rattle.mirror_disk.specs.Mirror.{ends_in_sync}
 use Rattle.onboard.specs.Answers.{flush_refusal}
@@ -82,3 +82,9 @@ release_refusal u =
     else if nat_lt u.done (requests_of u.moored) then Some a_release.RequestsOwed
     else if ends_in_sync (list_of u.moored) then None
     else Some a_release.Failed
+
+-- ---- what may be told of the newest event
+
+-- it isn't released yet: it is pending, or its requests are still in the list
+abbrev pub is_unreleased : Moored → Bool
+is_unreleased it = nat_lt 0 (length it.mirror.requests) || nat_lt 0 (length it.unit.life.records)

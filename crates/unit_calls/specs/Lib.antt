@@ -9,4 +9,5 @@ pub mod Owned
 pub mod Requests
 pub mod Statuses
 pub mod Versions
+pub mod Whys
 pub mod Words

@@ -26,6 +26,7 @@ status_number a_status.Failed = 21
 status_number a_status.RequestsOwed = 22
 status_number a_status.WornOut = 23
 status_number a_status.BadSlots = 41
+status_number a_status.NotReleased = 247
 status_number a_status.WrongCount = 248
 status_number a_status.NoSuchRequest = 249
 status_number a_status.NotOpen = 250

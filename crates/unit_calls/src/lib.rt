@@ -2,6 +2,7 @@
 #![tactic(auto)]
 
 mod events_in;
+mod explaining;
 mod formatting;
 mod handle;
 mod held;
@@ -13,12 +14,14 @@ mod raw;
 mod relaying;
 mod status;
 mod version;
+mod why;
 mod words;
 
 pub use events_in::{
     action_call, clock_call, identity_call, odometer_call, running_number_call, telegram_call,
     train_data_call,
 };
+pub use explaining::unit_why_call;
 pub use formatting::format_request_call;
 pub use handle::{EtcsUnit, Opened};
 pub use inputs::EtcsTrainData;
@@ -27,4 +30,5 @@ pub use opening::{close_call, open_call};
 pub use outputs::{EtcsOutput, EtcsState};
 pub use relaying::{done_call, fail_call, prepare_call, release_call, request_call, state_call};
 pub use version::version_call;
+pub use why::EtcsUnitWhy;
 pub use words::EtcsRequest;

@@ -2,7 +2,7 @@
 ghost use Rattle.std.specs.Prelude.{◌≡◌, ◌≤◌, length};
 ghost use Rattle.unit_calls.specs.Outputs.{level_number, brake_number, told_of, AreHanded};
 
-use events::Brake;
+use events::{Brake, Output};
 use mode_table::TrainLevel;
 use onboard::Released;
 
@@ -68,19 +68,25 @@ fn brake_number(brake: Brake) -> u8
     }
 }
 
-/// As C sees it.
-pub fn told_of(released: &Released) -> EtcsOutput
-    ensures { result ≡ told_of released.now }
+/// The output of the event of this number, as C sees it.
+pub fn output_told(event: u64, output: Output) -> EtcsOutput
+    ensures { result ≡ told_of (record { number = event; output = output }) }
 {
-    let output = released.output();
     EtcsOutput {
-        event: released.event(),
+        event,
         limit: output.limit.get(),
         mode: output.mode.number(),
         level: level_number(output.level),
         brake: brake_number(output.brake),
         indications: output.indications.number(),
     }
+}
+
+/// As C sees it.
+pub fn told_of(released: &Released) -> EtcsOutput
+    ensures { result ≡ told_of released.now }
+{
+    output_told(released.event(), released.output())
 }
 
 /// Writes what was released into the first places. The caller owes a place for each.

@@ -36,6 +36,8 @@ pub enum Status {
     WornOut = 23,
     /// The number of slots isn't 2 to 1,048,576.
     BadSlots = 41,
+    /// The newest event isn't released yet.
+    NotReleased = 247,
     /// More requests were said to be done than there are, or fewer than before.
     WrongCount = 248,
     /// The list ends before it.

@@ -1,0 +1,162 @@
+-- Why the newest released output is what it is, and what a display shows of it, as C is told it (this project's profile).
+-- Places and distances are centimetres, speeds metres per hour, times milliseconds; lists of events have the newest
+-- first.
+use Rattle.std.specs.Prelude.{◌≡◌, ℕ, ◌-◌, ◌^◌, min, ℤ, int_lt, ◌-ℤ◌, Bool, true, false, if◌then◌else◌, List, [], ◌∷◌, length, Option, Some, None, is_some, IfSome}
+use Rattle.std.specs.Int.RustNames.{unsigned_abs}
+use Rattle.braking.specs.declared.target.Target.{Target}
+use Rattle.events.specs.declared.input.Event.{Event}
+use Rattle.image_calls.specs.KeptItems.{or_zero, flag_of}
+use Rattle.image_calls.specs.WhyNumbers.{place_or_zero, limit_number}
+use Rattle.kernel.specs.Brake.{causes_of, rolled_backward}
+use Rattle.kernel.specs.Causes.{is_among}
+use Rattle.kernel.specs.Lives.{life_of}
+use Rattle.kernel.specs.Output.{output_of}
+use Rattle.kernel.specs.Showing.{acknowledgements_of, service_speed, emergency_speed}
+use Rattle.kernel.specs.declared.causes.BrakeCause.{BrakeCause}
+use Rattle.kernel.specs.declared.causes.BrakeCause.TheVariants as cause
+use Rattle.kernel.specs.declared.showing.Acknowledgements.{Acknowledgements}
+use Rattle.kernel.specs.declared.showing.Waiting.{Waiting}
+use Rattle.kernel.specs.declared.showing.Waiting.TheVariants as waits
+use Rattle.limit_causes.specs.Causes.{IsLimitCause}
+use Rattle.limit_causes.specs.declared.cause.LimitCause.{LimitCause}
+use Rattle.limit_causes.specs.declared.cause.LimitCause.TheVariants as a_limit
+use Rattle.limit_causes.specs.declared.cause.SpeedCause.{SpeedCause}
+use Rattle.limit_causes.specs.declared.cause.SpeedCause.TheVariants as a_speed
+use Rattle.mode_control.specs.History.{tracks}
+use Rattle.mode_control.specs.Life.{Life}
+use Rattle.mode_control.specs.Sentences.{values_of, span_of}
+use Rattle.onboard.specs.Events.{IsAhead}
+use Rattle.reasons.specs.LimitWords.{limit_told}
+use Rattle.reasons.specs.declared.limit_words.LimitTold.{LimitTold}
+use Rattle.relayed_unit.specs.Relayed.{is_unreleased}
+use Rattle.relayed_unit.specs.declared.moored.Moored.{Moored}
+use Rattle.speed_supervision.specs.Limit.{limit}
+use Rattle.track_picture.specs.History.{speed_of}
+use Rattle.unit_calls.specs.Outputs.{told_of}
+use Rattle.unit_calls.specs.Requests.{Where}
+use Rattle.unit_calls.specs.declared.handle.Opened.{Opened}
+use Rattle.unit_calls.specs.declared.outputs.EtcsOutput.{EtcsOutput}
+use Rattle.unit_calls.specs.declared.status.Status.{Status}
+use Rattle.unit_calls.specs.declared.status.Status.TheVariants as a_status
+use Rattle.unit_calls.specs.declared.why.EtcsUnitWhy.{EtcsUnitWhy}
+use Rattle.unit_calls.specs.declared.why.Told.{Told}
+
+-- ---- the causes of a brake: whether each holds, in the order of the brake table
+
+abbrev pub holds_in : List BrakeCause → List ℕ
+holds_in causes = flag_of (is_among cause.NotRevalidated causes) ∷ flag_of (is_among cause.InTrip causes)
+    ∷ flag_of (is_among cause.InSystemFailure causes) ∷ flag_of (is_among cause.OwesTrip causes)
+    ∷ flag_of (is_among cause.FarTooFast causes) ∷ flag_of (is_among cause.RolledTooFar causes)
+    ∷ flag_of (is_among cause.AskedForService causes) ∷ flag_of (is_among cause.TooFast causes)
+    ∷ flag_of (is_among cause.MustStand causes) ∷ flag_of (is_among cause.OwesTooLong causes) ∷ []
+
+-- ---- what decides the limit: a target ahead of the maximum safe front, a release speed, or neither
+
+abbrev pub target_by : SpeedCause → Option Target
+target_by (a_speed.Ahead ahead) = Some ahead.target
+target_by (a_speed.OverTrain over) = None
+target_by (a_speed.Release release) = None
+
+abbrev pub target_of : LimitCause → Option Target
+target_of (a_limit.Speed decides) = target_by decides
+target_of a_limit.NoSpeed = None
+target_of a_limit.NoTrainData = None
+target_of (a_limit.National value) = None
+
+abbrev pub releases_by : SpeedCause → Bool
+releases_by (a_speed.Ahead ahead) = false
+releases_by (a_speed.OverTrain over) = false
+releases_by (a_speed.Release release) = true
+
+abbrev pub releases : LimitCause → Bool
+releases (a_limit.Speed decides) = releases_by decides
+releases a_limit.NoSpeed = false
+releases a_limit.NoTrainData = false
+releases (a_limit.National value) = false
+
+-- how far it is from a place to one ahead of it; 0 where it isn't ahead
+abbrev pub distance_to : ℤ → ℤ → ℕ
+distance_to from place = if int_lt from place then unsigned_abs (place -ℤ from) else 0
+
+abbrev pub target_distance : ℤ → Option Target → ℕ
+target_distance front None = 0
+target_distance front (Some target) = distance_to front target.place
+
+abbrev pub target_speed : Option Target → ℕ
+target_speed None = 0
+target_speed (Some target) = target.speed
+
+-- ---- acknowledgements
+
+abbrev pub waiting_number : Waiting → ℕ
+waiting_number waits.Nothing = 0
+waiting_number waits.Asked = 1
+waiting_number (waits.Owed left) = 2
+
+abbrev pub time_left : Waiting → ℕ
+time_left waits.Nothing = 0
+time_left waits.Asked = 0
+time_left (waits.Owed left) = left
+
+-- ---- as C sees it
+
+abbrev pub why_with : Told → EtcsUnitWhy
+why_with t = record {
+  output = t.output;
+  backward = t.backward;
+  allowed = t.allowed;
+  place = place_or_zero t.limit.place;
+  restriction = or_zero t.limit.number;
+  target_distance = target_distance t.front t.target;
+  on_sight_left = time_left t.waiting.on_sight;
+  shunting_left = time_left t.waiting.shunting;
+  level_0_left = time_left t.waiting.level_0;
+  service_speed = t.service_speed;
+  emergency_speed = t.emergency_speed;
+  speed = t.speed;
+  limit_speed = t.limit.speed;
+  target_speed = target_speed t.target;
+  release_speed = if t.releases then t.output.limit else 0;
+  holds = t.holds;
+  limit_cause = limit_number t.limit.kind;
+  has_place = flag_of (is_some t.limit.place);
+  has_restriction = flag_of (is_some t.limit.number);
+  has_target = flag_of (is_some t.target);
+  has_release = flag_of t.releases;
+  on_sight = waiting_number t.waiting.on_sight;
+  shunting = waiting_number t.waiting.shunting;
+  level_0 = waiting_number t.waiting.level_0;
+  reserved = 0 ∷ 0 ∷ 0 ∷ 0 ∷ 0 ∷ 0 ∷ [];
+}
+
+-- what is known behind the event of this number that led to a life, where this decides the limit
+abbrev pub told_in : ℕ → Life → LimitCause → Told
+told_in event life decides = record {
+  output = told_of (record { number = event; output = output_of life });
+  backward = min (rolled_backward life) (2 ^ 64 - 1);
+  allowed = (values_of life).roll;
+  limit = limit_told (limit life) decides;
+  target = target_of decides;
+  releases = releases decides;
+  front = (span_of life).max_front;
+  waiting = acknowledgements_of life;
+  service_speed = service_speed life;
+  emergency_speed = emergency_speed life;
+  speed = speed_of (tracks life.entries);
+  holds = holds_in (causes_of life);
+}
+
+-- all that is told is of this life
+abbrev pub TellsLifeWhy : ℕ → Life → EtcsUnitWhy → Type 0
+TellsLifeWhy event life told = (decides : LimitCause) × IsLimitCause life (limit life) decides
+    × (told ≡ why_with (told_in event life decides))
+
+-- what is told is of the newest event, and it is released: all accepted events are durable
+abbrev pub IsOfReleased : Moored → EtcsUnitWhy → Type 0
+IsOfReleased it told = (durable accepted : List Event) → IsAhead durable accepted it.unit.life
+    → (durable ≡ accepted) × TellsLifeWhy (length accepted - 1) (life_of accepted) told
+
+-- the newest event is told of; NotReleased exactly where it isn't released yet, and then nothing is written
+abbrev pub AsksUnitWhy : Opened → EtcsUnitWhy → EtcsUnitWhy → Status → Type 0
+AsksUnitWhy opened old new status = IfSome opened.unit.moored (λ it. Where (is_unreleased it)
+    ((status ≡ a_status.NotReleased) × (new ≡ old)) ((status ≡ a_status.Done) × IsOfReleased it new))

@@ -1,0 +1,37 @@
+//! Why the newest released output is what it is.
+ghost use Rattle.std.specs.Prelude.{◌≡◌};
+ghost use Rattle.unit_calls.specs.Handles.{OnHandleInto, IsTold};
+ghost use Rattle.unit_calls.specs.Whys.{AsksUnitWhy};
+
+use crate::handle::{EtcsUnit, Opened, handle_of, taken};
+use crate::status::Status;
+use crate::why::{EtcsUnitWhy, why_told};
+use std::alloc::Global;
+
+// Tells why the newest output of this unit is what it is, where it is released.
+fn explain(opened: &Opened, why: &mut EtcsUnitWhy) -> Status
+    ensures { AsksUnitWhy opened.now why.old why.new result }
+{
+    match opened.unit.released_state() {
+        None => Status::NotReleased,
+        Some(state) => {
+            let event = opened.unit.events().saturating_sub(1);
+            *why = why_told(event, state);
+            Status::Done
+        }
+    }
+}
+
+/// Why the newest released output is what it is, and what a display shows of it: NotReleased while an event is pending
+/// or requests aren't released, and then nothing is written. Nothing changes.
+pub fn unit_why_call(alloc: Global, unit: &mut EtcsUnit, why: &mut EtcsUnitWhy) -> u32
+    ensures { IsTold result (λ status. OnHandleInto (why.new ≡ why.old) unit.old.raw.value unit.new.raw.value status
+        (λ before after told. (after ≡ before) × AsksUnitWhy before why.old why.new told)) }
+{
+    let Some(opened) = taken(alloc, unit) else {
+        return Status::NotOpen.number();
+    };
+    let status = explain(&opened, why);
+    *unit = handle_of(Some(opened));
+    status.number()
+}

@@ -1,0 +1,248 @@
+//! Why the newest released output is what it is, as C gets it.
+ghost use Rattle.std.specs.Prelude.{◌≡◌};
+ghost use Rattle.kernel.specs.Causes.{marked};
+ghost use Rattle.kernel.specs.StandsFor.{StandsForLife};
+ghost use Rattle.mode_control.specs.Life.{Life};
+ghost use Rattle.track_store.specs.Segments.{profile_kept};
+ghost use Rattle.unit_calls.specs.Whys.{holds_in, target_of, releases, distance_to, target_distance, target_speed, waiting_number, time_left, why_with, TellsLifeWhy};
+
+use crate::outputs::{EtcsOutput, output_told};
+use braking::Target;
+use image_calls::{flag, limit_number, or_zero, place_or_zero};
+use kernel::{Acknowledgements, BrakeCauses, State, Waiting};
+use limit_causes::{LimitCause, SpeedCause};
+use reasons::{LimitTold, limit_told};
+use units::{Cm, Mph};
+
+/// Why the newest released output is what it is, and what a display shows of it. Lengths are centimetres, speeds metres
+/// per hour, times milliseconds; what isn't there is 0.
+#[repr(C)]
+#[derive(Clone, Copy)]
+pub struct EtcsUnitWhy {
+    /// The output; its limit is the permitted speed.
+    pub output: EtcsOutput,
+    /// How far the train has rolled backward since it stood.
+    pub backward: u64,
+    /// How far it may: D_NVROLL.
+    pub allowed: u64,
+    /// The place of what decides the limit.
+    pub place: i64,
+    /// The number of a restriction that decides it, NID_TSR.
+    pub restriction: u64,
+    /// How far a target that decides the limit lies ahead of the maximum safe front.
+    pub target_distance: u64,
+    /// How long the acknowledgement of On Sight may be owed yet until the service brake.
+    pub on_sight_left: u64,
+    /// That of Shunting.
+    pub shunting_left: u64,
+    /// That of level 0.
+    pub level_0_left: u64,
+    /// The speed above which the service brake comes.
+    pub service_speed: u32,
+    /// The speed above which the emergency brake comes.
+    pub emergency_speed: u32,
+    /// The speed of the last reading.
+    pub speed: u32,
+    /// The speed of what decides the limit.
+    pub limit_speed: u32,
+    /// The speed that a target asks for that decides the limit.
+    pub target_speed: u32,
+    /// The release speed, where it decides the limit.
+    pub release_speed: u32,
+    /// 1 of each cause of a brake that holds, in the order of the brake table.
+    pub holds: [u8; 10],
+    /// What decides the limit, 1 to 20.
+    pub limit_cause: u8,
+    /// 1 where that has a place.
+    pub has_place: u8,
+    /// 1 where it is a restriction.
+    pub has_restriction: u8,
+    /// 1 where it is a target ahead.
+    pub has_target: u8,
+    /// 1 where it is a release speed.
+    pub has_release: u8,
+    /// Whether an acknowledgement of On Sight is asked for, 1, or owed, 2.
+    pub on_sight: u8,
+    /// That of Shunting.
+    pub shunting: u8,
+    /// That of level 0.
+    pub level_0: u8,
+    /// 0.
+    pub reserved: [u8; 6],
+}
+
+/// What is known of it.
+#[derive(Clone, Copy)]
+pub struct Told {
+    /// The output.
+    pub output: EtcsOutput,
+    /// How far the train has rolled backward.
+    pub backward: u64,
+    /// How far it may.
+    pub allowed: u64,
+    /// What decides the limit.
+    pub limit: LimitTold,
+    /// The target ahead that does.
+    pub target: Option<Target>,
+    /// Whether a release speed does.
+    pub releases: bool,
+    /// The maximum safe front.
+    pub front: Cm,
+    /// The acknowledgements.
+    pub waiting: Acknowledgements,
+    /// The speed above which the service brake comes.
+    pub service_speed: u32,
+    /// The speed above which the emergency brake comes.
+    pub emergency_speed: u32,
+    /// The speed of the last reading.
+    pub speed: Mph,
+    /// Which causes of a brake hold.
+    pub holds: [u8; 10],
+}
+
+// Which causes hold, in the order of the table.
+fn holds_in(causes: &BrakeCauses) -> [u8; 10]
+    ensures { result ≡ holds_in (marked causes.now) }
+{
+    [
+        u8::from(causes.not_revalidated),
+        u8::from(causes.in_trip),
+        u8::from(causes.in_system_failure),
+        u8::from(causes.owes_trip),
+        u8::from(causes.far_too_fast),
+        u8::from(causes.rolled_too_far),
+        u8::from(causes.asked_for_service),
+        u8::from(causes.too_fast),
+        u8::from(causes.must_stand),
+        u8::from(causes.owes_too_long),
+    ]
+}
+
+// The target ahead that decides the limit.
+fn target_of(decides: &LimitCause) -> Option<Target>
+    ensures { result ≡ target_of decides.now }
+{
+    match decides {
+        LimitCause::Speed(SpeedCause::Ahead(ahead)) => Some(ahead.target),
+        LimitCause::Speed(SpeedCause::OverTrain(_) | SpeedCause::Release(_))
+        | LimitCause::NoSpeed
+        | LimitCause::NoTrainData
+        | LimitCause::National(_) => None,
+    }
+}
+
+// Whether a release speed decides it.
+fn releases(decides: &LimitCause) -> bool
+    ensures { result ≡ releases decides.now }
+{
+    match decides {
+        LimitCause::Speed(SpeedCause::Release(_)) => true,
+        LimitCause::Speed(SpeedCause::OverTrain(_) | SpeedCause::Ahead(_))
+        | LimitCause::NoSpeed
+        | LimitCause::NoTrainData
+        | LimitCause::National(_) => false,
+    }
+}
+
+// How far it is from a place to one ahead of it; 0 where it isn't ahead.
+fn distance_to(from: Cm, place: Cm) -> u64
+    ensures { result ≡ distance_to from place }
+{
+    if from < place {
+        (place.get() - from.get()).unsigned_abs()
+    } else {
+        0
+    }
+}
+
+fn target_distance(front: Cm, target: Option<Target>) -> u64
+    ensures { result ≡ target_distance front target }
+{
+    match target {
+        None => 0,
+        Some(target) => distance_to(front, target.place),
+    }
+}
+
+fn target_speed(target: Option<Target>) -> u32
+    ensures { result ≡ target_speed target }
+{
+    match target {
+        None => 0,
+        Some(target) => target.speed.get(),
+    }
+}
+
+fn waiting_number(waiting: Waiting) -> u8
+    ensures { result ≡ waiting_number waiting }
+{
+    match waiting {
+        Waiting::Nothing => 0,
+        Waiting::Asked => 1,
+        Waiting::Owed(_) => 2,
+    }
+}
+
+fn time_left(waiting: Waiting) -> u64
+    ensures { result ≡ time_left waiting }
+{
+    match waiting {
+        Waiting::Nothing | Waiting::Asked => 0,
+        Waiting::Owed(left) => left,
+    }
+}
+
+// All of it as C sees it.
+fn why_with(told: &Told) -> EtcsUnitWhy
+    ensures { result ≡ why_with told.now }
+{
+    EtcsUnitWhy {
+        output: told.output,
+        backward: told.backward,
+        allowed: told.allowed,
+        place: place_or_zero(told.limit.place),
+        restriction: or_zero(told.limit.number),
+        target_distance: target_distance(told.front, told.target),
+        on_sight_left: time_left(told.waiting.on_sight),
+        shunting_left: time_left(told.waiting.shunting),
+        level_0_left: time_left(told.waiting.level_0),
+        service_speed: told.service_speed,
+        emergency_speed: told.emergency_speed,
+        speed: told.speed.get(),
+        limit_speed: told.limit.speed.get(),
+        target_speed: target_speed(told.target),
+        release_speed: if told.releases { told.output.limit } else { 0 },
+        holds: told.holds,
+        limit_cause: limit_number(told.limit.kind),
+        has_place: flag(told.limit.place),
+        has_restriction: flag(told.limit.number),
+        has_target: flag(told.target),
+        has_release: u8::from(told.releases),
+        on_sight: waiting_number(told.waiting.on_sight),
+        shunting: waiting_number(told.waiting.shunting),
+        level_0: waiting_number(told.waiting.level_0),
+        reserved: [0; 6],
+    }
+}
+
+/// What a state tells of its last event, which has this number.
+pub fn why_told(event: u64, state: &State) -> EtcsUnitWhy
+    ensures { (life : Life) → StandsForLife profile_kept profile_kept state.now life → TellsLifeWhy event life result }
+{
+    let output = state.output();
+    let decides = state.limit_cause();
+    why_with(&Told {
+        output: output_told(event, output),
+        backward: state.rolled_backward(),
+        allowed: state.allowed_backward(),
+        limit: limit_told(output.limit, &decides),
+        target: target_of(&decides),
+        releases: releases(&decides),
+        front: state.max_front(),
+        waiting: state.acknowledgements(),
+        service_speed: state.service_speed(),
+        emergency_speed: state.emergency_speed(),
+        speed: state.speed(),
+        holds: holds_in(&state.brake_causes()),
+    })
+}

@@ -1,0 +1,122 @@
+/* Lives one life, and asks behind each release why the output is what it is; prints what is told as JSON objects on lines. Of each event that
+ * is released etcs_image_why is asked of the medium's bytes too: what both tell is the same. While an event is pending, or its requests aren't
+ * released, etcs_unit_why answers NOT_RELEASED and writes nothing.
+ *
+ *     explained COLD [TRIES]    reads inputs from standard input, one a line (inputs.h), or `flush`; TRIES is written to by the number of answers
+ */
+#include "etcs_image.h"
+#include "inputs.h"
+#include "medium.h"
+
+static const char *const waits[] = {"none", "asked", "owed"};
+
+static unsigned long long wide(uint64_t number) { return (unsigned long long)number; }
+
+/* That nothing is told now. */
+static void untold(const char *what, etcs_unit *unit) {
+    etcs_unit_why_told why, other;
+    memset(&why, 0xAA, sizeof why);
+    memset(&other, 0xAA, sizeof other);
+    is(what, etcs_unit_why(unit, &why), ETCS_UNIT_NOT_RELEASED);
+    is("nothing is written", (uint64_t)memcmp(&why, &other, sizeof why), 0);
+}
+
+static void waiting(const char *kind, uint8_t state, uint64_t left) {
+    printf(",\"%s\":[\"%s\",%llu]", kind, state < 3 ? waits[state] : "?", wide(left));
+}
+
+static void tell(const etcs_unit_why_told *why) {
+    printf("{\"event\":%llu,\"mode\":%u,\"level\":%u,\"brake\":%u,\"indications\":%u,\"limit\":%lu,\"speed\":%lu,\"backward\":%llu,\"allowed\":%llu,\"holds\":[",
+           wide(why->output.event), (unsigned)why->output.mode, (unsigned)why->output.level, (unsigned)why->output.brake, (unsigned)why->output.indications,
+           (unsigned long)why->output.limit_m_per_h, (unsigned long)why->speed_m_per_h, wide(why->backward_cm), wide(why->allowed_backward_cm));
+    for (unsigned i = 0; i < ETCS_BRAKE_CAUSES; i++)
+        printf("%s%u", i ? "," : "", (unsigned)why->holds[i]);
+    printf("],\"limit_cause\":%u,\"limit_cause_speed\":%lu,\"place\":[%u,%lld],\"number\":[%u,%llu],\"target\":[%u,%lu,%llu],\"release\":[%u,%lu],\"service\":%lu,\"emergency\":%lu",
+           (unsigned)why->limit_cause, (unsigned long)why->limit_cause_m_per_h, (unsigned)why->has_place, (long long)why->limit_cause_cm, (unsigned)why->has_restriction,
+           wide(why->restriction), (unsigned)why->has_target, (unsigned long)why->target_m_per_h, wide(why->target_distance_cm), (unsigned)why->has_release,
+           (unsigned long)why->release_m_per_h, (unsigned long)why->service_brake_m_per_h, (unsigned long)why->emergency_brake_m_per_h);
+    waiting("on_sight", why->on_sight, why->on_sight_ms);
+    waiting("shunting", why->shunting, why->shunting_ms);
+    waiting("level_0", why->level_0, why->level_0_ms);
+    printf("}\n");
+}
+
+/* The same of the medium's bytes: the causes that hold, what decides the limit, and the numbers that both tell. */
+static void same(const medium *on, const etcs_unit_why_told *why) {
+    static const uint8_t zeros[sizeof why->reserved] = {0};
+    etcs_image facts;
+    etcs_why image;
+    is("facts", etcs_image_facts(on->bytes, on->len, &facts), ETCS_UNIT_OK);
+    is("why, of the image", etcs_image_why(on->bytes, on->len, facts.newest, why->output.event, &image), ETCS_UNIT_OK);
+    is("event", why->output.event, image.event);
+    is("brake", why->output.brake, image.brake);
+    is("limit", why->output.limit_m_per_h, image.limit_m_per_h);
+    is("speed", why->speed_m_per_h, image.speed_m_per_h);
+    is("backward", why->backward_cm, image.backward_cm);
+    is("allowed backward", why->allowed_backward_cm, image.allowed_backward_cm);
+    is("causes", (uint64_t)memcmp(why->holds, image.holds, sizeof image.holds), 0);
+    is("limit cause", why->limit_cause, image.limit_cause);
+    is("its speed", why->limit_cause_m_per_h, image.limit_cause_m_per_h);
+    is("its place", (uint64_t)why->limit_cause_cm, (uint64_t)image.limit_cause_cm);
+    is("it has a place", why->has_place, image.has_place);
+    is("its number", why->restriction, image.restriction);
+    is("it has a number", why->has_restriction, image.has_restriction);
+    is("zeros", (uint64_t)memcmp(why->reserved, zeros, sizeof zeros), 0);
+}
+
+/* What is told behind a release. */
+static void ask(const medium *on, etcs_unit *unit, const etcs_unit_output *last) {
+    etcs_unit_why_told why, again;
+    memset(&why, 0xAA, sizeof why);
+    is("why", etcs_unit_why(unit, &why), ETCS_UNIT_OK);
+    is("again", etcs_unit_why(unit, &again), ETCS_UNIT_OK);
+    is("it is told again", (uint64_t)memcmp(&why, &again, sizeof why), 0);
+    if (last != NULL)
+        is("it is the last output", (uint64_t)memcmp(&why.output, last, sizeof *last), 0);
+    same(on, &why);
+    tell(&why);
+}
+
+/* Carries out the requests one by one, and releases; before that nothing is told. */
+static void flush(medium *on, etcs_unit *unit, int prepares) {
+    etcs_unit_output outputs[ETCS_UNIT_OUTPUTS];
+    etcs_unit_request_told request;
+    uint8_t bytes[ETCS_UNIT_REQUEST_BYTES];
+    uint32_t count = 0, index = 0;
+    if (prepares)
+        is("prepare", etcs_unit_prepare(unit), ETCS_UNIT_OK);
+    while (etcs_unit_request(unit, index, &request, bytes, sizeof bytes) == ETCS_UNIT_OK) {
+        untold("why, before its requests are done", unit);
+        do_on(on, &request, bytes);
+        index++;
+        is("done", etcs_unit_done(unit, index), ETCS_UNIT_OK);
+    }
+    if (index > 0)
+        untold("why, before the release", unit);
+    is("release", etcs_unit_release(unit, outputs, ETCS_UNIT_OUTPUTS, &count), ETCS_UNIT_OK);
+    ask(on, unit, count > 0 ? &outputs[count - 1] : NULL);
+}
+
+int main(int count, char **words) {
+    char line[1024];
+    etcs_unit unit = {0};
+    medium on = formatted(64);
+    unsigned pending = 0;
+    is("open", etcs_unit_open(&unit, on.bytes, on.len, count > 1 ? (uint32_t)strtoul(words[1], NULL, 10) : 0), ETCS_UNIT_OK);
+    flush(&on, &unit, 0);
+    while (fgets(line, sizeof line, stdin)) {
+        if (strcmp(line, "flush\n") != 0) {
+            is(line, take(&unit, line), ETCS_UNIT_OK);
+            untold("why, while it is pending", &unit);
+            pending++;
+        }
+        if (pending == 8 || (pending > 0 && strcmp(line, "flush\n") == 0)) {
+            flush(&on, &unit, 1);
+            pending = 0;
+        }
+    }
+    etcs_unit_close(&unit);
+    free(on.bytes);
+    printf("{\"tried\":%u}\n", tried);
+    return wrong > 0;
+}

@@ -1,5 +1,5 @@
 """The words of `./lab`: `table`, `timeline`, `database`, `report`, `check`, `seal`, `verify`, `diff`, `join`, `follow`, `build`,
-`test`, `coverage`, `lint`, `drive`, `campaign`, `compare`."""
+`test`, `coverage`, `lint`, `drive`, `sweep`, `campaign`, `compare`."""
 import argparse
 import hashlib
 import os
@@ -9,7 +9,7 @@ from importlib.util import find_spec
 from pathlib import Path
 from typing import NoReturn
 
-from . import archive_words, campaign_words, check_words, coverage, difference_words, drive_words, files, lint_words, measured_words, scenarios, seal_words
+from . import archive_words, campaign_words, check_words, coverage, difference_words, drive_words, files, lint_words, measured_words, scenarios, seal_words, sweep_words
 from .last_net import caught, say
 from .program import DEVICE, NOT_WHOLE, REFUSED, WRONG_WORDS, Failed, version
 from .progress import Terminal
@@ -96,6 +96,7 @@ def words() -> argparse.ArgumentParser:
     add_suites(word)
     lint_words.add_words(word)
     drive_words.add_words(word)
+    sweep_words.add_words(word)
     campaign_words.add_words(word)
     return lab
 
@@ -321,7 +322,7 @@ def tell_coverage(told: argparse.Namespace, progress: Progress) -> None:
 
 WORDS: dict[str, Callable[[argparse.Namespace, Progress], int | None]]
 WORDS = {"table": write_table, "timeline": write_timeline, "database": write_database, "report": write_report, "build": write_scenario, "test": run_tests,
-         "coverage": tell_coverage, **check_words.WORDS, **seal_words.WORDS, **difference_words.WORDS, **archive_words.WORDS, **lint_words.WORDS, **drive_words.WORDS,
+         "coverage": tell_coverage, **check_words.WORDS, **seal_words.WORDS, **difference_words.WORDS, **archive_words.WORDS, **lint_words.WORDS, **drive_words.WORDS, **sweep_words.WORDS,
          **campaign_words.WORDS}
 
 

@@ -116,9 +116,19 @@ def drive(life: Life, image: Path) -> Driven | None:
 
 def with_trains(records: list[Json], driven: list[Driven | None]) -> list[Json]:
     """The records with the train itself, where there is one."""
-    rows = {event: row for one in driven if one for row in one.rows for event in range(row.first_event, row.event + 1)}
-    return [with_train(record, rows[record["event"]].place_cm, rows[record["event"]].speed_m_per_h)
-            if record["event"] in rows else record for record in records]
+    rows = {event: (row, location) for one in driven if one for location in (location_of(one),) for row in one.rows
+            for event in range(row.first_event, row.event + 1)}
+    found = []
+    for record in records:
+        row, location = rows.get(record["event"], (None, None))
+        found.append(with_train(record, row.place_cm, row.speed_m_per_h, location) if row else record)
+    return found
+
+
+def location_of(driven: Driven) -> int | None:
+    """The supervised location of the authority that was heard last in a drive."""
+    ends = closed_loop.ends_of(driven)
+    return ends[1] if ends else None
 
 
 def check_image(journal: Journal) -> None:

@@ -75,7 +75,7 @@ def values_of(at: Value) -> list[str]:
     if at.is_list():
         found = [one.text() for one in at.elements()]
     else:
-        found = [format(number, "f") for number in range_of(at)]
+        found = [format(number.normalize(), "f") for number in range_of(at)]
     if len(set(found)) != len(found) or not found:
         raise at.fault("a parameter has one value at least, and none twice")
     return found
@@ -197,9 +197,9 @@ def at_point(sweep: Sweep, point: Point) -> tuple[Case, list[Outcome], set[str]]
     expected = [cases.expected_of(one, [], "", marks, is_driven) for one in told["expected"].elements()] if "expected" in told else []
     slots = told["slots"].integer(2, cases.MOST_SLOTS) if "slots" in told else cases.slots_of(lives)
     outcomes = [outcome_of(one, marks, is_driven) for one in told["tell"].elements()]
-    names = [one.name for one in outcomes]
-    if not names or len(set(names)) != len(names):
-        raise told["tell"].fault("something is told, and nothing by a name twice")
+    names = [*point, *(one.name for one in outcomes)]
+    if not outcomes or len(set(names)) != len(names):
+        raise told["tell"].fault("something is told, and no name is that of another outcome or of a parameter")
     return Case(sweep.at, sweep.name, "", [], "", "", slots, lives, expected), outcomes, filling.used
 
 

@@ -47,7 +47,8 @@ expected:
   - {note: runs, at: {train_speed_kmh: {least: 20}}, expect: {mode: FS, brake: none}}
   - {note: within the limit, from: {mark: started}, always: {above_limit_kmh: {most: 0}}}
   - {note: no brake, from: {mark: started}, never: {brake: [service, emergency]}}
-  - {note: stands, at: end, expect: {train_speed_kmh: 0, train_place_m: {least: 260, most: 280.95}}}
+  - {note: stands, at: end, expect: {train_speed_kmh: 0, train_place_m: {least: 260, most: 280.95},
+        beyond_location_m: {least: -40, most: -19.05}}}
 """
 NOTES = {"runs", "within the limit", "no brake", "stands"}
 
@@ -254,11 +255,11 @@ class Loops(unittest.TestCase):
         self.assertEqual([step["drive"] for step in driven.steps if "drive" in step][0], [1000, 5000])
 
     def test_a_speedometer_and_readings_that_are_off(self) -> None:
-        words = "build_up: 1 s, speedometer: 90 %, reading_error: 10 cm"
+        words = "build_up: 1 s, speedometer: 90 %, reading_error: 20 cm"
         scenario, drive = self.written(DRIVE.replace("build_up: 1 s", words).replace("lasts: 100 s", "lasts: 2 s"))
         told = [step["drive"] for step in driving.play(PlainUnit(), scenario, drive).steps if "drive" in step]
-        # The front is at 8, 30, 68, 120, and it is told 18, then 20 and not less than before, 78, 110.
-        self.assertEqual(told, [[18, 972], [2, 1944], [58, 2916], [32, 3888]])
+        # The front is at 8, 30, 68, 120. It is told 28, then not 10 but as before, 88, 100.
+        self.assertEqual(told, [[28, 972], [0, 1944], [60, 2916], [12, 3888]])
 
     def test_an_antenna_behind_the_front(self) -> None:
         groups = 'groups: [{at: 1 m, spacing: 1 m, balises: ["9000", "9001"]}]\n'

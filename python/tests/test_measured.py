@@ -59,7 +59,7 @@ class Reaching(unittest.TestCase):
 
     def test_an_acknowledgement_that_is_contradicted_is_followed_no_further(self) -> None:
         shown = {"indications": ["on_sight"]}
-        found = reached(life({"kind": "clock"}, {"kind": "clock", **shown}, {"kind": "clock"}))
+        found = reached(life({"kind": "clock"}, {"kind": "clock", **shown}, {"kind": "driver", "action": "acknowledge", "acknowledged": "on_sight"}))
         self.assertEqual(found["acknowledgement cells"], {f"{kind}: nothing, then settled" for kind in ("on_sight", "shunting", "level_0")})
 
     def test_ends_of_causes(self) -> None:
@@ -76,7 +76,7 @@ class Reaching(unittest.TestCase):
         self.assertEqual(ends("owes_too_long", moving, action(2, "close_desk", mode="SB")), {"owes_too_long: a mode deletes it"})
         # At a power-up a cause is no more, and only System Failure says that it ends so.
         power_up = record(2, life=2, kind="powerup", word="unknown")
-        self.assertEqual(ends("far_too_fast", moving, power_up), set())
+        self.assertEqual(ends("too_fast", moving, power_up), set())
         self.assertEqual(ends("in_system_failure", moving, power_up), {"in_system_failure: at a power-up alone"})
 
     def test_members_are_those_of_the_tables(self) -> None:

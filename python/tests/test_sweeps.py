@@ -23,7 +23,9 @@ tell:
   - {name: most, most: place_m, where: {kind: odometer}}
   - {name: none, least: limit_kmh, where: {mode: SF}}
   - {name: readings, count: {kind: odometer}}
-  - {name: brake, at: {kind: odometer}, value: brake}
+  - {name: least, least: place_m, where: {kind: odometer}}
+  - {name: first, at: {kind: odometer}, value: place_m}
+  - {name: brake, at: end, value: brake}
 expected: [{note: slow, at: {mark: there}, expect: {speed_kmh: {most: 20}}}]
 """
 
@@ -35,8 +37,9 @@ def played(case: Case, keep: object = None, why: bool = False) -> Played:
     way, speed = scenario.steps[-1]["drive"]
     if (way, speed) == (2000, 30_000):
         raise Missed("one end", "another")
-    records = with_speeds([record(0, "powerup", word="unknown"), record(1), reading(2, speed, place_cm=way, brake="service")])
-    return Played(records, {"there": 2})
+    first, last = reading(1, speed, place_cm=way // 2), reading(3, speed, place_cm=way, brake="service")
+    records = with_speeds([record(0, "powerup", word="unknown"), first, reading(2, speed, place_cm=way // 4), last])
+    return Played(records, {"there": 3})
 
 
 class Sweeps(unittest.TestCase):
@@ -65,24 +68,25 @@ class Sweeps(unittest.TestCase):
         case, outcomes, used = sweeps.at_point(sweep, {"way": "20", "speed": "30"})
         assert case.lives[0].scenario is not None
         self.assertEqual(case.lives[0].scenario.steps, [{"driver": [2, 20]}, {"drive": [2000, 30_000]}])
-        self.assertEqual((used, len(outcomes)), ({"way", "speed"}, 5))
+        self.assertEqual((used, len(outcomes)), ({"way", "speed"}, 7))
         decimals = self.read(SWEEP.replace("10..30 step 10", "0.5..1.25 step 0.25")).parameters["speed"]
         self.assertEqual(decimals, ["0.5", "0.75", "1", "1.25"])
         self.assertEqual(len(self.read(SWEEP.replace("10..30 step 10", "1..63")).points()), 126)
 
     def test_what_is_told(self) -> None:
         _, told = self.told()
-        self.assertEqual(told[1].cells, {"run": Decimal(20), "most": Decimal(10), "none": None, "readings": 1, "brake": "service"})
+        self.assertEqual(told[1].cells, {"run": Decimal(20), "most": Decimal(10), "none": None, "readings": 3, "least": Decimal("2.5"),
+                                         "first": Decimal(5), "brake": "service"})
         self.assertEqual([one.missed for one in told], [(), (), ("slow",), (), (), ()])
         self.assertEqual(told[5].fault, "expected: one end found: another")
 
     def test_tables(self) -> None:
         sweep, told = self.told()
         text = sweep_told.as_text(sweep, told).splitlines()
-        self.assertEqual(text[0].split(), ["way", "speed", "run", "most", "none", "readings", "brake", "missed", "fault"])
-        self.assertEqual(text[3].split(), ["10", "30", "30", "10", "-", "1", "service", "slow", "-"])
+        self.assertEqual(text[0].split(), ["way", "speed", "run", "most", "none", "readings", "least", "first", "brake", "missed", "fault"])
+        self.assertEqual(text[3].split(), ["10", "30", "30", "10", "-", "3", "2.5", "5", "service", "slow", "-"])
         written = sweep_told.as_csv(sweep, told)
-        self.assertTrue(written.startswith("point,way,speed,run,most,none,readings,brake,missed,fault\n1,10,10,10,10,,1,service,,\n"))
+        self.assertTrue(written.startswith("point,way,speed,run,most,none,readings,least,first,brake,missed,fault\n1,10,10,10,10,,3,2.5,5,service,,\n"))
         self.assertTrue(files.SWEEP_TABLE.is_own(written.encode()))
 
     def test_maps(self) -> None:
@@ -94,7 +98,7 @@ class Sweeps(unittest.TestCase):
         self.assertEqual([(one.text, one.paper, one.ink) for one in (first[0], first[2], second[2])],
                          [("10", "#eff6fb", "#1c2733"), ("30", "#005a8c", "#ffffff"), ("–", "#ffffff", "#1c2733")])
         self.assertEqual((drawn["brake"].span, drawn["brake"].lines[0][1][0].paper), (None, "#E69F00"))
-        self.assertEqual([one.fixed for one in drawn.values()], [{}] * 5)
+        self.assertEqual([one.fixed for one in drawn.values()], [{}] * 7)
         page = sweep_told.as_page(sweep, told)
         self.assertTrue(files.REPORT.is_own(page.encode()[:files.FIRST_BYTES]))
         self.assertIn("at 1 points expected results didn&#39;t come", page.replace("didn't", "didn&#39;t"))

@@ -311,6 +311,7 @@ def run_tests(told: argparse.Namespace, progress: Progress) -> None:
 
 def tell_coverage(told: argparse.Namespace, progress: Progress) -> None:
     """The word `coverage`."""
+    measured_words.check(told)
     if told.measured:
         return measured_words.tell(told, progress)
     found = coverage.matrix(told.folder)

@@ -312,6 +312,16 @@ class Loops(unittest.TestCase):
                 self.written(wrong)
             self.assertTrue(str(found.exception).removeprefix(f"{self.folder}/").startswith(said), f"{found.exception}\n{said}")
 
+    def test_a_long_drive(self) -> None:
+        """Its journal has the newest blocks alone, so that no case has such a drive."""
+        scenario, drive = self.written(DRIVE.replace("100 s", "40000 s"))
+        self.assertEqual((drive.cycles, drives.slots_for(scenario, drive)), (80_000, 65_536))
+        (self.folder / "x.case.yaml").write_text(CASE, encoding="utf-8")
+        with self.assertRaisesRegex(Failed, "x.case.yaml:6:9: the drives of a case have at most 65,536 time steps"):
+            cases.read(self.folder / "x.case.yaml")
+        self.written(DRIVE.replace("100 s", "32000 s"))
+        self.assertEqual(cases.read(self.folder / "x.case.yaml")[0].slots, 64 + 8 + 64_000 + 5)
+
     def test_without_a_drive(self) -> None:
         (self.folder / "x.case.yaml").write_text(CASE.replace("scenario: drive.yaml", "steps: [start, {mark: started}]"), encoding="utf-8")
         with self.assertRaisesRegex(Failed, '"train_speed_kmh" can\'t stand here'):

@@ -5,7 +5,8 @@ from pathlib import Path
 from typing import Any
 from unittest.mock import patch
 
-from gaknifur import measured, measures
+from gaknifur import measured, measured_words, measures
+from gaknifur.__main__ import understood
 from gaknifur.causes import Known as Causes
 from gaknifur.causes import Trip
 from gaknifur.measured import Measured, add_floors, check_floors
@@ -92,6 +93,17 @@ class Reaching(unittest.TestCase):
         self.addCleanup(measures.actions.cache_clear)
         with patch.object(measures, "table", lambda heading: ((), ("leave the cab", "FS", "yes", "", ""))):
             self.assertRaisesRegex(Failed, '"leave the cab" isn\'t recognised', measures.actions)
+
+
+class Words(unittest.TestCase):
+    """The words of `lab coverage` that measure."""
+
+    def test_words_that_ask_for_another(self) -> None:
+        for word in (["--reached", "x"], ["--cases"]):
+            with self.assertRaisesRegex(Failed, f"{word[0]} is a word of coverage --measured") as found:
+                measured_words.check(understood(["coverage", "suites", *word]))
+            self.assertEqual(found.exception.status, 2)
+        measured_words.check(understood(["coverage", "suites", "--measured", "--cases"]))
 
 
 class Floors(unittest.TestCase):

@@ -78,7 +78,7 @@ def play_all(cases: list[Case], progress: Progress = silent) -> ByCase:
 
 def text_of(found: ByCase) -> str:
     """The file."""
-    return json.dumps({"reached_by": found}, ensure_ascii=False, indent=1) + "\n"
+    return HEAD.decode() + json.dumps(found, ensure_ascii=False, indent=1) + "}\n"
 
 
 def read(path: Path) -> ByCase:

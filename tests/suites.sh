@@ -1,7 +1,7 @@
 #!/bin/bash
 # The corpus of test cases in suites/, on the programs that the gate leaves behind: each result comes, each section and transition has
-# a case or a reason, what is untrue fails, what is weak on a track is found, and docs/TESTING_A_TRAIN.md prints what it says; and a search
-# over random lives.
+# a case or a reason, what the records reach is measured and all that can be is reached, what is untrue fails, what is weak on a track is
+# found, and docs/TESTING_A_TRAIN.md prints what it says; and a search over random lives.
 #
 #     tests/suites.sh [ETCS_LAB ETCS]    on other programs
 lab=${1:-$(dirname "$(readlink -f -- "$0")")/../crates/etcs_lab/out/etcs_lab}
@@ -9,13 +9,15 @@ etcs=${2:-$(dirname "$(readlink -f -- "$0")")/../crates/etcs/out/etcs}
 lab=$(realpath "$lab") && etcs=$(realpath "$etcs") || exit 1
 cd "$(dirname "$(readlink -f -- "$0")")/.." || exit 1
 export PYTHONDONTWRITEBYTECODE=1 GAKNIFUR_ETCS_LAB=$lab GAKNIFUR_ETCS=$etcs
-least=550 # results
+least=670 # results
+made=$(mktemp -d) || exit 1
+trap 'rm -rf "$made"' EXIT
 for program in "$lab" "$etcs"; do
     [ -x "$program" ] || { echo "there is no program $program: rt ci makes it"; exit 1; }
 done
 tools/python --checks || exit 1
 status=0
-told=$(./lab test suites 2>&1) || status=1
+told=$(./lab test suites --reached "$made/reached.json" 2>&1) || status=1
 count=$(sed -n 's/^\([0-9]*\) passed in .*/\1/p' <<< "$told")
 if [ $status -ne 0 ] || [ "${count:-0}" -lt $least ]; then
     status=1
@@ -24,6 +26,7 @@ fi
 echo "suites: ${count:-no} results came"
 covered=$(./lab coverage suites 2>&1) || { status=1; echo "$covered"; }
 tail -n 1 <<< "$covered"
+/usr/bin/python3 tests/suites/measured_rows.py "$made/reached.json" || status=1
 /usr/bin/python3 tests/suites/limits.py "$etcs" "$lab" || status=1
 /usr/bin/python3 tests/suites/control.py "$etcs" "$lab" || status=1
 /usr/bin/python3 tests/suites/lint_rows.py "$etcs" "$lab" || status=1

@@ -1,5 +1,5 @@
 """The words of `./lab`: `table`, `timeline`, `database`, `report`, `check`, `seal`, `verify`, `diff`, `join`, `follow`, `build`,
-`test`, `coverage`, `lint`, `drive`, `campaign`, `compare`."""
+`test`, `coverage`, `lint`, `drive`, `sweep`, `campaign`, `compare`."""
 import argparse
 import hashlib
 import os
@@ -9,7 +9,7 @@ from importlib.util import find_spec
 from pathlib import Path
 from typing import NoReturn
 
-from . import archive_words, campaign_words, check_words, coverage, difference_words, drive_words, files, lint_words, scenarios, seal_words
+from . import archive_words, campaign_words, check_words, coverage, difference_words, drive_words, files, lint_words, measured_words, scenarios, seal_words, sweep_words
 from .last_net import caught, say
 from .program import DEVICE, NOT_WHOLE, REFUSED, WRONG_WORDS, Failed, version
 from .progress import Terminal
@@ -96,6 +96,7 @@ def words() -> argparse.ArgumentParser:
     add_suites(word)
     lint_words.add_words(word)
     drive_words.add_words(word)
+    sweep_words.add_words(word)
     campaign_words.add_words(word)
     return lab
 
@@ -113,6 +114,7 @@ def add_suites(word: Callable[[str, str, str], argparse.ArgumentParser]) -> None
     test.add_argument("--section", action="append", default=[], help="only results about this section, or a part of it")
     test.add_argument("--feature", action="append", default=[], help="only cases of this feature")
     test.add_argument("--junitxml", "--junit-xml", metavar="OUT.xml", type=Path, help="the results, for other programs")
+    test.add_argument("--reached", metavar="OUT.json", type=Path, help="what each case reaches, for coverage --measured --reached")
     test.add_argument("--python", action="store_true", help="also run what the folder has for pytest: conftest.py, settings, "
                       "modules of tests. They are programs, and may do whatever you may")
     add_force(test)
@@ -120,6 +122,7 @@ def add_suites(word: Callable[[str, str, str], argparse.ArgumentParser]) -> None
     told = word("coverage", "tells which sections and transitions the cases of a folder are about",
                 "1 where one that the product covers has no case, and no reason why.")
     told.add_argument("folder", metavar="FOLDER", type=Path)
+    measured_words.add_words(told)
 
 
 def add_all(parser: argparse._ActionsContainer) -> None:
@@ -286,8 +289,10 @@ def run_tests(told: argparse.Namespace, progress: Progress) -> None:
     for word in told.others:
         if word.partition("=")[0] in WRITING:
             raise Failed(f"pytest's {word} isn't taken here, since it writes over what is there", WRONG_WORDS)
+    from . import measured, reaching
     out = files.Out(told.junitxml, files.JUNIT, told.force) if told.junitxml else None
-    files.check_all([out] if out else [])
+    reached = files.Out(told.reached, measured.FILE, told.force) if told.reached else None
+    files.check_all([one for one in (out, reached) if one])
     root = told.folder if told.folder.is_dir() else told.folder.parent
     selected = [f"--{name}={one}" for name in ("section", "feature") for one in getattr(told, name)]
     selected += [f"--keep={told.keep}"] if told.keep else []
@@ -295,7 +300,7 @@ def run_tests(told: argparse.Namespace, progress: Progress) -> None:
         status = begun(told.folder, [
             "-q", "--no-header", *PLUGIN, "-o", f"cache_dir={results_of(root)}", "-W",
             "ignore::pytest.PytestCacheWarning", f"--rootdir={root}", *([] if told.python else WITHOUT_PYTHON), *words,
-            str(told.folder), *selected, *told.others], plugins)
+            str(told.folder), *selected, *told.others], plugins + ([reaching.Reaches(reached)] if reached else []))
     if status == pytest.ExitCode.NO_TESTS_COLLECTED:
         raise Failed(f"{told.folder}: there is no such test", REFUSED)
     if status == pytest.ExitCode.USAGE_ERROR:
@@ -306,6 +311,9 @@ def run_tests(told: argparse.Namespace, progress: Progress) -> None:
 
 def tell_coverage(told: argparse.Namespace, progress: Progress) -> None:
     """The word `coverage`."""
+    measured_words.check(told)
+    if told.measured:
+        return measured_words.tell(told, progress)
     found = coverage.matrix(told.folder)
     sys.stdout.write(coverage.told(found))
     sys.stdout.flush()
@@ -315,7 +323,7 @@ def tell_coverage(told: argparse.Namespace, progress: Progress) -> None:
 
 WORDS: dict[str, Callable[[argparse.Namespace, Progress], int | None]]
 WORDS = {"table": write_table, "timeline": write_timeline, "database": write_database, "report": write_report, "build": write_scenario, "test": run_tests,
-         "coverage": tell_coverage, **check_words.WORDS, **seal_words.WORDS, **difference_words.WORDS, **archive_words.WORDS, **lint_words.WORDS, **drive_words.WORDS,
+         "coverage": tell_coverage, **check_words.WORDS, **seal_words.WORDS, **difference_words.WORDS, **archive_words.WORDS, **lint_words.WORDS, **drive_words.WORDS, **sweep_words.WORDS,
          **campaign_words.WORDS}
 
 

@@ -28,7 +28,8 @@ NUMBERS = ("event", "life", "block", "level", "time_ms", "place_cm", "place_m", 
 SHOWS = tuple(f"shows_{name}" for name in INDICATIONS)
 UNKNOWN = "unknown"
 CONDITION = (*NUMBERS, *WORDS, *SHOWS, "indications")
-DRIVEN = ("train_place_cm", "train_place_m", "train_speed_m_per_h", "train_speed_kmh", "above_limit_m_per_h", "above_limit_kmh")
+DRIVEN = ("train_place_cm", "train_place_m", "train_speed_m_per_h", "train_speed_kmh", "above_limit_m_per_h", "above_limit_kmh",
+          "beyond_location_cm", "beyond_location_m")
 """What is known of the train itself, where a life is a drive in a closed loop."""
 WITHIN = {"within_events": "event", "within_ms": "time_ms", "within_cm": "place_cm"}
 EXPECTED = ("note", "sections", "rule", "at", "expect", "row", "from", "until", "where", "always", "never", "after", *WITHIN)
@@ -284,7 +285,11 @@ def life_of(at: Value, shared: scenarios.Shared) -> Life:
 def slots_of(lives: list[Life]) -> int:
     """How many slots an image has where none are told: drives need one for each time step."""
     needed = sum(drives.slots_for(life.scenario, life.drive) for life in lives if life.scenario and life.drive)
-    return min(MOST_SLOTS, USUAL_SLOTS + needed)
+    for life in lives:
+        if needed >= drives.MOST_SLOTS and life.drive:
+            raise life.at.fault(f"the drives of a case have at most {drives.MOST_SLOTS:,} time steps and events, since each is judged "
+                                "by its record")
+    return USUAL_SLOTS + needed
 
 
 def shows_of(at: Value) -> list[Value]:
@@ -294,6 +299,15 @@ def shows_of(at: Value) -> list[Value]:
         if one.text() != ADVICE:
             one.integer(1, MOST_ITEM)
     return found
+
+
+def marks_of(at: Value, lives: list[Life]) -> Counter[str]:
+    """The marks of lives, each of which marks one event."""
+    marks = Counter(name for life in lives if life.scenario for name in life.scenario.marks)
+    for name, times in marks.items():
+        if times > 1:
+            raise at.fault(f"\"{shortened(name)}\" marks more than one event")
+    return marks
 
 
 def case_of(at: Value) -> Case:
@@ -306,10 +320,7 @@ def case_of(at: Value) -> Case:
     case = Case(at, told["test_case"].text(), told["feature"].text(), sections_of(told["sections"]), told["rule"].text(),
                 told["starting_conditions"].text(), told["slots"].integer(2, MOST_SLOTS) if "slots" in told else slots_of(lives), lives,
                 shows=shows_of(told["shows"]) if "shows" in told else [])
-    marks = Counter(name for life in lives if life.scenario for name in life.scenario.marks)
-    for name, times in marks.items():
-        if times > 1:
-            raise told["lives"].fault(f"\"{shortened(name)}\" marks more than one event")
+    marks = marks_of(told["lives"], lives)
     for one in told["expected"].elements() if "expected" in told else []:
         case.expected.append(expected_of(one, case.sections, case.rule, marks, any(life.drive for life in lives)))
     if not case.expected and not any(life.ends for life in lives):
@@ -371,9 +382,11 @@ def derived(record: dict[str, Any]) -> dict[str, Any]:
     return found
 
 
-def with_train(record: dict[str, Any], place_cm: int, speed_m_per_h: int) -> dict[str, Any]:
-    """A record with the train itself as it was at the end of the time step."""
+def with_train(record: dict[str, Any], place_cm: int, speed_m_per_h: int, location_cm: int | None = None) -> dict[str, Any]:
+    """A record with the train itself as it was at the end of the time step, and how far beyond the supervised location."""
     above = speed_m_per_h - record["limit_m_per_h"]
+    beyond = None if location_cm is None else place_cm - location_cm
     return record | {"train_place_cm": place_cm, "train_place_m": Decimal(place_cm) / 100, "train_speed_m_per_h": speed_m_per_h,
                      "train_speed_kmh": Decimal(speed_m_per_h) / 1000, "above_limit_m_per_h": above,
-                     "above_limit_kmh": Decimal(above) / 1000}
+                     "above_limit_kmh": Decimal(above) / 1000, "beyond_location_cm": beyond,
+                     "beyond_location_m": None if beyond is None else Decimal(beyond) / 100}

@@ -2,15 +2,15 @@
 
 In each time step the driver decides by what he was shown last, the train moves by his and the unit's commands, and the
 unit is told the moment, the odometer and each balise that was passed; then the driver does what else he does. The train
-is a point that moves on level track: what it does between two steps is worked out, and nothing of it is proved. The
-unit is anything with the calls of `unit.Unit`.
+is a point that moves on level track, whose antenna may lie behind it: what it does between two steps is worked out, and
+nothing of it is proved. The unit is anything with the calls of `unit.Unit`.
 """
 from collections.abc import Iterable
 from dataclasses import dataclass, field
 from typing import Any, Protocol
 
 from .drives import Act, Drive, Driver, Train, When
-from .scenarios import LONGEST_CM, Scenario
+from .scenarios import ACKNOWLEDGED, LONGEST_CM, Scenario
 from .unit import OUTPUTS, Action, Brake, Indication, Level, Mode, Output, TrainData
 
 MODES = {Mode.FULL_SUPERVISION: "FS", Mode.ON_SIGHT: "OS", Mode.STAFF_RESPONSIBLE: "SR", Mode.SHUNTING: "SH",
@@ -84,7 +84,7 @@ class Motion:
         if not self.train.build_up_ms:
             self.braking = wanted
             return wanted
-        rate = 1000 * max(self.train.service, self.train.emergency) / self.train.build_up_ms
+        rate = 1000 * self.train.strongest / self.train.build_up_ms
         needs = abs(wanted - self.braking) / rate
         before, part = self.braking, min(seconds, needs)
         self.braking = wanted if needs <= seconds else before + (rate if wanted > before else -rate) * seconds
@@ -93,8 +93,8 @@ class Motion:
     def move(self, moment: int, ms: int, power: float) -> None:
         """Moves for some ms from a moment on."""
         seconds = ms / 1000
-        braking = self.brake(self.due(moment), seconds)
-        change = power * self.train.acceleration - braking
+        braking, grip = self.brake(self.due(moment), seconds), self.train.grip(self.place)
+        change = grip * (power * self.train.rate("acceleration", self.m_per_h) - braking)
         before, after = self.speed, self.speed + change * seconds
         if after > 0:
             self.place += (before + after) / 2 * seconds
@@ -117,12 +117,18 @@ class Driving:
     def __init__(self, driver: Driver) -> None:
         self.driver, self.heeds = driver, driver.heeds
         self.limit: int | None = None
+        self.limits: list[int] = []
+        """The limits that he was shown, as far back as he is late."""
+        self.shown: dict[str, int] = {}
+        """Since when he is shown what he is to acknowledge."""
         self.fall = 0.0
         self.left: list[tuple[Act, int | None]] = [(act, None) for act in driver.acts]
         """What he hasn't done yet, and since when it is to be done."""
 
     def decide(self, speed: float, limit: int, ms: int) -> tuple[float, float]:
         """How much of its power the train pulls with, and of its service brake it brakes with."""
+        self.limits = [*self.limits, limit][-1 - -(-self.driver.late_ms // ms):]
+        limit = self.limits[0]
         self.fall = max(0.0, ((self.limit or limit) - limit) / ms * 1000)
         self.limit = limit
         if self.heeds == "nothing":
@@ -133,7 +139,8 @@ class Driving:
         return (1.0, 0.0) if speed < aim - BAND / 2 else (0.0, 0.0)
 
     def acts(self, moment: int, motion: Motion, output: Output) -> Iterable[list[Any]]:
-        """The actions that are due, each once."""
+        """The actions that are due, each once; and what he acknowledges."""
+        yield from self.acknowledgements(moment, motion, output)
         left = []
         for act, since in self.left:
             if since is None and is_so(act.when, moment, motion, output):
@@ -145,6 +152,17 @@ class Driving:
             else:
                 yield act.action
         self.left = left
+
+    def acknowledgements(self, moment: int, motion: Motion, output: Output) -> Iterable[list[Any]]:
+        """What he acknowledges: what has been shown for so long; a trip at standstill alone."""
+        if self.driver.acknowledges_ms is None:
+            return
+        for word, code in ACKNOWLEDGED.items():
+            if Indication[word.upper()] not in output.indications or word == "trip" and not motion.stands:
+                self.shown.pop(word, None)
+            elif self.shown.setdefault(word, moment) + self.driver.acknowledges_ms <= moment:
+                del self.shown[word]
+                yield [10, code]
 
 
 def is_so(when: When, moment: int, motion: Motion, output: Output) -> bool:
@@ -201,14 +219,16 @@ class Loop:
         self.unit, self.scenario, self.drive = unit, scenario, drive
         self.driven, self.output, self.pending, self.moment = Driven(), BEFORE, 0, 0
         self.balises: list[tuple[int, int, str]] = [
-            (group["at"] + number * group["spacing"], group["at"], digits)
+            (group["at"] + number * group["spacing"] + drive.train.antenna_cm, group["at"], digits)
             for group in scenario.groups for number, digits in enumerate(group["balises"])]
-        """Where each balise lies, where its group begins, and what it sends, in the order in which a train passes them."""
+        """Where the front is when each balise is read, where its group begins, and what it sends, in that order."""
         self.balises.sort(key=lambda balise: balise[0])
         self.motion = Motion(drive.train)
         self.told_cm, self.share = 0, 1.0
         self.base: tuple[float, int] = 0.0, 0
         """From where on the odometer tells that share of the way, and what it had told then."""
+        self.error_cm = 0
+        """By how much the readings of a time step are off."""
 
     def accept(self, step: dict[str, Any], origin_cm: float | None = None) -> None:
         """Hands the unit one event, told as the step of a scenario; of a telegram it may be told where its group begins. Where
@@ -218,7 +238,8 @@ class Loop:
         (word, value), = step.items()
         if word == "telegram":
             self.unit.telegram(bytes.fromhex(value))
-            self.driven.heard.append((self.motion.place if origin_cm is None else origin_cm, value))
+            here = self.motion.place - self.drive.train.antenna_cm
+            self.driven.heard.append((here if origin_cm is None else origin_cm, value))
         elif word == "drive":
             self.unit.odometer(*value)
         elif word == "clock":
@@ -265,9 +286,13 @@ class Loop:
         self.read(speed, not is_told or self.told_here() != self.told_cm)
 
     def told_here(self) -> int:
-        """What the odometer tells of the whole way up to where the train is."""
+        """What the odometer tells of the whole way up to where the train is. With an error it neither goes back, nor on while
+        the train stands."""
         place, told = self.base
-        return told + round((self.motion.place - place) * self.share)
+        here = told + round((self.motion.place - place) * self.share)
+        if not self.error_cm:
+            return here
+        return self.told_cm if self.motion.stands else max(self.told_cm, here + self.error_cm)
 
     def read(self, speed: int, is_wanted: bool) -> None:
         """Readings of the odometer up to where the train is, each of at most 100 m, the longest ones first."""
@@ -295,12 +320,14 @@ class Loop:
         """One time step."""
         motion, step_ms, begun = self.motion, self.drive.step_ms, self.moment
         power, own = driving.decide(motion.m_per_h, self.output.limit_m_per_h, step_ms)
-        commanded = {Brake.NONE: 0, Brake.SERVICE: self.drive.train.service, Brake.EMERGENCY: self.drive.train.emergency}
-        motion.ask(begun, max(own * self.drive.train.service, commanded[self.output.brake]))
+        service, emergency = (self.drive.train.rate(name, motion.m_per_h) for name in ("service", "emergency"))
+        commanded = {Brake.NONE: 0, Brake.SERVICE: service, Brake.EMERGENCY: emergency}
+        motion.ask(begun, max(own * service, commanded[self.output.brake]))
         before, known = motion.place, len(self.driven.outputs)
         motion.move(begun, step_ms, 0.0 if own or self.output.brake != Brake.NONE else power)
         end, motion.place = motion.place, before
-        speed = round(motion.m_per_h)
+        speed = round(motion.m_per_h * float(self.drive.train.speedometer))
+        self.error_cm = -self.error_cm if self.error_cm else self.drive.train.reading_error_cm
         self.accept({"clock": begun + step_ms})
         self.pass_to(end, 0 if motion.stands else max(1, speed))
         for action in driving.acts(self.moment, motion, self.output):

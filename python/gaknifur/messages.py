@@ -138,6 +138,8 @@ class National:
     release: int = 40_000
     override: int = 30_000
     countries: tuple[int, ...] = ()
+    allowed: int = 0
+    """Up to which speed an override is accepted."""
 
 
 @dataclass(frozen=True)
@@ -414,8 +416,9 @@ class Walk:
             is_used = False
         makes_fix = is_used and (link is not None or self.known.is_free)
         place = link.place_cm if link and is_used else first.estimate_cm
+        nominal = link.nominal if link and message.nominal is None else message.nominal
         packets = tuple(packet for packet in message.own if is_used and packet.number in USED.get(mode, (packet.number,))
-                        and packet.told("Q_DIR") in (2, message.nominal))
+                        and packet.told("Q_DIR") in (2, nominal))
         message = replace(message, link=link, is_used=is_used, makes_fix=makes_fix, place_cm=place, mode=mode, packets=packets,
                           before=self.known)
         if link:
@@ -462,7 +465,7 @@ class Walk:
 def national_of(packet: Packet, country: int) -> National:
     """The values of a packet 3, for the countries that it lists and that of its group."""
     return National(speed_of(packet.told("V_NVSHUNT")), speed_of(packet.told("V_NVSTFF")), speed_of(packet.told("V_NVREL")),
-                    speed_of(packet.told("V_NVSUPOVTRP")), (*packet.all("NID_C"), country))
+                    speed_of(packet.told("V_NVSUPOVTRP")), (*packet.all("NID_C"), country), speed_of(packet.told("V_NVALLOWOVTRP")))
 
 
 def links_of(packet: Packet, country: int, place: int) -> Iterable[Link]:

@@ -39,6 +39,8 @@ class Played:
     records: list[Json]
     marks: dict[str, int]
     """Of each mark the index of its record."""
+    journal: Journal | None = None
+    """The journal that they are of, as `etcs_lab` told it."""
 
 
 def record_text(record: Json) -> str:
@@ -78,9 +80,9 @@ def place_of(life: Life, ended: str) -> str:
     return ""
 
 
-def play(case: Case, keep: Keep | None = None) -> Played:
-    """Plays the lives of a case in turn on one image, and reads what was recorded. The image is handed to `keep`, also where
-    the lives didn't end as told."""
+def play(case: Case, keep: Keep | None = None, why: bool = False) -> Played:
+    """Plays the lives of a case in turn on one image, and reads what was recorded, with `why` the causes of brakes and limits too.
+    The image is handed to `keep`, also where the lives didn't end as told."""
     with tempfile.TemporaryDirectory(prefix="gaknifur-") as room:
         folder, image = Path(room), Path(room) / "image"
         status, printed = program.etcs("format", "--", str(image), str(case.slots))
@@ -96,11 +98,11 @@ def play(case: Case, keep: Keep | None = None) -> Played:
         finally:
             if keep:
                 keep(image.read_bytes())
-        journal = read(image, replay=True)
+        journal = read(image, replay=True, why=why)
     check_image(journal)
     records = with_trains(with_speeds(journal.records), driven)
     check_released(released, records)
-    return Played(records, marked(case, records, driven))
+    return Played(records, marked(case, records, driven), journal)
 
 
 def drive(life: Life, image: Path) -> Driven | None:
@@ -114,9 +116,19 @@ def drive(life: Life, image: Path) -> Driven | None:
 
 def with_trains(records: list[Json], driven: list[Driven | None]) -> list[Json]:
     """The records with the train itself, where there is one."""
-    rows = {event: row for one in driven if one for row in one.rows for event in range(row.first_event, row.event + 1)}
-    return [with_train(record, rows[record["event"]].place_cm, rows[record["event"]].speed_m_per_h)
-            if record["event"] in rows else record for record in records]
+    rows = {event: (row, location) for one in driven if one for location in (location_of(one),) for row in one.rows
+            for event in range(row.first_event, row.event + 1)}
+    found = []
+    for record in records:
+        row, location = rows.get(record["event"], (None, None))
+        found.append(with_train(record, row.place_cm, row.speed_m_per_h, location) if row else record)
+    return found
+
+
+def location_of(driven: Driven) -> int | None:
+    """The supervised location of the authority that was heard last in a drive."""
+    ends = closed_loop.ends_of(driven)
+    return ends[1] if ends else None
 
 
 def check_image(journal: Journal) -> None:

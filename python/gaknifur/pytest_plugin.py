@@ -14,6 +14,7 @@ import pytest
 
 from . import cases, mode_rows, playing
 from .program import Failed
+from .reaching import REACHES, Reaches
 
 FIRST = "each life ends as told; the records are released, whole and replayed"
 
@@ -67,7 +68,7 @@ class CaseTests(pytest.Collector):
 
     def collect(self) -> Iterator[pytest.Item]:
         """An item for each expected result, behind one that the case can be judged at all."""
-        player = Player(self.case, folder_of(self.config))
+        player = Player(self.case, folder_of(self.config), self.config.stash.get(REACHES, None))
         for expected in (None, *self.case.expected):
             yield Item.from_parent(self, name=name_of(self.case, expected), player=player, expected=expected, table=self.table)
 
@@ -86,8 +87,8 @@ def name_of(case: cases.Case, expected: cases.Expected | None) -> str:
 class Player:
     """Plays a case once for all its tests."""
 
-    def __init__(self, case: cases.Case, folder: Path | None) -> None:
-        self.case, self.folder = case, folder
+    def __init__(self, case: cases.Case, folder: Path | None, reaches: Reaches | None = None) -> None:
+        self.case, self.folder, self.reaches = case, folder, reaches
         self.played: playing.Played | None = None
         self.failed: Exception | None = None
         self.image: bytes | None = None
@@ -98,10 +99,12 @@ class Player:
             raise self.failed
         if self.played is None:
             try:
-                self.played = playing.play(self.case, self.take if self.folder else None)
+                self.played = playing.play(self.case, self.take if self.folder else None, self.reaches is not None)
             except (playing.Missed, Failed) as failed:
                 self.failed = failed
                 raise
+            if self.reaches:
+                self.reaches.take(self.case, self.played)
         return self.played
 
     def take(self, image: bytes) -> None:

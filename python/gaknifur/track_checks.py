@@ -581,7 +581,8 @@ def train_data_and_train(judged: Judged) -> Iterator[Finding]:
     if judged.drive is None or not trains:
         return
     train, entered = judged.drive.train, trains[-1]
-    brakes = min(train.service or train.emergency, train.emergency)
+    grip = min((share for share, _, _ in train.adhesion), default=Decimal(1))
+    brakes = int(min(train.service or train.emergency, train.emergency) * grip)
     if entered.deceleration > brakes:
         yield Finding(27, DRIVE, f"train data say {entered.deceleration} cm/s2, and the train brakes with {brakes}",
                       "enter the least deceleration that the train has")

@@ -3,6 +3,7 @@ import importlib
 import tempfile
 import unittest
 from collections.abc import Callable
+from decimal import Decimal
 from pathlib import Path
 from typing import Any
 from unittest.mock import patch
@@ -14,7 +15,7 @@ from gaknifur.located import document
 from gaknifur.playing import Missed, Played, with_speeds, with_trains
 from gaknifur.program import Failed
 from gaknifur.scenarios import Scenario
-from gaknifur.unit import Brake, Output
+from gaknifur.unit import Brake, Indication, Level, Mode, Output
 
 from .plain_unit import PlainUnit
 from .samples import record
@@ -46,7 +47,8 @@ expected:
   - {note: runs, at: {train_speed_kmh: {least: 20}}, expect: {mode: FS, brake: none}}
   - {note: within the limit, from: {mark: started}, always: {above_limit_kmh: {most: 0}}}
   - {note: no brake, from: {mark: started}, never: {brake: [service, emergency]}}
-  - {note: stands, at: end, expect: {train_speed_kmh: 0, train_place_m: {least: 260, most: 280.95}}}
+  - {note: stands, at: end, expect: {train_speed_kmh: 0, train_place_m: {least: 260, most: 280.95},
+        beyond_location_m: {least: -40, most: -19.05}}}
 """
 NOTES = {"runs", "within the limit", "no brake", "stands"}
 
@@ -115,8 +117,45 @@ class Trains(unittest.TestCase):
         self.assertEqual((motion.speed, motion.place, motion.stands), (0.0, 0.0, True))
 
 
+    def test_its_rates_depend_on_the_speed(self) -> None:
+        # 1 m/s2 up to 18 km/h, which is 500 cm/s, and half of it beyond: 5 s, and 5 s more.
+        train = Train(50, 70, 90, rates=(("acceleration", ((18_000, 100), (600_000, 50))), ("emergency", ((36_000, 120), (600_000, 90)))))
+        motion = Motion(train)
+        for second in range(10):
+            motion.move(1000 * second, 1000, 1.0)
+        # Behind 5 s it runs 18 km/h just so, and pulls a second more with 1 m/s2.
+        self.assertEqual(motion.speed, 500.0 + 100 + 4 * 50)
+        self.assertEqual([train.rate("emergency", speed) for speed in (36_000, 36_001)], [120, 90])
+        self.assertEqual((train.rate("service", 1), train.strongest), (70, 120))
+
+    def test_adhesion(self) -> None:
+        # Half of 70 cm/s2 reaches the rails from 10 m on.
+        train = Train(50, 70, 70, adhesion=((Decimal("0.5"), 1000, None),))
+        self.assertEqual([train.grip(place) for place in (999, 1000)], [1.0, 0.5])
+        self.assertAlmostEqual(self.moved(Train(50, 70, 70, adhesion=((Decimal("0.5"), 0, None),)), 2000, 70).place, 2000 ** 2 / 70, 6)
+
+
 class Drivers(unittest.TestCase):
     """What a driver decides: power, and brake."""
+
+    def test_he_is_late(self) -> None:
+        late = Driving(Driver("limit", 0, late_ms=1000))
+        # With steps of half a second he goes by the limit of two steps ago.
+        self.assertEqual([late.decide(45_000, limit, 500) for limit in (50_000, 40_000, 40_000, 40_000)],
+                         [(1.0, 0.0), (1.0, 0.0), (1.0, 0.0), (0.0, 1.0)])
+
+    def test_he_is_hasty(self) -> None:
+        self.assertEqual(Driving(Driver("limit", -8_000)).decide(44_000, 40_000, 500), (1.0, 0.0))
+
+    def test_he_acknowledges(self) -> None:
+        shown = Output(1, Mode.ON_SIGHT, Level.LEVEL_1, Brake.NONE, 0, Indication.ON_SIGHT | Indication.TRIP)
+        runs, slow = Motion(Train(50, 70, 70)), Driving(Driver("limit", 0, acknowledges_ms=2000))
+        runs.stands = False
+        self.assertEqual([list(slow.acts(moment, runs, shown)) for moment in (0, 1999, 2000, 2500)], [[], [], [[10, 2]], []])
+        self.assertEqual(list(Driving(Driver("limit", 0)).acts(9_000, runs, shown)), [])
+        # A trip at standstill alone.
+        quick, stands = Driving(Driver("limit", 0, acknowledges_ms=0)), Motion(Train(50, 70, 70))
+        self.assertEqual(list(quick.acts(0, stands, shown)), [[10, 1], [10, 2]])
 
     def test_he_heeds_the_limit(self) -> None:
         driving_ = Driving(Driver("limit", 4_000))
@@ -215,6 +254,23 @@ class Loops(unittest.TestCase):
         self.assertEqual(told, 1000 + round((loop.motion.place - 1000) * 0.95))
         self.assertEqual([step["drive"] for step in driven.steps if "drive" in step][0], [1000, 5000])
 
+    def test_a_speedometer_and_readings_that_are_off(self) -> None:
+        words = "build_up: 1 s, speedometer: 90 %, reading_error: 20 cm"
+        scenario, drive = self.written(DRIVE.replace("build_up: 1 s", words).replace("lasts: 100 s", "lasts: 2 s"))
+        told = [step["drive"] for step in driving.play(PlainUnit(), scenario, drive).steps if "drive" in step]
+        # The front is at 8, 30, 68, 120. It is told 28, then not 10 but as before, 88, 100.
+        self.assertEqual(told, [[28, 972], [0, 1944], [60, 2916], [12, 3888]])
+
+    def test_an_antenna_behind_the_front(self) -> None:
+        groups = 'groups: [{at: 1 m, spacing: 1 m, balises: ["9000", "9001"]}]\n'
+        scenario, drive = self.written(DRIVE.replace("build_up: 1 s", "build_up: 1 s, antenna: 50 cm"), groups)
+        loop = Loop(PlainUnit(), scenario, drive)
+        driven = loop.play()
+        at = driven.steps.index({"telegram": "9000"})
+        self.assertEqual(sum(step["drive"][0] for step in driven.steps[:at] if "drive" in step), 150)
+        # Distances count from the group; those of the telegram before the drive from the antenna.
+        self.assertEqual([place for place, _ in driven.heard], [-50, 100, 100])
+
     def test_what_a_driver_does_once(self) -> None:
         acts = "driver: {heeds: nothing, acts: [{when: {place: 1 m}, after: 1 s, heeds: limit}, {when: {stands: true, time: 5 s}, do: close_desk}]}"
         scenario, drive = self.written(DRIVE.replace("driver: {heeds: limit}", acts).replace("  until: standstill\n", ""))
@@ -240,7 +296,13 @@ class Loops(unittest.TestCase):
                 (DRIVE.replace("service", "servise"), 'drive.yaml:9:35: "servise" can\'t stand here; is "service" meant?'),
                 (DRIVE.replace("0.6 m/s2", "0.6 m"), "drive.yaml:9:25: an acceleration is wanted here, a number and cm/s2 or m/s2"),
                 (DRIVE.replace("limit", "limits"), 'drive.yaml:10:19: "limits" can\'t stand here; is "limit" meant?'),
-                (DRIVE.replace("100 s", "10000 s"), "drive.yaml:12:10: this has 20,000 time steps, and 4,000 are the most"),
+                (DRIVE.replace("500 ms", "10 ms").replace("100 s", "10001 s"), "drive.yaml:12:10: this has 1,000,100 time steps, and 1,000,000 are"),
+                (DRIVE.replace("0.6 m/s2", "[0.6 m/s2, 0.3 m/s2]"), "drive.yaml:9:26: each rate but the last one is told with up to"),
+                (DRIVE.replace("0.6 m/s2", "[0.6 m/s2 up to 40 km/h]"), "drive.yaml:9:26: each rate but the last one is told with up to"),
+                (DRIVE.replace("0.6 m/s2", "[1 m/s2 up to 40 km/h, 0.5 m/s2 up to 40 km/h, 0.2 m/s2]"), "drive.yaml:9:48: the speeds rise"),
+                (DRIVE.replace("build_up: 1 s", "adhesion: [30 % from 7 m to 7 m]"), "drive.yaml:9:82: a stretch begins before it ends"),
+                (DRIVE.replace("build_up: 1 s", "adhesion: [30 %]"), "drive.yaml:9:82: a share and a stretch are wanted here"),
+                (DRIVE.replace("build_up: 1 s", "adhesion: 101 %"), "drive.yaml:9:81: a number from 1 to 100 with % is wanted"),
                 (DRIVE.replace("standstill", "rest"), 'drive.yaml:13:10: "rest" can\'t stand here'),
                 (DRIVE.replace("0.9 m/s2", "0 m/s2"), "drive.yaml:9:10: emergency is missing"),
                 (DRIVE.replace("limit}", "limit, acts: [{when: {}, do: start}]}"), "drive.yaml:10:40: one of place, time, mode"),
@@ -249,6 +311,16 @@ class Loops(unittest.TestCase):
             with self.assertRaises(Failed) as found:
                 self.written(wrong)
             self.assertTrue(str(found.exception).removeprefix(f"{self.folder}/").startswith(said), f"{found.exception}\n{said}")
+
+    def test_a_long_drive(self) -> None:
+        """Its journal has the newest blocks alone, so that no case has such a drive."""
+        scenario, drive = self.written(DRIVE.replace("100 s", "40000 s"))
+        self.assertEqual((drive.cycles, drives.slots_for(scenario, drive)), (80_000, 65_536))
+        (self.folder / "x.case.yaml").write_text(CASE, encoding="utf-8")
+        with self.assertRaisesRegex(Failed, "x.case.yaml:6:9: the drives of a case have at most 65,536 time steps"):
+            cases.read(self.folder / "x.case.yaml")
+        self.written(DRIVE.replace("100 s", "32000 s"))
+        self.assertEqual(cases.read(self.folder / "x.case.yaml")[0].slots, 64 + 8 + 64_000 + 5)
 
     def test_without_a_drive(self) -> None:
         (self.folder / "x.case.yaml").write_text(CASE.replace("scenario: drive.yaml", "steps: [start, {mark: started}]"), encoding="utf-8")

@@ -12,7 +12,7 @@ from typing import Any
 from unittest.mock import patch
 
 from gaknifur import __main__ as lab
-from gaknifur import playing
+from gaknifur import measured, playing
 from gaknifur.cases import Case
 from gaknifur.playing import Keep, Played, with_speeds
 from gaknifur.program import Failed
@@ -100,11 +100,12 @@ class Checks(unittest.TestCase):
         self.assertIn("no such file", self.check(3, "", "etcs_lab: x: no such file")[2])
 
 
-def plays(case: Case, keep: Keep | None = None) -> Played:
-    """Stands in for the programs: one life with its power-up alone."""
+def plays(case: Case, keep: Keep | None = None, why: bool = False) -> Played:
+    """Stands in for the programs: one life with its power-up alone; with its journal where causes are asked for."""
     if keep:
         keep(b"the image")
-    return Played(with_speeds([record(0, "powerup", mode="SB")]), {})
+    power_up = record(0, "powerup", mode="SB")
+    return Played(with_speeds([power_up]), {}, journal(power_up) if why else None)
 
 
 class Suites(unittest.TestCase):
@@ -155,6 +156,16 @@ class Suites(unittest.TestCase):
         """The journal of the stand-in."""
         self.assertEqual(path.read_bytes(), b"the image")
         return journal(record(0, "powerup", mode="SB"))
+
+    def test_what_is_reached(self) -> None:
+        out = self.room / "reached.json"
+        self.assertEqual(self.lab("--reached", str(out), "-k", "comes")[0], 0)
+        self.assertEqual(measured.read(out), {name: {"power-up words": ["unknown"]} for name in ("one", "two of a/kind")})
+        status, told = self.lab("--reached", str(out))
+        self.assertEqual((status, "--force writes over what lab made" in told), (1, True))
+        self.assertEqual(self.lab("--reached", str(out), "--force", "-k", "comes")[0], 0)
+        out.write_text("mine")
+        self.assertIn("is not what cases reach that lab made", self.lab("--reached", str(out), "--force")[1])
 
     def test_what_comes_is_not_kept(self) -> None:
         kept = self.room / "kept"

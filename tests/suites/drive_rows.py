@@ -41,6 +41,7 @@ def decides(self, speed, limit, ms):
 PLANTED = {
     "a train that ignores its brakes": (driving.Motion, "brake", lambda self, wanted, seconds: 0.0),
     "a train whose brakes hold on": (driving.Motion, "due", lambda self, moment: max(DUE(self, moment), self.braking)),
+    "rails that are never slippery": (drives.Train, "grip", lambda self, place: 1.0),
     "a train that pulls while it is braked": (driving.Motion, "move", lambda self, moment, ms, power: MOVE(self, moment, ms, 0.0) or setattr(
         self, "speed", self.speed + self.train.acceleration * ms / 1000)),
     "a driver who heeds nothing": (driving.Driving, "decide", decides),

@@ -1,0 +1,49 @@
+"""The word `sweep` of `./lab`: plays a case with parameters at each of their values, and tells what came of it."""
+import argparse
+import sys
+from collections.abc import Callable
+from pathlib import Path
+
+from . import files, sweeps
+from .closed_loop import check_library
+from .program import REFUSED, Failed, find
+from .reading import Progress
+
+Word = Callable[[str, str, str], argparse.ArgumentParser]
+
+
+def add_words(word: Word) -> None:
+    """Adds the word."""
+    sweep = word("sweep", "plays a case with parameters at each of their values, and tells what came of it as a table",
+                 "1 where an expected result didn't come, or a point couldn't be judged.")
+    sweep.add_argument("yaml", metavar="FILE.yaml", type=Path)
+    sweep.add_argument("--csv", metavar="OUT.csv", type=Path, help="the table as CSV")
+    sweep.add_argument("--html", metavar="OUT.html", type=Path, help="a page with heat maps")
+    sweep.add_argument("--workers", metavar="N", type=int, help="so many points at once; else as many as there are processors")
+    sweep.add_argument("--force", action="store_true", help="write over files that lab made; nothing writes over others")
+
+
+def play(told: argparse.Namespace, progress: Progress) -> None:
+    """The word `sweep`."""
+    outs = {name: files.Out(path, kind, told.force) for name, kind in (("csv", files.SWEEP_TABLE), ("html", files.REPORT))
+            if (path := getattr(told, name))}
+    files.check_all(outs.values(), [told.yaml])
+    find("etcs"), find()  # once, before the processes are split
+    sweep = sweeps.read(told.yaml)
+    case, _, _ = sweeps.at_point(sweep, sweep.points()[0])
+    if any(life.drive for life in case.lives):
+        check_library()
+    found = sweeps.play_all(sweep, told.workers, progress)
+    from . import sweep_told
+    makers = {"csv": sweep_told.as_csv, "html": sweep_told.as_page}
+    for name, out in outs.items():
+        files.write(out, makers[name](sweep, found), [told.yaml])
+    if not outs:
+        sys.stdout.write(sweep_told.as_text(sweep, found))
+        sys.stdout.flush()
+    bad = sum(bool(one.missed or one.fault) for one in found)
+    if bad:
+        raise Failed(f"{told.yaml}: at {bad} of {len(found)} points not all that was expected came", REFUSED)
+
+
+WORDS = {"sweep": play}

@@ -1,0 +1,156 @@
+"""Sweeps: parameters and what stands in their places, what is told of a point, tables and maps."""
+import tempfile
+import unittest
+from collections.abc import Callable
+from decimal import Decimal
+from pathlib import Path
+from unittest.mock import patch
+
+from gaknifur import files, playing, sweep_told, sweeps
+from gaknifur.cases import Case
+from gaknifur.playing import Missed, Played, with_speeds
+from gaknifur.program import Failed
+from gaknifur.sweeps import Told
+
+from .samples import reading, record
+
+SWEEP = """\
+sweep: a
+for: {way: [10, 20], speed: 10..30 step 10}
+lives: [{steps: [{enter_running_number: "$way"}, {drive: $way m at $speed km/h}, {mark: there}]}]
+tell:
+  - {name: run, at: {mark: there}, value: speed_kmh}
+  - {name: most, most: place_m, where: {kind: odometer}}
+  - {name: none, least: limit_kmh, where: {mode: SF}}
+  - {name: readings, count: {kind: odometer}}
+  - {name: least, least: place_m, where: {kind: odometer}}
+  - {name: first, at: {kind: odometer}, value: place_m}
+  - {name: brake, at: end, value: brake}
+expected: [{note: slow, at: {mark: there}, expect: {speed_kmh: {most: 20}}}]
+"""
+
+
+def played(case: Case, keep: object = None, why: bool = False) -> Played:
+    """The records of a life that moved as its last step says; one of 30 km/h over 20 m doesn't end as told."""
+    scenario = case.lives[0].scenario
+    assert scenario is not None
+    way, speed = scenario.steps[-1]["drive"]
+    if (way, speed) == (2000, 30_000):
+        raise Missed("one end", "another")
+    first, last = reading(1, speed, place_cm=way // 2), reading(3, speed, place_cm=way, brake="service")
+    records = with_speeds([record(0, "powerup", word="unknown"), first, reading(2, speed, place_cm=way // 4), last])
+    return Played(records, {"there": 3})
+
+
+class Sweeps(unittest.TestCase):
+    """`lab sweep`."""
+
+    def setUp(self) -> None:
+        folder = tempfile.TemporaryDirectory()
+        self.addCleanup(folder.cleanup)
+        self.path = Path(folder.name) / "a.yaml"
+
+    def read(self, text: str = SWEEP) -> sweeps.Sweep:
+        """A sweep of this text."""
+        self.path.write_text(text, encoding="utf-8")
+        return sweeps.read(self.path)
+
+    def told(self) -> tuple[sweeps.Sweep, list[Told]]:
+        """A sweep, and what came of it."""
+        sweep = self.read()
+        with patch.object(playing, "play", played):
+            return sweep, [sweeps.play(sweep, point) for point in sweep.points()]
+
+    def test_points(self) -> None:
+        sweep = self.read()
+        self.assertEqual([tuple(point.values()) for point in sweep.points()],
+                         [("10", "10"), ("10", "20"), ("10", "30"), ("20", "10"), ("20", "20"), ("20", "30")])
+        case, outcomes, used = sweeps.at_point(sweep, {"way": "20", "speed": "30"})
+        assert case.lives[0].scenario is not None
+        self.assertEqual(case.lives[0].scenario.steps, [{"driver": [2, 20]}, {"drive": [2000, 30_000]}])
+        self.assertEqual((used, len(outcomes)), ({"way", "speed"}, 7))
+        decimals = self.read(SWEEP.replace("10..30 step 10", "0.5..1.25 step 0.25")).parameters["speed"]
+        self.assertEqual(decimals, ["0.5", "0.75", "1", "1.25"])
+        self.assertEqual(len(self.read(SWEEP.replace("10..30 step 10", "1..63")).points()), 126)
+
+    def test_what_is_told(self) -> None:
+        _, told = self.told()
+        self.assertEqual(told[1].cells, {"run": Decimal(20), "most": Decimal(10), "none": None, "readings": 3, "least": Decimal("2.5"),
+                                         "first": Decimal(5), "brake": "service"})
+        self.assertEqual([one.missed for one in told], [(), (), ("slow",), (), (), ()])
+        self.assertEqual(told[5].fault, "expected: one end found: another")
+
+    def test_tables(self) -> None:
+        sweep, told = self.told()
+        text = sweep_told.as_text(sweep, told).splitlines()
+        self.assertEqual(text[0].split(), ["way", "speed", "run", "most", "none", "readings", "least", "first", "brake", "missed", "fault"])
+        self.assertEqual(text[3].split(), ["10", "30", "30", "10", "-", "3", "2.5", "5", "service", "slow", "-"])
+        written = sweep_told.as_csv(sweep, told)
+        self.assertTrue(written.startswith("point,way,speed,run,most,none,readings,least,first,brake,missed,fault\n1,10,10,10,10,,3,2.5,5,service,,\n"))
+        self.assertTrue(files.SWEEP_TABLE.is_own(written.encode()))
+
+    def test_maps(self) -> None:
+        sweep, told = self.told()
+        drawn = {one.name: one for one in sweep_told.maps(sweep, told)}
+        self.assertEqual((drawn["run"].across, drawn["run"].down, drawn["run"].span), ("speed", "way", ("10", "30")))
+        (_, first), (_, second) = drawn["run"].lines
+        # The least number is light with dark letters, the greatest dark with white ones; a point that wasn't judged has neither.
+        self.assertEqual([(one.text, one.paper, one.ink) for one in (first[0], first[2], second[2])],
+                         [("10", "#eff6fb", "#1c2733"), ("30", "#005a8c", "#ffffff"), ("–", "#ffffff", "#1c2733")])
+        self.assertEqual((drawn["brake"].span, drawn["brake"].lines[0][1][0].paper), (None, "#E69F00"))
+        self.assertEqual([one.fixed for one in drawn.values()], [{}] * 7)
+        page = sweep_told.as_page(sweep, told)
+        self.assertTrue(files.REPORT.is_own(page.encode()[:files.FIRST_BYTES]))
+        self.assertIn("at 1 points expected results didn&#39;t come", page.replace("didn't", "didn&#39;t"))
+        for word in ("<script", "http://", "https://", "src="):
+            self.assertNotIn(word, page)
+
+    def test_three_parameters_have_a_map_for_each_of_the_first(self) -> None:
+        sweep = self.read(SWEEP.replace("for: {", "for: {number: [1, 2], ").replace('"$way"', "$number"))
+        with patch.object(playing, "play", played):
+            told = [sweeps.play(sweep, point) for point in sweep.points()]
+        self.assertEqual([one.fixed for one in sweep_told.maps(sweep, told)][:2], [{"number": "1"}, {"number": "2"}])
+
+    def test_processes(self) -> None:
+        sweep = self.read()
+        with patch.object(playing, "play", played):
+            self.assertEqual(sweeps.play_all(sweep, 2), [sweeps.play(sweep, point) for point in sweep.points()])
+
+        def fails(case: Case, keep: object = None, why: bool = False) -> Played:
+            raise Failed("no program", 3)
+
+        with patch.object(playing, "play", fails), self.assertRaisesRegex(Failed, "no program") as found:
+            sweeps.play_all(sweep, 2)
+        self.assertEqual(found.exception.status, 3)
+
+    def test_faults_and_their_places(self) -> None:
+        replaced: Callable[[str, str], str] = SWEEP.replace
+        for text, said in (
+                (replaced("$speed km", "$sped km"), '3:58: there is no parameter $sped; is "speed" meant? there are: speed, way'),
+                (replaced("$speed km", "20 km"), "2:6: the parameter speed stands nowhere, as $speed"),
+                (replaced("10..30 step 10", "30..10"), "2:29: a list of values is wanted here, or a range as 1..63"),
+                (replaced("10..30 step 10", "1..9 step 0"), "2:29: a list of values is wanted here, or a range as 1..63"),
+                (replaced("10..30 step 10", "1..2.5.1"), "2:29: a list of values is wanted here, or a range as 1..63"),
+                (replaced("10..30 step 10", "1..100000"), "2:29: this has more than 10,000 values"),
+                (replaced("10..30 step 10", "1..9000"), "2:6: this has 18,000 points, and 1 to 10,000 are wanted"),
+                (replaced("[10, 20]", "[10, 10]"), "2:12: a parameter has one value at least, and none twice"),
+                (replaced("{way:", "{Way:"), '2:12: "Way" is no name of a parameter'),
+                (replaced("value: speed_kmh", "value: speed_mh"), '5:43: "speed_mh" can\'t stand here'),
+                (replaced(", value: speed_kmh", ""), "5:5: one of these is wanted: at and value"),
+                (replaced("name: most", "name: run"), "5:3: something is told, and no name is that of another"),
+                (replaced("name: most", "name: way"), "5:3: something is told, and no name is that of another"),
+                (replaced("count: {kind: odometer}", "count: {kind: wheel}"), '8:36: "wheel" can\'t stand here'),
+                (replaced("[10, 20]", "[10, 20000]"), None)):
+            if said is None:
+                # What a later point makes wrong is told with its place too.
+                sweep = self.read(text)
+                with self.assertRaisesRegex(Failed, '3:5[0-9]: "20000 m" isn\'t within'):
+                    sweeps.at_point(sweep, sweep.points()[-1])
+                continue
+            with self.assertRaises(Failed) as found:
+                self.read(text)
+            self.assertTrue(str(found.exception).removeprefix(f"{self.path}:").startswith(said), f"{found.exception}\n{said}")
+
+
+if __name__ == "__main__":
+    unittest.main()

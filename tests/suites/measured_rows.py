@@ -1,0 +1,131 @@
+#!/usr/bin/env python3
+"""What the corpus reaches when it is played is measured: nothing of it is missing without a reason, and what is planted is told.
+
+    tests/suites/measured_rows.py REACHED
+
+REACHED is what `./lab test suites --reached` wrote. Nothing is played here. `./lab coverage --measured` has to find nothing
+missing in `suites/`; without each case that alone reaches something just that is missing; and floors that are too high,
+reasons that aren't needed, and files of other cases have to be told, one of them by the command itself.
+"""
+import shutil
+import subprocess
+import sys
+import tempfile
+from pathlib import Path
+
+TOP = Path(__file__).resolve().parents[2]
+sys.path.insert(0, str(TOP / "python"))
+from gaknifur import measured  # noqa: E402
+from gaknifur.program import Failed  # noqa: E402
+
+SUITES = TOP / "suites"
+LEAST_ALONE, LEAST_MEMBERS = 45, 490
+DROPPED = "packets_of_both_directions"
+
+
+def told(folder, reached):
+    """The status of `./lab coverage --measured`, and what it says."""
+    done = subprocess.run([TOP / "lab", "coverage", folder, "--measured", "--reached", reached], capture_output=True, text=True)
+    return done.returncode, done.stdout + done.stderr
+
+
+def missing(lost):
+    return {f"{name}: {member}: no case reaches it, and there is no reason why" for name, member in lost}
+
+
+def alone(by_case):
+    """Of each case the members that it alone reaches, and how many members are reached in all."""
+    by = {}
+    for case, sets in by_case.items():
+        for name, members in sets.items():
+            for member in members:
+                by.setdefault((name, member), []).append(case)
+    found = {case: set() for case in by_case}
+    for member, cases in by.items():
+        if len(cases) == 1:
+            found[cases[0]].add(member)
+    return {case: lost for case, lost in found.items() if lost}, len(by)
+
+
+def without_each(by_case, lost):
+    """What isn't told of the corpus without a case."""
+    for case, members in lost.items():
+        left = {one: sets for one, sets in by_case.items() if one != case}
+        faults = measured.judged(list(left), left, SUITES).faults
+        if set(faults) != missing(members):
+            yield f"without {case}: {faults}"
+
+
+FLOORS = (
+    ("mode rows: all", "mode rows: 39", "", "mode rows: 38 are reached, and 39 is the floor"),
+    ("", "", "  power-up words:\n    moved: none\n", "power-up words: moved: "),
+    ("1 from *: &overrun", "99 from *: &overrun", "", '"99 from *" names nothing that is counted'),
+    ("trip causes: all", "trip cause: all", "", 'is "trip causes" meant?'),
+    ("trip causes: all", "trip causes: 7", "", "a whole number from 0 to 6 is wanted here"))
+"""What is altered in the floors and reasons of the corpus, what stands behind them, and what has to be said."""
+
+
+def said_of(names, by_case, folder):
+    """What is said of floors and cases."""
+    try:
+        return "\n".join(measured.judged(names, by_case, folder).faults)
+    except Failed as failed:
+        return str(failed)
+
+
+def planted(room, by_case):
+    """Each fault: what was said, and what has to be."""
+    names, text = list(by_case), (SUITES / measured.FLOORS).read_text()
+    for was, now, more, wanted in FLOORS:
+        altered = text.replace(was, now) + more
+        assert altered != text
+        (room / measured.FLOORS).write_text(altered)
+        yield said_of(names, by_case, room), wanted
+    yield said_of([*names, "another"], by_case, SUITES), "another is a case of the folder, and wasn't played"
+    yield said_of(names[1:], by_case, SUITES), f"{names[0]} was played, and is no case of the folder"
+    broken = {names[0]: {"mode rows": ["99 from FS"]}}
+    yield said_of(names[:1], broken, SUITES), 'reaches "99 from FS" of "mode rows", which isn\'t there'
+    (room / "text.json").write_text("[]")
+    try:
+        measured.read(room / "text.json")
+        yield "", "is no file of what cases reach"
+    except Failed as failed:
+        yield str(failed), "is no file of what cases reach"
+
+
+def by_command(room, by_case, lost):
+    """What isn't so of the command: the corpus is whole, and without a case it isn't."""
+    reached, folder = room / "reached.json", room / "suites"
+    reached.write_text(measured.text_of(by_case))
+    status, said = told(SUITES, reached)
+    if status:
+        yield f"the corpus: {said}"
+    shutil.copytree(SUITES, folder)
+    for path in folder.glob("*.case.yaml"):
+        documents = path.read_text().split("\n---\n")
+        path.write_text("\n---\n".join(one for one in documents if f"test_case: {DROPPED}\n" not in one))
+    reached.write_text(measured.text_of({case: sets for case, sets in by_case.items() if case != DROPPED}))
+    status, said = told(folder, reached)
+    if status != 1 or not missing(lost[DROPPED]) <= set(said.splitlines()):
+        yield f"without {DROPPED}: status {status}: {said}"
+
+
+def main(path):
+    by_case = measured.read(Path(path))
+    lost, members = alone(by_case)
+    wrong = list(without_each(by_case, lost))
+    if len(lost) < LEAST_ALONE or members < LEAST_MEMBERS:
+        wrong.append(f"{len(lost)} cases alone reach something, and {members} members are reached")
+    with tempfile.TemporaryDirectory() as name:
+        faults = list(planted(Path(name), by_case))
+        wrong += [f"not said is \"{wanted}\" in \"{said}\"" for said, wanted in faults if wanted not in said]
+        wrong += by_command(Path(name), by_case, lost)
+    for one in wrong:
+        print(f"tests/suites/measured_rows.py: {one}")
+    print(f"tests/suites/measured_rows.py: {members} members, {len(lost)} cases left out and {len(faults)} planted faults, "
+          f"{len(wrong)} wrong")
+    return 1 if wrong else 0
+
+
+if __name__ == "__main__":
+    sys.exit(main(*sys.argv[1:]))

@@ -1,5 +1,5 @@
 """The words of `./lab`: `table`, `timeline`, `database`, `report`, `check`, `seal`, `verify`, `diff`, `join`, `follow`, `build`,
-`test`, `coverage`, `lint`, `drive`, `campaign`, `compare`, `serve`, `against`, `search`."""
+`test`, `coverage`, `lint`, `drive`, `campaign`, `compare`, `serve`, `against`, `search`, `sequence`, `dissector`, `capture`."""
 import argparse
 import hashlib
 import os
@@ -9,7 +9,7 @@ from importlib.util import find_spec
 from pathlib import Path
 from typing import NoReturn
 
-from . import archive_words, campaign_words, check_words, coverage, difference_words, drive_words, files, lint_words, oracle_words, scenarios, seal_words, search_words
+from . import archive_words, campaign_words, check_words, coverage, difference_words, dissector_words, drive_words, files, lint_words, oracle_words, scenarios, seal_words, search_words, sequence_words
 from .last_net import caught, say
 from .program import DEVICE, NOT_WHOLE, REFUSED, WRONG_WORDS, Failed, version
 from .progress import Terminal
@@ -99,6 +99,8 @@ def words() -> argparse.ArgumentParser:
     campaign_words.add_words(word)
     oracle_words.add_words(word)
     search_words.add_words(word)
+    sequence_words.add_words(word)
+    dissector_words.add_words(word)
     return lab
 
 
@@ -322,7 +324,7 @@ def tell_coverage(told: argparse.Namespace, progress: Progress) -> None:
 WORDS: dict[str, Callable[[argparse.Namespace, Progress], int | None]]
 WORDS = {"table": write_table, "timeline": write_timeline, "database": write_database, "report": write_report, "build": write_scenario, "test": run_tests,
          "coverage": tell_coverage, **check_words.WORDS, **seal_words.WORDS, **difference_words.WORDS, **archive_words.WORDS, **lint_words.WORDS, **drive_words.WORDS,
-         **campaign_words.WORDS, **oracle_words.WORDS, **search_words.WORDS}
+         **campaign_words.WORDS, **oracle_words.WORDS, **search_words.WORDS, **sequence_words.WORDS, **dissector_words.WORDS}
 
 
 def understood(given: Sequence[str]) -> argparse.Namespace:

@@ -6,7 +6,6 @@ test case.
 """
 import functools
 import json
-import re
 import tempfile
 from collections.abc import Callable
 from dataclasses import dataclass, field
@@ -17,12 +16,12 @@ import hypothesis
 from hypothesis import HealthCheck, Phase, settings
 
 from . import oracle, playing, program, properties
-from .located import Value
 from .program import REFUSED, Failed
 from .properties import Property, Violated
 from .reading import Json, objects
 from .scenarios import ACKNOWLEDGED, ALONE, COLD, CONFIRMED
 from .strategies import Made, lives, text_of
+from .yaml_text import flow, quoted
 
 Lives = tuple[str, ...]
 SLOTS = 128
@@ -226,21 +225,6 @@ def made_small(search: Search, made: Made, examples: int, seed: int) -> Found:
 
 
 # ---- as a test case
-
-def quoted(text: str) -> str:
-    """A text in YAML."""
-    return json.dumps(text, ensure_ascii=False)
-
-
-def flow(at: Value) -> str:
-    """A value of YAML on a line."""
-    if at.is_list():
-        return f"[{', '.join(map(flow, at.elements()))}]"
-    if at.is_mapping():
-        return f"{{{', '.join(f'{name}: {flow(value)}' for name, value in at.entries().items())}}}"
-    text = at.text()
-    return text if re.fullmatch(r"[\w.-]+", text) else quoted(text)
-
 
 def name_of(numbers: dict[str, int], value: int) -> str:
     """The word of a number."""

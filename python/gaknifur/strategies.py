@@ -148,28 +148,40 @@ def of(word: str, values: Iterable[Any]) -> st.SearchStrategy[Step]:
     return st.sampled_from([{word: value} for value in values])
 
 
+def drive(way: int, speed: int) -> Step:
+    """A movement at a speed. (hypothesis looks up the source of each lambda, so none stands here.)"""
+    return {"drive": [way, speed]}
+
+
 def steps(made: Made) -> st.SearchStrategy[Step]:
     """A step. A wait is told by how long it is."""
-    forward = st.builds(lambda way, speed: {"drive": [way, speed]}, st.sampled_from(made.ways), st.sampled_from(made.speeds))
-    backward = st.builds(lambda way: {"drive": [-way, BACK_SPEED]}, st.sampled_from(BACK_CM))
-    answers = of("driver", ANSWERS)
-    return st.one_of(*[forward] * FORWARD, of("drive", [[0, 0]]), of("drive", [[0, 0]]), answers, answers, answers, of("driver", entries(made)),
-                     of("telegram", made.telegrams), of("wait", made.waits), backward)
+    forward = st.builds(drive, st.sampled_from(made.ways), st.sampled_from(made.speeds))
+    stands, answers = of("drive", [[0, 0]]), of("driver", ANSWERS)
+    return st.one_of(*[forward] * FORWARD, stands, stands, answers, answers, answers, of("driver", entries(made)),
+                     of("telegram", made.telegrams), of("wait", made.waits), of("drive", [[-way, BACK_SPEED] for way in BACK_CM]))
 
 
-def place_of(group: Step) -> int:
+def group(metres: int, telegram: str) -> Step:
+    """A group of one balise."""
+    return {"at": 100 * metres, "spacing": 1, "balises": [telegram]}
+
+
+def place_of(one: Step) -> int:
     """Where a group lies."""
-    return int(group["at"])
+    return int(one["at"])
+
+
+def in_order(found: list[Step]) -> list[Step]:
+    """Groups by their places."""
+    return sorted(found, key=place_of)
 
 
 def groups(made: Made) -> st.SearchStrategy[list[Step]]:
     """Groups of one balise on the track, each at a place of its own."""
     if not made.most["groups"]:
         return st.just([])
-    one = st.builds(lambda place, telegram: {"at": place, "spacing": 1, "balises": [telegram]}, st.integers(1, made.track_cm // 100).map(
-        lambda metres: 100 * metres), st.sampled_from(made.telegrams))
-    return st.lists(one, max_size=made.most["groups"], unique_by=place_of).map(
-        lambda found: sorted(found, key=place_of))
+    one = st.builds(group, st.integers(1, made.track_cm // 100), st.sampled_from(made.telegrams))
+    return st.lists(one, max_size=made.most["groups"], unique_by=place_of).map(in_order)
 
 
 def timed(found: list[Step]) -> list[Step]:

@@ -134,8 +134,8 @@ def made_of(at: Value | None, shared: Shared) -> Made:
 
 # ---- strategies
 
-ANSWERS = [[6], *([10, one] for one in ACKNOWLEDGED.values()), *([one] for one in ALONE.values() if one != 6)]
-"""What a driver does without entering anything: he starts, acknowledges, chooses."""
+ANSWERS = [*[[6]] * 2, *([10, one] for one in ACKNOWLEDGED.values() for _ in range(2)), *([one] for one in ALONE.values() if one != 6)]
+"""What a driver does without entering anything: he starts and acknowledges, twice as often as he chooses."""
 
 
 def entries(made: Made) -> list[list[Any]]:

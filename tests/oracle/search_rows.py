@@ -19,8 +19,8 @@ TOP = Path(__file__).resolve().parents[2]
 sys.path.insert(0, str(TOP / "python"))
 from gaknifur import cases, mode_rows, playing, properties, search, strategies  # noqa: E402
 
-EXAMPLES, SEED, MOST_STEPS, FEW, LEAST_ALTERED = 120, 1, 12, 3, 20
-LAW_EXAMPLES, LEAST_RECORDS = 120, 1_500
+EXAMPLES, SEED, MOST_STEPS, FEW, LEAST_ALTERED = 200, 1, 12, 3, 20
+LAW_EXAMPLES, LEAST_RECORDS = 200, 2_500
 WRONG, LAWS = TOP / "tests/oracle/wrong.search.yaml", TOP / "suites/safety_laws.search.yaml"
 OTHERS = {"mode": ["FS", "SR", "UN", "PT"], "brake": ["none", "service"], "kind": ["clock"], "action": ["close_desk"],
           "acknowledged": ["on_sight"], "limit_m_per_h": [700_000], "speed_m_per_h": [700_000]}

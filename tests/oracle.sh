@@ -35,7 +35,8 @@ gcc -std=c99 -O2 "${strict[@]}" -I "$prefix/include" "$top/examples/oracle/unit.
     { echo "examples/oracle/unit.c doesn't compile"; exit 1; }
 gcc -std=c99 -O1 -g "${strict[@]}" -fsanitize=address,undefined -fno-sanitize-recover=all -static-libasan -I "$prefix/include" \
     "$top/examples/oracle/unit.c" "$prefix/lib/libetcs_unit.a" -o "$made/unit.checked" || status=1
-"$python" "$top/tests/oracle/unit_rows.py" "$etcs" "$lab" "$made/unit" || status=1
+gcc -std=c99 -O2 "${strict[@]}" "$top/examples/oracle/least.c" -o "$made/least" || { echo "examples/oracle/least.c doesn't compile"; status=1; }
+"$python" "$top/tests/oracle/unit_rows.py" "$etcs" "$lab" "$made/unit" "$made/least" || status=1
 cd "$top" || exit 1
 "$etcs" format "$made/image" 64 >/dev/null && "$etcs" run examples/trip/scenario.json "$made/image" >/dev/null || status=1
 ./lab against "$made/image" "$made/unit.checked" >"$made/said" 2>&1 || { cat "$made/said"; echo "unit.c, with sanitizers, differs"; status=1; }

@@ -44,7 +44,7 @@ class Pattern:
     def fits(self, interface: str, text: str) -> dict[str, str] | None:
         """The words that a text has for it, where it fits."""
         found = self.pattern.fullmatch(text) if self.interface in (None, interface) else None
-        return found and {name: word or "" for name, word in found.groupdict().items()}
+        return None if found is None else {name: word or "" for name, word in found.groupdict().items()}
 
 
 @dataclass(frozen=True)

@@ -1,9 +1,10 @@
 #!/usr/bin/env python3
 """Another unit beside the proved one: a right one agrees, and each one that is wrong on purpose is found out by what is wrong.
 
-    tests/oracle/unit_rows.py ETCS ETCS_LAB UNIT
+    tests/oracle/unit_rows.py ETCS ETCS_LAB UNIT STANDS
 
-UNIT is examples/oracle/unit.c, compiled. It, examples/oracle/unit.py and `./lab serve` are asked about the journals of the examples.
+UNIT is examples/oracle/unit.c, compiled, STANDS least.c. They, examples/oracle/unit.py and `./lab serve` are asked about the journals
+of the examples.
 Each kind of tests/oracle/wrong.py is asked about one of them, in which a train is tripped and power is lost, and has to be told by what
 stands here. Nothing of any of them may be left.
 """
@@ -86,7 +87,7 @@ def left():
     return found
 
 
-def main(etcs, lab, unit):
+def main(etcs, lab, unit, stands):
     os.environ |= {"GAKNIFUR_ETCS": str(Path(etcs).resolve()), "GAKNIFUR_ETCS_LAB": str(Path(lab).resolve())}
     oracle.OtherUnit = Watched
     unit, wrong = str(Path(unit).resolve()), []
@@ -101,8 +102,9 @@ def main(etcs, lab, unit):
         for name, records in found.items():
             said, agrees = told(shlex.quote(unit), records, WITHIN_S)
             is_so(f"unit.c about {name}", agrees and said.endswith("agree\nnothing differs"), said)
-        said, agrees = told(shlex.quote(str(TOP / "examples/oracle/unit.py")), found["trip"], WITHIN_S)
-        is_so("unit.py", not agrees and "life 1 events 0..4 agree\nlife 1 event 5 differs in mode" in said, said)
+        for least in (TOP / "examples/oracle/unit.py", Path(stands).resolve()):
+            said, agrees = told(shlex.quote(str(least)), found["trip"], WITHIN_S)
+            is_so(least.name, not agrees and "life 1 events 0..4 agree\nlife 1 event 5 differs in mode" in said, said)
         said, agrees = told(f"{shlex.quote(str(TOP / 'lab'))} serve", found["power_cut"], WITHIN_S)
         is_so("lab serve", agrees, said)
         proxy = f"{shlex.quote(str(TOP / 'tests/oracle/wrong.py'))} {{}} {shlex.quote(unit)}"

@@ -5,6 +5,7 @@ import secrets
 import sys
 from collections.abc import Callable
 from pathlib import Path
+from typing import Any
 
 from . import oracle_words, playing, properties
 from .located import BadFile
@@ -37,12 +38,23 @@ def add_words(word: Word) -> None:
 
 # ---- records that are there
 
+def are_values(told: Json) -> bool:
+    """Whether the values of a record are of their kinds: numbers, words, indications, the packets of a telegram."""
+    numbers = [told[name] for name in ("event", "life", "time_ms", *NEEDED[told["kind"]]) if name != "action"]
+    packets = told["decoded"].get("packets", []) if isinstance(told.get("decoded", {}), dict) and "decoded" in told else []
+    return (all(type(value) is int for value in numbers)
+            and all(told[name] is None or type(told[name]) is int for name in ("place_cm", "uncertainty_cm", "limit_m_per_h"))
+            and isinstance(told["indications"], list) and all(isinstance(one, str) for one in told["indications"])
+            and isinstance(packets, list) and all(isinstance(one, dict) and type(one.get("packet")) is int for one in packets)
+            and isinstance(told.get("decoded", {}), dict))
+
+
 def record_of(path: Path, number: int, line: str) -> Json | None:
     """The record on a line; None of a line that is none."""
     def fault(said: str) -> BadFile:
         return BadFile(path, number, 1, said)
     try:
-        told = json.loads(line)
+        told: Any = json.loads(line)
     except (ValueError, RecursionError):
         raise fault("this is no JSON") from None
     if not isinstance(told, dict):
@@ -54,8 +66,8 @@ def record_of(path: Path, number: int, line: str) -> Json | None:
             raise fault(f"a record has {name}, as docs/JSON.md tells it, and this has none")
     if told["kind"] not in NEEDED:
         raise fault(f"kind is one of {', '.join(NEEDED)}")
-    if not isinstance(told["indications"], list) or any(not isinstance(told[name], int) for name in ("event", "life", "time_ms")):
-        raise fault("event, life and time_ms are numbers, and indications a list")
+    if not are_values(told):
+        raise fault("a value of this record isn't one that docs/JSON.md tells")
     return told
 
 

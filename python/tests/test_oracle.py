@@ -210,4 +210,7 @@ class Records(unittest.TestCase):
         self.assertIn("2:1: this is no JSON", self.said("{}\n{"))
         self.assertIn("1:1: this is no object", self.said("[]"))
         self.assertIn("1:1: a record has life", self.said('{"event": 1}'))
-        self.assertIn("1:1: event, life and time_ms", self.said(json.dumps(record(1) | {"event": "1"})))
+        wrongs: list[Json] = [{"event": "1"}, {"limit_m_per_h": "40"}, {"indications": [1]}, {"decoded": []}, {"decoded": {"packets": [{}]}},
+                              {"life": None}, {"place_cm": 1.5}]
+        for wrong in wrongs:
+            self.assertIn("1:1: a value of this record", self.said(json.dumps(record(1) | wrong)), wrong)

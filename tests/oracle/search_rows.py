@@ -22,7 +22,7 @@ from gaknifur import cases, mode_rows, playing, properties, search, strategies  
 EXAMPLES, SEED, MOST_STEPS, FEW, LEAST_ALTERED = 200, 1, 12, 3, 20
 LAW_EXAMPLES, LEAST_RECORDS = 200, 2_500
 WRONG, LAWS = TOP / "tests/oracle/wrong.search.yaml", TOP / "suites/safety_laws.search.yaml"
-OTHERS = {"mode": ["FS", "SR", "UN", "PT"], "brake": ["none", "service"], "kind": ["clock"], "action": ["close_desk"],
+OTHERS = {"mode": ["FS", "SR", "UN", "PT", "TR"], "brake": ["none", "service"], "kind": ["clock"], "action": ["close_desk"],
           "acknowledged": ["on_sight"], "limit_m_per_h": [700_000], "speed_m_per_h": [700_000]}
 
 

@@ -1,10 +1,11 @@
 #!/usr/bin/python3
-"""Asks a unit by the protocol of docs/ORACLE.md, of Python's own modules alone, as the bench of a laboratory may do it: the proved
-unit answers what it would do.
+"""Asks a unit by the protocol of docs/ORACLE.md, of Python's own modules alone, as the bench of a laboratory may do it:
+the proved unit answers what it would do.
 
     examples/oracle/ask.py ./lab serve <EVENTS
 
-EVENTS has an object on a line for each event, with the members that the page tells; `life` and `event` are counted here.
+EVENTS has an object on a line for each event, with the members that the page tells; `life` and `event` are counted
+here.
 """
 import json
 import subprocess
@@ -46,7 +47,8 @@ def main(words):
     print(unit.told["unit"])
     for line in sys.stdin:
         answer = unit.answer(json.loads(line))
-        print(f"event {answer['event']}: {answer['mode']}, brake {answer['brake']}, limit {answer['limit_m_per_h']} m/h")
+        number, mode, brake, limit = (answer[name] for name in ("event", "mode", "brake", "limit_m_per_h"))
+        print(f"event {number}: {mode}, brake {brake}, limit {limit} m/h")
     return unit.end()
 
 

@@ -108,7 +108,8 @@ static uint32_t flush(void) {
 static uint32_t take(const char *line) {
     uint32_t status = is(line, "kind", "powerup") ? power_up(line)
         : is(line, "kind", "telegram") ? telegram(line)
-        : is(line, "kind", "odometer") ? etcs_unit_odometer(&unit, number(line, "movement_cm"), (uint32_t)number(line, "speed_m_per_h"))
+        : is(line, "kind", "odometer")
+        ? etcs_unit_odometer(&unit, number(line, "movement_cm"), (uint32_t)number(line, "speed_m_per_h"))
         : is(line, "kind", "clock") ? etcs_unit_clock(&unit, (uint64_t)number(line, "now_ms"))
         : act(line);
     if (status == ETCS_UNIT_OK && !is(line, "kind", "powerup"))
@@ -134,8 +135,8 @@ static void answer(void) {
             printf("%s\"%s\"", between, signs[i]);
             between = ",";
         }
-    printf("],\"place_cm\":%" PRId64 ",\"uncertainty_cm\":%" PRIu64 ",\"limit_m_per_h\":%" PRIu32 "}\n", last.front_cm, last.uncertainty_cm,
-           last.limit_m_per_h);
+    printf("],\"place_cm\":%" PRId64 ",\"uncertainty_cm\":%" PRIu64 ",\"limit_m_per_h\":%" PRIu32 "}\n", last.front_cm,
+           last.uncertainty_cm, last.limit_m_per_h);
 }
 
 int main(void) {

@@ -1,7 +1,8 @@
-"""What a unit is asked, and what it answers, as docs/ORACLE.md has it: the messages of the protocol, and whether a line is one.
+"""What a unit is asked, and what it answers, as docs/ORACLE.md has it: the messages of the protocol, and whether a line
+is one.
 
-An event is told by the members of a record of `etcs_lab events` that say what came (docs/JSON.md); an answer has those that
-say what the unit makes of it.
+An event is told by the members of a record of `etcs_lab events` that say what came (docs/JSON.md); an answer has those
+that say what the unit makes of it.
 """
 import json
 from collections.abc import Callable
@@ -15,7 +16,8 @@ ANSWER = ("mode", "level", "brake", "indications", "place_cm", "uncertainty_cm",
 """The members of an answer, in the order in which they are compared."""
 NEEDED = ("mode", "brake")
 """Those that each unit has to tell."""
-CAME = {"powerup": ("word",), "telegram": ("telegram",), "odometer": ("movement_cm", "speed_m_per_h"), "clock": ("now_ms",),
+CAME = {"powerup": ("word",), "telegram": ("telegram",), "odometer": ("movement_cm", "speed_m_per_h"),
+        "clock": ("now_ms",),
         "driver": ("action",)}
 DONE = {"enter_identity": ("identity",), "enter_running_number": ("running_number",), "choose_level": ("chosen_level",),
         "enter_train_data": ("length_cm", "maximum_m_per_h", "category", "deceleration_cm_per_s2", "reaction_ms"),
@@ -58,13 +60,15 @@ def is_count(value: object) -> bool:
 
 def are_indications(value: object) -> bool:
     """Whether it is a list of indications, none twice."""
-    return isinstance(value, list) and all(isinstance(one, str) and one in INDICATIONS for one in value) and len(set(value)) == len(value)
+    return isinstance(value, list) and all(isinstance(one, str) and one in INDICATIONS
+                                           for one in value) and len(set(value)) == len(value)
 
 
 VALUES: dict[str, tuple[Callable[[object], bool], str]] = {
     "mode": (lambda value: isinstance(value, str) and value in MODES, f"one of {', '.join(MODES)}"),
     "level": (lambda value: value is None or type(value) is int and value in (0, 1), "0, 1 or null"),
-    "brake": (lambda value: isinstance(value, str) and value in ("none", "service", "emergency"), "none, service or emergency"),
+    "brake": (lambda value: isinstance(value, str) and value in ("none", "service", "emergency"),
+              "none, service or emergency"),
     "indications": (are_indications, f"a list of {', '.join(INDICATIONS)}, none twice"),
     "place_cm": (is_number, "a whole number"), "uncertainty_cm": (is_count, "a whole number from 0 on"),
     "limit_m_per_h": (is_count, "a whole number from 0 on"),
@@ -146,4 +150,5 @@ def checked(line: bytes, event: int, tells: tuple[str, ...]) -> Json:
         holds, wanted = VALUES[name]
         if not holds(told[name]):
             raise Wrong(f"{name} {short(json.dumps(told[name]))}, where {wanted} is wanted")
-    return {name: sorted(told[name], key=list(INDICATIONS).index) if name == "indications" else told[name] for name in ("event", *tells)}
+    return {name: sorted(told[name], key=list(INDICATIONS).index) if name == "indications" else told[name]
+            for name in ("event", *tells)}

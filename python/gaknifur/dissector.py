@@ -1,7 +1,8 @@
 """A dissector in Lua for Wireshark, made of the layouts of `telegrams`; and captures of the telegrams of a journal.
 
-A capture has the link type USER0 (147, https://www.tcpdump.org/linktypes.html), which is left to who agrees on it. Here each packet of
-it is what one balise sent: the bytes of a telegram (SUBSET-026, 8.4.2) from its first bit on. docs/WIRESHARK.md says how both are used.
+A capture has the link type USER0 (147, https://www.tcpdump.org/linktypes.html), which is left to who agrees on it. Here
+each packet of it is what one balise sent: the bytes of a telegram (SUBSET-026, 8.4.2) from its first bit on.
+docs/WIRESHARK.md says how both are used.
 """
 import struct
 
@@ -17,8 +18,11 @@ CAPTURE = files.beginning("a capture of telegrams", PCAP_HEAD)
 
 PROGRAM = """\
 local balise = Proto("etcs_balise", "ETCS balise telegram")
-local truncated = ProtoExpert.new("etcs_balise.truncated", "The telegram ends before its end mark", expert.group.MALFORMED, expert.severity.ERROR)
-local wrong_length = ProtoExpert.new("etcs_balise.wrong_length", "L_PACKET isn't the length of the packet", expert.group.MALFORMED, expert.severity.ERROR)
+local function fault(name, text)
+    return ProtoExpert.new("etcs_balise." .. name, text, expert.group.MALFORMED, expert.severity.ERROR)
+end
+local truncated = fault("truncated", "The telegram ends before its end mark")
+local wrong_length = fault("wrong_length", "L_PACKET isn't the length of the packet")
 balise.experts = {truncated, wrong_length}
 
 local fields, list = {}, {}
@@ -100,7 +104,8 @@ function balise.dissector(buffer, pinfo, tree)
     local ok, fault = pcall(function()
         local header = {}
         for _, name in ipairs(HEADER) do header[name] = reader:take(name, whole) end
-        told = string.format("group %d/%d, balise %d of %d", header.NID_C, header.NID_BG, header.N_PIG + 1, header.N_TOTAL + 1)
+        local balises = string.format("balise %d of %d", header.N_PIG + 1, header.N_TOTAL + 1)
+        told = string.format("group %d/%d, %s", header.NID_C, header.NID_BG, balises)
         while true do
             local number = reader:packet(whole)
             if not number then break end
@@ -152,7 +157,8 @@ def lua() -> str:
 
 
 def capture(journal: Journal) -> tuple[bytes, int]:
-    """A capture of the telegrams of a journal, in their order, and how many there are. The time of a packet is the moment of its life."""
+    """A capture of the telegrams of a journal, in their order, and how many there are. The time of a packet is the
+    moment of its life."""
     found = [PCAP_HEAD]
     for record in journal.records:
         if record["kind"] == "telegram":

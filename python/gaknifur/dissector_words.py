@@ -14,13 +14,16 @@ Word = Callable[[str, str, str], argparse.ArgumentParser]
 
 def add_words(word: Word) -> None:
     """Adds the words."""
-    made = word("dissector", "writes a dissector in Lua, by which Wireshark takes telegrams apart", "Captures have the link type USER0 (147).")
+    made = word("dissector", "writes a dissector in Lua, by which Wireshark takes telegrams apart",
+                "Captures have the link type USER0 (147).")
     made.add_argument("out", metavar="OUT.lua", nargs="?", type=Path, help="the file; else standard output")
     made.add_argument("--force", action="store_true", help="write over files that lab made; nothing writes over others")
-    capture = word("capture", "writes the telegrams of a journal into a capture for Wireshark", "Its link type is USER0 (147).")
+    capture = word("capture", "writes the telegrams of a journal into a capture for Wireshark",
+                   "Its link type is USER0 (147).")
     capture.add_argument("image", metavar="IMAGE", type=Path)
     capture.add_argument("out", metavar="OUT.pcap", type=Path)
-    capture.add_argument("--force", action="store_true", help="write over files that lab made; nothing writes over others")
+    capture.add_argument("--force", action="store_true",
+                         help="write over files that lab made; nothing writes over others")
 
 
 def write_dissector(told: argparse.Namespace, progress: Progress) -> None:
@@ -46,4 +49,5 @@ def write_capture(told: argparse.Namespace, progress: Progress) -> int:
     return NOT_WHOLE if found else 0
 
 
-WORDS: dict[str, Callable[[argparse.Namespace, Progress], int | None]] = {"dissector": write_dissector, "capture": write_capture}
+WORDS: dict[str, Callable[[argparse.Namespace, Progress], int | None]] = {"dissector": write_dissector,
+                                                                          "capture": write_capture}

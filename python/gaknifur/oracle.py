@@ -1,7 +1,9 @@
-"""Another unit beside the proved one: each event of a journal is put to it, and its answers are compared record by record.
+"""Another unit beside the proved one: each event of a journal is put to it, and its answers are compared record by
+record.
 
-What is told is told as `etcs_lab replay` tells it: of each life the events that agree, and the first one that differs, with both
-answers. Events behind that aren't compared, since then both units know different things. docs/ORACLE.md has the lines.
+What is told is told as `etcs_lab replay` tells it: of each life the events that agree, and the first one that differs,
+with both answers. Events behind that aren't compared, since then both units know different things. docs/ORACLE.md has
+the lines.
 """
 import itertools
 import json
@@ -15,7 +17,8 @@ from .program import REFUSED, Failed
 from .reading import Json
 
 PLACE = ("place_cm", "uncertainty_cm")
-FOLLOWS = {"limit_kmh": ("limit_m_per_h",), "place_m": ("place_cm",), "min_safe_front_cm": PLACE, "max_safe_front_cm": PLACE,
+FOLLOWS = {"limit_kmh": ("limit_m_per_h",), "place_m": ("place_cm",), "min_safe_front_cm": PLACE,
+           "max_safe_front_cm": PLACE,
            "above_limit_m_per_h": ("limit_m_per_h",), "above_limit_kmh": ("limit_m_per_h",)}
 """The members of an answer from which a value of a record follows, where it isn't one itself."""
 
@@ -44,7 +47,8 @@ class Asked:
 def ask(command: str, name: str, records: list[Json], within_s: float) -> Asked:
     """Puts the events of a journal to a unit, from the first one of the first life on."""
     if records and (records[0]["event"], records[0]["kind"]) != (0, "powerup"):
-        raise Failed(f"{name}: the journal has lost its beginning, so no other unit can be asked; it needs more slots", REFUSED)
+        raise Failed(f"{name}: the journal has lost its beginning, so no other unit can be asked; it needs more slots",
+                     REFUSED)
     asked = Asked(records)
     with OtherUnit(command, within_s) as unit:
         try:
@@ -59,7 +63,9 @@ def ask(command: str, name: str, records: list[Json], within_s: float) -> Asked:
 
 def difference(record: Json, answer: Json, tells: tuple[str, ...]) -> str | None:
     """The first member of an answer that isn't the proved unit's."""
-    return next((name for name in tells if (set(record[name]) != set(answer[name]) if name == "indications" else record[name] != answer[name])),
+    return next((name for name in tells
+                 if (set(record[name]) != set(answer[name]) if name == "indications"
+                     else record[name] != answer[name])),
                 None)
 
 
@@ -76,16 +82,20 @@ class Line:
 def stretch(life: int, first: int, last: int, is_compared: bool) -> Line:
     """Events that agree, or that follow a difference."""
     said = "agree" if is_compared else "aren't compared: they follow an answer that differs"
-    told = {"life": life, "first_event": first, "last_event": last, "against": "agrees" if is_compared else "not_compared"}
-    return Line(f"life {life} events {first}..{last} {said}", told | ({} if is_compared else {"reason": "behind_difference"}))
+    told = {"life": life, "first_event": first, "last_event": last, "against": "agrees" if is_compared
+            else "not_compared"}
+    return Line(f"life {life} events {first}..{last} {said}",
+                told | ({} if is_compared else {"reason": "behind_difference"}))
 
 
 def differing(record: Json, answer: Json, name: str, tells: tuple[str, ...]) -> Line:
     """An answer that differs, and that of the proved unit."""
     kernel = answer_of(record, tells)
     unit_text, kernel_text = (json.dumps(one, separators=(",", ":")) for one in (answer, kernel))
-    return Line(f"life {record['life']} event {record['event']} differs in {name}\n  unit:   {unit_text}\n  kernel: {kernel_text}",
-                {"life": record["life"], "event": record["event"], "against": "differs", "field": name, "unit": answer, "kernel": kernel})
+    return Line(f"life {record['life']} event {record['event']} differs in {name}\n"
+                f"  unit:   {unit_text}\n  kernel: {kernel_text}",
+                {"life": record["life"], "event": record["event"], "against": "differs", "field": name, "unit": answer,
+                 "kernel": kernel})
 
 
 def of_life(life: int, pairs: list[tuple[Json, Json]], tells: tuple[str, ...]) -> Iterator[Line]:
@@ -111,9 +121,11 @@ def lines(asked: Asked) -> Iterator[Line]:
     for life, inner in itertools.groupby(pairs, lambda pair: int(pair[0]["life"])):
         yield from of_life(life, list(inner), asked.tells)
     if asked.broken:
-        yield Line(f"the unit broke the protocol: {asked.broken}", {"against": "broken", "answers": asked.broken.answers, "said": str(asked.broken)})
+        yield Line(f"the unit broke the protocol: {asked.broken}",
+                   {"against": "broken", "answers": asked.broken.answers, "said": str(asked.broken)})
     end = "broken" if asked.broken else "nothing_differs" if asked.agrees else "differs"
-    yield Line({"broken": "not all was compared", "differs": "something differs", "nothing_differs": "nothing differs"}[end], {"end": end})
+    yield Line({"broken": "not all was compared", "differs": "something differs",
+                "nothing_differs": "nothing differs"}[end], {"end": end})
 
 
 # ---- its answers in place of the proved unit's

@@ -1,4 +1,5 @@
-"""The words `serve` and `against` of `./lab`: the proved unit under the protocol of docs/ORACLE.md, and another unit beside a journal."""
+"""The words `serve` and `against` of `./lab`: the proved unit under the protocol of docs/ORACLE.md, and another unit
+beside a journal."""
 import argparse
 import sys
 from collections.abc import Callable
@@ -18,10 +19,12 @@ def add_words(word: Word) -> None:
     """Adds the words."""
     word("serve", "answers events on the standard streams as the proved unit does, by the protocol of docs/ORACLE.md",
          "The unit is the library that tools/library PREFIX makes; GAKNIFUR_ETCS_UNIT names its .so.")
-    against = word("against", "puts the events of a journal to another unit, and compares its answers with the journal's",
+    against = word("against",
+                   "puts the events of a journal to another unit, and compares its answers with the journal's",
                    "0 nothing differs   4 something differs, or the unit broke the protocol.")
     against.add_argument("image", metavar="IMAGE", type=Path)
-    against.add_argument("command", metavar="COMMAND", help="a program with its words, that speaks the protocol of docs/ORACLE.md")
+    against.add_argument("command", metavar="COMMAND",
+                         help="a program with its words, that speaks the protocol of docs/ORACLE.md")
     against.add_argument("--json", action="store_true", help="each line as an object")
     add_within(against)
 

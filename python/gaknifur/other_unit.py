@@ -1,7 +1,8 @@
 """A maker's own unit, as a program that speaks the protocol of docs/ORACLE.md over its standard streams.
 
-It is started once for each case or image, asked event by event, and ended. Whatever it does, each call comes back within the time
-that it has: what breaks the protocol, is late or ends before its time raises `Broken`, and no process of it stays behind.
+It is started once for each case or image, asked event by event, and ended. Whatever it does, each call comes back
+within the time that it has: what breaks the protocol, is late or ends before its time raises `Broken`, and no process
+of it stays behind.
 """
 import contextlib
 import os
@@ -51,7 +52,8 @@ class OtherUnit:
         self.greeting: Greeting | None = None
         self.errors = tempfile.TemporaryFile()
         try:
-            self.process = subprocess.Popen(self.words, stdin=subprocess.PIPE, stdout=subprocess.PIPE, stderr=self.errors,
+            self.process = subprocess.Popen(self.words, stdin=subprocess.PIPE, stdout=subprocess.PIPE,
+                                            stderr=self.errors,
                                             start_new_session=True, bufsize=0)
         except OSError as error:
             self.errors.close()
@@ -62,7 +64,8 @@ class OtherUnit:
     def __enter__(self) -> Self:
         return self
 
-    def __exit__(self, kind: type[BaseException] | None, error: BaseException | None, trace: TracebackType | None) -> None:
+    def __exit__(self, kind: type[BaseException] | None, error: BaseException | None,
+                 trace: TracebackType | None) -> None:
         self.kill()
 
     def kill(self) -> None:
@@ -111,8 +114,8 @@ class OtherUnit:
             if found is None:
                 raise self.broken(f"{where}: no answer within {self.within_s:g} s")
             if not found:
-                said = f"a line without its end, and then it {self.ended(deadline)}" if self.room else f"it {self.ended(deadline)}"
-                raise self.broken(f"{where}: {said}")
+                said = "a line without its end, and then it" if self.room else "it"
+                raise self.broken(f"{where}: {said} {self.ended(deadline)}")
             self.room += found
         line, _, self.room = self.room.partition(b"\n")
         return line

@@ -1,7 +1,7 @@
 """The proved unit under the protocol of docs/ORACLE.md: the library of `unit`, over a journal in memory.
 
-Each event is flushed by itself, so that each has its answer at once. The output of a power-up is never released; its record tells
-it.
+Each event is flushed by itself, so that each has its answer at once. The output of a power-up is never released; its
+record tells it.
 """
 import os
 import sys
@@ -34,10 +34,12 @@ def action_of(event: Json) -> Action:
     return Action[name.upper()]
 
 
-def told(event: int, mode: unit.Mode, level: unit.Level, brake: Brake, shows: Indication, place: int | None, uncertainty: int | None,
+def told(event: int, mode: unit.Mode, level: unit.Level, brake: Brake, shows: Indication, place: int | None,
+         uncertainty: int | None,
          limit: int | None) -> Json:
     """An answer, with all its members."""
-    return {"event": event, "mode": MODES[mode], "level": None if level == Level.INVALID else int(level), "brake": brake.name.lower(),
+    return {"event": event, "mode": MODES[mode], "level": None if level == Level.INVALID else int(level),
+            "brake": brake.name.lower(),
             "indications": [one.name.lower() for one in Indication if one in shows and one.name], "place_cm": place,
             "uncertainty_cm": uncertainty, "limit_m_per_h": limit}
 
@@ -63,7 +65,8 @@ class OwnUnit:
         opened.open()
         self.unit = opened
         last = list(unit.records(self.medium.read()))[-1]
-        return told(last.event, last.mode, last.level, last.brake, last.indications, last.front_cm, last.uncertainty_cm, last.limit_m_per_h)
+        return told(last.event, last.mode, last.level, last.brake, last.indications, last.front_cm, last.uncertainty_cm,
+                    last.limit_m_per_h)
 
     def take(self, one: Unit, event: Json) -> None:
         """Hands the unit what came."""
@@ -79,7 +82,9 @@ class OwnUnit:
         elif action == "enter_running_number":
             one.running_number(event["running_number"])
         elif action == "enter_train_data":
-            one.train_data(TrainData(*(event[name] for name in ("length_cm", "maximum_m_per_h", "deceleration_cm_per_s2", "reaction_ms",
+            one.train_data(TrainData(*(event[name]
+                                       for name in ("length_cm", "maximum_m_per_h", "deceleration_cm_per_s2",
+                                                    "reaction_ms",
                                                                 "category"))))
         else:
             one.action(action_of(event))
@@ -93,7 +98,8 @@ class OwnUnit:
         self.take(self.unit, event)
         output, = self.unit.flush()
         state = self.unit.state()
-        return told(output.event, output.mode, output.level, output.brake, output.indications, state.front_cm, state.uncertainty_cm,
+        return told(output.event, output.mode, output.level, output.brake, output.indications, state.front_cm,
+                    state.uncertainty_cm,
                     output.limit_m_per_h)
 
 

@@ -1,7 +1,8 @@
-"""Properties of journals, in YAML: which records are looked at, and what has to be so of each. docs/SEARCHING.md has the words.
+"""Properties of journals, in YAML: which records are looked at, and what has to be so of each. docs/SEARCHING.md has
+the words.
 
-The conditions are those of test cases (`cases`), with a few names more for which records are looked at. A property that no record was
-looked at for says nothing, so how many there were is always told.
+The conditions are those of test cases (`cases`), with a few names more for which records are looked at. A property that
+no record was looked at for says nothing, so how many there were is always told.
 """
 from collections.abc import Iterator
 from dataclasses import dataclass
@@ -49,8 +50,8 @@ class Violated(Exception):
 # ---- records
 
 def derived(records: list[Json]) -> list[Json]:
-    """The records of a journal with what the further names ask for: how far the speed is above the limit, how far the train rolled
-    backward since it stood, and the packets of a telegram."""
+    """The records of a journal with what the further names ask for: how far the speed is above the limit, how far the
+    train rolled backward since it stood, and the packets of a telegram."""
     found, rolled = [], 0
     for record in records:
         if record["kind"] == "powerup":
@@ -107,7 +108,8 @@ def leads(one: Property, told: Played, index: int) -> bool | None:
 def follows(one: Property, told: Played, index: int) -> bool:
     """Whether a record of the same life, that one or one before it, is as asked."""
     life = told.records[index]["life"]
-    return any(told.records[earlier]["life"] == life and is_met(one.required, told, earlier) for earlier in range(index, -1, -1))
+    return any(told.records[earlier]["life"] == life and is_met(one.required, told, earlier)
+               for earlier in range(index, -1, -1))
 
 
 def judge_record(one: Property, told: Played, index: int) -> bool:
@@ -118,12 +120,14 @@ def judge_record(one: Property, told: Played, index: int) -> bool:
         elif one.requires == "never" and is_met(one.required, told, index):
             raise Missed(f"never {one.required.text}", "it is so", told.records[index])
         elif one.requires == "preceded_by" and not follows(one, told, index):
-            raise Missed(f"before it a record with {one.required.text}", "there is none in this life", told.records[index])
+            raise Missed(f"before it a record with {one.required.text}", "there is none in this life",
+                         told.records[index])
         elif one.requires == "leads_to":
             found = leads(one, told, index)
             if found is False:
                 assert one.within is not None
-                raise Missed(f"{one.required.text} within {one.within[1]} {one.within[0].removeprefix('within_')}", "it didn't come",
+                raise Missed(f"{one.required.text} within {one.within[1]} {one.within[0].removeprefix('within_')}",
+                             "it didn't come",
                              told.records[index])
             return found is not None
     except Missed as missed:
@@ -150,7 +154,8 @@ def condition(at: Value, with_more: bool) -> Condition:
     told = at.members((), (*CONDITION, *(MORE if with_more else ())))
     if not told:
         raise at.fault("a condition has at least one name")
-    return Condition(at, {name: packet_test(value) if name == "packet" else test_of(name, value) for name, value in told.items()})
+    return Condition(at, {name: packet_test(value) if name == "packet" else test_of(name, value) for name,
+                          value in told.items()})
 
 
 def within_of(at: Value, told: dict[str, Value]) -> tuple[str, int] | None:
@@ -175,7 +180,8 @@ def property_of(at: Value) -> Property:
     is_before = requires == "preceded_by"
     chooses = {word: condition(told[word], not (is_before and word == "where")) for word in CHOOSES if word in told}
     law, unjudged = (told[name].text() if name in told else None for name in ("law", "unjudged"))
-    return Property(at, told["note"].text(), sections_of(told["sections"]) if "sections" in told else [], law, chooses, requires,
+    return Property(at, told["note"].text(), sections_of(told["sections"]) if "sections" in told else [], law, chooses,
+                    requires,
                     condition(told[requires], is_before), within_of(at, told), unjudged)
 
 

@@ -1,8 +1,9 @@
-"""Looks through random scenarios for one that breaks a property, and makes it small. docs/SEARCHING.md says how it is used.
+"""Looks through random scenarios for one that breaks a property, and makes it small. docs/SEARCHING.md says how it is
+used.
 
-A scenario is played on the programs, and judged by the records that `etcs_lab events` tells, or by another unit's answers to them.
-What breaks a property is made small by hypothesis, and then each step is left out without which it breaks it too. It is kept as a
-test case.
+A scenario is played on the programs, and judged by the records that `etcs_lab events` tells, or by another unit's
+answers to them. What breaks a property is made small by hypothesis, and then each step is left out without which it
+breaks it too. It is kept as a test case.
 """
 import functools
 import json
@@ -189,7 +190,8 @@ class Broke(Exception):
 
 def over_lives(made: Made, examples: int, seed: int, phases: tuple[Phase, ...], each: Callable[[Lives], None]) -> None:
     """Hands random lives to a function. The same seed gives the same ones."""
-    settings(max_examples=examples, deadline=None, database=None, phases=phases, suppress_health_check=list(HealthCheck),
+    settings(max_examples=examples, deadline=None, database=None, phases=phases,
+             suppress_health_check=list(HealthCheck),
              report_multiple_bugs=False)(hypothesis.seed(seed)(hypothesis.given(lives(made))(each)))()
 
 
@@ -238,11 +240,13 @@ def action_text(told: list[Any]) -> str:
         return name_of(ALONE, code)
     if code == 3:
         length, maximum, deceleration, reaction, category = values
-        return (f"enter_train_data: {{length: {length} cm, maximum: {maximum} m/h, deceleration: {deceleration} cm/s2, reaction: {reaction} ms, "
-                f"category: {category}}}")
+        return (f"enter_train_data: {{length: {length} cm, maximum: {maximum} m/h, deceleration: {deceleration} cm/s2, "
+                f"reaction: {reaction} ms, category: {category}}}")
     if code in (5, 10):
-        return f"confirm: {name_of(CONFIRMED, values[0])}" if code == 5 else f"acknowledge: {name_of(ACKNOWLEDGED, values[0])}"
-    return {1: f"enter_identity: {quoted(str(values[0]))}", 2: f"enter_running_number: {values[0]}", 4: f"choose_level: {values[0]}"}[code]
+        word, words = ("confirm", CONFIRMED) if code == 5 else ("acknowledge", ACKNOWLEDGED)
+        return f"{word}: {name_of(words, values[0])}"
+    return {1: f"enter_identity: {quoted(str(values[0]))}", 2: f"enter_running_number: {values[0]}",
+            4: f"choose_level: {values[0]}"}[code]
 
 
 def step_text(step: Json, made: Made) -> str:
@@ -280,7 +284,8 @@ def expected_text(found: Found) -> str:
     if of.requires == "leads_to":
         assert of.within is not None
         return f"after: {event}, expect: {required}, {of.within[0]}: {of.within[1]}"
-    return f"from: {event}, until: {event}, never: {required if of.requires == 'never' else flow(of.chooses['where'].at)}"
+    never = required if of.requires == "never" else flow(of.chooses["where"].at)
+    return f"from: {event}, until: {event}, never: {never}"
 
 
 def case_text(found: Found, made: Made, name: str, how: str) -> str:
@@ -289,13 +294,16 @@ def case_text(found: Found, made: Made, name: str, how: str) -> str:
     used = {digits for life in found.lives for digits in digits_of(json.loads(life)) if digits in made.texts}
     telegrams = sorted(made.texts[digits] for digits in used)
     return "\n".join([
-        f"# {how}", f"test_case: {name}", "feature: Search", f"sections: [{', '.join(quoted(one) for one in found.of.sections or ['4.4'])}]",
+        f"# {how}", f"test_case: {name}", "feature: Search",
+        f"sections: [{', '.join(quoted(one) for one in found.of.sections or ['4.4'])}]",
         f"rule: {quoted(found.of.note)}", "starting_conditions: power comes on",
-        *(["telegrams:", *(f"  {one}: {quoted(' '.join(text.split()))}" for one, text in telegrams)] if telegrams else []),
+        *(["telegrams:", *(f"  {one}: {quoted(' '.join(text.split()))}" for one, text in telegrams)] if telegrams
+          else []),
         "lives:", *(line for life in found.lives for line in life_text(life, made)),
         "expected:", f"  - {{note: {quoted(found.of.note)}, {expected_text(found)}}}", ""])
 
 
 def digits_of(life: Json) -> list[str]:
     """The telegrams of a life."""
-    return [step["telegram"] for step in life["steps"] if "telegram" in step] + [one for group in life["groups"] for one in group["balises"]]
+    return [step["telegram"] for step in life["steps"] if "telegram" in step] + [one for group in life["groups"]
+                                                                                 for one in group["balises"]]

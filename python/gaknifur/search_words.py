@@ -17,8 +17,10 @@ from .shown import shown
 
 Word = Callable[[str, str, str], argparse.ArgumentParser]
 EXAMPLES, MOST_EXAMPLES, SEEDS = 200, 100_000, 1 << 32
-NEEDED = {"powerup": (), "telegram": (), "odometer": ("movement_cm", "speed_m_per_h"), "clock": (), "driver": ("action",)}
-RECORD = ("event", "life", "kind", "time_ms", "mode", "level", "brake", "indications", "place_cm", "uncertainty_cm", "limit_m_per_h")
+NEEDED = {"powerup": (), "telegram": (), "odometer": ("movement_cm", "speed_m_per_h"), "clock": (),
+          "driver": ("action",)}
+RECORD = ("event", "life", "kind", "time_ms", "mode", "level", "brake", "indications", "place_cm", "uncertainty_cm",
+          "limit_m_per_h")
 
 
 def add_words(word: Word) -> None:
@@ -26,13 +28,18 @@ def add_words(word: Word) -> None:
     search = word("search", "looks through random scenarios for one that breaks a property, and makes it small",
                   "0 none was found   1 one was found, or a property was never judged.")
     search.add_argument("yaml", metavar="FILE.yaml", type=Path, help="the properties")
-    search.add_argument("--examples", metavar="N", type=int, default=EXAMPLES, help=f"how many scenarios are tried; else {EXAMPLES}")
-    search.add_argument("--seed", metavar="N", type=int, help="the same seed gives the same scenarios; else one that is told")
-    search.add_argument("--only", metavar="NOTE", action="append", default=[], help="only properties whose note has this text")
-    search.add_argument("--keep", metavar="FOLDER", type=Path, help="a new folder for what is found: a test case, its image and its report")
-    search.add_argument("--against", metavar="COMMAND", help="judge another unit's answers, a program that speaks the protocol of docs/ORACLE.md")
+    search.add_argument("--examples", metavar="N", type=int, default=EXAMPLES,
+                        help=f"how many scenarios are tried; else {EXAMPLES}")
+    search.add_argument("--seed", metavar="N", type=int,
+                        help="the same seed gives the same scenarios; else one that is told")
+    search.add_argument("--only", metavar="NOTE", action="append", default=[],
+                        help="only properties whose note has this text")
+    search.add_argument("--keep", metavar="FOLDER", type=Path,
+                        help="a new folder for what is found: a test case, its image and its report")
+    search.add_argument("--against", metavar="COMMAND",
+                        help="judge another unit's answers, a program that speaks the protocol of docs/ORACLE.md")
     search.add_argument("--records", metavar="EVENTS.jsonl", type=Path,
-                        help="search nothing, and judge these records: lines as etcs_lab events tells them, of whatever unit")
+                        help="search nothing, and judge these records: lines as etcs_lab events tells them, of any unit")
     oracle_words.add_within(search)
 
 
@@ -41,11 +48,14 @@ def add_words(word: Word) -> None:
 def are_values(told: Json) -> bool:
     """Whether the values of a record are of their kinds: numbers, words, indications, the packets of a telegram."""
     numbers = [told[name] for name in ("event", "life", "time_ms", *NEEDED[told["kind"]]) if name != "action"]
-    packets = told["decoded"].get("packets", []) if isinstance(told.get("decoded", {}), dict) and "decoded" in told else []
+    packets = told["decoded"].get("packets", []) if isinstance(told.get("decoded", {}),
+                                                               dict) and "decoded" in told else []
     return (all(type(value) is int for value in numbers)
-            and all(told[name] is None or type(told[name]) is int for name in ("place_cm", "uncertainty_cm", "limit_m_per_h"))
+            and all(told[name] is None or type(told[name]) is int
+                    for name in ("place_cm", "uncertainty_cm", "limit_m_per_h"))
             and isinstance(told["indications"], list) and all(isinstance(one, str) for one in told["indications"])
-            and isinstance(packets, list) and all(isinstance(one, dict) and type(one.get("packet")) is int for one in packets)
+            and isinstance(packets, list)
+            and all(isinstance(one, dict) and type(one.get("packet")) is int for one in packets)
             and isinstance(told.get("decoded", {}), dict))
 
 
@@ -86,7 +96,8 @@ def records_of(path: Path) -> list[Json]:
 
 
 def tell_held(one: Property, judged: int, where: str) -> bool:
-    """Tells of a property that no record breaks; answers whether it was never judged, and doesn't say why that may be."""
+    """Tells of a property that no record breaks; answers whether it was never judged, and doesn't say why that may
+    be."""
     why = f"; {one.unjudged}" if one.unjudged and not judged else ""
     print(f"{'holds' if judged else 'unjudged'}: {one.note}: {judged} records judged{where}{why}", flush=True)
     return not judged and one.unjudged is None
@@ -128,7 +139,8 @@ def keep(folder: Path, name: str, text: str, image: Callable[[Path], None]) -> P
     case.write_text(text, encoding="utf-8", newline="\n")
     image(room / "image")
     (room / "scenario.json").unlink(missing_ok=True)
-    (room / "report.html").write_text(report.page(read(room / "image", replay=True, why=True)), encoding="utf-8", newline="\n")
+    (room / "report.html").write_text(report.page(read(room / "image", replay=True, why=True)), encoding="utf-8",
+                                      newline="\n")
     return case
 
 
@@ -179,7 +191,8 @@ def search(given: argparse.Namespace, progress: Progress) -> int:
         wrong += 1
         found = searching.made_small(begun, made, given.examples, seed)
         assert found.lives is not None
-        how = f"Found by ./lab search {shown(given.yaml.name)} --seed {seed} --examples {given.examples}, and made small"
+        how = (f"Found by ./lab search {shown(given.yaml.name)} --seed {seed} --examples {given.examples}, "
+               "and made small")
         text = searching.case_text(found, made, plain(f"{told.name} {one.note}"), how)
         print(f"broken: {one.note}: {found.steps} steps, {len(found.lives)} lives\n{indented(found.said)}", flush=True)
         if given.keep:

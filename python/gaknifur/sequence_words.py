@@ -16,7 +16,8 @@ Word = Callable[[str, str, str], argparse.ArgumentParser]
 def add_words(word: Word) -> None:
     """Adds the word."""
     one = word("sequence", "makes test cases of a table of steps, by a mapping file of the laboratory's own",
-               "0 made   1 something isn't mapped, or a fault   4 made, and something is left out or isn't mapped (--partly).")
+               "0 made   1 something isn't mapped, or a fault   "
+               "4 made, and something is left out or isn't mapped (--partly).")
     one.add_argument("table", metavar="TABLE.csv|TABLE.xlsx", type=Path)
     one.add_argument("mapping", metavar="MAPPING.yaml", type=Path)
     one.add_argument("out", metavar="OUT.case.yaml", nargs="?", type=Path, help="the file; else standard output")
@@ -41,7 +42,8 @@ def sequence(told: argparse.Namespace, progress: Progress) -> int:
     for line in (*made.left_out, *made.unmapped):
         say(line)
     if made.unmapped and not told.partly:
-        raise Failed(f"{told.table}: {len(made.unmapped)} texts aren't mapped, and nothing is made; --partly makes the rest", REFUSED)
+        raise Failed(f"{told.table}: {len(made.unmapped)} texts aren't mapped, and nothing is made; "
+                     "--partly makes the rest", REFUSED)
     text = f"{sequences.MADE}{told.table.name} by {told.mapping.name}\n" + "---\n".join(made.cases)
     check(text, told.out.absolute().parent if told.out else told.mapping.absolute().parent)
     if out:

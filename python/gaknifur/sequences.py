@@ -1,8 +1,8 @@
-"""A table of test steps, in the form of SUBSET-076's sequences, as test cases: each step has an interface, an action, and what is
-expected. docs/SEQUENCES.md has the words.
+"""A table of test steps, in the form of SUBSET-076's sequences, as test cases: each step has an interface, an action,
+and what is expected. docs/SEQUENCES.md has the words.
 
-What the texts of a table mean, no file of this product says: a laboratory owns a mapping file, in which patterns stand for steps and
-for expected results. What no pattern fits is told by its row, and is never guessed.
+What the texts of a table mean, no file of this product says: a laboratory owns a mapping file, in which patterns stand
+for steps and for expected results. What no pattern fits is told by its row, and is never guessed.
 """
 import csv
 import itertools
@@ -127,7 +127,8 @@ def of_workbook(path: Path) -> Iterator[list[str]]:
 
 def table(path: Path, columns: dict[str, str]) -> list[Row]:
     """The rows of a table that say something, behind the one that names its columns."""
-    rows = [(number, [" ".join(cell.split()) for cell in row]) for number, row in enumerate(itertools.islice(cells(path), MOST_ROWS + 1), 1)]
+    rows = [(number, [" ".join(cell.split()) for cell in row]) for number,
+            row in enumerate(itertools.islice(cells(path), MOST_ROWS + 1), 1)]
     if len(rows) > MOST_ROWS:
         raise Failed(f"{path}: has more than {MOST_ROWS:,} rows", REFUSED)
     head = next(((number, row) for number, row in rows if all(name in row for name in columns.values())), None)
@@ -183,7 +184,8 @@ class Case:
     def text(self, name: str) -> str:
         """The case in YAML."""
         head = "\n".join(f"{word}: {flow(value)}" for word, value in self.told.case.items())
-        return "\n".join([f"test_case: {quoted(name)}", head, "lives:", "  - steps:", *(f"      - {step}" for step in self.steps),
+        return "\n".join([f"test_case: {quoted(name)}", head, "lives:", "  - steps:",
+                          *(f"      - {step}" for step in self.steps),
                           "expected:", *(f"  - {one}" for one in self.expected), ""])
 
 

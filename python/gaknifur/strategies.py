@@ -1,8 +1,8 @@
 """What random scenarios are made of: tracks, trains, drivers and losses of power, as strategies of hypothesis.
 
-A file of properties may say what its scenarios are made of (docs/SEARCHING.md); what it doesn't say is told here. What stands first
-is the simplest, so a scenario that is made small goes that way. Forward drives prevail: lives in which all steps are as frequent stay
-near their beginning.
+A file of properties may say what its scenarios are made of (docs/SEARCHING.md); what it doesn't say is told here. What
+stands first is the simplest, so a scenario that is made small goes that way. Forward drives prevail: lives in which all
+steps are as frequent stay near their beginning.
 """
 import json
 from collections.abc import Callable, Iterable
@@ -25,10 +25,10 @@ TELEGRAMS = {
     "restriction": "NID_BG 9; 65: NID_TSR 1, D_TSR 0, L_TSR 300, Q_FRONT 1, V_TSR 4",
     "level_0": "NID_BG 10; 41: D_LEVELTR 32767, M_LEVELTR 0, L_ACKLEVELTR 0",
     "level_1": "NID_BG 11; 41: D_LEVELTR 32767, M_LEVELTR 2, L_ACKLEVELTR 0",
-    "on_sight": f"NID_BG 12; 12: V_MAIN 24, L_ENDSECTION 1000; {TRACK}; 80: D_MAMODE 100, M_MAMODE 0, V_MAMODE 6, L_MAMODE 300, "
-                "L_ACKMAMODE 100",
-    "shunting": f"NID_BG 13; 12: V_MAIN 24, L_ENDSECTION 1000; {TRACK}; 80: D_MAMODE 100, M_MAMODE 1, V_MAMODE 127, L_MAMODE 32767, "
-                "L_ACKMAMODE 100",
+    "on_sight": f"NID_BG 12; 12: V_MAIN 24, L_ENDSECTION 1000; {TRACK}; 80: D_MAMODE 100, M_MAMODE 0, V_MAMODE 6, "
+                "L_MAMODE 300, L_ACKMAMODE 100",
+    "shunting": f"NID_BG 13; 12: V_MAIN 24, L_ENDSECTION 1000; {TRACK}; 80: D_MAMODE 100, M_MAMODE 1, V_MAMODE 127, "
+                "L_MAMODE 32767, L_ACKMAMODE 100",
     "stop": "NID_BG 14; 12: V_MAIN 0, L_ENDSECTION 100",
 }
 """The telegrams of a track that isn't told: the first two are heard where a life begins ready."""
@@ -88,7 +88,8 @@ def telegrams_of(at: Value, shared: Shared) -> dict[str, tuple[str, str]]:
         name = one.text() if one.is_text() else ""
         told = shared.telegrams.get(name, one)
         digits = scenarios.digits_of(one, shared)
-        found[digits] = (name if name in shared.telegrams else f"telegram_{number}", told.text() if told.is_text() else digits)
+        found[digits] = (name if name in shared.telegrams else f"telegram_{number}", told.text() if told.is_text()
+                         else digits)
     return found
 
 
@@ -134,13 +135,15 @@ def made_of(at: Value | None, shared: Shared) -> Made:
 
 # ---- strategies
 
-ANSWERS = [*[[6]] * 2, *([10, one] for one in ACKNOWLEDGED.values() for _ in range(2)), *([one] for one in ALONE.values() if one != 6)]
+ANSWERS = [*[[6]] * 2, *([10, one] for one in ACKNOWLEDGED.values() for _ in range(2)),
+           *([one] for one in ALONE.values() if one != 6)]
 """What a driver does without entering anything: he starts and acknowledges, twice as often as he chooses."""
 
 
 def entries(made: Made) -> list[list[Any]]:
     """What a driver enters and confirms."""
-    return [*([5, one] for one in CONFIRMED.values()), [4, 1], [4, 0], [1, "IC 704"], *([3, *train] for train in made.trains), [2, 704]]
+    return [*([5, one] for one in CONFIRMED.values()), [4, 1], [4, 0], [1, "IC 704"],
+            *([3, *train] for train in made.trains), [2, 704]]
 
 
 def of(word: str, values: Iterable[Any]) -> st.SearchStrategy[Step]:
@@ -158,7 +161,8 @@ def steps(made: Made) -> st.SearchStrategy[Step]:
     forward = st.builds(drive, st.sampled_from(made.ways), st.sampled_from(made.speeds))
     stands, answers = of("drive", [[0, 0]]), of("driver", ANSWERS)
     return st.one_of(*[forward] * FORWARD, stands, stands, answers, answers, answers, of("driver", entries(made)),
-                     of("telegram", made.telegrams), of("wait", made.waits), of("drive", [[-way, BACK_SPEED] for way in BACK_CM]))
+                     of("telegram", made.telegrams), of("wait", made.waits),
+                     of("drive", [[-way, BACK_SPEED] for way in BACK_CM]))
 
 
 def group(metres: int, telegram: str) -> Step:

@@ -14,7 +14,8 @@ from gaknifur.reading import Json
 
 from .samples import action, reading, record
 
-ANSWER: Json = {"event": 3, "mode": "FS", "level": 1, "brake": "none", "indications": [], "place_cm": 0, "uncertainty_cm": 0,
+ANSWER: Json = {"event": 3, "mode": "FS", "level": 1, "brake": "none", "indications": [], "place_cm": 0,
+                "uncertainty_cm": 0,
                 "limit_m_per_h": 0}
 
 
@@ -33,22 +34,26 @@ class Messages(unittest.TestCase):
         return str(found.exception)
 
     def test_an_event_is_all_but_the_answer(self) -> None:
-        self.assertEqual(asking.event_of(reading(4, 5)), {"life": 1, "event": 4, "kind": "odometer", "movement_cm": 100, "speed_m_per_h": 5})
+        self.assertEqual(asking.event_of(reading(4, 5)),
+                         {"life": 1, "event": 4, "kind": "odometer", "movement_cm": 100, "speed_m_per_h": 5})
         told = asking.event_of(action(4, "confirm", confirmed="level"))
         self.assertEqual(told, {"life": 1, "event": 4, "kind": "driver", "action": "confirm", "confirmed": "level"})
 
     def test_an_answer(self) -> None:
         self.assertEqual(asking.checked(line(ANSWER), 3, asking.ANSWER), ANSWER)
-        self.assertEqual(asking.checked(line({"event": 3, "mode": "SB", "brake": "none"}), 3, ("mode", "brake"))["mode"], "SB")
+        self.assertEqual(asking.checked(line({"event": 3, "mode": "SB", "brake": "none"}), 3,
+                                        ("mode", "brake"))["mode"], "SB")
 
     def test_values_at_their_limits(self) -> None:
-        for name, good, bad in (("place_cm", -(1 << 62) + 1, -(1 << 62)), ("uncertainty_cm", 0, -1), ("limit_m_per_h", (1 << 62) - 1, 1 << 62),
+        for name, good, bad in (("place_cm", -(1 << 62) + 1, -(1 << 62)), ("uncertainty_cm", 0, -1),
+                                ("limit_m_per_h", (1 << 62) - 1, 1 << 62),
                                 ("level", None, 2), ("indications", ["trip", "overspeed"], ["trip", "trip"])):
             self.assertEqual(asking.checked(line(ANSWER | {name: good}), 3, asking.ANSWER)[name], good)
             self.assertIn(name, self.wrong(ANSWER | {name: bad}))
 
     def test_what_is_no_answer(self) -> None:
-        self.assertIn("no member \"brake\"", self.wrong({name: value for name, value in ANSWER.items() if name != "brake"}))
+        self.assertIn("no member \"brake\"",
+                      self.wrong({name: value for name, value in ANSWER.items() if name != "brake"}))
         self.assertIn("which isn't one of event, mode", self.wrong(ANSWER, ("mode", "brake")))
         self.assertIn("answer to event 4", self.wrong(ANSWER | {"event": 4}))
         self.assertIn("no JSON", self.wrong(b"[" * 100_000))
@@ -59,7 +64,8 @@ class Messages(unittest.TestCase):
         told = asking.greeting_of(line({"protocol": 1, "unit": "x", "tells": ["brake", "mode"]}))
         self.assertEqual(told.tells, ("mode", "brake"))
         self.assertEqual(told.leaves_out, ("level", "indications", "place_cm", "uncertainty_cm", "limit_m_per_h"))
-        told_wrong: list[Json] = [{"protocol": True}, {"protocol": "1"}, {"tells": []}, {"tells": ["mode", "brake", "mode"]}, {"unit": "x" * 201}]
+        told_wrong: list[Json] = [{"protocol": True}, {"protocol": "1"}, {"tells": []},
+                                  {"tells": ["mode", "brake", "mode"]}, {"unit": "x" * 201}]
         for wrong in told_wrong:
             with self.assertRaises(asking.Wrong):
                 asking.greeting_of(line({"protocol": 1, "unit": "x", "tells": ["brake", "mode"]} | wrong))
@@ -81,7 +87,8 @@ class Processes(unittest.TestCase):
 
     def test_no_shell_runs_it(self) -> None:
         with tempfile.TemporaryDirectory() as room, patch.dict(os.environ, {"ROOM": room}):
-            with OtherUnit(f"{sys.executable} -c pass ; touch $ROOM/made", 60) as unit, self.assertRaises(Broken) as found:
+            with OtherUnit(f"{sys.executable} -c pass ; touch $ROOM/made",
+                           60) as unit, self.assertRaises(Broken) as found:
                 unit.greet("a")
             self.assertEqual(str(found.exception), "greeting: it ended with status 0")
             self.assertEqual(list(Path(room).iterdir()), [])
@@ -96,7 +103,8 @@ def asked(records: list[Json], **changes: Json) -> oracle.Asked:
 class Compared(unittest.TestCase):
     """What is told of answers."""
 
-    records = [record(0, "powerup"), *(record(event) for event in range(1, 4)), record(4, "powerup", life=2), record(5, life=2)]
+    records = [record(0, "powerup"), *(record(event) for event in range(1, 4)), record(4, "powerup", life=2),
+               record(5, life=2)]
 
     def told(self, **changes: Json) -> list[Json]:
         """The lines behind the first one."""
@@ -105,17 +113,22 @@ class Compared(unittest.TestCase):
     def test_all_agree(self) -> None:
         self.assertTrue(asked(self.records).agrees)
         self.assertEqual(self.told(), [{"life": 1, "first_event": 0, "last_event": 3, "against": "agrees"},
-                                       {"life": 2, "first_event": 4, "last_event": 5, "against": "agrees"}, {"end": "nothing_differs"}])
+                                       {"life": 2, "first_event": 4, "last_event": 5, "against": "agrees"},
+                                       {"end": "nothing_differs"}])
 
     def test_the_first_difference_ends_a_life(self) -> None:
         told = self.told(e1={"brake": "service"}, e2={"mode": "TR"})
         self.assertEqual([(one.get("against"), one.get("field")) for one in told],
-                         [("agrees", None), ("differs", "brake"), ("not_compared", None), ("agrees", None), (None, None)])
-        self.assertEqual(told[2], {"life": 1, "first_event": 2, "last_event": 3, "against": "not_compared", "reason": "behind_difference"})
+                         [("agrees", None), ("differs", "brake"), ("not_compared", None), ("agrees", None),
+                          (None, None)])
+        self.assertEqual(told[2],
+                         {"life": 1, "first_event": 2, "last_event": 3, "against": "not_compared",
+                          "reason": "behind_difference"})
         self.assertFalse(asked(self.records, e5={"limit_m_per_h": 39_999}).agrees)
 
     def test_each_member_is_compared(self) -> None:
-        for name, value in (("mode", "OS"), ("level", None), ("brake", "service"), ("indications", ["trip"]), ("place_cm", 1), ("uncertainty_cm", 1),
+        for name, value in (("mode", "OS"), ("level", None), ("brake", "service"), ("indications", ["trip"]),
+                            ("place_cm", 1), ("uncertainty_cm", 1),
                             ("limit_m_per_h", 1)):
             self.assertEqual(self.told(e3={name: value})[1]["field"], name)
 
@@ -124,13 +137,16 @@ class Compared(unittest.TestCase):
         self.assertTrue(asked(shown, e0={"indications": ["overspeed", "trip"]}).agrees)
 
     def test_what_is_not_told(self) -> None:
-        self.assertEqual(oracle.untold({"limit_kmh", "mode", "shows_trip", "event", "min_safe_front_cm"}, ("mode", "brake", "place_cm")),
+        self.assertEqual(oracle.untold({"limit_kmh", "mode", "shows_trip", "event", "min_safe_front_cm"},
+                                       ("mode", "brake", "place_cm")),
                          ["limit_kmh", "min_safe_front_cm", "shows_trip"])
 
     def test_answers_in_place_of_records(self) -> None:
         told = oracle.answered(asked([cases.derived(record(0, "powerup") | {"speed_m_per_h": 0})],
-                                     e0={"place_cm": 50, "uncertainty_cm": 7, "limit_m_per_h": 1_500, "indications": ["trip"]}))[0]
-        self.assertEqual((told["min_safe_front_cm"], told["max_safe_front_cm"], str(told["limit_kmh"]), told["shows_trip"]), (43, 57, "1.5", True))
+                                     e0={"place_cm": 50, "uncertainty_cm": 7, "limit_m_per_h": 1_500,
+                                         "indications": ["trip"]}))[0]
+        self.assertEqual((told["min_safe_front_cm"], told["max_safe_front_cm"], str(told["limit_kmh"]),
+                          told["shows_trip"]), (43, 57, "1.5", True))
 
 
 class Properties(unittest.TestCase):
@@ -149,11 +165,14 @@ class Properties(unittest.TestCase):
             return f"event {found[violated.index]['event']}"
 
     lives = [record(0, "powerup", mode="SB"), record(1, mode="FS"), reading(2, 60_000, mode="FS", brake="emergency"),
-             reading(3, 100, mode="TR", brake="emergency"), reading(4, 0, mode="TR"), record(5, "powerup", mode="SB", life=2), record(6, mode="FS", life=2)]
+             reading(3, 100, mode="TR", brake="emergency"), reading(4, 0, mode="TR"),
+             record(5, "powerup", mode="SB", life=2), record(6, mode="FS", life=2)]
 
     def test_always_and_never(self) -> None:
-        for told, wanted in (("always: {mode: [SB, FS, TR]}", 7), ("always: {mode: [SB, FS]}", "event 3"), ("never: {mode: TR}", "event 3"),
-                             ("where: {mode: TR}, always: {brake: emergency}", "event 4"), ("where: {mode: PT}, never: {brake: none}", 0)):
+        for told, wanted in (("always: {mode: [SB, FS, TR]}", 7), ("always: {mode: [SB, FS]}", "event 3"),
+                             ("never: {mode: TR}", "event 3"),
+                             ("where: {mode: TR}, always: {brake: emergency}", "event 4"),
+                             ("where: {mode: PT}, never: {brake: none}", 0)):
             self.assertEqual(self.judged(told, self.lives), wanted, told)
 
     def test_before_is_of_the_same_life(self) -> None:
@@ -163,7 +182,8 @@ class Properties(unittest.TestCase):
     def test_since_ends_by_until_and_by_the_life(self) -> None:
         since = "since: {over_limit_m_per_h: {least: 20000}}, until: {kind: odometer, speed_m_per_h: 0}"
         self.assertEqual(self.judged(f"{since}, always: {{brake: emergency}}", self.lives), 2)
-        self.assertEqual(self.judged("since: {over_limit_m_per_h: {least: 20000}}, always: {brake: emergency}", self.lives), "event 4")
+        self.assertEqual(self.judged("since: {over_limit_m_per_h: {least: 20000}}, always: {brake: emergency}",
+                                     self.lives), "event 4")
         self.assertEqual(self.judged("since: {mode: TR}, always: {life: 1}", self.lives), 2)
 
     def test_preceded_by_is_of_the_same_life(self) -> None:
@@ -173,17 +193,22 @@ class Properties(unittest.TestCase):
 
     def test_leads_to(self) -> None:
         self.assertEqual(self.judged("where: {event: 1}, leads_to: {mode: TR}, within_events: 2", self.lives), 1)
-        self.assertEqual(self.judged("where: {event: 1}, leads_to: {mode: TR}, within_events: 1", self.lives), "event 1")
+        self.assertEqual(self.judged("where: {event: 1}, leads_to: {mode: TR}, within_events: 1", self.lives),
+                         "event 1")
         self.assertEqual(self.judged("where: {event: 4}, leads_to: {mode: PT}, within_events: 9", self.lives), 0)
 
     def test_how_far_a_train_rolled_back(self) -> None:
-        told = [record(0, "powerup"), reading(1, 500) | back(100), reading(2, 500), reading(3, 500) | back(101), reading(4, 0) | back(7)]
+        told = [record(0, "powerup"), reading(1, 500) | back(100), reading(2, 500), reading(3, 500) | back(101),
+                reading(4, 0) | back(7)]
         for event, cm in enumerate((0, 100, 100, 201, 7)):
-            self.assertEqual(self.judged(f"where: {{event: {event}, rolled_back_cm: {cm}}}, always: {{event: {event}}}", told), 1)
+            self.assertEqual(self.judged(f"where: {{event: {event}, rolled_back_cm: {cm}}}, always: {{event: {event}}}",
+                                         told), 1)
 
     def test_faults(self) -> None:
-        for told in ("always: {mode: FS}, never: {mode: TR}", "where: {mode: FS}", "until: {mode: FS}, always: {mode: FS}", "always: {packet: 12}",
-                     "preceded_by: {mode: FS}", "leads_to: {mode: FS}", "always: {mode: FS}, within_ms: 2", "always: {mode: XX}"):
+        for told in ("always: {mode: FS}, never: {mode: TR}", "where: {mode: FS}",
+                     "until: {mode: FS}, always: {mode: FS}", "always: {packet: 12}",
+                     "preceded_by: {mode: FS}", "leads_to: {mode: FS}", "always: {mode: FS}, within_ms: 2",
+                     "always: {mode: XX}"):
             with self.assertRaises(Failed, msg=told):
                 self.judged(told, self.lives)
 
@@ -210,7 +235,8 @@ class Records(unittest.TestCase):
         self.assertIn("2:1: this is no JSON", self.said("{}\n{"))
         self.assertIn("1:1: this is no object", self.said("[]"))
         self.assertIn("1:1: a record has life", self.said('{"event": 1}'))
-        wrongs: list[Json] = [{"event": "1"}, {"limit_m_per_h": "40"}, {"indications": [1]}, {"decoded": []}, {"decoded": {"packets": [{}]}},
+        wrongs: list[Json] = [{"event": "1"}, {"limit_m_per_h": "40"}, {"indications": [1]}, {"decoded": []},
+                              {"decoded": {"packets": [{}]}},
                               {"life": None}, {"place_cm": 1.5}]
         for wrong in wrongs:
             self.assertIn("1:1: a value of this record", self.said(json.dumps(record(1) | wrong)), wrong)

@@ -47,7 +47,8 @@ class Tables(unittest.TestCase):
         self.assertEqual([one.partition(": ")[2] for one in made.unmapped],
                          ['step 1, DMI: action "5 m" isn\'t mapped', 'step 2, ODO: action "5 m and more" isn\'t mapped',
                           'step 2, ODO: expected "all is well" isn\'t mapped'])
-        self.assertEqual([one.partition(": ")[2] for one in made.left_out], ['step 3, X: action "nothing" is left out: why'])
+        self.assertEqual([one.partition(": ")[2] for one in made.left_out],
+                         ['step 3, X: action "nothing" is left out: why'])
 
     def test_a_text_of_a_table_stays_a_text(self) -> None:
         made = self.made('No,I/F,Action,Expected\n1,ODO,5 m,"brake x}, {mode: FS"\n')
@@ -55,12 +56,14 @@ class Tables(unittest.TestCase):
 
     def test_sequences_are_cases(self) -> None:
         mapping = MAPPING.replace("columns: {", "columns: {sequence: S, ")
-        made = self.made("S\tNo\tI/F\tAction\tExpected\na\t1\tODO\t5 m\t\na\t2\tODO\t6 m\t\nb\t1\tODO\t7 m\t\n", mapping)
+        made = self.made("S\tNo\tI/F\tAction\tExpected\na\t1\tODO\t5 m\t\na\t2\tODO\t6 m\t\nb\t1\tODO\t7 m\t\n",
+                         mapping)
         self.assertEqual([one.splitlines()[0] for one in made.cases], ['test_case: "a"', 'test_case: "b"'])
 
     def test_faults(self) -> None:
         for table, mapping, said in (
-                ("No,Action\n", MAPPING, "no row names the columns"), ("No,I/F,Action,Expected\n\"1", MAPPING, "no table"),
+                ("No,Action\n", MAPPING, "no row names the columns"),
+                ("No,I/F,Action,Expected\n\"1", MAPPING, "no table"),
                 ("", MAPPING.replace("(?P<way>", "(?P<way"), "no regular expression"),
                 ("No,I/F,Action,Expected\n1,ODO,5 m,\n", MAPPING.replace("'{way} m", "'{wy} m"), "there is no \"wy\""),
                 ("", MAPPING.replace("left_out: why", "left_out: why, steps: [flush]"), "one of steps, left_out")):

@@ -1,10 +1,12 @@
 #!/usr/bin/env python3
-"""What tshark shows by the dissector of `./lab dissector`, beside the plain decoder (tests/plain/decoded.py), of random telegrams.
+"""What tshark shows by the dissector of `./lab dissector`, beside the plain decoder (tests/plain/decoded.py), of random
+telegrams.
 
     tests/oracle/dissector_rows.py [COUNT [SEED]]    2,000 telegrams, seed 2026
 
-Each variable of a telegram that can be decoded is shown, with its number, in its place. Of one that ends too early, or whose L_PACKET is
-wrong, that is shown; what the decoder refuses for another cause (a number out of range) has its variables. Two altered layouts are told.
+Each variable of a telegram that can be decoded is shown, with its number, in its place. Of one that ends too early, or
+whose L_PACKET is wrong, that is shown; what the decoder refuses for another cause (a number out of range) has its
+variables. Two altered layouts are told.
 """
 import random
 import subprocess
@@ -25,7 +27,8 @@ FAULTS = {"1": "etcs_balise.truncated", "2": "etcs_balise.wrong_length"}
 
 
 def told(data):
-    """The variables that the plain decoder tells, in their order; None where it refuses, and the number of its cause."""
+    """The variables that the plain decoder tells, in their order; None where it refuses, and the number of its
+    cause."""
     lines = decoded.answer(data).splitlines()
     if lines[-1].startswith("refused"):
         return None, lines[-1].split()[1]
@@ -43,7 +46,8 @@ def shown(program, path):
     """What tshark shows of each packet of a capture: the variables, and what is wrong."""
     lua = path.with_suffix(".lua")
     lua.write_text(program)
-    done = subprocess.run(["tshark", "-X", f"lua_script:{lua}", "-r", path, "-T", "pdml"], capture_output=True, text=True)
+    done = subprocess.run(["tshark", "-X", f"lua_script:{lua}", "-r", path, "-T", "pdml"], capture_output=True,
+                          text=True)
     if done.returncode:
         sys.exit(f"tshark ended with {done.returncode}: {done.stderr[-400:]}")
     found = []
@@ -60,7 +64,8 @@ def shown(program, path):
 
 
 def compared(program, data, path):
-    """How many telegrams are shown otherwise, with the first of them; how many can be read, and how many end too early."""
+    """How many telegrams are shown otherwise, with the first of them; how many can be read, and how many end too
+    early."""
     wrong, read, refused = [], 0, 0
     answers = shown(program, path)
     assert len(answers) == len(data), f"{len(answers)} of {len(data)} packets"
@@ -87,7 +92,9 @@ def main(count=COUNT, seed=SEED):
             if was not in program or not compared(program.replace(was, is_now), data, path)[0]:
                 wrong.append(f"{is_now} for {was} isn't told")
     least = (LEAST_READ, LEAST_REFUSED) if int(count) >= COUNT else (1, 1)
-    print(*wrong[:10], f"tests/oracle/dissector_rows.py: {len(data)} telegrams in tshark, {read} can be read, {refused} end too early or have a "
+    print(*wrong[:10],
+          f"tests/oracle/dissector_rows.py: {len(data)} telegrams in tshark, {read} can be read, {refused} end too early or have "
+          "a "
           f"wrong length, {len(planted)} planted, {len(wrong)} wrong; {len(telegrams.LAYOUTS)} layouts", sep="\n")
     return 1 if wrong or read < least[0] or refused < least[1] else 0
 

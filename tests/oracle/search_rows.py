@@ -1,11 +1,13 @@
 #!/usr/bin/env python3
-"""Searches that have to find what is there: wrong properties, a wrong unit, altered records; and the safety laws, which hold.
+"""Searches that have to find what is there: wrong properties, a wrong unit, altered records; and the safety laws, which
+hold.
 
-    tests/oracle/search_rows.py ETCS ETCS_LAB UNIT [all]    `all` looks for all wrong properties; else for the first three
+    tests/oracle/search_rows.py ETCS ETCS_LAB UNIT [all]    `all`: all wrong properties; else the first three
 
-Each wrong property (wrong.search.yaml) is found, is made small to fewer than 12 steps of which none can be left out, and is kept as a
-case that says what it should. The safety laws (suites/safety_laws.search.yaml) are each judged, and hold of the proved unit; of each of
-them an altered answer is told; and in a unit whose brake is late a search finds one of them broken.
+Each wrong property (wrong.search.yaml) is found, is made small to fewer than 12 steps of which none can be left out,
+and is kept as a case that says what it should. The safety laws (suites/safety_laws.search.yaml) are each judged, and
+hold of the proved unit; of each of them an altered answer is told; and in a unit whose brake is late a search finds one
+of them broken.
 """
 import copy
 import os
@@ -22,7 +24,8 @@ from gaknifur import cases, mode_rows, playing, properties, search, strategies  
 EXAMPLES, SEED, MOST_STEPS, FEW, LEAST_ALTERED = 200, 1, 12, 3, 20
 LAW_EXAMPLES, LEAST_RECORDS = 200, 2_500
 WRONG, LAWS = TOP / "tests/oracle/wrong.search.yaml", TOP / "suites/safety_laws.search.yaml"
-OTHERS = {"mode": ["FS", "SR", "UN", "PT", "TR"], "brake": ["none", "service"], "kind": ["clock"], "action": ["close_desk"],
+OTHERS = {"mode": ["FS", "SR", "UN", "PT", "TR"], "brake": ["none", "service"], "kind": ["clock"],
+          "action": ["close_desk"],
           "acknowledged": ["on_sight"], "limit_m_per_h": [700_000], "speed_m_per_h": [700_000]}
 
 
@@ -43,7 +46,8 @@ class Rows:
         looked_at = told.properties[:few]
         for begun in search.survey(looked_at, made, records, EXAMPLES, SEED):
             self.wrong_property(begun, made, records)
-        self.is_so("wrong properties", len(told.properties) == 12 and self.found == len(looked_at), f"{self.found} of {len(looked_at)} found")
+        self.is_so("wrong properties", len(told.properties) == 12 and self.found == len(looked_at),
+                   f"{self.found} of {len(looked_at)} found")
 
     def wrong_property(self, begun, made, records):
         """A wrong property is found, made small, and kept as a case that fails of this alone."""
@@ -63,7 +67,8 @@ class Rows:
             path.write_text(search.case_text(found, made, "found", "Found by a test"), encoding="utf-8")
             case, = cases.read(path)
             played = playing.play(case)
-            self.is_so(name, len(case.expected) == 1 and not playing.comes(case.expected[0], played, mode_rows.mode_table()), path.read_text())
+            self.is_so(name, len(case.expected) == 1
+                       and not playing.comes(case.expected[0], played, mode_rows.mode_table()), path.read_text())
         print(f"tests/oracle/search_rows.py: found, {found.steps} steps, {time.monotonic() - since:.1f} s: {name}")
 
     def laws(self, unit):
@@ -83,7 +88,8 @@ class Rows:
         self.is_so("records", count >= LEAST_RECORDS, f"{count} records")
         for one in told.properties:
             self.alter(one, recorded)
-        late = search.player(search.Other(f"{shlex.quote(str(TOP / 'tests/oracle/wrong.py'))} brake_late {shlex.quote(unit)}", 60.0))
+        command = shlex.join([str(TOP / "tests/oracle/wrong.py"), "brake_late", unit])
+        late = search.player(search.Other(command, 60.0))
         late_found = search.survey(told.properties, made, late, 12, SEED)
         self.is_so("a late brake", any(begun.first is not None for begun in late_found), "no law is broken")
         return count
@@ -139,7 +145,8 @@ def main(etcs, lab, unit, which=""):
     rows.wrong_properties(None if which == "all" else FEW)
     count = rows.laws(str(Path(unit).resolve()))
     rows.is_so("altered answers", rows.altered >= LEAST_ALTERED, f"{rows.altered} told")
-    print(f"tests/oracle/search_rows.py: {rows.found} wrong properties found, the safety laws hold of {count} records, {rows.altered} altered "
+    print(f"tests/oracle/search_rows.py: {rows.found} wrong properties found, the safety laws hold of {count} records, "
+          f"{rows.altered} altered "
           f"answers told, {rows.wrong} wrong")
     return 1 if rows.wrong else 0
 

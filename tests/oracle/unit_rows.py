@@ -1,12 +1,12 @@
 #!/usr/bin/env python3
-"""Another unit beside the proved one: a right one agrees, and each one that is wrong on purpose is found out by what is wrong.
+"""Another unit beside the proved one: a right one agrees, and each one that is wrong on purpose is found out by what is
+wrong.
 
     tests/oracle/unit_rows.py ETCS ETCS_LAB UNIT STANDS
 
-UNIT is examples/oracle/unit.c, compiled, STANDS least.c. They, examples/oracle/unit.py and `./lab serve` are asked about the journals
-of the examples.
-Each kind of tests/oracle/wrong.py is asked about one of them, in which a train is tripped and power is lost, and has to be told by what
-stands here. Nothing of any of them may be left.
+UNIT is examples/oracle/unit.c, compiled, STANDS least.c. They, examples/oracle/unit.py and `./lab serve` are asked
+about the journals of the examples. Each kind of tests/oracle/wrong.py is asked about one of them, in which a train is
+tripped and power is lost, and has to be told by what stands here. Nothing of any of them may be left.
 """
 import os
 import shlex
@@ -25,23 +25,36 @@ from gaknifur.reading import read  # noqa: E402
 
 WITHIN_S, HANGS_S, LEAST = 60.0, 8.0, 30
 AT = "event 8: "
-# What is told of each kind. By hand, from docs/ORACLE.md and what the example does: it is made ready by event 5, too fast at event 8.
+# What is told of each kind. By hand, from docs/ORACLE.md and what the example does: it is made ready by event 5, too
+# fast at event 8.
 FOUND = {
-    "brake_late": "differs in brake", "other_mode": "differs in mode", "limit_by_one": "event 5 differs in limit_m_per_h",
-    "level_kept": "event 0 differs in level", "lower_uncertainty": "event 0 differs in uncertainty_cm", "indication_less": "differs in indications",
+    "brake_late": "differs in brake", "other_mode": "differs in mode",
+    "limit_by_one": "event 5 differs in limit_m_per_h",
+    "level_kept": "event 0 differs in level", "lower_uncertainty": "event 0 differs in uncertainty_cm",
+    "indication_less": "differs in indications",
     "missing_answer": f"{AT}no answer within 8 s", "hangs": f"{AT}no answer within 8 s",
     "garbage": f"{AT}a line that is no JSON: emergency!", "no_object": f"{AT}a line that is no JSON object: [8]",
-    "no_text": f"{AT}a line that is no JSON: ", "crashes": f"{AT}it was ended by signal 11 (SIGSEGV); it said: something is broken",
-    "ends": f"{AT}it ended with status 3", "half_a_line": f"{AT}a line without its end, and then it ended with status 0",
+    "no_text": f"{AT}a line that is no JSON: ",
+    "crashes": f"{AT}it was ended by signal 11 (SIGSEGV); it said: something is broken",
+    "ends": f"{AT}it ended with status 3",
+    "half_a_line": f"{AT}a line without its end, and then it ended with status 0",
     "endless_line": f"{AT}a line of more than 65,536 bytes", "closes": f"{AT}it closed its standard output",
-    "other_event": f"{AT}the answer to event 7", "two_answers": "event 9: ", "member_less": f"{AT}no member \"limit_m_per_h\"",
-    "member_more": f"{AT}the member \"limit_mh\", which isn't one of event, mode", "member_twice": f"{AT}\"brake\" stands twice",
-    "unknown_word": f"{AT}mode \"XX\", where one of FS, OS", "number_as_text": f"{AT}limit_m_per_h \"0\", where a whole number",
-    "number_with_a_point": f"{AT}limit_m_per_h 0.0, where a whole number", "infinite": f"{AT}limit_m_per_h Infinity, where a whole number",
-    "true_for_a_number": f"{AT}level true, where 0, 1 or null", "other_protocol": "greeting: the protocol 2, and this one is 1",
-    "tells_no_brake": "greeting: \"tells\" without brake", "tells_more": "greeting: as \"tells\" something else than a list of mode",
-    "nameless": "greeting: a unit whose name isn't a text of 1 to 200 characters", "greets_not": "greeting: a line that is no JSON: hello",
-    "silent": "greeting: no answer within 8 s", "goes_on": "end: it goes on for 8 s", "bad_status": "end: it ended with status 9",
+    "other_event": f"{AT}the answer to event 7", "two_answers": "event 9: ",
+    "member_less": f"{AT}no member \"limit_m_per_h\"",
+    "member_more": f"{AT}the member \"limit_mh\", which isn't one of event, mode",
+    "member_twice": f"{AT}\"brake\" stands twice",
+    "unknown_word": f"{AT}mode \"XX\", where one of FS, OS",
+    "number_as_text": f"{AT}limit_m_per_h \"0\", where a whole number",
+    "number_with_a_point": f"{AT}limit_m_per_h 0.0, where a whole number",
+    "infinite": f"{AT}limit_m_per_h Infinity, where a whole number",
+    "true_for_a_number": f"{AT}level true, where 0, 1 or null",
+    "other_protocol": "greeting: the protocol 2, and this one is 1",
+    "tells_no_brake": "greeting: \"tells\" without brake",
+    "tells_more": "greeting: as \"tells\" something else than a list of mode",
+    "nameless": "greeting: a unit whose name isn't a text of 1 to 200 characters",
+    "greets_not": "greeting: a line that is no JSON: hello",
+    "silent": "greeting: no answer within 8 s", "goes_on": "end: it goes on for 8 s",
+    "bad_status": "end: it ended with status 9",
     "last_word": "end: a line that nobody asked for: bye",
 }
 SLOW = ("missing_answer", "hangs", "silent", "goes_on", "closes")
@@ -78,7 +91,9 @@ def told(command, records, within_s):
 def left():
     """The groups of processes of which something runs on, a moment later."""
     for _ in range(50):
-        told = [line.split() for line in subprocess.run(["ps", "-eo", "pgid=,stat="], capture_output=True, text=True).stdout.splitlines()]
+        told = [line.split()
+                for line in subprocess.run(["ps", "-eo", "pgid=,stat="], capture_output=True,
+                                           text=True).stdout.splitlines()]
         groups = {group for group, state in told if not state.startswith("Z")}
         found = [pid for pid in STARTED if str(pid) in groups]
         if not found:
@@ -117,7 +132,8 @@ def main(etcs, lab, unit, stands):
             for kind, (said, agrees) in pool.map(tried, sorted(FOUND, key=lambda kind: kind not in SLOW)):
                 is_so(kind, not agrees and FOUND[kind] in said, said)
     is_so("processes", not left(), f"{left()} are left")
-    print(f"tests/oracle/unit_rows.py: {len(found)} journals agree, {len(FOUND)} units that are wrong on purpose, {len(wrong)} wrong")
+    print(f"tests/oracle/unit_rows.py: {len(found)} journals agree, {len(FOUND)} units that are wrong on purpose, "
+          f"{len(wrong)} wrong")
     return 1 if wrong or len(FOUND) < LEAST or len(found) < 6 else 0
 
 

@@ -88,6 +88,30 @@ def told(command, records, within_s):
     return "\n".join(line.text for line in oracle.lines(asked)), asked.agrees
 
 
+CASE = """\
+test_case: stands
+feature: a
+sections: [4.4]
+rule: b
+starting_conditions: c
+lives: [{steps: [{drive: 1 m at 5 km/h}]}]
+expected:
+  - {note: what it tells, at: end, expect: {mode: SB, brake: emergency}}
+  - {note: what nobody meets, at: end, expect: {mode: FS}}
+  - {note: what it does not tell, at: end, expect: {limit_kmh: 0}}
+"""
+
+
+def tested(unit):
+    """A case against a unit that tells little: what it tells is judged, what it doesn't tell is skipped and said."""
+    with tempfile.TemporaryDirectory() as room:
+        (Path(room) / "case.yaml").write_text(CASE)
+        done = subprocess.run([TOP / "lab", "test", room, "-rs", "--against", shlex.quote(str(unit))], capture_output=True, text=True)
+    said = done.stdout + done.stderr
+    wanted = ("1 failed, 3 passed, 1 skipped", "the unit doesn't tell limit_kmh", "found:    mode SB", "the proved unit misses it too")
+    return done.returncode == 1 and all(one in said for one in wanted), said
+
+
 def left():
     """The groups of processes of which something runs on, a moment later."""
     for _ in range(50):
@@ -120,6 +144,7 @@ def main(etcs, lab, unit, stands):
         for least in (TOP / "examples/oracle/unit.py", Path(stands).resolve()):
             said, agrees = told(shlex.quote(str(least)), found["trip"], WITHIN_S)
             is_so(least.name, not agrees and "life 1 events 0..4 agree\nlife 1 event 5 differs in mode" in said, said)
+        is_so("lab test against unit.py", *tested(TOP / "examples/oracle/unit.py"))
         said, agrees = told(f"{shlex.quote(str(TOP / 'lab'))} serve", found["power_cut"], WITHIN_S)
         is_so("lab serve", agrees, said)
         proxy = f"{shlex.quote(str(TOP / 'tests/oracle/wrong.py'))} {{}} {shlex.quote(unit)}"

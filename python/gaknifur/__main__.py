@@ -1,5 +1,6 @@
 """The words of `./lab`: `table`, `timeline`, `database`, `report`, `check`, `seal`, `verify`, `diff`, `join`, `follow`, `build`,
-`test`, `coverage`, `lint`, `drive`, `sweep`, `campaign`, `compare`."""
+`test`, `coverage`, `lint`, `drive`, `sweep`, `campaign`, `compare`, `serve`, `against`, `search`, `sequence`, `dissector`,
+`capture`."""
 import argparse
 import hashlib
 import os
@@ -9,7 +10,24 @@ from importlib.util import find_spec
 from pathlib import Path
 from typing import NoReturn
 
-from . import archive_words, campaign_words, check_words, coverage, difference_words, drive_words, files, lint_words, measured_words, scenarios, seal_words, sweep_words
+from . import (
+    archive_words,
+    campaign_words,
+    check_words,
+    coverage,
+    difference_words,
+    dissector_words,
+    drive_words,
+    files,
+    lint_words,
+    measured_words,
+    oracle_words,
+    scenarios,
+    seal_words,
+    search_words,
+    sequence_words,
+    sweep_words,
+)
 from .last_net import caught, say
 from .program import DEVICE, NOT_WHOLE, REFUSED, WRONG_WORDS, Failed, version
 from .progress import Terminal
@@ -98,6 +116,10 @@ def words() -> argparse.ArgumentParser:
     drive_words.add_words(word)
     sweep_words.add_words(word)
     campaign_words.add_words(word)
+    oracle_words.add_words(word)
+    search_words.add_words(word)
+    sequence_words.add_words(word)
+    dissector_words.add_words(word)
     return lab
 
 
@@ -119,6 +141,9 @@ def add_suites(word: Callable[[str, str, str], argparse.ArgumentParser]) -> None
                       "modules of tests. They are programs, and may do whatever you may")
     add_force(test)
     test.add_argument("--keep", metavar="FOLDER", help="keep the image and the report of each case that failed in this new folder")
+    test.add_argument("--against", metavar="COMMAND", help="another unit, a program that speaks the protocol of docs/ORACLE.md: its answers "
+                      "are compared with the proved unit's, and judged")
+    oracle_words.add_within(test)
     told = word("coverage", "tells which sections and transitions the cases of a folder are about",
                 "1 where one that the product covers has no case, and no reason why.")
     told.add_argument("folder", metavar="FOLDER", type=Path)
@@ -296,6 +321,7 @@ def run_tests(told: argparse.Namespace, progress: Progress) -> None:
     root = told.folder if told.folder.is_dir() else told.folder.parent
     selected = [f"--{name}={one}" for name in ("section", "feature") for one in getattr(told, name)]
     selected += [f"--keep={told.keep}"] if told.keep else []
+    selected += [f"--against={told.against}", f"--answer-within={told.answer_within}"] if told.against else []
     with results_in_xml(out) as (words, plugins):
         status = begun(told.folder, [
             "-q", "--no-header", *PLUGIN, "-o", f"cache_dir={results_of(root)}", "-W",
@@ -323,8 +349,9 @@ def tell_coverage(told: argparse.Namespace, progress: Progress) -> None:
 
 WORDS: dict[str, Callable[[argparse.Namespace, Progress], int | None]]
 WORDS = {"table": write_table, "timeline": write_timeline, "database": write_database, "report": write_report, "build": write_scenario, "test": run_tests,
-         "coverage": tell_coverage, **check_words.WORDS, **seal_words.WORDS, **difference_words.WORDS, **archive_words.WORDS, **lint_words.WORDS, **drive_words.WORDS, **sweep_words.WORDS,
-         **campaign_words.WORDS}
+         "coverage": tell_coverage, **check_words.WORDS, **seal_words.WORDS, **difference_words.WORDS,
+         **archive_words.WORDS, **lint_words.WORDS, **drive_words.WORDS, **sweep_words.WORDS, **campaign_words.WORDS,
+         **oracle_words.WORDS, **search_words.WORDS, **sequence_words.WORDS, **dissector_words.WORDS}
 
 
 def understood(given: Sequence[str]) -> argparse.Namespace:

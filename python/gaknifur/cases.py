@@ -93,6 +93,12 @@ class Expected:
     within: dict[str, int]
     row: Row | None
 
+    @property
+    def names(self) -> set[str]:
+        """The names of the values that it asks for."""
+        return {name for condition in self.conditions.values() for name in condition.tests} | {WITHIN[name] for name in self.within} | (
+            {"mode"} if self.row else set())
+
 
 @dataclass(frozen=True)
 class Life:

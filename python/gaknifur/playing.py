@@ -31,6 +31,13 @@ class Missed(Exception):
     def __init__(self, wanted: str, found: str, record: Json | None = None) -> None:
         super().__init__(f"expected: {wanted}\nfound:    {found}" + (f"\nrecord:   {record_text(record)}" if record else ""))
 
+    @classmethod
+    def of(cls, said: str) -> "Missed":
+        """One of which all is said already."""
+        missed = cls("", "")
+        missed.args = (said,)
+        return missed
+
 
 @dataclass
 class Played:
@@ -286,3 +293,12 @@ def judge(expected: Expected, played: Played, table: Table) -> None:
         judge_within(expected, played)
     else:
         judge_stretch(expected, played)
+
+
+def comes(expected: Expected, played: Played, table: Table) -> bool:
+    """Whether an expected result came."""
+    try:
+        judge(expected, played, table)
+    except Missed:
+        return False
+    return True

@@ -1,4 +1,4 @@
-"""The programs `etcs_lab` and `etcs`. No other module starts a process.
+"""The programs `etcs_lab` and `etcs`. No other module starts a process, but `other_unit` a maker's own.
 
 `$GAKNIFUR_ETCS_LAB` and `$GAKNIFUR_ETCS` name the programs. Without them the scripts are asked, once a process, whether
 there is a proved program of these sources: then that is run. Else the one is that a script compiles of the sources,

@@ -2,8 +2,9 @@
 
 `lab test FOLDER` is pytest with this plugin. A test stands below its case, and is named by its sections, its case and its
 note. `--section` and `--feature` select; `--keep FOLDER` keeps the image and the report of each case of which a test failed;
-`-k`, `-x`, `--lf`, `--junitxml=FILE` and the others are pytest's own. In the JUnit XML the class of a test is its case,
-behind its file, and each test has the properties `case`, `feature` and `sections`.
+`--against COMMAND` puts each case to another unit too (docs/ORACLE.md), and judges its answers; `-k`, `-x`, `--lf`,
+`--junitxml=FILE` and the others are pytest's own. In the JUnit XML the class of a test is its case, behind its file, and each
+test has the properties `case`, `feature` and `sections`.
 """
 import re
 from collections.abc import Iterator
@@ -12,10 +13,11 @@ from typing import Any
 
 import pytest
 
-from . import cases, mode_rows, playing
+from . import cases, mode_rows, oracle, oracle_words, other_unit, playing
 from .program import Failed
 from .reaching import REACHES, Reaches
 
+AGREES = "another unit answers to each event as the proved one does"
 FIRST = "each life ends as told; the records are released, whole and replayed"
 
 
@@ -26,10 +28,17 @@ def pytest_addoption(parser: pytest.Parser) -> None:
                     help="only results that are about this section of SUBSET-026, or a part of it; may be told more than once")
     group.addoption("--feature", action="append", default=[], metavar="FEATURE", help="only cases of this feature")
     group.addoption("--keep", metavar="FOLDER", help="keep the image and the report of each case that failed in this new folder")
+    group.addoption("--against", metavar="COMMAND", help="another unit, whose answers are compared and judged (docs/ORACLE.md)")
+    group.addoption("--answer-within", metavar="SECONDS", type=float, default=other_unit.WITHIN_S, help="how long it has for each answer")
 
 
 def pytest_configure(config: pytest.Config) -> None:
     """Where cases are kept nothing may be there yet, so that nothing is written over."""
+    try:
+        oracle_words.within_of(config.getoption("--answer-within"))
+        other_unit.words_of(config.getoption("--against") or "none")
+    except Failed as failed:
+        raise pytest.UsageError(str(failed)) from None
     folder = folder_of(config)
     if folder and folder.exists() and (not folder.is_dir() or any(folder.iterdir())):
         raise pytest.UsageError(f"--keep {folder}: is there already, and isn't an empty folder")
@@ -67,9 +76,13 @@ class CaseTests(pytest.Collector):
         self.case, self.table = case, table
 
     def collect(self) -> Iterator[pytest.Item]:
-        """An item for each expected result, behind one that the case can be judged at all."""
-        player = Player(self.case, folder_of(self.config), self.config.stash.get(REACHES, None))
-        for expected in (None, *self.case.expected):
+        """An item for each expected result, behind one that the case can be judged at all, and one for another unit."""
+        player = Player(self.case, folder_of(self.config), self.config.stash.get(REACHES, None),
+                        self.config.getoption("--against"), self.config.getoption("--answer-within"))
+        yield Item.from_parent(self, name=name_of(self.case, FIRST), player=player, expected=None, table=self.table)
+        if player.against:
+            yield AgainstItem.from_parent(self, name=name_of(self.case, AGREES), player=player, expected=None, table=self.table)
+        for expected in self.case.expected:
             yield Item.from_parent(self, name=name_of(self.case, expected), player=player, expected=expected, table=self.table)
 
 
@@ -78,17 +91,20 @@ def one_line(text: str) -> str:
     return " ".join(text.split())
 
 
-def name_of(case: cases.Case, expected: cases.Expected | None) -> str:
+def name_of(case: cases.Case, expected: cases.Expected | str) -> str:
     """How a test is named: by its sections, its case and its note."""
-    sections = expected.sections if expected else case.sections
-    return one_line(f"[{', '.join(sections)}] {case.name}: {expected.note if expected else FIRST}")
+    sections, note = (case.sections, expected) if isinstance(expected, str) else (expected.sections, expected.note)
+    return one_line(f"[{', '.join(sections)}] {case.name}: {note}")
 
 
 class Player:
-    """Plays a case once for all its tests."""
+    """Plays a case once for all its tests, and asks another unit once, where there is one."""
 
-    def __init__(self, case: cases.Case, folder: Path | None, reaches: Reaches | None = None) -> None:
+    def __init__(self, case: cases.Case, folder: Path | None, reaches: Reaches | None = None, against: str | None = None,
+                 within_s: float = other_unit.WITHIN_S) -> None:
         self.case, self.folder, self.reaches = case, folder, reaches
+        self.against, self.within_s = against, within_s
+        self.asked: oracle.Asked | None = None
         self.played: playing.Played | None = None
         self.failed: Exception | None = None
         self.image: bytes | None = None
@@ -106,6 +122,30 @@ class Player:
             if self.reaches:
                 self.reaches.take(self.case, self.played)
         return self.played
+
+    def ask(self, command: str) -> oracle.Asked:
+        """What another unit answers to the events of the case."""
+        if self.asked is None:
+            self.asked = oracle.ask(command, self.case.name, self.play().records, self.within_s)
+        return self.asked
+
+    def judge(self, expected: cases.Expected, table: mode_rows.Table) -> None:
+        """Judges an expected result: by the records, or by another unit's answers in their place."""
+        played = self.play()
+        if not self.against:
+            playing.judge(expected, played, table)
+            return
+        asked = self.ask(self.against)
+        if asked.broken:
+            raise playing.Missed("answers to all events", str(asked.broken))
+        untold = oracle.untold(expected.names, asked.tells)
+        if untold:
+            pytest.skip(f"the unit doesn't tell {', '.join(untold)}")
+        try:
+            playing.judge(expected, playing.Played(oracle.answered(asked), played.marks), table)
+        except playing.Missed as missed:
+            proved = "meets it" if playing.comes(expected, played, table) else "misses it too"
+            raise playing.Missed.of(f"{missed}\nthe proved unit {proved}") from None
 
     def take(self, image: bytes) -> None:
         """Takes the image that the case left."""
@@ -153,9 +193,9 @@ class Item(pytest.Item):
     def runtest(self) -> None:
         """Judges it."""
         try:
-            played = self.player.play()
+            self.player.play()
             if self.expected:
-                playing.judge(self.expected, played, self.table)
+                self.player.judge(self.expected, self.table)
         except (playing.Missed, Failed):
             self.player.keep()
             raise
@@ -172,6 +212,17 @@ class Item(pytest.Item):
         """Where it stands, from line 0 on."""
         at = self.expected.at if self.expected else self.player.case.at
         return self.path, at.line - 1, self.name
+
+
+class AgainstItem(Item):
+    """Whether another unit answers to each event of a case as the proved one does."""
+
+    def runtest(self) -> None:
+        """Compares."""
+        assert self.player.against
+        asked = self.player.ask(self.player.against)
+        if not asked.agrees:
+            raise playing.Missed("the answers of the proved unit", "\n".join(line.text for line in oracle.lines(asked)))
 
 
 def is_within(section: str, wanted: str) -> bool:

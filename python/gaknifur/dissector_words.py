@@ -1,0 +1,53 @@
+"""The words `dissector` and `capture` of `./lab`: Wireshark reads the telegrams of a journal (docs/WIRESHARK.md)."""
+import argparse
+import sys
+from collections.abc import Callable
+from pathlib import Path
+
+from . import brief, dissector, files
+from .last_net import say
+from .program import NOT_WHOLE, REFUSED, Failed
+from .reading import Progress, read
+
+Word = Callable[[str, str, str], argparse.ArgumentParser]
+
+
+def add_words(word: Word) -> None:
+    """Adds the words."""
+    made = word("dissector", "writes a dissector in Lua, by which Wireshark takes telegrams apart",
+                "Captures have the link type USER0 (147).")
+    made.add_argument("out", metavar="OUT.lua", nargs="?", type=Path, help="the file; else standard output")
+    made.add_argument("--force", action="store_true", help="write over files that lab made; nothing writes over others")
+    capture = word("capture", "writes the telegrams of a journal into a capture for Wireshark",
+                   "Its link type is USER0 (147).")
+    capture.add_argument("image", metavar="IMAGE", type=Path)
+    capture.add_argument("out", metavar="OUT.pcap", type=Path)
+    capture.add_argument("--force", action="store_true",
+                         help="write over files that lab made; nothing writes over others")
+
+
+def write_dissector(told: argparse.Namespace, progress: Progress) -> None:
+    """The word `dissector`."""
+    if told.out:
+        files.write(files.Out(told.out, dissector.LUA, told.force), dissector.lua())
+    else:
+        sys.stdout.write(dissector.lua())
+
+
+def write_capture(told: argparse.Namespace, progress: Progress) -> int:
+    """The word `capture`."""
+    out = files.Out(told.out, dissector.CAPTURE, told.force)
+    files.check_all([out], [told.image])
+    journal = read(told.image, progress=progress)
+    data, count = dissector.capture(journal)
+    if not count:
+        raise Failed(f"{told.image}: there is no telegram in the journal", REFUSED)
+    files.write(out, data, [told.image])
+    found = brief.faults(journal)
+    if found:
+        say(f"{journal.path}: {'; '.join(found)}")
+    return NOT_WHOLE if found else 0
+
+
+WORDS: dict[str, Callable[[argparse.Namespace, Progress], int | None]] = {"dissector": write_dissector,
+                                                                          "capture": write_capture}

@@ -1,0 +1,200 @@
+"""A table of test steps, in the form of SUBSET-076's sequences, as test cases: each step has an interface, an action,
+and what is expected. docs/SEQUENCES.md has the words.
+
+What the texts of a table mean, no file of this product says: a laboratory owns a mapping file, in which patterns stand
+for steps and for expected results. What no pattern fits is told by its row, and is never guessed.
+"""
+import csv
+import itertools
+import re
+from collections.abc import Iterator
+from dataclasses import dataclass, field
+from pathlib import Path
+
+from . import files
+from .located import Value, document, shortened
+from .program import DEVICE, REFUSED, Failed
+from .yaml_text import flow, quoted
+
+COLUMNS = ("step", "interface", "action")
+MORE_COLUMNS = ("expected", "sequence")
+MADE = "# Made by ./lab sequence of "
+FILE = files.beginning("test cases made of a table", MADE.encode())
+MOST_BYTES, MOST_ROWS = 1 << 26, 100_000
+
+
+@dataclass(frozen=True)
+class Row:
+    """A row of a table: where it stands, and its texts by the names of this page."""
+
+    at: str
+    texts: dict[str, str]
+
+
+@dataclass(frozen=True)
+class Pattern:
+    """What a text means on an interface, where it is told: steps, or what is expected; or why it is left out."""
+
+    at: Value
+    interface: str | None
+    pattern: re.Pattern[str]
+    means: Value | None
+    left_out: str | None
+
+    def fits(self, interface: str, text: str) -> dict[str, str] | None:
+        """The words that a text has for it, where it fits."""
+        found = self.pattern.fullmatch(text) if self.interface in (None, interface) else None
+        return None if found is None else {name: word or "" for name, word in found.groupdict().items()}
+
+
+@dataclass(frozen=True)
+class Mapping:
+    """What a laboratory says of its table."""
+
+    path: Path
+    columns: dict[str, str]
+    case: dict[str, Value]
+    actions: list[Pattern]
+    expected: list[Pattern]
+
+
+@dataclass
+class Made:
+    """The cases of a table, and what is told of its rows."""
+
+    cases: list[str] = field(default_factory=list)
+    unmapped: list[str] = field(default_factory=list)
+    left_out: list[str] = field(default_factory=list)
+    steps: int = 0
+    results: int = 0
+
+
+# ---- the mapping
+
+def pattern_of(at: Value, name: str) -> Pattern:
+    """What a text means."""
+    told = at.members(("text",), ("interface", name, "left_out"))
+    if (name in told) == ("left_out" in told):
+        raise at.fault(f"one of {name}, left_out is wanted")
+    try:
+        pattern = re.compile(told["text"].text())
+    except re.error as error:
+        raise told["text"].fault(f"this is no regular expression: {error}") from None
+    return Pattern(at, told["interface"].text() if "interface" in told else None, pattern, told.get(name),
+                   told["left_out"].text() if "left_out" in told else None)
+
+
+def mapping(path: Path) -> Mapping:
+    """The mapping of a file."""
+    told = document(path).members(("columns", "case", "actions"), ("expected",))
+    columns = told["columns"].members(COLUMNS, MORE_COLUMNS)
+    case = told["case"].members(("feature", "sections", "rule", "starting_conditions"), ("include", "slots"))
+    return Mapping(path, {name: one.text() for name, one in columns.items()}, case,
+                   [pattern_of(one, "steps") for one in told["actions"].elements()],
+                   [pattern_of(one, "expect") for one in (told["expected"].elements() if "expected" in told else [])])
+
+
+# ---- the table
+
+def cells(path: Path) -> Iterator[list[str]]:
+    """The cells of a table, row by row."""
+    try:
+        if path.stat().st_size > MOST_BYTES:
+            raise Failed(f"{path}: has more than {MOST_BYTES:,} bytes", REFUSED)
+        if path.suffix == ".xlsx":
+            yield from of_workbook(path)
+            return
+        with path.open(encoding="utf-8-sig", newline="") as file:
+            first = file.readline()
+            file.seek(0)
+            yield from csv.reader(file, delimiter=max(",;\t", key=first.count), strict=True)
+    except OSError as error:
+        raise Failed(f"{path}: {error.strerror}", DEVICE) from error
+    except (UnicodeDecodeError, csv.Error) as error:
+        raise Failed(f"{path}: this is no table in UTF-8: {error}", REFUSED) from error
+
+
+def of_workbook(path: Path) -> Iterator[list[str]]:
+    """The cells of the first sheet of a workbook; of a formula what it came to."""
+    import openpyxl
+    try:
+        book = openpyxl.load_workbook(path, read_only=True, data_only=True)
+    except Exception as error:  # (the reader has no kind of error of its own)
+        raise Failed(f"{path}: this is no workbook: {type(error).__name__}", REFUSED) from error
+    for row in book.worksheets[0].iter_rows(values_only=True):
+        yield ["" if cell is None else str(cell) for cell in row]
+
+
+def table(path: Path, columns: dict[str, str]) -> list[Row]:
+    """The rows of a table that say something, behind the one that names its columns."""
+    rows = [(number, [" ".join(cell.split()) for cell in row]) for number,
+            row in enumerate(itertools.islice(cells(path), MOST_ROWS + 1), 1)]
+    if len(rows) > MOST_ROWS:
+        raise Failed(f"{path}: has more than {MOST_ROWS:,} rows", REFUSED)
+    head = next(((number, row) for number, row in rows if all(name in row for name in columns.values())), None)
+    if head is None:
+        raise Failed(f"{path}: no row names the columns {', '.join(columns.values())}", REFUSED)
+    at = {name: head[1].index(column) for name, column in columns.items()}
+    return [Row(f"{path}:{number}", {name: row[index] if index < len(row) else "" for name, index in at.items()})
+            for number, row in rows if number > head[0] and any(row)]
+
+
+# ---- cases
+
+class Case:
+    """The lines of one case."""
+
+    def __init__(self, made: Made, told: Mapping) -> None:
+        self.made, self.told = made, told
+        self.steps: list[str] = []
+        self.expected: list[str] = []
+
+    def meaning(self, row: Row, name: str, patterns: list[Pattern]) -> tuple[Pattern, dict[str, str]] | None:
+        """What a text of a row means; where nothing fits, or it is left out, that is told."""
+        text, interface = row.texts[name], row.texts["interface"]
+        if not text:
+            return None
+        where = f"{row.at}: step {row.texts['step']}, {interface or 'no interface'}: {name} \"{shortened(text)}\""
+        for one in patterns:
+            words = one.fits(interface, text)
+            if words is not None:
+                if one.left_out is None:
+                    return one, words
+                self.made.left_out.append(f"{where} is left out: {one.left_out}")
+                return None
+        self.made.unmapped.append(f"{where} isn't mapped")
+        return None
+
+    def add(self, row: Row) -> None:
+        """Adds a row."""
+        done = self.meaning(row, "action", self.told.actions)
+        if done:
+            assert done[0].means is not None
+            self.steps += [flow(one, done[1]) for one in done[0].means.elements()]
+            self.made.steps += 1
+        wanted = self.meaning(row, "expected", self.told.expected) if "expected" in row.texts else None
+        if wanted:
+            assert wanted[0].means is not None
+            mark = f"row_{row.at.rpartition(':')[2]}"
+            self.steps.append(f"{{mark: {mark}}}")
+            note = quoted(f"step {row.texts['step']}: {row.texts['expected']}")
+            self.expected.append(f"{{note: {note}, at: {{mark: {mark}}}, expect: {flow(wanted[0].means, wanted[1])}}}")
+            self.made.results += 1
+
+    def text(self, name: str) -> str:
+        """The case in YAML."""
+        head = "\n".join(f"{word}: {flow(value)}" for word, value in self.told.case.items())
+        return "\n".join([f"test_case: {quoted(name)}", head, "lives:", "  - steps:",
+                          *(f"      - {step}" for step in self.steps),
+                          "expected:", *(f"  - {one}" for one in self.expected), ""])
+
+
+def cases_of(told: Mapping, rows: list[Row], name: str) -> Made:
+    """The cases of the rows of a table, one for each sequence."""
+    made = Made()
+    for sequence, inner in itertools.groupby(rows, lambda row: row.texts.get("sequence", "")):
+        case = Case(made, told)
+        for row in inner:
+            case.add(row)
+        made.cases.append(case.text(sequence or name))
+    return made

@@ -1,0 +1,242 @@
+"""Another unit under the protocol of docs/ORACLE.md, and properties of records (docs/SEARCHING.md)."""
+import json
+import os
+import sys
+import tempfile
+import unittest
+from pathlib import Path
+from unittest.mock import patch
+
+from gaknifur import asking, cases, oracle, playing, properties, search_words
+from gaknifur.other_unit import Broken, OtherUnit, words_of
+from gaknifur.program import Failed
+from gaknifur.reading import Json
+
+from .samples import action, reading, record
+
+ANSWER: Json = {"event": 3, "mode": "FS", "level": 1, "brake": "none", "indications": [], "place_cm": 0,
+                "uncertainty_cm": 0,
+                "limit_m_per_h": 0}
+
+
+def line(told: object) -> bytes:
+    """A message."""
+    return json.dumps(told).encode()
+
+
+class Messages(unittest.TestCase):
+    """What is a message, and what isn't."""
+
+    def wrong(self, told: object, tells: tuple[str, ...] = asking.ANSWER) -> str:
+        """What is said of an answer that isn't one."""
+        with self.assertRaises(asking.Wrong) as found:
+            asking.checked(told if isinstance(told, bytes) else line(told), 3, tells)
+        return str(found.exception)
+
+    def test_an_event_is_all_but_the_answer(self) -> None:
+        self.assertEqual(asking.event_of(reading(4, 5)),
+                         {"life": 1, "event": 4, "kind": "odometer", "movement_cm": 100, "speed_m_per_h": 5})
+        told = asking.event_of(action(4, "confirm", confirmed="level"))
+        self.assertEqual(told, {"life": 1, "event": 4, "kind": "driver", "action": "confirm", "confirmed": "level"})
+
+    def test_an_answer(self) -> None:
+        self.assertEqual(asking.checked(line(ANSWER), 3, asking.ANSWER), ANSWER)
+        self.assertEqual(asking.checked(line({"event": 3, "mode": "SB", "brake": "none"}), 3,
+                                        ("mode", "brake"))["mode"], "SB")
+
+    def test_values_at_their_limits(self) -> None:
+        for name, good, bad in (("place_cm", -(1 << 62) + 1, -(1 << 62)), ("uncertainty_cm", 0, -1),
+                                ("limit_m_per_h", (1 << 62) - 1, 1 << 62),
+                                ("level", None, 2), ("indications", ["trip", "overspeed"], ["trip", "trip"])):
+            self.assertEqual(asking.checked(line(ANSWER | {name: good}), 3, asking.ANSWER)[name], good)
+            self.assertIn(name, self.wrong(ANSWER | {name: bad}))
+
+    def test_what_is_no_answer(self) -> None:
+        self.assertIn("no member \"brake\"",
+                      self.wrong({name: value for name, value in ANSWER.items() if name != "brake"}))
+        self.assertIn("which isn't one of event, mode", self.wrong(ANSWER, ("mode", "brake")))
+        self.assertIn("answer to event 4", self.wrong(ANSWER | {"event": 4}))
+        self.assertIn("no JSON", self.wrong(b"[" * 100_000))
+        self.assertIn("no JSON object", self.wrong([]))
+        self.assertIn("stands twice", self.wrong(line(ANSWER)[:-1] + b', "mode": "FS"}'))
+
+    def test_a_greeting(self) -> None:
+        told = asking.greeting_of(line({"protocol": 1, "unit": "x", "tells": ["brake", "mode"]}))
+        self.assertEqual(told.tells, ("mode", "brake"))
+        self.assertEqual(told.leaves_out, ("level", "indications", "place_cm", "uncertainty_cm", "limit_m_per_h"))
+        told_wrong: list[Json] = [{"protocol": True}, {"protocol": "1"}, {"tells": []},
+                                  {"tells": ["mode", "brake", "mode"]}, {"unit": "x" * 201}]
+        for wrong in told_wrong:
+            with self.assertRaises(asking.Wrong):
+                asking.greeting_of(line({"protocol": 1, "unit": "x", "tells": ["brake", "mode"]} | wrong))
+
+
+class Processes(unittest.TestCase):
+    """A unit's process."""
+
+    def test_words(self) -> None:
+        self.assertEqual(words_of("a 'b c' d"), ["a", "b c", "d"])
+        for wrong in ("", " ", "a 'b"):
+            with self.assertRaises(Failed):
+                words_of(wrong)
+
+    def test_a_program_that_is_not_there(self) -> None:
+        with self.assertRaises(Failed) as found:
+            OtherUnit("/nowhere/unit")
+        self.assertIn("/nowhere/unit: No such file", str(found.exception))
+
+    def test_no_shell_runs_it(self) -> None:
+        with tempfile.TemporaryDirectory() as room, patch.dict(os.environ, {"ROOM": room}):
+            with OtherUnit(f"{sys.executable} -c pass ; touch $ROOM/made",
+                           60) as unit, self.assertRaises(Broken) as found:
+                unit.greet("a")
+            self.assertEqual(str(found.exception), "greeting: it ended with status 0")
+            self.assertEqual(list(Path(room).iterdir()), [])
+
+
+def asked(records: list[Json], **changes: Json) -> oracle.Asked:
+    """What a unit answers that tells all, with some answers that are other ones: `e3={..}` of event 3."""
+    answers = [asking.answer_of(one, asking.ANSWER) | changes.get(f"e{one['event']}", {}) for one in records]
+    return oracle.Asked(records, asking.Greeting("x", asking.ANSWER), answers)
+
+
+class Compared(unittest.TestCase):
+    """What is told of answers."""
+
+    records = [record(0, "powerup"), *(record(event) for event in range(1, 4)), record(4, "powerup", life=2),
+               record(5, life=2)]
+
+    def told(self, **changes: Json) -> list[Json]:
+        """The lines behind the first one."""
+        return [one.told for one in oracle.lines(asked(self.records, **changes))][1:]
+
+    def test_all_agree(self) -> None:
+        self.assertTrue(asked(self.records).agrees)
+        self.assertEqual(self.told(), [{"life": 1, "first_event": 0, "last_event": 3, "against": "agrees"},
+                                       {"life": 2, "first_event": 4, "last_event": 5, "against": "agrees"},
+                                       {"end": "nothing_differs"}])
+
+    def test_the_first_difference_ends_a_life(self) -> None:
+        told = self.told(e1={"brake": "service"}, e2={"mode": "TR"})
+        self.assertEqual([(one.get("against"), one.get("field")) for one in told],
+                         [("agrees", None), ("differs", "brake"), ("not_compared", None), ("agrees", None),
+                          (None, None)])
+        self.assertEqual(told[2],
+                         {"life": 1, "first_event": 2, "last_event": 3, "against": "not_compared",
+                          "reason": "behind_difference"})
+        self.assertFalse(asked(self.records, e5={"limit_m_per_h": 39_999}).agrees)
+
+    def test_each_member_is_compared(self) -> None:
+        for name, value in (("mode", "OS"), ("level", None), ("brake", "service"), ("indications", ["trip"]),
+                            ("place_cm", 1), ("uncertainty_cm", 1),
+                            ("limit_m_per_h", 1)):
+            self.assertEqual(self.told(e3={name: value})[1]["field"], name)
+
+    def test_the_order_of_indications_says_nothing(self) -> None:
+        shown = [record(0, "powerup", indications=["trip", "overspeed"])]
+        self.assertTrue(asked(shown, e0={"indications": ["overspeed", "trip"]}).agrees)
+
+    def test_what_is_not_told(self) -> None:
+        self.assertEqual(oracle.untold({"limit_kmh", "mode", "shows_trip", "event", "min_safe_front_cm"},
+                                       ("mode", "brake", "place_cm")),
+                         ["limit_kmh", "min_safe_front_cm", "shows_trip"])
+
+    def test_answers_in_place_of_records(self) -> None:
+        told = oracle.answered(asked([cases.derived(record(0, "powerup") | {"speed_m_per_h": 0})],
+                                     e0={"place_cm": 50, "uncertainty_cm": 7, "limit_m_per_h": 1_500,
+                                         "indications": ["trip"]}))[0]
+        self.assertEqual((told["min_safe_front_cm"], told["max_safe_front_cm"], str(told["limit_kmh"]),
+                          told["shows_trip"]), (43, 57, "1.5", True))
+
+
+class Properties(unittest.TestCase):
+    """What is judged, and what isn't."""
+
+    def judged(self, told: str, records: list[Json]) -> int | str:
+        """How many records of some were judged by a property; or which event broke it."""
+        with tempfile.TemporaryDirectory() as room:
+            path = Path(room) / "x.search.yaml"
+            path.write_text(f"search: x\nproperties:\n  - {{note: a, {told}}}\n", encoding="utf-8")
+            one, = properties.read(path).properties
+        found = properties.derived(playing.with_speeds(records))
+        try:
+            return properties.judge(one, found)
+        except properties.Violated as violated:
+            return f"event {found[violated.index]['event']}"
+
+    lives = [record(0, "powerup", mode="SB"), record(1, mode="FS"), reading(2, 60_000, mode="FS", brake="emergency"),
+             reading(3, 100, mode="TR", brake="emergency"), reading(4, 0, mode="TR"),
+             record(5, "powerup", mode="SB", life=2), record(6, mode="FS", life=2)]
+
+    def test_always_and_never(self) -> None:
+        for told, wanted in (("always: {mode: [SB, FS, TR]}", 7), ("always: {mode: [SB, FS]}", "event 3"),
+                             ("never: {mode: TR}", "event 3"),
+                             ("where: {mode: TR}, always: {brake: emergency}", "event 4"),
+                             ("where: {mode: PT}, never: {brake: none}", 0)):
+            self.assertEqual(self.judged(told, self.lives), wanted, told)
+
+    def test_before_is_of_the_same_life(self) -> None:
+        self.assertEqual(self.judged("before: {mode: TR}, always: {mode: TR}", self.lives), 1)
+        self.assertEqual(self.judged("before: {mode: SB}, always: {mode: FS}", self.lives), 2)
+
+    def test_since_ends_by_until_and_by_the_life(self) -> None:
+        since = "since: {over_limit_m_per_h: {least: 20000}}, until: {kind: odometer, speed_m_per_h: 0}"
+        self.assertEqual(self.judged(f"{since}, always: {{brake: emergency}}", self.lives), 2)
+        self.assertEqual(self.judged("since: {over_limit_m_per_h: {least: 20000}}, always: {brake: emergency}",
+                                     self.lives), "event 4")
+        self.assertEqual(self.judged("since: {mode: TR}, always: {life: 1}", self.lives), 2)
+
+    def test_preceded_by_is_of_the_same_life(self) -> None:
+        told = "where: {mode: [FS, TR]}, preceded_by: {event: 1}"
+        self.assertEqual(self.judged(told, self.lives[:5]), 4)
+        self.assertEqual(self.judged(told, self.lives), "event 6")
+
+    def test_leads_to(self) -> None:
+        self.assertEqual(self.judged("where: {event: 1}, leads_to: {mode: TR}, within_events: 2", self.lives), 1)
+        self.assertEqual(self.judged("where: {event: 1}, leads_to: {mode: TR}, within_events: 1", self.lives),
+                         "event 1")
+        self.assertEqual(self.judged("where: {event: 4}, leads_to: {mode: PT}, within_events: 9", self.lives), 0)
+
+    def test_how_far_a_train_rolled_back(self) -> None:
+        told = [record(0, "powerup"), reading(1, 500) | back(100), reading(2, 500), reading(3, 500) | back(101),
+                reading(4, 0) | back(7)]
+        for event, cm in enumerate((0, 100, 100, 201, 7)):
+            self.assertEqual(self.judged(f"where: {{event: {event}, rolled_back_cm: {cm}}}, always: {{event: {event}}}",
+                                         told), 1)
+
+    def test_faults(self) -> None:
+        for told in ("always: {mode: FS}, never: {mode: TR}", "where: {mode: FS}",
+                     "until: {mode: FS}, always: {mode: FS}", "always: {packet: 12}",
+                     "preceded_by: {mode: FS}", "leads_to: {mode: FS}", "always: {mode: FS}, within_ms: 2",
+                     "always: {mode: XX}"):
+            with self.assertRaises(Failed, msg=told):
+                self.judged(told, self.lives)
+
+
+def back(cm: int) -> Json:
+    """A movement backward."""
+    return {"movement_cm": -cm}
+
+
+class Records(unittest.TestCase):
+    """Records that somebody has."""
+
+    def said(self, text: str) -> str:
+        """What is said of a file that holds no records."""
+        with tempfile.TemporaryDirectory() as room:
+            path = Path(room) / "events"
+            path.write_text(text, encoding="utf-8")
+            with self.assertRaises(Failed) as found:
+                search_words.records_of(path)
+            return str(found.exception).removeprefix(f"{path}:")
+
+    def test_faults(self) -> None:
+        self.assertIn("there is no record", self.said('{"image": {}}\n{"end": "done"}\n'))
+        self.assertIn("2:1: this is no JSON", self.said("{}\n{"))
+        self.assertIn("1:1: this is no object", self.said("[]"))
+        self.assertIn("1:1: a record has life", self.said('{"event": 1}'))
+        wrongs: list[Json] = [{"event": "1"}, {"limit_m_per_h": "40"}, {"indications": [1]}, {"decoded": []},
+                              {"decoded": {"packets": [{}]}},
+                              {"life": None}, {"place_cm": 1.5}]
+        for wrong in wrongs:
+            self.assertIn("1:1: a value of this record", self.said(json.dumps(record(1) | wrong)), wrong)

@@ -1,0 +1,50 @@
+#!/bin/bash
+# Another unit beside the proved one, and searches (docs/ORACLE.md, docs/SEARCHING.md): a unit in C, one in Python and `./lab serve` about the
+# journals of the examples; the whole of suites/ against the unit in C; each unit that is wrong on purpose is found out; wrong properties are
+# found and made small, the safety laws hold; what tshark shows of telegrams; and the commands of these pages, SEQUENCES and WIRESHARK.
+#
+#     tests/oracle.sh [ETCS_LAB ETCS [PREFIX [all]]]    on other programs, and on the library below PREFIX; `all`: all wrong properties
+top=$(cd "$(dirname "$(readlink -f -- "$0")")/.." && pwd) || exit 1
+lab=${1:-$top/crates/etcs_lab/out/etcs_lab}
+etcs=${2:-$top/crates/etcs/out/etcs}
+lab=$(realpath "$lab") && etcs=$(realpath "$etcs") || exit 1
+export PYTHONDONTWRITEBYTECODE=1 GAKNIFUR_ETCS_LAB=$lab GAKNIFUR_ETCS=$etcs
+python=/usr/bin/python3 # Debian's packages belong to this one
+least=740 # results of suites/, each with one more for each case
+made=$(mktemp -d) || exit 1
+trap 'rm -rf "$made"' EXIT
+for program in "$lab" "$etcs"; do
+    [ -x "$program" ] || { echo "there is no program $program: rt ci makes it"; exit 1; }
+done
+"$top/tools/python" --checks || exit 1
+prefix=$3
+if [ -z "$prefix" ]; then
+    prefix=$made/prefix
+    unit=$top/crates/etcs_unit/out/libetcs_unit.a
+    telegrams=$top/crates/etcs_c/out/libetcs_c.a
+    if [ "$unit" -nt "$etcs" ] && [ "$telegrams" -nt "$etcs" ] && "$top/etcs" --is-proved; then
+        export ETCS_UNIT_ARCHIVE=$unit ETCS_C_ARCHIVE=$telegrams
+    fi
+    "$top/tools/library" "$prefix" >"$made/said" 2>&1 || { cat "$made/said"; echo "the library isn't built"; exit 1; }
+fi
+prefix=$(realpath "$prefix")
+export GAKNIFUR_ETCS_UNIT=$prefix/lib/libetcs_unit.so
+status=0
+strict=(-Wall -Wextra -Werror -Wconversion -Wsign-conversion -pedantic)
+gcc -std=c99 -O2 "${strict[@]}" -I "$prefix/include" "$top/examples/oracle/unit.c" "$prefix/lib/libetcs_unit.a" -o "$made/unit" ||
+    { echo "examples/oracle/unit.c doesn't compile"; exit 1; }
+gcc -std=c99 -O1 -g "${strict[@]}" -fsanitize=address,undefined -fno-sanitize-recover=all -static-libasan -I "$prefix/include" \
+    "$top/examples/oracle/unit.c" "$prefix/lib/libetcs_unit.a" -o "$made/unit.checked" || status=1
+gcc -std=c99 -O2 "${strict[@]}" "$top/examples/oracle/least.c" -o "$made/least" || { echo "examples/oracle/least.c doesn't compile"; status=1; }
+"$python" "$top/tests/oracle/unit_rows.py" "$etcs" "$lab" "$made/unit" "$made/least" || status=1
+cd "$top" || exit 1
+"$etcs" format "$made/image" 64 >/dev/null && "$etcs" run examples/trip/scenario.json "$made/image" >/dev/null || status=1
+./lab against "$made/image" "$made/unit.checked" >"$made/said" 2>&1 || { cat "$made/said"; echo "unit.c, with sanitizers, differs"; status=1; }
+told=$(./lab test suites --against "$made/unit" 2>&1) || { echo "$told"; status=1; }
+count=$(sed -n 's/^\([0-9]*\) passed in .*/\1/p' <<< "$told")
+echo "suites against unit.c: ${count:-no} results came"
+[ "${count:-0}" -ge $least ] || status=1
+"$python" tests/oracle/dissector_rows.py || status=1
+"$python" tests/oracle/search_rows.py "$etcs" "$lab" "$made/unit" "${@:4}" || status=1
+ETCS=$etcs ETCS_LAB=$lab "$python" tests/pages.py ORACLE SEARCHING SEQUENCES WIRESHARK || status=1
+exit $status

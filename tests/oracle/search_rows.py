@@ -1,0 +1,155 @@
+#!/usr/bin/env python3
+"""Searches that have to find what is there: wrong properties, a wrong unit, altered records; and the safety laws, which
+hold.
+
+    tests/oracle/search_rows.py ETCS ETCS_LAB UNIT [all]    `all`: all wrong properties; else the first three
+
+Each wrong property (wrong.search.yaml) is found, is made small to fewer than 12 steps of which none can be left out,
+and is kept as a case that says what it should. The safety laws (suites/safety_laws.search.yaml) are each judged, and
+hold of the proved unit; of each of them an altered answer is told; and in a unit whose brake is late a search finds one
+of them broken.
+"""
+import copy
+import os
+import shlex
+import sys
+import tempfile
+import time
+from pathlib import Path
+
+TOP = Path(__file__).resolve().parents[2]
+sys.path.insert(0, str(TOP / "python"))
+from gaknifur import cases, mode_rows, playing, properties, search, strategies  # noqa: E402
+
+EXAMPLES, SEED, MOST_STEPS, FEW, LEAST_ALTERED = 200, 1, 12, 3, 20
+LAW_EXAMPLES, LEAST_RECORDS = 200, 2_500
+WRONG, LAWS = TOP / "tests/oracle/wrong.search.yaml", TOP / "suites/safety_laws.search.yaml"
+OTHERS = {"mode": ["FS", "SR", "UN", "PT", "TR"], "brake": ["none", "service"], "kind": ["clock"],
+          "action": ["close_desk"],
+          "acknowledged": ["on_sight"], "limit_m_per_h": [700_000], "speed_m_per_h": [700_000]}
+
+
+class Rows:
+    """What was tried, and what was wrong."""
+
+    def __init__(self):
+        self.wrong = self.found = self.altered = 0
+
+    def is_so(self, name, holds, said=""):
+        if not holds:
+            self.wrong += 1
+            print(f"tests/oracle/search_rows.py: {name}: {said}")
+
+    def wrong_properties(self, few):
+        told = properties.read(WRONG)
+        made, records = strategies.made_of(told.made_of, told.shared), search.player(None)
+        looked_at = told.properties[:few]
+        for begun in search.survey(looked_at, made, records, EXAMPLES, SEED):
+            self.wrong_property(begun, made, records)
+        self.is_so("wrong properties", len(told.properties) == 12 and self.found == len(looked_at),
+                   f"{self.found} of {len(looked_at)} found")
+
+    def wrong_property(self, begun, made, records):
+        """A wrong property is found, made small, and kept as a case that fails of this alone."""
+        name, since = begun.of.note, time.monotonic()
+        if begun.first is None:
+            return
+        self.found += 1
+        found = search.made_small(begun, made, EXAMPLES, SEED)
+        self.is_so(name, found.lives is not None and found.steps < MOST_STEPS, f"{found.steps} steps")
+        for less in search.smaller(found.lives):
+            try:
+                properties.judge(begun.of, records(less))
+            except properties.Violated:
+                self.is_so(name, False, f"broken by less: {less}")
+        with tempfile.TemporaryDirectory() as room:
+            path = Path(room) / "found.case.yaml"
+            path.write_text(search.case_text(found, made, "found", "Found by a test"), encoding="utf-8")
+            case, = cases.read(path)
+            played = playing.play(case)
+            self.is_so(name, len(case.expected) == 1
+                       and not playing.comes(case.expected[0], played, mode_rows.mode_table()), path.read_text())
+        print(f"tests/oracle/search_rows.py: found, {found.steps} steps, {time.monotonic() - since:.1f} s: {name}")
+
+    def laws(self, unit):
+        told = properties.read(LAWS)
+        made, records = strategies.made_of(told.made_of, told.shared), search.player(None)
+        recorded = []
+
+        def player(scenarios):
+            recorded.append(records(scenarios))
+            return recorded[-1]
+
+        for begun in search.survey(told.properties, made, player, LAW_EXAMPLES, SEED):
+            judged = begun.found.judged
+            self.is_so(begun.of.note, begun.first is None, begun.first)
+            self.is_so(begun.of.note, judged > 0 or begun.of.unjudged is not None, "no record was judged")
+        count = sum(map(len, {id(one): one for one in recorded}.values()))
+        self.is_so("records", count >= LEAST_RECORDS, f"{count} records")
+        for one in told.properties:
+            self.alter(one, recorded)
+        command = shlex.join([str(TOP / "tests/oracle/wrong.py"), "brake_late", unit])
+        late = search.player(search.Other(command, 60.0))
+        late_found = search.survey(told.properties, made, late, 12, SEED)
+        self.is_so("a late brake", any(begun.first is not None for begun in late_found), "no law is broken")
+        return count
+
+    def alter(self, one, recorded):
+        """An altered answer breaks the law: of a record that was judged, each value that it asks for."""
+        if one.requires != "always":
+            self.altered += self.forgets(one, recorded)
+            return
+        for name in one.required.tests:
+            chosen = one.chooses.get("where")
+            if chosen and name in chosen.tests or name == "mode" and "before" in one.chooses:
+                continue
+            self.is_so(one.note, self.is_told(one, name, recorded) or one.unjudged, f"no altered {name} is told")
+
+    def is_told(self, one, name, recorded):
+        for records in recorded:
+            for index in properties.chosen(one, playing.Played(records, {})):
+                for other in changed(records[index], name):
+                    altered = [*records[:index], other, *records[index + 1:]]
+                    try:
+                        properties.judge(one, properties.derived([cases.derived(record) for record in altered]))
+                    except properties.Violated as violated:
+                        self.altered += 1
+                        return violated.index == index
+        return False
+
+    def forgets(self, one, recorded):
+        """Without what has to come before it the record breaks the law."""
+        for records in recorded:
+            if any(True for _ in properties.chosen(one, playing.Played(records, {}))):
+                others = [copy.deepcopy(record) | {"decoded": {}, "action": None} for record in records]
+                try:
+                    properties.judge(one, properties.derived(others))
+                except properties.Violated:
+                    return 1
+        self.is_so(one.note, False, "what comes before is never missed")
+        return 0
+
+
+def changed(record, name):
+    """A record with other values of a name."""
+    if name.startswith("shows_"):
+        shown = name.removeprefix("shows_")
+        less = [one for one in record["indications"] if one != shown]
+        return [record | {"indications": less if shown in record["indications"] else [*less, shown]}]
+    return [record | {name: value} for value in OTHERS[name] if value != record.get(name)]
+
+
+def main(etcs, lab, unit, which=""):
+    os.environ |= {"GAKNIFUR_ETCS": str(Path(etcs).resolve()), "GAKNIFUR_ETCS_LAB": str(Path(lab).resolve())}
+    rows = Rows()
+    rows.wrong_properties(None if which == "all" else FEW)
+    count = rows.laws(str(Path(unit).resolve()))
+    rows.is_so("altered answers", rows.altered >= LEAST_ALTERED, f"{rows.altered} told")
+    print(f"tests/oracle/search_rows.py: {rows.found} wrong properties found, the safety laws hold of {count} records, "
+          f"{rows.altered} altered "
+          f"answers told, {rows.wrong} wrong")
+    return 1 if rows.wrong else 0
+
+
+if __name__ == "__main__":
+    sys.exit(main(*sys.argv[1:]))

@@ -1,0 +1,166 @@
+#!/usr/bin/env python3
+"""Another unit beside the proved one: a right one agrees, and each one that is wrong on purpose is found out by what is
+wrong.
+
+    tests/oracle/unit_rows.py ETCS ETCS_LAB UNIT STANDS
+
+UNIT is examples/oracle/unit.c, compiled, STANDS least.c. They, examples/oracle/unit.py and `./lab serve` are asked
+about the journals of the examples. Each kind of tests/oracle/wrong.py is asked about one of them, in which a train is
+tripped and power is lost, and has to be told by what stands here. Nothing of any of them may be left.
+"""
+import os
+import shlex
+import subprocess
+import sys
+import tempfile
+import time
+from concurrent.futures import ThreadPoolExecutor
+from pathlib import Path
+
+TOP = Path(__file__).resolve().parents[2]
+sys.path.insert(0, str(TOP / "python"))
+from gaknifur import oracle, program  # noqa: E402
+from gaknifur.other_unit import OtherUnit  # noqa: E402
+from gaknifur.reading import read  # noqa: E402
+
+WITHIN_S, HANGS_S, LEAST = 60.0, 8.0, 30
+AT = "event 8: "
+# What is told of each kind. By hand, from docs/ORACLE.md and what the example does: it is made ready by event 5, too
+# fast at event 8.
+FOUND = {
+    "brake_late": "differs in brake", "other_mode": "differs in mode",
+    "limit_by_one": "event 5 differs in limit_m_per_h",
+    "level_kept": "event 0 differs in level", "lower_uncertainty": "event 0 differs in uncertainty_cm",
+    "indication_less": "differs in indications",
+    "missing_answer": f"{AT}no answer within 8 s", "hangs": f"{AT}no answer within 8 s",
+    "garbage": f"{AT}a line that is no JSON: emergency!", "no_object": f"{AT}a line that is no JSON object: [8]",
+    "no_text": f"{AT}a line that is no JSON: ",
+    "crashes": f"{AT}it was ended by signal 11 (SIGSEGV); it said: something is broken",
+    "ends": f"{AT}it ended with status 3",
+    "half_a_line": f"{AT}a line without its end, and then it ended with status 0",
+    "endless_line": f"{AT}a line of more than 65,536 bytes", "closes": f"{AT}it closed its standard output",
+    "other_event": f"{AT}the answer to event 7", "two_answers": "event 9: ",
+    "member_less": f"{AT}no member \"limit_m_per_h\"",
+    "member_more": f"{AT}the member \"limit_mh\", which isn't one of event, mode",
+    "member_twice": f"{AT}\"brake\" stands twice",
+    "unknown_word": f"{AT}mode \"XX\", where one of FS, OS",
+    "number_as_text": f"{AT}limit_m_per_h \"0\", where a whole number",
+    "number_with_a_point": f"{AT}limit_m_per_h 0.0, where a whole number",
+    "infinite": f"{AT}limit_m_per_h Infinity, where a whole number",
+    "true_for_a_number": f"{AT}level true, where 0, 1 or null",
+    "other_protocol": "greeting: the protocol 2, and this one is 1",
+    "tells_no_brake": "greeting: \"tells\" without brake",
+    "tells_more": "greeting: as \"tells\" something else than a list of mode",
+    "nameless": "greeting: a unit whose name isn't a text of 1 to 200 characters",
+    "greets_not": "greeting: a line that is no JSON: hello",
+    "silent": "greeting: no answer within 8 s", "goes_on": "end: it goes on for 8 s",
+    "bad_status": "end: it ended with status 9",
+    "last_word": "end: a line that nobody asked for: bye",
+}
+SLOW = ("missing_answer", "hangs", "silent", "goes_on", "closes")
+STARTED = []
+
+
+class Watched(OtherUnit):
+    """A unit whose process is remembered."""
+
+    def __init__(self, *words):
+        super().__init__(*words)
+        STARTED.append(self.process.pid)
+
+
+def journals(room):
+    """The journals of the examples, by their names."""
+    found = {}
+    for folder in sorted((TOP / "examples").glob("*/")):
+        scenarios = [folder / name for name in ("scenario.json", "restart.json") if (folder / name).exists()]
+        image = Path(room) / folder.name
+        if scenarios:
+            assert program.etcs("format", "--", str(image), "64")[0] == 0
+            assert all(program.etcs("run", "--", str(one), str(image))[0] == 0 for one in scenarios)
+            found[folder.name] = read(image).records
+    return found
+
+
+def told(command, records, within_s):
+    """What is told of a unit, and whether it agrees."""
+    asked = oracle.ask(command, "tried", records, within_s)
+    return "\n".join(line.text for line in oracle.lines(asked)), asked.agrees
+
+
+CASE = """\
+test_case: stands
+feature: a
+sections: [4.4]
+rule: b
+starting_conditions: c
+lives: [{steps: [{drive: 1 m at 5 km/h}]}]
+expected:
+  - {note: what it tells, at: end, expect: {mode: SB, brake: emergency}}
+  - {note: what nobody meets, at: end, expect: {mode: FS}}
+  - {note: what it does not tell, at: end, expect: {limit_kmh: 0}}
+"""
+
+
+def tested(unit):
+    """A case against a unit that tells little: what it tells is judged, what it doesn't tell is skipped and said."""
+    with tempfile.TemporaryDirectory() as room:
+        (Path(room) / "case.yaml").write_text(CASE)
+        done = subprocess.run([TOP / "lab", "test", room, "-rs", "--against", shlex.quote(str(unit))], capture_output=True, text=True)
+    said = done.stdout + done.stderr
+    wanted = ("1 failed, 3 passed, 1 skipped", "the unit doesn't tell limit_kmh", "found:    mode SB", "the proved unit misses it too")
+    return done.returncode == 1 and all(one in said for one in wanted), said
+
+
+def left():
+    """The groups of processes of which something runs on, a moment later."""
+    for _ in range(50):
+        told = [line.split()
+                for line in subprocess.run(["ps", "-eo", "pgid=,stat="], capture_output=True,
+                                           text=True).stdout.splitlines()]
+        groups = {group for group, state in told if not state.startswith("Z")}
+        found = [pid for pid in STARTED if str(pid) in groups]
+        if not found:
+            break
+        time.sleep(0.1)
+    return found
+
+
+def main(etcs, lab, unit, stands):
+    os.environ |= {"GAKNIFUR_ETCS": str(Path(etcs).resolve()), "GAKNIFUR_ETCS_LAB": str(Path(lab).resolve())}
+    oracle.OtherUnit = Watched
+    unit, wrong = str(Path(unit).resolve()), []
+
+    def is_so(name, holds, said=""):
+        if not holds:
+            wrong.append(name)
+            print(f"tests/oracle/unit_rows.py: {name}: {said}")
+
+    with tempfile.TemporaryDirectory() as room:
+        found = journals(room)
+        for name, records in found.items():
+            said, agrees = told(shlex.quote(unit), records, WITHIN_S)
+            is_so(f"unit.c about {name}", agrees and said.endswith("agree\nnothing differs"), said)
+        for least in (TOP / "examples/oracle/unit.py", Path(stands).resolve()):
+            said, agrees = told(shlex.quote(str(least)), found["trip"], WITHIN_S)
+            is_so(least.name, not agrees and "life 1 events 0..4 agree\nlife 1 event 5 differs in mode" in said, said)
+        is_so("lab test against unit.py", *tested(TOP / "examples/oracle/unit.py"))
+        said, agrees = told(f"{shlex.quote(str(TOP / 'lab'))} serve", found["power_cut"], WITHIN_S)
+        is_so("lab serve", agrees, said)
+        proxy = f"{shlex.quote(str(TOP / 'tests/oracle/wrong.py'))} {{}} {shlex.quote(unit)}"
+        is_so("right", told(proxy.format("right"), found["trip"], WITHIN_S)[1])
+
+        def tried(kind):
+            return kind, told(proxy.format(kind), found["trip"], HANGS_S if kind in SLOW else WITHIN_S)
+
+        with ThreadPoolExecutor(4) as pool:
+            for kind, (said, agrees) in pool.map(tried, sorted(FOUND, key=lambda kind: kind not in SLOW)):
+                is_so(kind, not agrees and FOUND[kind] in said, said)
+    is_so("processes", not left(), f"{left()} are left")
+    print(f"tests/oracle/unit_rows.py: {len(found)} journals agree, {len(FOUND)} units that are wrong on purpose, "
+          f"{len(wrong)} wrong")
+    return 1 if wrong or len(FOUND) < LEAST or len(found) < 6 else 0
+
+
+if __name__ == "__main__":
+    sys.exit(main(*sys.argv[1:]))

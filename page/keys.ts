@@ -53,7 +53,9 @@ const OTHERS: [string, string, (drive: Drive, lever: number) => void][] = [
     ["q", "cut the power", click("cut")],
     ["t", "new train", click("restart")],
     ["g", "play the story of the track", click("story")],
+    ["O", "open a scenario of your own", click("open-scenario")],
     ["S", "save the scenarios", click("save-scenario")],
+    ["C", "save what was driven as a test case", click("save-case")],
     ["M", "save the image", click("save-image")],
     ["Q", "ask this image", click("ask-this")],
 ];

@@ -158,7 +158,12 @@ export const SAY = {
     noImageYet: "Choose the image first: marks are for the image that they lie beside.",
     tooManyMarks: (name: string): string =>
         `${name} isn't read: it has more than 16 MB, and the page reads marks up to that size.`,
-    notScenario: (why: string): string => `This isn't a scenario that the page plays: ${why}.`,
+    notScenario: (name: string, why: string): string => `${name} isn't a scenario that etcs run reads: ${why}.`,
+    noCase: "There is no test case of this: nothing was driven yet, or a life ended within a write.",
+    caseTooLong:
+        "There is no test case of this: the ring of the desk was written over, so its lives can't be run again.",
+    ownTrack: (name: string): string => `Your own: ${name}`,
+    ownTells: "A scenario of your own. Its groups lie on the track; its steps are its story.",
     reading: "The image is read.",
     progress: (done: number, all: number, what: string): string => `${what}: ${done} of ${all}`,
     whole: "Each slot is as a unit leaves it, and no block of the journal is missing.",
@@ -182,6 +187,20 @@ export const DAY = {
     column: "UTC by marks, outside the journal and the proof",
     none: "not told",
     notOfLife: (life: number): string => `No UTC is told of this moment of life ${life} by these marks`,
+};
+
+/** The words of a test case (docs/TESTING_A_TRAIN.md), by the numbers of a scenario and of an output. */
+export const CASE_WORDS = {
+    alone: {6: "start", 7: "choose_shunting", 8: "leave_shunting", 9: "override", 11: "close_desk"} as
+        Record<number, string>,
+    confirmed: ["", "identity", "running_number", "train_data", "level"],
+    acknowledged: ["", "trip", "on_sight", "shunting", "level_0"],
+    cold: ["unknown", "moved", "not_moved"],
+    brakes: ["none", "service", "emergency"],
+    indications: [
+        [1, "on_sight"], [2, "shunting"], [4, "level_0"], [8, "trip"], [16, "overridden"], [32, "not_revalidated"],
+        [64, "overspeed"]
+    ] as [number, string][],
 };
 
 export const MISSION = [

@@ -40,7 +40,7 @@ def image_of(folder: Path, scenarios: list[Any], slots: int = SLOTS) -> tuple[by
 
 def saved(browser: Browser) -> list[Any]:
     """The scenarios that the page saves."""
-    return [one["scenario"] for one in browser.run("return JSON.parse(JSON.stringify(window.gaknifur.drive.scenarios()))")]
+    return [one["scenario"] for one in browser.run("return JSON.parse(JSON.stringify(window.gaknifur.drive.lives()))")]
 
 
 def board(browser: Browser, name: str) -> None:

@@ -73,7 +73,7 @@ export function caseText(name: string, lives: Driven[], slots: number): string {
     const parts = lives.flatMap((life, n) => [`  - cold: ${cold[life.scenario.cold ?? 0]}`,
                                     told[n]?.steps.length ? "    steps:" : "    steps: []", ...told[n]?.steps ?? []]);
     return [
-        "# Driven in the page. What is expected is what the unit answered: a tester puts in its place what a section asks for.",
+        "# Driven in the page. What is expected is what the unit answered; put in its place what a section asks for.",
         `test_case: ${name}`, "feature: Driven in the page", "sections: [\"4.6\"]",
         "rule: the unit answers as it did when this was driven", "starting_conditions: an empty journal",
         `slots: ${slots}`, "lives:", ...parts, "expected:", ...told.flatMap(one => one.expected), ""

@@ -10,13 +10,13 @@ import {askHow} from "./cutting";
 import {Dial, distanceBar, shownOf} from "./dial";
 import {at, make, say, show} from "./dom";
 import {State, Why} from "./layouts";
-import {formatted, Refused} from "./life";
+import {bytesOfHex, formatted, Refused} from "./life";
 import {aheadOf, drawPlan} from "./planning";
 import {brakeReason, brakeText, count, indicationTexts, keptTexts, kmh} from "./shown";
 import {levelText, limitText, metres, modeName, seconds} from "./shown";
 import {AHEAD, SAY, STATUSES, WORDS} from "./texts";
 import {owedIn, showMission, showSteps} from "./mission";
-import {given, offerTracks, Track, tracks} from "./tracks";
+import {given, learnAll, offerTracks, Track, tracks} from "./tracks";
 
 const SLOTS = 2048, TRAIN = {
     acceleration: 60,
@@ -31,7 +31,7 @@ const STALE_MS = 250;
 export class Drive {
     course: Course|null = null;
     private medium: Held;
-    private track: Track;
+    track: Track;
     private isOff = false;
     private time = 0;
     private lever = 0;
@@ -79,6 +79,7 @@ export class Drive {
     /** A new train with a new journal, at the beginning of a track. */
     board(number: number): void {
         this.track = tracks[number] ?? this.track;
+        learnAll(this.track.scenario, digits => this.calls.decode(bytesOfHex(digits))[0] === 0);
         offerTracks(at<HTMLSelectElement>("track"), number);
         say("track-tells", this.track.tells);
         if (this.course && !this.isOff) this.course.life.cut();

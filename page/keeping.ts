@@ -4,7 +4,7 @@ import {at, save, say} from "./dom";
 import {Drive} from "./drive";
 import {textOf} from "./life";
 import {NotScenario, readScenario} from "./scenario";
-import {SAY} from "./texts";
+import {EDIT, SAY} from "./texts";
 import {addTrack} from "./tracks";
 
 const MOST_BYTES = 16 * 1024 * 1024;
@@ -14,7 +14,7 @@ async function open(drive: Drive, file: File): Promise<void> {
     try {
         if (file.size > MOST_BYTES) throw new NotScenario("it has more than 16 MB");
         const scenario = readScenario(new Uint8Array(await file.arrayBuffer()));
-        const name = SAY.ownTrack(file.name), track = { name, tells: SAY.ownTells, scenario, restart: null };
+        const track = { name: EDIT.own + file.name, tells: SAY.ownTells, scenario, restart: null };
         drive.board(addTrack(track));
     } catch (error) {
         say("drive-error", error instanceof NotScenario ? SAY.notScenario(file.name, error.message) : String(error));

@@ -5,6 +5,7 @@ import {Calls} from "./calls";
 import {balisesOf, Course} from "./course";
 import {at, say} from "./dom";
 import {Drive} from "./drive";
+import {Editor} from "./editor";
 import {caseOf, setKeeping} from "./keeping";
 import {setKeys} from "./keys";
 import {formatted, Life, openAt, recordsOf} from "./life";
@@ -12,7 +13,7 @@ import {Order, Report} from "./messages";
 import {readScenario} from "./scenario";
 import {choose, whenAsked} from "./tabs";
 import {SAY} from "./texts";
-import {given} from "./tracks";
+import {given, telegrams} from "./tracks";
 import {Motion, round} from "./train";
 
 /** A module with a memory of 64 bits, and nothing else. */
@@ -40,6 +41,7 @@ async function begin(): Promise<void> {
     whenAsked((name, bytes) => void ask.ask(name, bytes));
     const drive = new Drive(calls, asker);
     setKeeping(drive);
+    new Editor(calls, drive);
     setKeys(drive);
     say("version", `unit ${calls.version()}, page ${given.commit}`);
     say("sentence", "");
@@ -49,7 +51,19 @@ async function begin(): Promise<void> {
             calls,
             drive,
             ask,
-            parts: { Course, balisesOf, Life, formatted, openAt, recordsOf, Motion, round, caseOf, readScenario }
+            parts: {
+                Course,
+                balisesOf,
+                Life,
+                formatted,
+                openAt,
+                recordsOf,
+                Motion,
+                round,
+                caseOf,
+                readScenario,
+                telegrams
+            }
         }
     });
 }

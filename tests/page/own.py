@@ -13,7 +13,7 @@ from selenium.webdriver.common.action_chains import ActionChains
 from desks import EXAMPLES, START, TELEGRAMS, TOP, board, image_of, name_of, random_steps, saved
 from gaknifur import cases, program, telegrams
 
-OPENED, FAULTY, TOLD, NEAR = 12, 160, 600, 62
+OPENED, FAULTY, TOLD, NEAR = 12, 160, 600, 68
 GOOD: dict[str, Any] = {
     "cold": 1, "groups": [{"at": 5000, "spacing": 300, "balises": [TELEGRAMS[1], TELEGRAMS[3]]}],
     "steps": [{"driver": [1, "IC 704"]}, {"driver": [2, 704]}, {"driver": [3, 20000, 160000, 70, 0, 15]}, {"driver": [4, 1]}, {"driver": [5, 1]},
@@ -99,7 +99,9 @@ def near(text: str) -> list[tuple[str, bool]]:
                 at = at[key]
             at[place[-1]] = number
             found.append((json.dumps(told), not least <= number <= most))
-    return found + [(text.replace("7000", odd), True) for odd in ("-0", "7000.0", "7e3", "07000")]
+    odd = [("7000", one) for one in ("-0", "7000.0", "7e3", "07000")]
+    odd += [("[20000, 30000]", "[20000, 30000, 0]"), ("[20000, 30000]", "[20000]"), ('"flush": true', '"flush": 1'), ("[10, 1]", "[10, 1, 1]")]
+    return found + [(text.replace(one, other), True) for one, other in odd]
 
 
 def refuses(browser: Browser, text: str) -> str:

@@ -4,6 +4,8 @@ import {Block, BYTES, Facts, JournalRecord, Output, Reader} from "./layouts";
 import {Replay, Request, SECTOR, Slot, State, TrainData, Why} from "./layouts";
 
 export const OK = 0, END = 38, DAMAGED = 32, NO_SUCH_REQUEST = 249;
+/** How many records of a journal come at once. */
+export const AT_ONCE = 256;
 const ABI = 2, OUTPUTS = 8;
 
 interface Exports {
@@ -131,7 +133,7 @@ export class Calls {
     }
 
     journal(image: Held): Journal {
-        return new Journal(this.x, image, this.take(BYTES.journal), this.take(BYTES.replay));
+        return new Journal(this.x, image, this.take(BYTES.journal), this.take(BYTES.record * AT_ONCE));
     }
 
     // ---- formatting, and a unit
@@ -199,9 +201,11 @@ export class Calls {
 /** A journal that is read, or run again, from its oldest block on. */
 export class Journal {
     readonly status: number;
+    private readonly places: bigint[];
 
     constructor(private readonly x: Exports, private readonly image: Held, private readonly at: bigint,
         private readonly told: bigint) {
+        this.places = Array.from({ length: AT_ONCE }, (_, n) => told + BigInt(BYTES.record * n));
         this.status = x.etcs_journal_open_(image.at, BigInt(image.size), ABI, at);
     }
 
@@ -211,6 +215,22 @@ export class Journal {
     next(): Told<Uint8Array> {
         const status = this.x.etcs_journal_next_(this.image.at, BigInt(this.image.size), this.at, this.told);
         return { status, value: status === OK ? this.reader().bytes(Number(this.told), BYTES.record) : null };
+    }
+
+    /**
+     * The bytes of the next records, at most AT_ONCE, one behind the other; and where one didn't come, the status of
+     * its call and the block at which the journal stood before it.
+     */
+    nextOnes(): { bytes: Uint8Array; status: number; block: number } {
+        const { x, image, at, places, told } = this, size = BigInt(image.size);
+        let count = 0, status = OK, block = 0, stands = new BigUint64Array(0);
+        for (; count < AT_ONCE && status === OK; count++) {
+            if (!stands.length) stands = new BigUint64Array(x.memory.buffer, Number(at), 1);
+            block = Number(stands[0]);
+            status = x.etcs_journal_next_(image.at, size, at, places[count] ?? told);
+        }
+        if (status !== OK) count--;
+        return { bytes: this.reader().bytes(Number(told), BYTES.record * count), status, block };
     }
 
     /** The number of the block at which the journal is. */

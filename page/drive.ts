@@ -4,18 +4,19 @@ import {ask as askImage} from "./tabs";
 import {draw} from "./chart";
 import {Asker} from "./asker";
 import {Calls, Held} from "./calls";
+import {Driven} from "./cases";
 import {balisesOf, Course, Heeding, IDLE_MS, STEP_MS} from "./course";
 import {askHow} from "./cutting";
 import {Dial, distanceBar, shownOf} from "./dial";
-import {at, make, save, say, show} from "./dom";
+import {at, make, say, show} from "./dom";
 import {State, Why} from "./layouts";
-import {formatted, Refused, Scenario, textOf} from "./life";
+import {bytesOfHex, formatted, Refused} from "./life";
 import {aheadOf, drawPlan} from "./planning";
 import {brakeReason, brakeText, count, indicationTexts, keptTexts, kmh} from "./shown";
 import {levelText, limitText, metres, modeName, seconds} from "./shown";
 import {AHEAD, SAY, STATUSES, WORDS} from "./texts";
 import {owedIn, showMission, showSteps} from "./mission";
-import {given, Track} from "./tracks";
+import {given, learnAll, offerTracks, Track, tracks} from "./tracks";
 
 const SLOTS = 2048, TRAIN = {
     acceleration: 60,
@@ -30,7 +31,7 @@ const STALE_MS = 250;
 export class Drive {
     course: Course|null = null;
     private medium: Held;
-    private track: Track;
+    track: Track;
     private isOff = false;
     private time = 0;
     private lever = 0;
@@ -51,7 +52,6 @@ export class Drive {
         this.track = first;
         this.medium = calls.hold(formatted(calls, SLOTS));
         const select = at<HTMLSelectElement>("track");
-        select.append(...given.tracks.map((track, n) => make("option", { value: n }, track.name)));
         select.addEventListener("change", () => this.board(Number(select.value)));
         at("restart").addEventListener("click", () => this.board(Number(select.value)));
         at("story").addEventListener("click", () => this.guard(() => this.story()));
@@ -68,8 +68,6 @@ export class Drive {
             this.heeds = !this.heeds;
             this.showLever();
         });
-        at("save-image").addEventListener("click", () => save("image", this.image(), "application/octet-stream"));
-        at("save-scenario").addEventListener("click", () => this.saveScenarios());
         at("ask-this").addEventListener("click", () => {
             this.setTime(0);
             askImage("the image of this desk", this.image());
@@ -80,8 +78,9 @@ export class Drive {
 
     /** A new train with a new journal, at the beginning of a track. */
     board(number: number): void {
-        this.track = given.tracks[number] ?? this.track;
-        at<HTMLSelectElement>("track").value = String(number);
+        this.track = tracks[number] ?? this.track;
+        learnAll(this.track.scenario, digits => this.calls.decode(bytesOfHex(digits))[0] === 0);
+        offerTracks(at<HTMLSelectElement>("track"), number);
         say("track-tells", this.track.tells);
         if (this.course && !this.isOff) this.course.life.cut();
         this.calls.drop(this.medium);
@@ -111,7 +110,7 @@ export class Drive {
 
     /** The scenario of the track as it is written, on a new train. */
     private story(): void {
-        const number = given.tracks.indexOf(this.track);
+        const number = tracks.indexOf(this.track);
         this.board(number);
         this.course?.life.cut();
         this.calls.put(this.medium, 0, formatted(this.calls, SLOTS));
@@ -201,15 +200,11 @@ export class Drive {
     }
 
     image(): Uint8Array { return this.calls.bytesOf(this.medium); }
-    scenarios(): { scenario: Scenario; isTorn: boolean }[] {
-        return (this.course?.lives ?? []).map(({ scenario, isTorn }) => ({ scenario, isTorn }));
-    }
-
-    private saveScenarios(): void {
-        this.scenarios().forEach(({ scenario, isTorn }, n) => {
-            if (isTorn) say("drive-error", SAY.torn);
-            save(`life${n + 1}.json`, textOf(scenario), "application/json");
-        });
+    get slots(): number { return SLOTS; }
+    /** Whether blocks were written over older ones. */
+    get isWrittenOver(): boolean { return (this.calls.facts(this.medium).value?.newest ?? 0) > SLOTS; }
+    lives(): Driven[] {
+        return (this.course?.lives ?? []).map(({ scenario, outputs, isTorn }) => ({ scenario, outputs, isTorn }));
     }
 
     // ---- power

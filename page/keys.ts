@@ -53,7 +53,10 @@ const OTHERS: [string, string, (drive: Drive, lever: number) => void][] = [
     ["q", "cut the power", click("cut")],
     ["t", "new train", click("restart")],
     ["g", "play the story of the track", click("story")],
+    ["e", "edit the track", click("edit")],
+    ["O", "open a scenario of your own", click("open-scenario")],
     ["S", "save the scenarios", click("save-scenario")],
+    ["C", "save what was driven as a test case", click("save-case")],
     ["M", "save the image", click("save-image")],
     ["Q", "ask this image", click("ask-this")],
 ];
@@ -65,14 +68,18 @@ export function setKeys(drive: Drive): void {
     const name = (key: string): string => key === " " ? "space" : key;
     show("keys", table(["key", "does"], [
         ...ACTIONS.map(one => row(one.key, one.text)), ...OTHERS.map(([key, does]) => row(name(key), does)),
-        row("?", "this help"), row("← →", "on the scrubber of an image: one event back or on")
+        row("?", "this help"), row("← →", "on the scrubber of an image: one event back or on"),
+        row("← → PgUp PgDn Delete",
+            "on a group of the track that is edited: 1 m or 100 m, with shift ten times as far; removes it")
     ]));
     const help = at<HTMLDialogElement>("help");
     at("help-button").addEventListener("click", () => help.showModal());
     document.addEventListener("keydown", event => {
         const on = event.target as HTMLElement;
         if (event.ctrlKey || event.altKey || event.metaKey || document.querySelector("dialog[open]")) return;
-        if (on instanceof HTMLInputElement && on.type !== "range" || on instanceof HTMLSelectElement) return;
+        if (on instanceof HTMLInputElement && on.type !== "range" || on instanceof HTMLSelectElement ||
+            on instanceof HTMLTextAreaElement)
+            return;
         if (event.key === "?") {
             help.showModal();
             event.preventDefault();

@@ -5,12 +5,15 @@ import {Calls} from "./calls";
 import {balisesOf, Course} from "./course";
 import {at, say} from "./dom";
 import {Drive} from "./drive";
+import {Editor} from "./editor";
+import {caseOf, setKeeping} from "./keeping";
 import {setKeys} from "./keys";
 import {formatted, Life, openAt, recordsOf} from "./life";
 import {Order, Report} from "./messages";
+import {readScenario} from "./scenario";
 import {choose, whenAsked} from "./tabs";
 import {SAY} from "./texts";
-import {given} from "./tracks";
+import {given, telegrams} from "./tracks";
 import {Motion, round} from "./train";
 
 /** A module with a memory of 64 bits, and nothing else. */
@@ -37,12 +40,31 @@ async function begin(): Promise<void> {
     const asker: Asker = new Asker(start(report => asker.hear(report)));
     whenAsked((name, bytes) => void ask.ask(name, bytes));
     const drive = new Drive(calls, asker);
+    setKeeping(drive);
+    new Editor(calls, drive);
     setKeys(drive);
     say("version", `unit ${calls.version()}, page ${given.commit}`);
     say("sentence", "");
     choose(/^#event=/.test(location.hash) ? "ask" : "drive");
     Object.assign(window, {
-        gaknifur: { calls, drive, ask, parts: { Course, balisesOf, Life, formatted, openAt, recordsOf, Motion, round } }
+        gaknifur: {
+            calls,
+            drive,
+            ask,
+            parts: {
+                Course,
+                balisesOf,
+                Life,
+                formatted,
+                openAt,
+                recordsOf,
+                Motion,
+                round,
+                caseOf,
+                readScenario,
+                telegrams
+            }
+        }
     });
 }
 

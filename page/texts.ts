@@ -158,7 +158,11 @@ export const SAY = {
     noImageYet: "Choose the image first: marks are for the image that they lie beside.",
     tooManyMarks: (name: string): string =>
         `${name} isn't read: it has more than 16 MB, and the page reads marks up to that size.`,
-    notScenario: (why: string): string => `This isn't a scenario that the page plays: ${why}.`,
+    notScenario: (name: string, why: string): string => `${name} isn't a scenario that etcs run reads: ${why}.`,
+    noCase: "There is no test case of this: nothing was driven yet, or a life ended within a write.",
+    caseTooLong:
+        "There is no test case of this: the ring of the desk was written over, so its lives can't be run again.",
+    ownTells: "A scenario of your own. Its groups lie on the track; its steps are its story.",
     reading: "The image is read.",
     progress: (done: number, all: number, what: string): string => `${what}: ${done} of ${all}`,
     whole: "Each slot is as a unit leaves it, and no block of the journal is missing.",
@@ -182,6 +186,54 @@ export const DAY = {
     column: "UTC by marks, outside the journal and the proof",
     none: "not told",
     notOfLife: (life: number): string => `No UTC is told of this moment of life ${life} by these marks`,
+};
+
+/** The editor of tracks. */
+export const EDIT = {
+    own: "Your own: ",
+    begin: "Where the train begins",
+    train: "train",
+    kinds: {good: "the unit takes its telegrams", warn: "the unit skips packets", bad: "a telegram is refused"},
+    signs: {good: "", warn: " ?", bad: " !"},
+    group: (number: number, place: string): string => `Group ${number}, at ${place}`,
+    balise: (number: number): string => `Balise ${number}, by its variables or in hex`,
+    removeBalise: (number: number): string => `Remove balise ${number}`,
+    refused: (fault: number, name: string): string => `The unit refuses this telegram: ${fault} ${name}.`,
+    skipped: (packets: number[]): string =>
+        `The unit skips packet${packets.length > 1 ? "s" : ""} ${packets.join(", ")}.`,
+    obeyed: (packets: number): string => `The unit takes this telegram: ${packets} packet${packets === 1 ? "" : "s"}.`,
+    cantDrive: (place: string, balise: number, says: string): string => `At ${place}, balise ${balise}: ${says}`,
+    newTelegram: "NID_BG 9; 65: NID_TSR 1, D_TSR 200, L_TSR 100, Q_FRONT 1, V_TSR 8",
+    addPacket: "Add a packet…",
+    packets: [
+        [
+            "3: D_VALIDNV 0, NID_C 1, V_NVSHUNT 6, V_NVSTFF 8, V_NVONSIGHT 6, V_NVUNFIT 20, V_NVREL 8, " +
+                "D_NVROLL 2, V_NVALLOWOVTRP 0, V_NVSUPOVTRP 6, D_NVOVTRP 200, T_NVOVTRP 60, D_NVSTFF 32767",
+            "3: national values"
+        ],
+        ["5: D_LINK 500, NID_BG 10, Q_LINKORIENTATION 1, Q_LINKREACTION 1, Q_LOCACC 5", "5: linking"],
+        ["12: V_MAIN 24, L_ENDSECTION 1000", "12: authority"],
+        ["21: D_GRADIENT 0, Q_GDIR 1, G_A 0", "21: gradients"],
+        ["27: D_STATIC 0, V_STATIC 24, Q_FRONT 1", "27: static speeds"],
+        ["41: D_LEVELTR 500, M_LEVELTR 0, L_ACKLEVELTR 200", "41: level"],
+        ["65: NID_TSR 2, D_TSR 300, L_TSR 100, Q_FRONT 1, V_TSR 8", "65: temporary restriction"],
+        ["66: NID_TSR 2", "66: its revocation"],
+        ["80: D_MAMODE 500, M_MAMODE 0, V_MAMODE 6, L_MAMODE 200, L_ACKMAMODE 200", "80: mode area"],
+    ] as [string, string][],
+};
+
+/** The words of a test case (docs/TESTING_A_TRAIN.md), by the numbers of a scenario and of an output. */
+export const CASE_WORDS = {
+    alone: {6: "start", 7: "choose_shunting", 8: "leave_shunting", 9: "override", 11: "close_desk"} as
+        Record<number, string>,
+    confirmed: ["", "identity", "running_number", "train_data", "level"],
+    acknowledged: ["", "trip", "on_sight", "shunting", "level_0"],
+    cold: ["unknown", "moved", "not_moved"],
+    brakes: ["none", "service", "emergency"],
+    indications: [
+        [1, "on_sight"], [2, "shunting"], [4, "level_0"], [8, "trip"], [16, "overridden"], [32, "not_revalidated"],
+        [64, "overspeed"]
+    ] as [number, string][],
 };
 
 export const MISSION = [

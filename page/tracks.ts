@@ -1,6 +1,9 @@
-// The tracks that the page brings along: tools/page writes them into the page, with the fields of their telegrams.
-import {Decoded} from "./planning";
+// The tracks: those that the page brings along, which tools/page writes into it with the fields of their telegrams, and
+// those of one's own.
+import {make} from "./dom";
 import {Scenario} from "./life";
+import {Decoded} from "./planning";
+import {Grammar, Telegrams, Wrong} from "./telegrams";
 
 export interface Track {
     name: string;
@@ -13,7 +16,46 @@ export interface Given {
     worker: string;
     tracks: Track[];
     decoded: Record<string, Decoded>;
+    grammar: Grammar;
     commit: string
 }
 declare const GIVEN: Given;
 export const given: Given = GIVEN;
+export const tracks: Track[] = [...given.tracks];
+export const telegrams = new Telegrams(given.grammar);
+
+/** The fields of a telegram, for the drawing of what lies ahead; none of one that can't be read. */
+function learn(digits: string): void {
+    if (digits.toUpperCase() in given.decoded) return;
+    try {
+        const { header, packets } = telegrams.read(digits);
+        given.decoded[digits.toUpperCase()] = {
+            header: Object.fromEntries(header),
+            packets: packets.map(([[, packet] = ["", 0], ...fields]) => ({ packet, fields }))
+        };
+    } catch (error) {
+        if (!(error instanceof Wrong)) throw error;
+    }
+}
+
+/** The telegrams of a scenario that the unit doesn't refuse have fields from here on. */
+export function learnAll(scenario: Scenario, isRead: (digits: string) => boolean): void {
+    const told = scenario.steps.flatMap(step => "telegram" in step ? [step.telegram] : []);
+    for (const digits of [...scenario.groups.flatMap(group => group.balises), ...told])
+        if (isRead(digits)) learn(digits);
+}
+
+/** Adds a track, or puts it in the place of the one of this name; answers its number. */
+export function addTrack(track: Track): number {
+    const found = tracks.findIndex((one, n) => n >= given.tracks.length && one.name === track.name);
+    if (found < 0) return tracks.push(track) - 1;
+    tracks[found] = track;
+    return found;
+}
+
+/** Offers the tracks, one of them chosen. */
+export function offerTracks(select: HTMLSelectElement, chosen: number): void {
+    if (select.options.length !== tracks.length)
+        select.replaceChildren(...tracks.map((track, n) => make("option", { value: n }, track.name)));
+    select.value = String(chosen);
+}

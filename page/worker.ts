@@ -1,6 +1,6 @@
 // Reads an image beside the page, so that the page never waits: facts, records, slots, replays and causes, in this
 // order.
-import {Calls, END, Held, OK, Records} from "./calls";
+import {AT_ONCE, Calls, END, Held, OK, Records} from "./calls";
 import {Block, BYTES, Replay, Slot, Why} from "./layouts";
 import {interventionsOf, livesOf} from "./lives";
 import {Head, Order, Report} from "./messages";
@@ -20,12 +20,13 @@ function pause(): Promise<void> {
     });
 }
 
-/** Works in short pieces, with progress, as long as the image is the one that is asked for. */
-async function pieces(id: number, what: string, all: number, work: (done: number) => boolean): Promise<boolean> {
+/** Works in short pieces, each of so many, with progress, as long as the image is the one that is asked for. */
+async function pieces(
+    id: number, what: string, all: number, work: (done: number) => boolean, each = 1): Promise<boolean> {
     let begun = Date.now();
     for (let done = 0; image?.id === id && work(done); done++) {
         if (Date.now() - begun < EACH_MS) continue;
-        tell({ kind: "progress", id, what, done, all });
+        tell({ kind: "progress", id, what, done: each * done, all });
         await pause();
         begun = Date.now();
     }
@@ -36,23 +37,22 @@ async function readRecords(calls: Calls, id: number, held: Held): Promise<Record
     const journal = calls.journal(held), unreadable: number[] = [];
     let room = new Uint8Array(BYTES.record * 1024), count = 0, status = journal.status;
     const isRead = status !== OK || await pieces(id, "events", 0, () => {
-        const block = journal.block(), told = journal.next();
-        status = told.status;
-        if (told.value) {
-            if (room.length < BYTES.record * (count + 1)) {
-                const more = new Uint8Array(2 * room.length);
-                more.set(room);
-                room = more;
-            }
-            room.set(told.value, BYTES.record * count++);
-            return true;
+        const told = journal.nextOnes();
+        if (room.length < BYTES.record * count + told.bytes.length) {
+            const more = new Uint8Array(2 * room.length);
+            more.set(room);
+            room = more;
         }
-        if (status !== END && journal.block() !== block) {
-            unreadable.push(block);
+        room.set(told.bytes, BYTES.record * count);
+        count += told.bytes.length / BYTES.record;
+        status = told.status;
+        if (status === OK) return true;
+        if (status !== END && journal.block() !== told.block) {
+            unreadable.push(told.block);
             return true;
         }
         return false;
-    });
+    }, AT_ONCE);
     journal.drop();
     if (!isRead) return null;
     const bytes = room.slice(0, BYTES.record * count), records = new Records(bytes.slice());

@@ -10,7 +10,7 @@ from browsing import Browser
 from desks import TOP, etcs, random_steps
 from gaknifur import program
 
-ALTERED = 60
+ALTERED = 200
 STATES = ("empty", "block", "unreadable", "misplaced", "foreign", "unwritten", "replaced", "remains")
 RECORD = ("", "event", "word", "time_ms", "mode", "level", "brake", "indications", "place", "place_cm", "uncertainty_cm", "limit_m_per_h")
 HEAD = ("", "events", "lives", "trip_outstanding", "identity", "running_number", "train", "level", "position", "national_values", "countries")

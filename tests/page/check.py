@@ -16,9 +16,10 @@ import asking  # noqa: E402
 import days  # noqa: E402
 import desks  # noqa: E402
 import manners  # noqa: E402
+import own  # noqa: E402
 from browsing import Browser  # noqa: E402
 
-CHECKS = {**desks.CHECKS, **asking.CHECKS, **days.CHECKS, **manners.CHECKS}
+CHECKS = {**desks.CHECKS, **own.CHECKS, **asking.CHECKS, **days.CHECKS, **manners.CHECKS}
 
 
 def main() -> int:

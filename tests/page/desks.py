@@ -13,7 +13,7 @@ from gaknifur.drives import Train
 SLOTS = 2048
 TOP = Path(__file__).resolve().parents[2]
 EXAMPLES = ("full_supervision", "trip", "on_sight", "staff_responsible", "power_cut", "linking_fault")
-LIVES = 100
+LIVES = 300
 TRACKS_TRIED = 40
 TELEGRAMS = ("90007F802001432024A6007FE007D002B00D900010000DC03A400018801FE0", "90007F802001506023A0E04B0064427F80",
              "90007F802001432024A6007FE0025802B00D900010000DC03A400018801FE0", "90007F802001FFC0", "00", "90007F80")
@@ -40,7 +40,7 @@ def image_of(folder: Path, scenarios: list[Any], slots: int = SLOTS) -> tuple[by
 
 def saved(browser: Browser) -> list[Any]:
     """The scenarios that the page saves."""
-    return [one["scenario"] for one in browser.run("return JSON.parse(JSON.stringify(window.gaknifur.drive.scenarios()))")]
+    return [one["scenario"] for one in browser.run("return JSON.parse(JSON.stringify(window.gaknifur.drive.lives()))")]
 
 
 def board(browser: Browser, name: str) -> None:

@@ -49,7 +49,7 @@ for (const element of document.querySelectorAll('main:not([hidden]) *, header *'
 return [count, bad];
 """
 NAMES = """
-return [...document.querySelectorAll('button, input, select, svg[role], [role=group], section')].filter(one => {
+return [...document.querySelectorAll('button, input, select, textarea, svg[role], svg [role], [role=group], section')].filter(one => {
     const name = one.getAttribute('aria-label') || (one.getAttribute('aria-labelledby') || '').split(' ').map(id => document.getElementById(id)?.textContent || '').join('')
         || (one.labels && [...one.labels].map(label => label.textContent).join('')) || (one instanceof HTMLButtonElement && one.textContent);
     return !name || !name.trim();
@@ -171,7 +171,7 @@ def looks(browser: Browser, page: Path, folder: Path) -> int:
     path.write_bytes(image(folder, [example("power_cut"), example("power_cut", "restart.json"), example("trip")], 6))
     count = 0
     for tab in ("drive", "ask"):
-        browser.click(f"tab-{tab}", *(START if tab == "drive" else ()))
+        browser.click(f"tab-{tab}", *((*START, "edit") if tab == "drive" else ()))
         if tab == "ask":
             browser.ask(path)
         for _ in range(2):

@@ -11,7 +11,7 @@ use Rattle.brakes.specs.Brakes.{reaction_way}
 use Rattle.braking.specs.Braking.{braked, fits, greatest, IsSummed}
 use Rattle.braking.specs.Sums.{IsSummedWhole, IsRoot}
 use Rattle.braking.proofs.Naturals.{none_between}
-use Rattle.braking.proofs.Braked.{braked_over}
+use Rattle.braking.proofs.Braked.{braked_over, summed_little}
 use Rattle.braking.proofs.Roots.{root_less, square_greater}
 use Rattle.braking.proofs.Greatest.{greatest_is}
 use Rattle.braking.proofs.Slower.{way_less, slow_fits, braking_fits, late_fails, summed_whole}
@@ -46,7 +46,7 @@ module _ (front : ℤ) (gradient : ℤ → Option ℤ) (brakes : Brakes) (t : Ta
         let cases : (t.place ≤ℤ start limit) → ⊥ = λ late.
         let there : sum.to ≤ℤ sum.from = omega (arith, ints, clamps, whole.from, whole.to, late) in
         let none = none_between sum.from sum.to there in
-        omega (arith, none, whole.summed.2, some) in
+        omega (arith, none, summed_little gradient brakes.deceleration sum whole.summed, some) in
         by_lt_z (start limit) t.place (λ (early : start limit <ℤ t.place). early) (λ (late : t.place ≤ℤ start limit). absurd (cases late))
 
     pub root_fits : fits front gradient brakes t low ≡ true

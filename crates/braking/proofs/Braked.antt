@@ -1,10 +1,11 @@
 -- What a stretch takes off the square of the speed.
-use Rattle.std.proofs.Common.{◌≡◌, ℕ, zero, suc, ◌+◌, ◌*◌, ◌≤◌, ℤ, pos, ◌+ℤ◌, ◌-ℤ◌, ◌≤ℤ◌, ◌<ℤ◌, refl, ap, arith}
+use Rattle.std.proofs.Common.{◌≡◌, ℕ, zero, suc, ◌+◌, ◌*◌, ◌^◌, ◌≤◌, ℤ, pos, ◌+ℤ◌, ◌-ℤ◌, ◌≤ℤ◌, ◌<ℤ◌, ◌⊎◌, inl, inr, refl, ap, ◌∙◌, arith}
 use Rattle.std.specs.Prelude.{Option}
 use Rattle.std.proofs.lemmas.Int.{ints}
 use Rattle.units.specs.Stretches.{natural}
 use Rattle.brakes.specs.Brakes.{slowing_on}
-use Rattle.braking.specs.Braking.{braked}
+use Rattle.braking.specs.declared.summed.Summed.{Summed}
+use Rattle.braking.specs.Braking.{braked, IsSummed}
 use Rattle.braking.proofs.Naturals.{natural_is, parts}
 
 module _ (gradient : ℤ → Option ℤ) (deceleration : ℕ) where
@@ -90,3 +91,39 @@ module _ (gradient : ℤ → Option ℤ) (deceleration : ℕ) where
       let count : pos n ≡ end -ℤ place = natural_is (end -ℤ place) (omega (arith, ints)) in
       let there : place +ℤ pos n ≡ end = rw count (omega (arith, ints)) in
       braked_same (gradient place) place n (λ later c d. same later c (rw there at d))
+
+  -- where no centimetre takes off more than 2592 * 549, a stretch takes off no more than so much for each
+  braked_small : (place : ℤ) (n : ℕ) → ((later : ℤ) → place ≤ℤ later → later <ℤ (place +ℤ pos n) → slowing_on deceleration (gradient later) ≤ 549) →
+      braked gradient deceleration place n ≤ 1_423_008 * n
+  braked_small place zero small = omega (arith, braked_none place)
+  braked_small place (suc n) small =
+      let here = small place (omega (arith, ints)) (omega (arith, ints)) in
+      let rest = braked_small (place +ℤ pos 1) n (λ later a b. small later (omega (arith, ints)) (omega (arith, ints))) in
+      omega (arith, braked_next place n, here, rest)
+
+  pub braked_little : (place end : ℤ) → place ≤ℤ end → ((later : ℤ) → place ≤ℤ later → later <ℤ end → slowing_on deceleration (gradient later) ≤ 549) →
+      braked gradient deceleration place (natural (end -ℤ place)) ≤ 1_423_008 * natural (end -ℤ place)
+  braked_little place end a small =
+      let n : ℕ = natural (end -ℤ place) in
+      let count : pos n ≡ end -ℤ place = natural_is (end -ℤ place) (omega (arith, ints)) in
+      let there : place +ℤ pos n ≡ end = rw count (omega (arith, ints)) in
+      braked_small place n (λ later c d. small later c (rw there at d))
+
+  pub summed_little : (sum : Summed) → IsSummed gradient deceleration sum → sum.taken_off ≤ 1_423_008 * natural (sum.to -ℤ sum.from)
+  summed_little sum summed = omega (arith, summed.1, braked_little sum.from sum.to summed.0 summed.2)
+
+  -- a stretch that was gone on with up to where so much was taken off that it can't be more is summed whole
+  reached : (n most : ℕ) (to place : ℤ) → n ≤ 2 ^ 43 → most ≤ 1_423_008 * n → (to ≡ place) ⊎ (18_446_744_073_709_551_615 ≤ most) → to ≡ place
+  reached n most to place few small either = elim either [ inl is ↦ is | inr much ↦ absurd (omega arith) ]
+
+  pub reached_whole : (from end : ℤ) (sum : Summed) → natural (end -ℤ from) ≤ 2 ^ 43 → sum.from ≡ from → sum.to ≤ℤ end →
+      (sum.to ≡ end) ⊎ (18_446_744_073_709_551_615 ≤ sum.taken_off) → IsSummed gradient deceleration sum → sum.to ≡ end
+  reached_whole from end sum near is within either summed =
+      let begun : from ≤ℤ sum.to = omega (arith, ints, summed.0, is) in
+      let same : natural (sum.to -ℤ sum.from) ≡ natural (sum.to -ℤ from) = ap (λ (z : ℤ). natural (sum.to -ℤ z)) is in
+      let first = parts from sum.to end begun within in
+      reached (natural (sum.to -ℤ sum.from)) sum.taken_off sum.to end (omega (arith, same, first, near)) (summed_little sum summed) either
+
+  pub taken_off_is : (from end : ℤ) (sum : Summed) → sum.from ≡ from → sum.to ≡ end → IsSummed gradient deceleration sum →
+      sum.taken_off ≡ braked gradient deceleration from (natural (end -ℤ from))
+  taken_off_is from end sum begins ends summed = summed.1 ∙ (λ i. braked gradient deceleration (begins i) (natural (ends i -ℤ begins i)))

@@ -11,7 +11,7 @@ use Rattle.braking.specs.Braking.{braked, fits, greatest, IsSummed}
 use Rattle.braking.specs.Sums.{IsStopping}
 use Rattle.braking.specs.Approaches.{IsStop}
 use Rattle.braking.proofs.Naturals.{none_between}
-use Rattle.braking.proofs.Braked.{braked_over}
+use Rattle.braking.proofs.Braked.{braked_over, summed_little}
 use Rattle.braking.proofs.Roots.{square_greater}
 use Rattle.braking.proofs.Greatest.{greatest_within}
 use Rattle.braking.proofs.Bounding.{order, is_true}
@@ -25,7 +25,7 @@ module _ (front : ℤ) (gradient : ℤ → Option ℤ) (brakes : Brakes) where
     | inr fast ↦ (let start : ℤ = front +ℤ pos (reaction_way brakes.reaction v) in
         let squares : t.speed * t.speed < v * v = square_greater t.speed v fast in
         let long : sum.from <ℤ sum.to = by_lt_z sum.from sum.to (λ (some : sum.from <ℤ sum.to). some)
-        (λ (none : sum.to ≤ℤ sum.from). absurd (omega (arith, none_between sum.from sum.to none, summed.2, stops.enough, squares))) in
+        (λ (none : sum.to ≤ℤ sum.from). absurd (omega (arith, none_between sum.from sum.to none, summed_little gradient brakes.deceleration sum summed, stops.enough, squares))) in
         let acts : start <ℤ t.place = omega (arith, ints, stops.acts, long, behind) in
         let over = braked_over gradient brakes.deceleration start sum.from t.place stops.acts (omega (arith, ints, long, behind)) in
         let less = summed_less front gradient brakes t sum summed behind in

@@ -1,6 +1,6 @@
 -- The speeds from which a train can still brake for what lies ahead (this project's profile). Places are in
 -- centimetres, speeds in metres per hour, decelerations in cm/s^2, gradients in per mille, uphill positive.
-use Rattle.std.specs.Prelude.{◌≡◌, ℕ, zero, suc, ◌≤◌, ◌+◌, ◌-◌, ◌*◌, ℤ, pos, ◌+ℤ◌, ◌-ℤ◌, ◌≤ℤ◌, Bool, ◌&&◌, ◌||◌, nat_le, nat_lt, if◌then◌else◌, Option, List}
+use Rattle.std.specs.Prelude.{◌≡◌, ℕ, zero, suc, ◌≤◌, ◌+◌, ◌-◌, ◌*◌, ℤ, pos, ◌+ℤ◌, ◌-ℤ◌, ◌≤ℤ◌, ◌<ℤ◌, Bool, ◌&&◌, ◌||◌, nat_le, nat_lt, if◌then◌else◌, Option, List}
 use Rattle.std.specs.List.{list_all}
 use Rattle.units.specs.Stretches.{natural}
 use Rattle.brakes.specs.declared.brakes.Brakes.{Brakes}
@@ -16,12 +16,12 @@ braked gradient deceleration place zero = 0
 braked gradient deceleration place (suc n) =
     2592 * slowing_on deceleration (gradient place) + braked gradient deceleration (place +ℤ pos 1) n
 
--- what is known of a stretch: what it takes off, which is little enough to add up
+-- what is known of a stretch: what it takes off, which is little enough on each centimetre to add up
 abbrev pub IsSummed : (ℤ → Option ℤ) → ℕ → Summed → Type 0
 IsSummed gradient deceleration summed =
     (summed.from ≤ℤ summed.to)
     × (summed.taken_off ≡ braked gradient deceleration summed.from (natural (summed.to -ℤ summed.from)))
-    × (summed.taken_off ≤ 1_423_008 * natural (summed.to -ℤ summed.from))
+    × ((place : ℤ) → summed.from ≤ℤ place → place <ℤ summed.to → slowing_on deceleration (gradient place) ≤ 549)
 
 -- how far a target lies ahead of the front
 abbrev pub distance_to : ℤ → Target → ℕ

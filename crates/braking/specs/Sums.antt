@@ -8,14 +8,9 @@ use Rattle.braking.specs.declared.summed.Summed.{Summed}
 use Rattle.brakes.specs.Brakes.{reaction_way}
 use Rattle.braking.specs.Braking.{IsSummed}
 
--- where the brakes act at a speed, if that is before a target, is at or before another place
-abbrev pub ActsBy : ℤ → ℕ → ℤ → ℤ → ℕ → Type 0
-ActsBy front reaction to place speed =
-    (front +ℤ pos (reaction_way reaction speed)) <ℤ to → (front +ℤ pos (reaction_way reaction speed)) ≤ℤ place
-
--- .. at each speed up to one
-abbrev pub ActsUpTo : ℤ → ℕ → ℤ → ℤ → ℕ → Type 0
-ActsUpTo front reaction to place speed = (v : ℕ) → v ≤ speed → ActsBy front reaction to place v
+-- where the brakes act at each speed from one on is at or behind a place
+abbrev pub ActsFrom : ℤ → ℕ → ℤ → ℕ → Type 0
+ActsFrom front reaction place speed = (v : ℕ) → speed ≤ v → place ≤ℤ (front +ℤ pos (reaction_way reaction v))
 
 -- a stretch begins where the brakes act at a speed, and ends at a target, or before it where it takes off enough
 pub record IsSummedBefore (front : ℤ) (gradient : ℤ → Option ℤ) (brakes : Brakes) (target : Target) (speed : ℕ) (sum : Summed) : Type 0 where

@@ -1,7 +1,8 @@
 //! The search for the greatest speed that fits a target.
-ghost use Rattle.std.specs.Prelude.{◌≡◌, ◌+◌, ◌-◌, ◌^◌, ◌<◌, ◌≤◌, true, false, MatchOption};
+ghost use Rattle.std.specs.Prelude.{◌≡◌, ◌+◌, ◌-◌, ◌^◌, ◌<◌, ◌≤◌, ◌-ℤ◌, true, false, MatchOption};
+ghost use Rattle.units.specs.Stretches.{natural};
 ghost use Rattle.braking.specs.Braking.{fits, greatest, IsSummed};
-ghost use Rattle.braking.specs.Sums.{ActsUpTo, IsSummedWhole, IsRoot};
+ghost use Rattle.braking.specs.Sums.{ActsFrom, IsSummedWhole, IsRoot};
 
 use crate::Target;
 use crate::speeds::{brakes_act, lacking, summed_before};
@@ -59,13 +60,12 @@ fn sought<P: Profile<Permille>>(
     };
     let most = sum.begun(gradient, brakes.deceleration, start);
     let high = above(root(target.speed, most.taken_off, limit), limit);
-    let (_, last) = fits_before(front, high, target, gradient, brakes, sum);
-    halved(front, low, high, limit, target, gradient, brakes, &last)
+    halved(front, low, high, limit, target, gradient, brakes, &most)
 }
 
 // The greatest speed that fits a target, between one that fits and one that doesn't, where it is known what the stretch
-// takes off from where the brakes act at the latter. That is carried on to each lesser speed that doesn't fit, so that
-// the gradients ahead of there aren't gone through again.
+// takes off from where the brakes act at the former. For a greater speed only the gradients from there up to where the
+// brakes act at that one are gone through, and what is known is carried on to each greater speed that fits.
 fn halved<P: Profile<Permille>>(
     front: Cm,
     low: Mph,
@@ -81,7 +81,8 @@ fn halved<P: Profile<Permille>>(
     requires fails { fits front (P.value gradient.now) brakes.now target.now high ≡ false }
     requires summed { IsSummed (P.value gradient.now) brakes.now.deceleration sum.now }
     requires to { sum.now.to ≡ target.now.place }
-    requires acts { ActsUpTo front brakes.now.reaction target.now.place sum.now.from high }
+    requires near { natural (sum.now.to -ℤ sum.now.from) ≤ 2 ^ 43 }
+    requires acts { ActsFrom front brakes.now.reaction sum.now.from low }
     ensures speed { result.0 ≡ greatest (fits front (P.value gradient.now) brakes.now target.now) limit }
     ensures summed { IsSummed (P.value gradient.now) brakes.now.deceleration result.1 }
 {
@@ -89,20 +90,20 @@ fn halved<P: Profile<Permille>>(
     let mut high = high;
     let mut sum = *sum;
     while let Some(middle) = halfway(low, high) {
-        let (fits, begun) = fits_before(front, middle, target, gradient, brakes, &sum);
+        let (fits, later) = fits_from(front, middle, target, gradient, brakes, &sum);
         if fits {
             low = middle;
+            sum = later;
         } else {
             high = middle;
-            sum = begun;
         }
     }
     (low, sum)
 }
 
-// Whether a speed fits a target, where it is known what the last stretch before the target takes off; and what the
-// stretch takes off that begins where the brakes act at that speed, if that is before the target.
-fn fits_before<P: Profile<Permille>>(
+// Whether a speed fits a target, where it is known what the stretch takes off that begins where the brakes act, or
+// before; and what the stretch takes off that begins where they act, if that is before the target.
+fn fits_from<P: Profile<Permille>>(
     front: Cm,
     speed: Mph,
     target: &Target,
@@ -112,11 +113,13 @@ fn fits_before<P: Profile<Permille>>(
 ) -> (bool, Summed)
     requires summed { IsSummed (P.value gradient.now) brakes.now.deceleration sum.now }
     requires to { sum.now.to ≡ target.now.place }
-    requires acts { ActsUpTo front brakes.now.reaction target.now.place sum.now.from speed }
+    requires near { natural (sum.now.to -ℤ sum.now.from) ≤ 2 ^ 43 }
+    requires acts { ActsFrom front brakes.now.reaction sum.now.from speed }
     ensures fits { result.0 ≡ fits front (P.value gradient.now) brakes.now target.now speed }
     ensures summed { IsSummed (P.value gradient.now) brakes.now.deceleration result.1 }
     ensures to { result.1.to ≡ target.now.place }
-    ensures acts { ActsUpTo front brakes.now.reaction target.now.place result.1.from speed }
+    ensures near { natural (result.1.to -ℤ result.1.from) ≤ 2 ^ 43 }
+    ensures acts { ActsFrom front brakes.now.reaction result.1.from speed }
 {
     if speed <= target.speed {
         return (true, *sum);
@@ -124,8 +127,8 @@ fn fits_before<P: Profile<Permille>>(
     match brakes_act(front, reaction_way(brakes.reaction, speed), target.place) {
         None => (false, *sum),
         Some(start) => {
-            let begun = sum.begun(gradient, brakes.deceleration, start);
-            (lacking(speed, target.speed) <= begun.taken_off, begun)
+            let later = sum.later(gradient, brakes.deceleration, start);
+            (lacking(speed, target.speed) <= later.taken_off, later)
         }
     }
 }

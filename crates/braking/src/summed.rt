@@ -99,4 +99,28 @@ impl Summed {
             near: self.near,
         }
     }
+
+    /// The same, begun later: from a place within on, in centimetres. What lies before is gone through.
+    pub fn later<P: Profile<Permille>>(
+        self,
+        gradient: &P,
+        deceleration: Deceleration,
+        from: Cm,
+    ) -> Summed
+        requires ordered { self.from ≤ℤ from }
+        requires within { from ≤ℤ self.to }
+        requires near { natural (self.to -ℤ self.from) ≤ 2 ^ 43 }
+        requires summed { IsSummed (P.value gradient.now) deceleration self }
+        ensures from { result.from ≡ from }
+        ensures to { result.to ≡ self.to }
+        ensures summed { IsSummed (P.value gradient.now) deceleration result }
+    {
+        let before = Summed::none(self.from).gone_on(gradient, deceleration, from, u64::MAX);
+        Summed {
+            from,
+            to: self.to,
+            taken_off: self.taken_off - before.taken_off,
+            near: self.near,
+        }
+    }
 }

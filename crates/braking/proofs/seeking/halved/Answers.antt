@@ -13,11 +13,12 @@ loop-middle-init g c = record {
   high_fails = c.requires.fails;
   summed = c.requires.summed;
   to = c.requires.to;
+  near = c.requires.near;
   acts = c.requires.acts;
 }
 
-pub fits_before-fits-requires-clause-acts : goal.fits_before-fits-requires-clause-acts
-fits_before-fits-requires-clause-acts g c = λ v below. c.loop-middle.invariant.acts v (omega (arith, below, c.in-Some.ensures))
+pub fits_from-fits-requires-clause-acts : goal.fits_from-fits-requires-clause-acts
+fits_from-fits-requires-clause-acts g c = λ v above. c.loop-middle.invariant.acts v (omega (arith, above, c.in-Some.ensures))
 
 pub returns-clause-speed : goal.returns-clause-speed
 returns-clause-speed g c =

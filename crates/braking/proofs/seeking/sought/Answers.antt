@@ -1,6 +1,8 @@
-use Rattle.std.proofs.Common.{◌≤◌, ℤ, pos, ◌+ℤ◌, ◌≤ℤ◌, ◌<ℤ◌, ◌≡◌, true, false, refl, arith}
-use Rattle.std.proofs.lemmas.Int.{ints, clamps, by_lt_z}
+use Rattle.std.proofs.Common.{◌≤◌, ◌^◌, ℤ, pos, ◌+ℤ◌, ◌-ℤ◌, ◌≤ℤ◌, ◌<ℤ◌, ◌≡◌, ◌∙◌, true, false, refl, arith}
+use Rattle.std.proofs.lemmas.Int.{ints, by_lt_z}
+use Rattle.units.specs.Stretches.{natural}
 use Rattle.brakes.specs.Brakes.{reaction_way}
+use Rattle.braking.proofs.Braked.{summed_little}
 use Rattle.braking.proofs.Slower.{way_less}
 use Rattle.braking.proofs.Bounding.{starts_sooner, root_fits, late_greatest, next_fails}
 use Rattle.braking.proofs.seeking.sought.Goals as goal
@@ -39,10 +41,25 @@ halved-requires-clause-fails g c =
     (omega (arith, ints, c.begun-most.ensures.from, c.in-Some.ensures.value, way)) (omega (arith, ints, c.begun-most.ensures.to, c.requires.whole.to))
     c.root.ensures c.above-high.ensures.next c.above-high.ensures.last c.requires.fails
 
-pub fits_before-last-requires-clause-acts : goal.fits_before-last-requires-clause-acts
-fits_before-last-requires-clause-acts g c = λ v below acts.
-    let less : v ≤ c.args.limit = omega (arith, below, c.above-high.ensures.within) in
-    omega (arith, ints, clamps, acts, c.requires.whole.from, way_less c.args.brakes.now.reaction c.args.limit v less)
+pub halved-requires-clause-to : goal.halved-requires-clause-to
+halved-requires-clause-to g c = c.begun-most.ensures.to ∙ c.requires.whole.to
+
+pub halved-requires-clause-near : goal.halved-requires-clause-near
+halved-requires-clause-near g c =
+    rw (c.begun-most.ensures.to ∙ c.requires.whole.to) (rw c.begun-most.ensures.from c.in-Some.ensures.near)
+
+pub halved-requires-clause-acts : goal.halved-requires-clause-acts
+halved-requires-clause-acts g c = λ v above.
+    omega (arith, ints, c.begun-most.ensures.from, c.in-Some.ensures.value, c.reaction_way.ensures.value,
+    way_less c.args.brakes.now.reaction v c.root-low.result above)
 
 pub returns-in_default-clause-summed : goal.returns-in_default-clause-summed
 returns-in_default-clause-summed g c = c.requires.whole.summed
+
+pub root-requires : goal.root-requires
+root-requires g c =
+    let most = c.begun-most.result in
+    let little = summed_little (g.P.Profile.value c.args.gradient.now) c.args.brakes.now.deceleration most c.begun-most.ensures.summed in
+    let near : natural (most.to -ℤ most.from) ≤ 2 ^ 43 =
+    rw (c.begun-most.ensures.to ∙ c.requires.whole.to) (rw c.begun-most.ensures.from c.in-Some.ensures.near) in
+    omega (arith, little, near)

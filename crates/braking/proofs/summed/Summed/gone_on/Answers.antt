@@ -1,12 +1,12 @@
 use Rattle.std.proofs.Common.{◌≡◌, ◌≤◌, ◌<◌, ◌*◌, ◌+◌, ◌^◌, ◌-ℤ◌, ◌<ℤ◌, ◌≤ℤ◌, ℕ, ℤ, ap, ◌∙◌, arith, rules}
 use Rattle.std.specs.Prelude.{Option, Some}
-use Rattle.std.proofs.lemmas.Int.{ints}
+use Rattle.std.proofs.lemmas.Int.{ints, by_lt_z}
 use Rattle.std.proofs.Math.Nat.{mul-le-mul_right}
 use Rattle.units.specs.Stretches.{natural}
 use Rattle.track_store.specs.Profiles.{Lasts}
 use Rattle.brakes.specs.Brakes.{slowing_on}
 use Rattle.braking.proofs.Naturals.{parts}
-use Rattle.braking.proofs.Braked.{braked_over, braked_even}
+use Rattle.braking.proofs.Braked.{braked_over, braked_even, braked_little}
 use Rattle.braking.proofs.summed.Summed.gone_on.Goals as goal
 
 -- no centimetre takes off more than 2592 * 549
@@ -48,8 +48,9 @@ overflow_add-taken_off g c =
     let part = stretch_small c.slowing.result (natural (end -ℤ place)) c.taken_off_evenly-taken_off.result c.slowing.ensures.small c.taken_off_evenly-taken_off.ensures in
     let on = parts from place end kept.ordered (omega (arith, ints, lasts.0)) in
     let whole = parts from end c.args.to (omega (arith, ints, lasts.0, kept.ordered)) c.end_of_stretch-end.ensures.within in
+    let little = braked_little (g.P.Profile.value c.args.gradient.now) c.args.deceleration from place kept.ordered kept.small in
     let fits : c.loop-deceleration.taken_off + c.taken_off_evenly-taken_off.result < 2 ^ 64 =
-    omega (arith, part, on, whole, kept.small, c.requires.near) in
+    omega (arith, part, on, whole, kept.sum, little, c.requires.near) in
     search (rules, fits)
 
 pub loop-deceleration-preserved : goal.loop-deceleration-preserved
@@ -66,14 +67,16 @@ loop-deceleration-preserved g c =
     let part : c.taken_off_evenly-taken_off.result ≡ 2592 * slowing_on c.args.deceleration (gradient place) * n =
     same_slowing c.taken_off_evenly-taken_off.result c.slowing.result (slowing_on c.args.deceleration (gradient place)) n c.taken_off_evenly-taken_off.ensures
     (c.slowing.ensures.value ∙ ap (slowing_on c.args.deceleration) c.piece-here.ensures.value) in
-    let small = stretch_small c.slowing.result n c.taken_off_evenly-taken_off.result c.slowing.ensures.small c.taken_off_evenly-taken_off.ensures in
+    let slow : slowing_on c.args.deceleration (gradient place) ≤ 549 =
+    rw (← (c.slowing.ensures.value ∙ ap (slowing_on c.args.deceleration) c.piece-here.ensures.value)) c.slowing.ensures.small in
     let ahead : place ≤ℤ end = omega (arith, ints, lasts.0) in
-    let on = parts from place end kept.ordered ahead in
     let over = braked_over gradient c.args.deceleration from place end kept.ordered ahead in
     let even = braked_even gradient c.args.deceleration place end ahead lasts.1 in
     record {
       ordered = omega (arith, ints, ahead, kept.ordered);
       within = c.end_of_stretch-end.ensures.within;
       sum = omega (arith, part, over, even, kept.sum);
-      small = omega (arith, small, on, kept.small);
+      small = λ (there : ℤ) a b. by_lt_z there place
+          (λ (sooner : there <ℤ place). kept.small there a sooner)
+          (λ (later : place ≤ℤ there). rw (lasts.1 there later b) slow);
     }

@@ -10,5 +10,5 @@ returns-clause-summed c gradient deceleration =
     let none = none_between c.args.place c.args.place (omega (arith, ints)) in (
       omega (arith, ints),
       omega (arith, ap (braked gradient deceleration c.args.place) none, braked_none gradient deceleration c.args.place),
-      omega arith,
+      λ place a b. absurd (omega (arith, ints, a, b)),
     )

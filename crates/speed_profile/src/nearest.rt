@@ -17,6 +17,10 @@ const STEP: u32 = 5_000;
 /// How many steps there are up to the greatest speed.
 const STEPS: usize = 120;
 
+/// The speed of most trains at most, in metres per hour, and how many steps there are up to it.
+const USUAL_SPEED: u32 = 200_000;
+const USUAL_STEPS: usize = 40;
+
 /// Lowers the speed of an approach for the static speeds, which come the nearest first. Where the train can come to a
 /// stop before those that are left, it fits these.
 pub fn lower_by_speeds<'a, S: Profile<CategorySpeeds>, G: Profile<Permille>>(
@@ -70,10 +74,8 @@ fn next_to_brake_for<'a, S: Profile<CategorySpeeds>, G: Profile<Permille>>(
     None
 }
 
-// Lowers the speed for two targets and for those that are left. Of those of one speed only the nearest is gone to, and
-// the fastest first: a slower one that is no farther ahead decides alone, so that those that decide lie farther and
-// farther ahead, and what lies between is summed once.
-#[inline(never)]
+// Lowers the speed for two targets and for those that are left. A place for each step up to the speed so far does, since
+// no faster target asks for anything.
 fn lower_by_nearest<'a, S: Profile<CategorySpeeds>, G: Profile<Permille>>(
     approach: &mut Approach<'a, G>,
     targets: &mut Targets<'a, S>,
@@ -82,13 +84,36 @@ fn lower_by_nearest<'a, S: Profile<CategorySpeeds>, G: Profile<Permille>>(
 )
     ensures { approach.new ≡ lowered_by (G.value approach.old.gradient) (first.now ∷ second.now ∷ targets.old.targets) approach.old }
 {
-    let mut nearest = [None; STEPS + 1];
-    take(approach, &mut nearest, first);
-    take(approach, &mut nearest, second);
-    while let Some(target) = targets.next() {
-        take(approach, &mut nearest, &target);
+    if approach.speed().get() <= USUAL_SPEED {
+        let mut nearest = [None; USUAL_STEPS + 1];
+        lower_by_held(approach, targets, first, second, &mut nearest);
+    } else {
+        let mut nearest = [None; STEPS + 1];
+        lower_by_held(approach, targets, first, second, &mut nearest);
     }
-    lower_each(approach, &nearest);
+}
+
+// Lowers the speed for two targets and for those that are left, in places that hold none. Of those of one speed only the
+// nearest is gone to, and the fastest first: a slower one that is no farther ahead decides alone, so that those that
+// decide lie farther and farther ahead, and what lies between is summed once.
+#[inline(never)]
+fn lower_by_held<'a, S: Profile<CategorySpeeds>, G: Profile<Permille>>(
+    approach: &mut Approach<'a, G>,
+    targets: &mut Targets<'a, S>,
+    first: &Target,
+    second: &Target,
+    nearest: &mut [Option<Target>],
+)
+    requires places { 1 ≤ length nearest.old }
+    requires none { held nearest.old ≡ [] }
+    ensures { approach.new ≡ lowered_by (G.value approach.old.gradient) (first.now ∷ second.now ∷ targets.old.targets) approach.old }
+{
+    take(approach, nearest, first);
+    take(approach, nearest, second);
+    while let Some(target) = targets.next() {
+        take(approach, nearest, &target);
+    }
+    lower_each(approach, nearest);
 }
 
 // Holds a target, or lowers the speed for it at once.
@@ -97,8 +122,8 @@ fn take<'a, G: Profile<Permille>>(
     nearest: &mut [Option<Target>],
     target: &Target,
 )
-    requires { length nearest.old ≡ 121 }
-    ensures length { length nearest.new ≡ 121 }
+    requires { 1 ≤ length nearest.old }
+    ensures length { length nearest.new ≡ length nearest.old }
     ensures asked { (others : List TargetAsked) → lowered_by (G.value approach.new.gradient) (held nearest.new ++ others) approach.new
         ≡ lowered_by (G.value approach.old.gradient) (target.now ∷ (held nearest.old ++ others)) approach.old }
 {
@@ -107,15 +132,16 @@ fn take<'a, G: Profile<Permille>>(
     }
 }
 
-// Holds a target in the place of its step, where it asks for all that the one there does, or that one for all that it
-// does; else false, and nothing changes.
+// Holds a target in the place of its step, or in the first one where its speed is above the greatest step, where it asks
+// for all that the one there does, or that one for all that it does; else false, and nothing changes.
 fn hold(nearest: &mut [Option<Target>], target: &Target) -> bool
-    requires { length nearest.old ≡ 121 }
-    ensures length { length nearest.new ≡ 121 }
+    requires { 1 ≤ length nearest.old }
+    ensures length { length nearest.new ≡ length nearest.old }
     ensures held { IsTrue result → AskTheSame (held nearest.new) (target.now ∷ held nearest.old) }
     ensures left { result ≡ false → nearest.new ≡ nearest.old }
 {
-    let step = STEPS - (target.speed.get() / STEP) as usize;
+    let slowest = nearest.len() - 1;
+    let step = slowest.saturating_sub((target.speed.get() / STEP) as usize);
     match more_asking(&nearest[step], target) {
         Some(kept) => {
             nearest[step] = Some(kept);

@@ -4,5 +4,5 @@ use Rattle.speed_profile.proofs.nearest.hold.Goals as goal
 
 pub returns-in-Some-clause-held : goal.returns-in-Some-clause-held
 returns-in-Some-clause-held c = λ yes.
-    held_set c.args.nearest.now (120 - c.get.result / 5000) c.index-nearest-step.result c.in-Some.kept c.args.target.now
-    (omega (arith, c.requires)) c.in-Some.ensures
+    held_set c.args.nearest.now c.saturating_sub-step.result c.index-nearest-step.result c.in-Some.kept c.args.target.now
+    (omega (arith, c.saturating_sub-step.ensures, c.requires)) c.in-Some.ensures

@@ -19,6 +19,7 @@ const STEPS: usize = 120;
 
 /// The speed of most trains at most, in metres per hour, and how many steps there are up to it.
 const USUAL_SPEED: u32 = 200_000;
+
 const USUAL_STEPS: usize = 40;
 
 /// Lowers the speed of an approach for the static speeds, which come the nearest first. Where the train can come to a

@@ -50,8 +50,14 @@ halved-requires-clause-near g c =
 
 pub halved-requires-clause-acts : goal.halved-requires-clause-acts
 halved-requires-clause-acts g c = λ v above.
-    omega (arith, ints, c.begun-most.ensures.from, c.in-Some.ensures.value, c.reaction_way.ensures.value,
-    way_less c.args.brakes.now.reaction v c.root-low.result above)
+    omega (
+      arith,
+      ints,
+      c.begun-most.ensures.from,
+      c.in-Some.ensures.value,
+      c.reaction_way.ensures.value,
+      way_less c.args.brakes.now.reaction v c.root-low.result above,
+    )
 
 pub returns-in_default-clause-summed : goal.returns-in_default-clause-summed
 returns-in_default-clause-summed g c = c.requires.whole.summed

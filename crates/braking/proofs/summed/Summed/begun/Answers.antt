@@ -20,8 +20,15 @@ overflow_add-result g c =
     let begins : sum.from ≡ c.args.from = before.from ∙ c.none.ensures.from in
     let all : natural (c.args.self.from -ℤ sum.from) ≡ natural (c.args.self.from -ℤ c.args.from) = ap (λ (z : ℤ). natural (c.args.self.from -ℤ z)) begins in
     let fits : sum.taken_off + c.args.self.taken_off < 2 ^ 64 =
-    omega (arith, whole, first, summed_little gradient c.args.deceleration sum before.summed, all,
-    summed_little gradient c.args.deceleration c.args.self c.requires.summed, c.requires.near) in
+    omega (
+      arith,
+      whole,
+      first,
+      summed_little gradient c.args.deceleration sum before.summed,
+      all,
+      summed_little gradient c.args.deceleration c.args.self c.requires.summed,
+      c.requires.near,
+    ) in
     search (rules, fits)
 
 pub returns-clause-summed : goal.returns-clause-summed

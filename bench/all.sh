@@ -1,6 +1,7 @@
 #!/bin/bash
 # Runs the scripts of bench/, one after another, and prints each row that they print with the numbers that bench/figures.txt keeps of an earlier
-# run behind it. What the builds have to say goes to bench/out/said.
+# run behind it. What the builds have to say goes to bench/out/said. With UNPROVED=yes the parts that know it compile the product without a
+# proof (bench/unproved): their rows are kept apart.
 #
 #     bench/all.sh [--keep] [PART..]    the parts: measure kernel blocks journal onboard run program worst mixed; with --keep the new rows are kept
 top=$(cd "$(dirname "$(readlink -f -- "$0")")/.." && pwd) || exit 1
@@ -18,10 +19,11 @@ for part in "$@"; do
     "$top/bench/$part.sh" "${words[@]}" >"$out/printed/$part" 2>>"$out/said" || { echo "$part: failed, see $out/said"; status=1; rm -f "$out/printed/$part"; }
 done
 python3 -I - "$top/bench/figures.txt" "$out/printed" "$keep" "$@" <<'P' || status=1
-import re, sys
+import os, re, sys
 from pathlib import Path
 
 kept, rows, keep, *parts = sys.argv[1:]
+UNPROVED = " (unproved)" if os.environ.get("UNPROVED") else ""
 NUMBER = re.compile(r"(?<![\w.])\d[\d.]*(?![\w])")
 
 
@@ -48,7 +50,7 @@ def numbers(line):
 
 
 before = read()
-now = {part: (Path(rows) / part).read_text().splitlines() for part in parts if (Path(rows) / part).exists()}
+now = {part + UNPROVED: (Path(rows) / part).read_text().splitlines() for part in parts if (Path(rows) / part).exists()}
 for part, lines in now.items():
     print(f"== {part}")
     old = {}

@@ -1,8 +1,8 @@
 #!/bin/bash
 # The unit as C, C++, Python and Rust programs call it, all of it built from the folder that tools/library makes: the headers alone, the names
 # that the library shows, sizes and places, wrong calls, files, archives of blocks and marks beside the journal, two units at once, the
-# examples, images beside `etcs journal`, random lives beside `etcs run`, memory that is refused, and the commands of docs/EMBEDDING.md. It needs gcc, g++, valgrind, rustc and Debian's Python; clang
-# is tried where it is there.
+# examples, images beside `etcs journal`, random lives beside `etcs run`, instructions beside kept counts and bounds, memory that is refused,
+# and the commands of docs/EMBEDDING.md. It needs gcc, g++, valgrind, rustc and Debian's Python; clang is tried where it is there.
 #
 #     tests/unit.sh [PREFIX [LIVES]]    builds and installs the library first, or takes the one below PREFIX; 400 lives; $ETCS and $ETCS_LAB name
 #                                       other programs than the gate's
@@ -190,6 +190,12 @@ gcc -std=gnu11 -O2 -fPIC -shared "$top/tests/hostile/refuse.c" -o "$made/refuse.
 
 "$python" "$top/tests/unit/lives.py" "$made/life.gcc" "${2:-400}" || status=1
 "$python" "$top/tests/unit/lives.py" "$made/life.checked" "$((${2:-400} / 20))" 7 || status=1
+
+# ---- instructions: rows beside kept ones, and the worst case beside its bounds
+
+gcc -std=gnu11 -O2 -Wl,-z,now,--wrap=malloc,--wrap=realloc,--wrap=free -I "$include" -I "$top/tests/unit" "$top/bench/worst.c" "$archive" \
+    -o "$made/worst" || fails "bench/worst.c doesn't compile"
+"$python" "$top/tests/unit/counts.py" "$made/worst" || status=1
 
 # ---- memory that is refused
 

@@ -1,4 +1,3 @@
 pub mod Refusing
-pub mod Releasing
 pub mod Room
 pub mod Standing

@@ -158,3 +158,38 @@ def main(name, question_of, answer_of):
     rows = rows_of((HERE / f"{name}.row").read_text())
     questions = [question_of(question) for _, question, _ in rows]
     return run(name, [Block([], questions)], lambda answers: compare(name, rows, answers, answer_of))
+
+
+def answer_to(asking, told):
+    """The lines of a row that has asked, of what it was told."""
+    try:
+        asking.send(told)
+    except StopIteration as end:
+        return ["  " + line for line in end.value]
+    except (ValueError, KeyError, IndexError, OverflowError) as fault:
+        return [f"no answer ({fault})"]
+    return ["a second question"]
+
+
+def compare_asked(name, rows, askings, questions, answers):
+    """Compares all rows, prints what differs, and how many were tried. Whether all agree."""
+    told, differ = iter(map(Told, answers)), 0
+    for (place, question, wanted), asking, asked in zip(rows, askings, questions):
+        found = answer_to(asking, [next(told) for _ in asked])
+        if found != wanted:
+            differ += 1
+            print(f"{name}.row:{place}: {question[:160]}", *(f"  wanted {line}" for line in wanted),
+                  *(f"  found  {line}" for line in found), sep="\n")
+    print(f"{name}: {len(rows)} rows, {differ} differ")
+    return differ == 0
+
+
+def main_by_words(name, asked_by):
+    """Runs a file of rows whose first words are functions: each takes the other words, yields its questions, is sent what they were told,
+    and returns the lines."""
+    rows, askings = rows_of((HERE / f"{name}.row").read_text()), []
+    for _, question, _ in rows:
+        word, *others = ["" if it == "''" else it for it in question.split(" ")]
+        askings.append(asked_by[word](others))
+    questions = [next(asking) for asking in askings]
+    return run(name, [Block([], asked) for asked in questions], lambda answers: compare_asked(name, rows, askings, questions, answers))

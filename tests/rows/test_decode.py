@@ -11,7 +11,7 @@ import sys
 import tempfile
 from concurrent.futures import ThreadPoolExecutor
 
-from asking import HERE, Block, Told, rows_of, run
+from asking import HERE, Told, main_by_words
 
 FAULTS = {0: "decoded", 1: "Truncated", 2: "WrongLength", 3: "Spare", 4: "OutOfRange", 5: "WrongVersion",
           6: "NotUplink", 7: "NotBalise", 8: "NoEnd", 9: "TooLong"}
@@ -250,38 +250,5 @@ ASKED = {"decode": decode, "short": short, "numbers": numbers, "again": again, "
          "long": long, "bits": bits, "sizes": sizes, "spelling": spelling, "mutated": mutated}
 
 
-def answer_to(asking, told):
-    """The lines of a row that has asked, of what it was told."""
-    try:
-        asking.send(told)
-    except StopIteration as end:
-        return ["  " + line for line in end.value]
-    except (ValueError, KeyError, IndexError, OverflowError) as fault:
-        return [f"no answer ({fault})"]
-    return ["a second question"]
-
-
-def compare(rows, askings, questions, answers):
-    """Compares all rows, prints what differs, and how many were tried. Whether all agree."""
-    told, differ = iter(map(Told, answers)), 0
-    for (place, question, wanted), asking, asked in zip(rows, askings, questions):
-        found = answer_to(asking, [next(told) for _ in asked])
-        if found != wanted:
-            differ += 1
-            print(f"test_decode.row:{place}: {question[:160]}", *(f"  wanted {line}" for line in wanted),
-                  *(f"  found  {line}" for line in found), sep="\n")
-    print(f"test_decode: {len(rows)} rows, {differ} differ")
-    return differ == 0
-
-
-def main():
-    rows, askings = rows_of((HERE / "test_decode.row").read_text()), []
-    for _, question, _ in rows:
-        word, *others = ["" if it == "''" else it for it in question.split(" ")]
-        askings.append(ASKED[word](others))
-    questions = [next(asking) for asking in askings]
-    return run("test_decode", [Block([], asked) for asked in questions], lambda answers: compare(rows, askings, questions, answers))
-
-
 if __name__ == "__main__":
-    sys.exit(main())
+    sys.exit(main_by_words("test_decode", ASKED))

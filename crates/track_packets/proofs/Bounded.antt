@@ -1,5 +1,5 @@
 -- The bits in front of a list, and what is left of them.
-use Rattle.std.proofs.Common.{◌≡◌, ℕ, ◌+◌, ◌-◌, ◌≤◌, Bool, List, length, take, drop, refl, sym, ap, ◌∙◌, arith}
+use Rattle.std.proofs.Common.{◌≡◌, ℕ, ◌+◌, ◌-◌, ◌≤◌, Bool, List, length, take, drop, sym, ap, ◌∙◌, arith}
 use Rattle.std.proofs.lemmas.List.{length-take-le, take-take, drop-take}
 
 pub left_is : (n : ℕ) (bits : List Bool) → n ≤ length bits → length (take n bits) ≡ n

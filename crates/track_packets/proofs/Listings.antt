@@ -1,12 +1,11 @@
 -- The packets of a telegram, one after another.
-use Rattle.std.proofs.Common.{◌≡◌, ℕ, suc, ◌+◌, ◌-◌, ◌<◌, ◌≤◌, Bool, true, false, nat_lt, List, [], ◌∷◌, ◌++◌, length, drop, refl, sym, ap, ◌∙◌, arith}
+use Rattle.std.proofs.Common.{◌≡◌, ℕ, suc, ◌+◌, ◌-◌, ◌<◌, ◌≤◌, Bool, false, nat_lt, List, [], ◌∷◌, ◌++◌, length, drop, refl, sym, ap, ◌∙◌, arith}
 use Rattle.bits.specs.Bits.{bits_of}
 use Rattle.track_packets.specs.Listing.{step_at, ended, gone_on, listed, listing_of}
 use Rattle.track_packets.specs.declared.listing.Listing.{Listing}
 use Rattle.track_packets.specs.declared.listing.ListingEnd.{ListingEnd}
 use Rattle.track_packets.specs.declared.listing.ListingEnd.TheVariants.{TooMany}
 use Rattle.track_packets.specs.declared.listing.PacketPlace.{PacketPlace}
-use Rattle.track_packets.specs.declared.listing.Step.{Step}
 use Rattle.track_packets.specs.declared.listing.Step.TheVariants as steps
 
 one_more : (most i : ℕ) (before : List PacketPlace) (at : ℕ) (bits : List Bool) → i < most

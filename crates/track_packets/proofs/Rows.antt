@@ -1,5 +1,5 @@
 -- The rows of a layout, one after another.
-use Rattle.std.proofs.Common.{◌≡◌, ℕ, suc, ◌+◌, ◌-◌, ◌<◌, ◌≤◌, Bool, true, false, nat_lt, List, [], ◌∷◌, Result, Ok, Err, refl, sym, ap, ◌∙◌, arith}
+use Rattle.std.proofs.Common.{◌≡◌, ℕ, suc, ◌+◌, ◌-◌, ◌<◌, ◌≤◌, true, false, nat_lt, List, [], ◌∷◌, Result, Ok, Err, refl, sym, ap, ◌∙◌, arith}
 use Rattle.track_packets.specs.Fields.{Told, then_read, times, deeper, read_row, read_rows}
 use Rattle.track_packets.specs.declared.fault.FieldFault.{FieldFault}
 use Rattle.track_packets.specs.Reading.{Fails, Gives}

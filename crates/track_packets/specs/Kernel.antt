@@ -1,11 +1,9 @@
 -- The fields of a packet that the kernel uses, by its layout in `packets` (SUBSET-026, 7.4.2), NID_PACKET first. Places
 -- and widths are bits.
-use Rattle.std.specs.Prelude.{◌≡◌, ℕ, ◌+◌, Bool, List, [], ◌∷◌, ◌++◌, length, Result, Ok, Err, Unit}
-use Rattle.bits.specs.Layout.{Begins, Refuses}
+use Rattle.std.specs.Prelude.{ℕ, ◌+◌, List, [], ◌∷◌, ◌++◌, length}
 use Rattle.bits.specs.Writing.{Shown, named, raw}
 use Rattle.bits.specs.declared.name.VariableName.TheVariants as names
-use Rattle.packets.specs.Packets.{packet, length_of, number_of, packet_taken}
-use Rattle.packets.specs.declared.fault.PacketFault.{PacketFault}
+use Rattle.packets.specs.Packets.{length_of, number_of, packet_taken}
 use Rattle.packets.specs.declared.packet.Packet.{Packet}
 use Rattle.track_packets.specs.declared.reading.Field.{Field}
 use Rattle.track_packets.specs.declared.variable.Variable.TheVariants.{Shared}

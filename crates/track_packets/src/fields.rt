@@ -1,5 +1,5 @@
 //! The fields of a whole packet where it stands in its telegram.
-ghost use Rattle.std.specs.Prelude.{◌≡◌, ◌+◌, ◌<◌, ◌≤◌, Err, drop, length, take, true, false};
+ghost use Rattle.std.specs.Prelude.{◌≡◌, ◌+◌, ◌<◌, ◌≤◌, Err, drop, length as count, take, true, false};
 ghost use Rattle.bits.specs.Bits.{bits_of};
 ghost use Rattle.track_packets.specs.Kinds.{kind_told};
 ghost use Rattle.track_packets.specs.Reading.{Gives, TellsKernel};
@@ -41,7 +41,7 @@ pub(crate) fn fields_by_rows_of(
     number: u8,
     length: u32,
 ) -> Result<Fields, FieldsError>
-    requires { length ≤ length reader.now }
+    requires { length ≤ count reader.now }
     ensures { Gives (λ f. (f.fields.items, f.rest)) result (fields_by_rows number (take length reader.now)) }
 {
     let mut reading = Reading::new(alloc, reader, length);
@@ -67,10 +67,10 @@ fn is_kernels(kind: Option<Kind>, length: u32) -> bool
 /// The fields of a packet that stands in a telegram. A packet that the kernel uses is read by its layout in `packets`
 /// (also packet 3 where its length is that of this project's order), each other one by its rows here.
 pub fn fields_of(alloc: Global, bytes: &[u8], place: PacketPlace) -> Result<Fields, FieldsError>
-    ensures outside { length (bits_of bytes.now) < place.start + place.length → result ≡ Err FieldsError.NotThere }
-    ensures kernel { place.start + place.length ≤ length (bits_of bytes.now) → is_kernels_told (kind_told place.number) place.length ≡ true
+    ensures outside { count (bits_of bytes.now) < place.start + place.length → result ≡ Err FieldsError.NotThere }
+    ensures kernel { place.start + place.length ≤ count (bits_of bytes.now) → is_kernels_told (kind_told place.number) place.length ≡ true
         → TellsKernel (λ f. (f.fields.items, f.rest)) result (drop place.start (bits_of bytes.now)) }
-    ensures rows { place.start + place.length ≤ length (bits_of bytes.now) → is_kernels_told (kind_told place.number) place.length ≡ false
+    ensures rows { place.start + place.length ≤ count (bits_of bytes.now) → is_kernels_told (kind_told place.number) place.length ≡ false
         → Gives (λ f. (f.fields.items, f.rest)) result (fields_by_rows place.number (take place.length (drop place.start (bits_of bytes.now)))) }
 {
     let mut reader = BitReader::new(bytes);

@@ -64,10 +64,8 @@ pub(crate) fn kernel_fields_of(alloc: Global, reader: &BitReader<'_>) -> Result<
         Ok(packet) => packet,
         Err(fault) => return Err(FieldsError::Refused(fault)),
     };
-    let mut taker = FieldTaker {
-        fields: Vec::new(alloc),
-        at: 0,
-    };
+    let fields = Vec::new(alloc);
+    let mut taker = FieldTaker { fields, at: 0 };
     let length = packet.length();
     match hand_packet(&packet, length, &mut taker) {
         Ok(()) => Ok(Fields {

@@ -130,7 +130,7 @@ impl<'a> Reading<'a> {
 
     /// The fields, and how many bits are left behind them: none where the rows are to take all.
     pub(crate) fn finish(self, all: bool) -> Result<Fields, FieldsError>
-        ensures { Gives (λ f. (f.fields.items, f.rest)) result (finished all self) }
+        ensures { Gives (λ f. (f.fields.items, f.rest)) result (finished all self.entry) }
     {
         let rest = self.left.len();
         if all && rest > 0 {

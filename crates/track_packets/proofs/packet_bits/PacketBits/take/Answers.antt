@@ -1,4 +1,4 @@
-use Rattle.std.proofs.Common.{◌≡◌, ◌-◌, length, take, drop, arith, ap, ◌∙◌}
+use Rattle.std.proofs.Common.{◌-◌, take, drop, arith, ap, ◌∙◌}
 use Rattle.track_packets.proofs.Bounded.{rest_is}
 use Rattle.track_packets.proofs.packet_bits.PacketBits.take.Goals as goal
 

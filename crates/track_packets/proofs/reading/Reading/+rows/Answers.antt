@@ -1,4 +1,4 @@
-use Rattle.std.proofs.Common.{◌≡◌, ◌≢◌, ◌+◌, ◌-◌, ◌<◌, ◌≤◌, ◌∷◌, suc, Err, arith, ap, sym, ◌∙◌}
+use Rattle.std.proofs.Common.{◌≡◌, ◌+◌, ◌-◌, suc, arith, ap, sym, ◌∙◌}
 use Rattle.std.proofs.lemmas.List.{nil_from_length}
 use Rattle.track_packets.specs.Fields.{times, read_row, read_rows}
 use Rattle.track_packets.proofs.Rows.{times_step, times_ends, times_done, no_levels, no_rows, row_passed, row_fails, block_fails, row_read, is_deeper, is_here, along, failed}

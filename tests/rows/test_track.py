@@ -1,0 +1,188 @@
+#!/usr/bin/env python3
+"""Runs test_track.row over the program of rows (asking.py has the words).
+
+    listing BITS         the packets behind a header of 50 bits that are 0, each with number, direction, place and length by L_PACKET,
+                         and what ends them; the bits may stand apart
+    repeated COUNT       the same of so many packets 135, each of 23 bits, and an end mark
+    packet BITS          the fields of the packet that these bits begin with; `-` behind them leaves their last byte out
+    missing AT LENGTH    a packet from that place on, of so many bits, in 8 bytes
+    kind NUMBER          what is known of a packet
+    random COUNT SEED    so many telegrams with packets of each layout, altered at times: how many have the packets, and the fields
+                         of each, that the plain program (../plain/track_packets.py) tells
+
+What is asked and told, in numbers, stands in program/src/test_track.rt.txt."""
+import random
+import re
+import sys
+
+from asking import HERE, main_by_words
+from test_decode import bytes_told, of_bytes
+
+sys.path.insert(0, str(HERE.parent / "plain"))
+import track_packets as plain  # noqa: E402
+
+FAULTS = {1: "Truncated", 2: "WrongLength", 3: "Spare", 4: "OutOfRange"}
+DIRECTIONS = ["reverse", "nominal", "both", "spare"]
+ENDS = ["end", "no end", "cut", "length", "many"]
+SENDERS, ISSUES = ["balise", "radio"], ["this issue", "a later issue"]
+BODIES = ["rows", "rows and bits", "bits", "kernel", "kernel or rows", "number alone"]
+SURENESS = ["sure", "fairly sure", "name alone"]
+MOST_TOLD = 40
+
+
+def data_of(bits):
+    bits += "0" * (-len(bits) % 8)
+    return int(bits, 2).to_bytes(len(bits) // 8, "big") if bits else b""
+
+
+def text_told(told):
+    return bytes_told(told).decode("ascii")
+
+
+def listing_told(told):
+    packets = [tuple(told.take(4)) for _ in range(told.take())]
+    end, at = told.take(2)
+    told.end()
+    return packets, (ENDS[end], at)
+
+
+def fields_told(told):
+    """As the plain program says them, but for the number of fields, of which a part is told."""
+    outcome = told.take()
+    if outcome == 0:
+        count, rest = told.take(2)
+        fields = []
+        while told.numbers:
+            name = text_told(told)
+            fields.append((name, *told.take(3)))
+        return fields, ("rest", rest), count
+    if outcome in (1, 2):
+        told.end()
+        return None, ({1: "no memory", 2: "not there"}[outcome],), 0
+    if outcome == 3:
+        return None, ("refused", FAULTS[told.take()]), 0
+    name = text_told(told) if outcome in (4, 5) else None
+    why = ({4: "cut", 5: "many", 6: "long"}[outcome], name, told.take())
+    told.end()
+    return None, why, 0
+
+
+def lines_of(fields, why):
+    lines = [" ".join(map(str, field)) for field in fields or []]
+    return [*lines, " ".join(str(word) for word in why if word is not None)]
+
+
+def telegram_of(words):
+    """A header, the bits, and zeros up to a whole byte."""
+    bits = "".join(words)
+    if not re.fullmatch("[01]*", bits):
+        raise ValueError("no bits")
+    return data_of("0" * plain.HEADER_BITS + bits)
+
+
+def listing(words):
+    [told] = yield [of_bytes(1, telegram_of(words))]
+    packets, end = listing_told(told)
+    return [*(f"{number} {DIRECTIONS[direction]} at {at} length {length}" for number, direction, at, length in packets), " ".join(map(str, end))]
+
+
+def repeated(words):
+    [told] = yield [of_bytes(1, telegram_of([f"{135:08b}10{23:013b}" * int(words[0]), "1" * 8]))]
+    packets, end = listing_told(told)
+    return [f"{len(packets)} packets", " ".join(map(str, end))]
+
+
+def packet(words):
+    data = telegram_of([word.rstrip("-") for word in words])
+    if words[-1].endswith("-"):
+        data = data[:-1]
+    number, length = (int(bits, 2) for bits in ("".join(words)[:8], "".join(words)[10:23]))
+    [told] = yield [[*of_bytes(2, data), number, plain.HEADER_BITS, length, 0]]
+    fields, why, _ = fields_told(told)
+    return lines_of(fields, why)
+
+
+def missing(words):
+    [told] = yield [[*of_bytes(2, bytes(8)), 132, int(words[0]), int(words[1]), 0]]
+    fields, why, _ = fields_told(told)
+    return lines_of(fields, why)
+
+
+def kind(words):
+    [told] = yield [[3, int(words[0])]]
+    if told.take() == 0:
+        return ["no name"]
+    name = text_told(told)
+    sender, issue, body, sureness = told.take(4)
+    told.end()
+    return [f"{name}; {SENDERS[sender]}; {ISSUES[issue]}; {BODIES[body]}; {SURENESS[sureness]}"]
+
+
+def packet_bits(chance, number):
+    """Bits that its layout takes, of random numbers; lists are short."""
+    def take(name):
+        width = plain.WIDTHS[name]
+        most = 3 if name in ("N_ITER", "L_TEXT") else (1 << width) - 1
+        fields.append((name, chance.randint(0, most)))
+        return fields[-1][1]
+
+    def all_of(parts):
+        for part in parts:
+            if isinstance(part, str):
+                take(part)
+            elif part[0] == "(":
+                for _ in range(take(part[1])):
+                    all_of(part[2:])
+            else:
+                name, wanted = part[1].split("=")
+                if [told for other, told in fields if other == name][-1] == int(wanted):
+                    all_of(part[2:])
+
+    fields = []
+    all_of(plain.parts_of(plain.LAYOUTS.get(number, "")))
+    body = "".join(f"{told:0{plain.WIDTHS[name]}b}" for name, told in fields)
+    if number in plain.WITH_BITS_BEHIND or number not in plain.LAYOUTS:
+        body += "".join(chance.choice("01") for _ in range(chance.randint(0, 30)))
+    length = 23 + len(body) + (chance.randint(-20, 20) if chance.random() < 0.1 else 0)
+    return f"{number:08b}{chance.randint(0, 3):02b}{max(length, 0):013b}" + body
+
+
+def telegram(chance):
+    """Packets of random numbers behind a header, and an end mark; at times bits are turned, or the end is cut off."""
+    numbers = [*plain.LAYOUTS, 5, 65, 66, 0, 2, 6, 88, 180, 200]
+    bits = "".join(chance.choice("01") for _ in range(plain.HEADER_BITS))
+    for _ in range(chance.randint(1, 4)):
+        bits += packet_bits(chance, chance.choice(numbers))
+    data = bytearray(data_of(bits + "1" * 8))
+    for _ in range(chance.choice([0, 0, 0, 1, 2])):
+        at = chance.randrange(plain.HEADER_BITS, 8 * len(data))
+        data[at // 8] ^= 0x80 >> at % 8
+    if chance.random() < 0.1:
+        del data[chance.randrange(len(data)):]
+    return bytes(data)
+
+
+def compared(words):
+    chance = random.Random(int(words[1]))
+    telegrams = [telegram(chance) for _ in range(int(words[0]))]
+    wanted = [plain.packets_in_order(data) for data in telegrams]
+    places = [(data, place) for data, (packets, _) in zip(telegrams, wanted) for place in packets]
+    told = yield [*(of_bytes(1, data) for data in telegrams),
+                  *([*of_bytes(2, data), number, at, length, 0] for data, (number, _, at, length) in places)]
+    alike = sum(listing_told(one) == (packets, end) for one, (packets, end) in zip(told, wanted))
+    of_packets, kinds, faults = 0, set(), 0
+    for one, (data, (number, _, at, length)) in zip(told[len(telegrams):], places):
+        fields, why = plain.fields_of(data, number, at, length)
+        found, found_why, count = fields_told(one)
+        of_packets += (found_why, count) == (why, len(fields or [])) and found == (fields and fields[:MOST_TOLD])
+        kinds.add(number)
+        faults += fields is None
+    return [f"telegrams alike: {alike} of {len(telegrams)}", f"packets alike: {of_packets} of {len(places)}",
+            f"numbers: {len(kinds)}, with faults: {faults}"]
+
+
+ASKED = {"listing": listing, "repeated": repeated, "packet": packet, "missing": missing, "kind": kind, "random": compared}
+
+
+if __name__ == "__main__":
+    sys.exit(main_by_words("test_track", ASKED))

@@ -1,13 +1,14 @@
 #!/usr/bin/env python3
 """The packets that a track of issue 2.3.0 sends, as `track_packets` tells them (SUBSET-026, 7.4.2; docs/PACKETS.md): where they stand in
-a telegram, by L_PACKET alone, and the fields of each.
+a telegram, by L_PACKET alone, and the fields of each; and a telegram with its packet 3 in this project's order, as `installed_values`
+writes it.
 
 A layout is a text of names. `(N_ITER ..)` has a counter and what comes so often; `[Q_NEWCOUNTRY=1 ..]` what comes where that
 field has this number."""
 import re
 
-from decoded import BODIES, Fault, Fields, packet
-from named import WIDTH
+from decoded import LONGEST, Fault, Fields, packet
+from named import INSTALLED, WIDTH
 
 HEADER_BITS, HEAD_BITS, MOST = 50, 23, 34
 
@@ -196,3 +197,27 @@ def fields_of(data, number, start, length):
     if rest and number in LAYOUTS and number not in WITH_BITS_BEHIND:
         return None, ("long", None, walk.at)
     return walk.fields, ("rest", rest)
+
+
+def data_of(bits):
+    bits += "0" * (-len(bits) % 8)
+    return int(bits, 2).to_bytes(len(bits) // 8, "big") if bits else b""
+
+
+def adapted(data):
+    """What becomes of a telegram: `written` with its bytes, or why it stays; with the place and the length of the packet 3 that is meant."""
+    packets, (end, _) = packets_in_order(data)
+    found = [(at, length) for number, _, at, length in packets if number == 3 and length % 10 != 7]
+    if len(data) > LONGEST or end != "end" or not found:
+        return "as it is", None
+    if len(found) > 1:
+        return "several", found[1]
+    at, length = found[0]
+    fields, _ = fields_of(data, 3, at, length)
+    if fields is None:
+        return "length", found[0]
+    kept = [(name, width, number) for name, _, width, number in fields if name not in INSTALLED]
+    new = sum(width for _, width, _ in kept)
+    body = "".join(f"{new if name == 'L_PACKET' else number:0{width}b}" for name, width, number in kept)
+    bits = bits_of(data)
+    return "written", found[0], data_of(bits[:at] + body + bits[at + length:])

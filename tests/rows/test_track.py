@@ -6,6 +6,10 @@
     repeated COUNT       the same of so many packets 135, each of 23 bits, and an end mark
     packet BITS          the fields of the packet that these bits begin with; `-` behind them leaves their last byte out
     missing AT LENGTH    a packet from that place on, of so many bits, in 8 bytes
+    adapt BITS           what becomes of a telegram of group 2 with these packets behind its header: as it is, why it isn't written, or
+                         how many bytes were, and what the plain decoder (../plain/decoded.py) tells of them
+    adapted COUNT SEED   so many telegrams as below, each with a packet 3: how many become what the plain program makes of them, and
+                         how many of these stay as they are then
     kind NUMBER          what is known of a packet
     random COUNT SEED    so many telegrams with packets of each layout, altered at times: how many have the packets, and the fields
                          of each, that the plain program (../plain/track_packets.py) tells
@@ -19,6 +23,7 @@ from asking import HERE, main_by_words
 from test_decode import bytes_told, of_bytes
 
 sys.path.insert(0, str(HERE.parent / "plain"))
+import decoded  # noqa: E402
 import track_packets as plain  # noqa: E402
 
 FAULTS = {1: "Truncated", 2: "WrongLength", 3: "Spare", 4: "OutOfRange"}
@@ -28,11 +33,7 @@ SENDERS, ISSUES = ["balise", "radio"], ["this issue", "a later issue"]
 BODIES = ["rows", "rows and bits", "bits", "kernel", "kernel or rows", "number alone"]
 SURENESS = ["sure", "fairly sure", "name alone"]
 MOST_TOLD = 40
-
-
-def data_of(bits):
-    bits += "0" * (-len(bits) % 8)
-    return int(bits, 2).to_bytes(len(bits) // 8, "big") if bits else b""
+HEADER = "90007F80200140"  # of group 2 in country 1
 
 
 def text_told(told):
@@ -77,7 +78,7 @@ def telegram_of(words):
     bits = "".join(words)
     if not re.fullmatch("[01]*", bits):
         raise ValueError("no bits")
-    return data_of("0" * plain.HEADER_BITS + bits)
+    return plain.data_of("0" * plain.HEADER_BITS + bits)
 
 
 def listing(words):
@@ -106,6 +107,41 @@ def missing(words):
     [told] = yield [[*of_bytes(2, bytes(8)), 132, int(words[0]), int(words[1]), 0]]
     fields, why, _ = fields_told(told)
     return lines_of(fields, why)
+
+
+def adapt_told(told):
+    outcome = told.take()
+    if outcome == 0:
+        told.end()
+        return "as it is", None
+    place = tuple(told.take(2))
+    answer = {1: "written", 2: "several", 3: "length"}[outcome], place
+    if outcome == 1:
+        answer = *answer, bytes_told(told)
+    told.end()
+    return answer
+
+
+def adapt(words):
+    data = plain.data_of(plain.bits_of(bytes.fromhex(HEADER))[:plain.HEADER_BITS] + "".join(words))
+    [told] = yield [of_bytes(4, data)]
+    outcome, place, *written = adapt_told(told)
+    if not written:
+        return [outcome if place is None else f"{outcome} at {place[0]} length {place[1]}"]
+    lines = decoded.answer(written[0]).splitlines()
+    return [f"{len(written[0])} bytes, for {place[1]} bits at {place[0]}", *(line for line in lines if not line.startswith("telegram "))]
+
+
+def adapted(words):
+    chance = random.Random(int(words[1]))
+    telegrams = [telegram(chance, [3]) for _ in range(int(words[0]))]
+    wanted = [plain.adapted(data) for data in telegrams]
+    written = [one[2] for one in wanted if one[0] == "written"]
+    told = yield [of_bytes(4, data) for data in telegrams + written]
+    alike = sum(adapt_told(one) == answer for one, answer in zip(told, wanted))
+    again = sum(adapt_told(one) == ("as it is", None) for one in told[len(telegrams):])
+    return [f"alike: {alike} of {len(telegrams)}", f"written: {len(written)}, as they are then: {again}",
+            *(f"{why}: {sum(one[0] == why for one in wanted)}" for why in ("as it is", "several", "length"))]
 
 
 def kind(words):
@@ -147,13 +183,14 @@ def packet_bits(chance, number):
     return f"{number:08b}{chance.randint(0, 3):02b}{max(length, 0):013b}" + body
 
 
-def telegram(chance):
+def telegram(chance, first=()):
     """Packets of random numbers behind a header, and an end mark; at times bits are turned, or the end is cut off."""
     numbers = [*plain.LAYOUTS, 5, 65, 66, 0, 2, 6, 88, 180, 200]
     bits = "".join(chance.choice("01") for _ in range(plain.HEADER_BITS))
-    for _ in range(chance.randint(1, 4)):
-        bits += packet_bits(chance, chance.choice(numbers))
-    data = bytearray(data_of(bits + "1" * 8))
+    count = chance.randint(1, 2 if first else 4)
+    for number in chance.sample([*first, *(chance.choice(numbers) for _ in range(count))], len(first) + count):
+        bits += packet_bits(chance, number)
+    data = bytearray(plain.data_of(bits + "1" * 8))
     for _ in range(chance.choice([0, 0, 0, 1, 2])):
         at = chance.randrange(plain.HEADER_BITS, 8 * len(data))
         data[at // 8] ^= 0x80 >> at % 8
@@ -181,7 +218,7 @@ def compared(words):
             f"numbers: {len(kinds)}, with faults: {faults}"]
 
 
-ASKED = {"listing": listing, "repeated": repeated, "packet": packet, "missing": missing, "kind": kind, "random": compared}
+ASKED = {"listing": listing, "repeated": repeated, "packet": packet, "missing": missing, "adapt": adapt, "adapted": adapted, "kind": kind, "random": compared}
 
 
 if __name__ == "__main__":

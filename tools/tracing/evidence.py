@@ -12,7 +12,7 @@ ROWS = {
     "programs": "tests/programs",
     **{
         name: f"tests/rows/test_{name}.row"
-        for name in ("parts", "decode", "modes", "onboard", "blocks", "journal", "disk")
+        for name in ("parts", "decode", "modes", "onboard", "blocks", "journal", "disk", "track")
     },
 }
 TITLE = re.compile(r"^(?:row |case |# )?(.*)$")

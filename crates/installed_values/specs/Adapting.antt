@@ -1,0 +1,69 @@
+-- A telegram with this project's packet 3 in place of the track's (this project's profile). Places, lengths and widths are
+-- bits. The track's packet 3 has 29 bits more: Q_NVSRBKTRG 1, Q_NVEMRRLS 1, D_NVPOTRP 15, M_NVCONTACT 2, T_NVCONTACT 8,
+-- M_NVDERUN 1, Q_NVDRIVER_ADHES 1.
+use Rattle.std.specs.Prelude.{◌≡◌, ℕ, ◌+◌, ◌-◌, ◌*◌, ◌/◌, ◌==◌, ◌&&◌, nat_lt, nat_le, Bool, true, false, List, ◌++◌, length, take, drop, replicate, Option, Some, None, Result, Ok, Err, if◌then◌else◌}
+use Rattle.bits.specs.Bits.{bits_of, number, number_bits}
+use Rattle.track_packets.specs.Layouts.{rows_of}
+use Rattle.track_packets.specs.Listing.{listing_of}
+use Rattle.track_packets.specs.declared.listing.ListingEnd.{ListingEnd}
+use Rattle.track_packets.specs.declared.listing.ListingEnd.TheVariants.{EndMark}
+use Rattle.track_packets.specs.declared.listing.PacketPlace.{PacketPlace}
+use Rattle.installed_values.specs.Finding.{installed_in, of_installed}
+use Rattle.installed_values.specs.Keeping.{kept}
+use Rattle.installed_values.specs.declared.adapting.AdaptError.{AdaptError}
+use Rattle.installed_values.specs.declared.adapting.AdaptError.TheVariants as errors
+use Rattle.installed_values.specs.declared.adapting.Adaptation.{Adaptation}
+use Rattle.installed_values.specs.declared.adapting.Adaptation.TheVariants.{AsItIs, Written}
+use Rattle.installed_values.specs.declared.finding.Found.{Found}
+use Rattle.installed_values.specs.declared.finding.Found.TheVariants.{Nothing, One, Several}
+
+-- ---- which packet
+
+abbrev pub has_end : ListingEnd → Bool
+has_end (EndMark at) = true
+has_end _ = false
+
+-- the packets 3 as a track sends them, of a telegram that a unit takes by its length and that has an end mark
+abbrev pub found_in : List ℕ → Found
+found_in bytes =
+    if nat_lt 104 (length bytes) then Nothing
+    else if has_end (listing_of bytes).end then of_installed (installed_in (listing_of bytes).packets.items)
+    else Nothing
+
+-- ---- what is written
+
+-- N_ITER of the packet 3 at the front
+abbrev pub countries_at : List Bool → ℕ
+countries_at bits = number (take 5 (drop 40 bits))
+
+-- a packet 3 of so many bits at the front, in this project's order, and all bits behind it
+abbrev pub adapted_front : ℕ → ℕ → List Bool → List Bool
+adapted_front countries len bits =
+    take 10 bits ++ number_bits 13 (len - 29) ++ kept countries (rows_of 3) (drop 23 bits) ++ drop len bits
+
+-- The telegram with the packet 3 there in this project's order.
+abbrev pub adapted_bits : ℕ → PacketPlace → List Bool → List Bool
+adapted_bits countries place bits = take place.start bits ++ adapted_front countries place.length (drop place.start bits)
+
+-- whether the packet 3 there has the length of its layout
+abbrev pub has_layout : PacketPlace → List Bool → Bool
+has_layout place bits =
+    nat_le place.start (length bits) && (nat_le 176 place.length && (nat_le place.length (length (drop place.start bits)) && (place.length == 176 + 10 * countries_at (drop place.start bits))))
+
+-- The first n bytes have these bits and pad them with zero bits; the bytes behind them stayed.
+pub record Rewrites (bits : List Bool) (old new : List ℕ) (n : ℕ) : Type 0 where
+  pub count : n ≡ (length bits + 7) / 8
+  pub written : bits_of (take n new) ≡ bits ++ replicate (8 * n - length bits) false
+  pub rest : drop n new ≡ drop n old
+
+-- What came of the packet there: it was written, or it hasn't the length of its layout and nothing was.
+abbrev pub Adapts : PacketPlace → List Bool → Option ℕ → List ℕ → List ℕ → Type 0
+Adapts place bits (Some n) old new = (has_layout place bits ≡ true) × Rewrites (adapted_bits (countries_at (drop place.start bits)) place bits) old new n
+Adapts place bits None old new = (has_layout place bits ≡ false) × (new ≡ old)
+
+-- What came of a telegram with these packets 3.
+abbrev pub Tells : Found → List Bool → Result Adaptation AdaptError → List ℕ → List ℕ → Type 0
+Tells found bits (Ok AsItIs) old new = (found ≡ Nothing) × (new ≡ old)
+Tells found bits (Ok (Written n place)) old new = (found ≡ One place) × Adapts place bits (Some n) old new
+Tells found bits (Err (errors.Several place)) old new = (found ≡ Several place) × (new ≡ old)
+Tells found bits (Err (errors.WrongLength place)) old new = (found ≡ One place) × Adapts place bits None old new

@@ -1,0 +1,3 @@
+pub mod Adapting
+pub mod Finding
+pub mod Keeping

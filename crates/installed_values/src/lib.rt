@@ -1,0 +1,11 @@
+//! A packet 3 as a track of issue 2.3.0 sends it becomes one in this project's order, before a unit is handed its telegram.
+#![tactic(auto)]
+
+mod adapting;
+mod finding;
+mod keeping;
+mod moving;
+
+pub use adapting::{AdaptError, Adaptation, adapt};
+pub use finding::is_installed;
+pub use keeping::has_place;

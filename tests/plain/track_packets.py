@@ -205,7 +205,7 @@ def data_of(bits):
 
 
 def adapted(data):
-    """What becomes of a telegram: `written` with its bytes, or why it stays; with the place and the length of the packet 3 that is meant."""
+    """What becomes of a telegram: `written` with its bytes, or why it stays; with place and length of the packet 3 that is meant."""
     packets, (end, _) = packets_in_order(data)
     found = [(at, length) for number, _, at, length in packets if number == 3 and length % 10 != 7]
     if len(data) > LONGEST or end != "end" or not found:

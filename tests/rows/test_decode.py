@@ -11,7 +11,7 @@ import sys
 import tempfile
 from concurrent.futures import ThreadPoolExecutor
 
-from asking import HERE, Told, main_by_words
+from asking import HERE, main_by_words
 
 FAULTS = {0: "decoded", 1: "Truncated", 2: "WrongLength", 3: "Spare", 4: "OutOfRange", 5: "WrongVersion",
           6: "NotUplink", 7: "NotBalise", 8: "NoEnd", 9: "TooLong"}

@@ -84,7 +84,8 @@ def telegram_of(words):
 def listing(words):
     [told] = yield [of_bytes(1, telegram_of(words))]
     packets, end = listing_told(told)
-    return [*(f"{number} {DIRECTIONS[direction]} at {at} length {length}" for number, direction, at, length in packets), " ".join(map(str, end))]
+    return [*(f"{number} {DIRECTIONS[direction]} at {at} length {length}" for number, direction, at, length in packets),
+            " ".join(map(str, end))]
 
 
 def repeated(words):
@@ -218,7 +219,8 @@ def compared(words):
             f"numbers: {len(kinds)}, with faults: {faults}"]
 
 
-ASKED = {"listing": listing, "repeated": repeated, "packet": packet, "missing": missing, "adapt": adapt, "adapted": adapted, "kind": kind, "random": compared}
+ASKED = {"listing": listing, "repeated": repeated, "packet": packet, "missing": missing, "adapt": adapt, "adapted": adapted,
+         "kind": kind, "random": compared}
 
 
 if __name__ == "__main__":

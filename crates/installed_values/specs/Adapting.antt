@@ -1,7 +1,7 @@
 -- A telegram with this project's packet 3 in place of the track's (this project's profile). Places, lengths and widths are
 -- bits. The track's packet 3 has 29 bits more: Q_NVSRBKTRG 1, Q_NVEMRRLS 1, D_NVPOTRP 15, M_NVCONTACT 2, T_NVCONTACT 8,
 -- M_NVDERUN 1, Q_NVDRIVER_ADHES 1.
-use Rattle.std.specs.Prelude.{◌≡◌, ℕ, ◌+◌, ◌-◌, ◌*◌, ◌/◌, ◌==◌, ◌&&◌, nat_lt, nat_le, Bool, true, false, List, ◌++◌, length, take, drop, replicate, Option, Some, None, Result, Ok, Err, if◌then◌else◌}
+use Rattle.std.specs.Prelude.{◌≡◌, ℕ, ◌+◌, ◌-◌, ◌*◌, ◌/◌, ◌≤◌, Bool, true, false, List, ◌++◌, length, take, drop, replicate, Option, Some, None, Result, Ok, Err, if◌then◌else◌}
 use Rattle.bits.specs.Bits.{bits_of, number, number_bits}
 use Rattle.track_packets.specs.Layouts.{rows_of}
 use Rattle.track_packets.specs.Listing.{listing_of}
@@ -23,12 +23,9 @@ abbrev pub has_end : ListingEnd → Bool
 has_end (EndMark at) = true
 has_end _ = false
 
--- the packets 3 as a track sends them, of a telegram that a unit takes by its length and that has an end mark
+-- the packets 3 as a track sends them, of a telegram that has an end mark
 abbrev pub found_in : List ℕ → Found
-found_in bytes =
-    if nat_lt 104 (length bytes) then Nothing
-    else if has_end (listing_of bytes).end then of_installed (installed_in (listing_of bytes).packets.items)
-    else Nothing
+found_in bytes = if has_end (listing_of bytes).end then of_installed (installed_in (listing_of bytes).packets.items) else Nothing
 
 -- ---- what is written
 
@@ -36,19 +33,18 @@ found_in bytes =
 abbrev pub countries_at : List Bool → ℕ
 countries_at bits = number (take 5 (drop 40 bits))
 
--- a packet 3 of so many bits at the front, in this project's order, and all bits behind it
-abbrev pub adapted_front : ℕ → ℕ → List Bool → List Bool
-adapted_front countries len bits =
-    take 10 bits ++ number_bits 13 (len - 29) ++ kept countries (rows_of 3) (drop 23 bits) ++ drop len bits
+-- what stands before the rows of the packet 3 there: the bits before it, its number and direction, and its L_PACKET
+abbrev pub front : PacketPlace → List Bool → List Bool
+front place bits = take place.start bits ++ (take 10 (drop place.start bits) ++ number_bits 13 (place.length - 29))
 
--- The telegram with the packet 3 there in this project's order.
+-- The telegram with the packet 3 there in this project's order, and all bits behind it.
 abbrev pub adapted_bits : ℕ → PacketPlace → List Bool → List Bool
-adapted_bits countries place bits = take place.start bits ++ adapted_front countries place.length (drop place.start bits)
+adapted_bits countries place bits =
+    front place bits ++ (kept countries (rows_of 3) (drop 23 (drop place.start bits)) ++ drop place.length (drop place.start bits))
 
--- whether the packet 3 there has the length of its layout
-abbrev pub has_layout : PacketPlace → List Bool → Bool
-has_layout place bits =
-    nat_le place.start (length bits) && (nat_le 176 place.length && (nat_le place.length (length (drop place.start bits)) && (place.length == 176 + 10 * countries_at (drop place.start bits))))
+-- The packet 3 there is within the bits, and has the length of its layout.
+abbrev pub HasLayout : PacketPlace → List Bool → Type 0
+HasLayout place bits = (place.start + place.length ≤ length bits) × (place.length ≡ 176 + 10 * countries_at (drop place.start bits))
 
 -- The first n bytes have these bits and pad them with zero bits; the bytes behind them stayed.
 pub record Rewrites (bits : List Bool) (old new : List ℕ) (n : ℕ) : Type 0 where
@@ -58,8 +54,8 @@ pub record Rewrites (bits : List Bool) (old new : List ℕ) (n : ℕ) : Type 0 w
 
 -- What came of the packet there: it was written, or it hasn't the length of its layout and nothing was.
 abbrev pub Adapts : PacketPlace → List Bool → Option ℕ → List ℕ → List ℕ → Type 0
-Adapts place bits (Some n) old new = (has_layout place bits ≡ true) × Rewrites (adapted_bits (countries_at (drop place.start bits)) place bits) old new n
-Adapts place bits None old new = (has_layout place bits ≡ false) × (new ≡ old)
+Adapts place bits (Some n) old new = HasLayout place bits × Rewrites (adapted_bits (countries_at (drop place.start bits)) place bits) old new n
+Adapts place bits None old new = (HasLayout place bits → ⊥) × (new ≡ old)
 
 -- What came of a telegram with these packets 3.
 abbrev pub Tells : Found → List Bool → Result Adaptation AdaptError → List ℕ → List ℕ → Type 0

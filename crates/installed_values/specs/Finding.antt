@@ -1,5 +1,5 @@
 -- The packets 3 of a telegram that are as a track sends them (this project's profile). Lengths are bits.
-use Rattle.std.specs.Prelude.{ℕ, ◌%◌, ◌==◌, Bool, ◌&&◌, not, List, [], ◌∷◌, if◌then◌else◌}
+use Rattle.std.specs.Prelude.{◌%◌, ◌==◌, Bool, ◌&&◌, not, List, [], ◌∷◌, if◌then◌else◌}
 use Rattle.installed_values.specs.declared.finding.Found.{Found}
 use Rattle.installed_values.specs.declared.finding.Found.TheVariants.{Nothing, One, Several}
 use Rattle.track_packets.specs.declared.listing.PacketPlace.{PacketPlace}

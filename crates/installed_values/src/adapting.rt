@@ -1,7 +1,10 @@
 //! A telegram whose packet 3 is as a track sends it is written with this project's packet 3.
-ghost use Rattle.std.specs.Prelude.{◌≡◌, ◌+◌, ◌*◌, ◌≤◌, length};
+ghost use Rattle.std.specs.Prelude.{◌≡◌, ◌+◌, ◌*◌, ◌<◌, ◌≤◌, ◌++◌, Ok, drop, length};
 ghost use Rattle.bits.specs.Bits.{bits_of};
-ghost use Rattle.installed_values.specs.Adapting.{Adapts, Rewrites, Tells, adapted_bits, countries_at, found_in, has_end};
+ghost use Rattle.installed_values.specs.Adapting.{Adapts, Rewrites, Tells, adapted_bits, countries_at, found_in, front, has_end};
+ghost use Rattle.installed_values.specs.Keeping.{kept};
+ghost use Rattle.installed_values.specs.declared.adapting.Adaptation.{Adaptation};
+ghost use Rattle.track_packets.specs.Layouts.{rows_of as rows_told};
 
 use crate::finding::{Found, find_installed};
 use crate::keeping::keep_rows;
@@ -38,13 +41,10 @@ fn is_ended(end: ListingEnd) -> bool
     }
 }
 
-/// The packets 3 of a telegram that are as a track sends them, where it has no more bytes than a unit takes, and an end.
+/// The packets 3 of a telegram that are as a track sends them, where it has an end mark.
 fn found_of(bytes: &[u8]) -> Found
     ensures { result ≡ found_in bytes.now }
 {
-    if bytes.len() > TELEGRAM_BYTES {
-        return Found::Nothing;
-    }
     let listing = packets_in_order(bytes);
     if !is_ended(listing.end) {
         return Found::Nothing;
@@ -66,43 +66,95 @@ fn countries(reader: &BitReader<'_>) -> u32
     }
 }
 
+/// Writes what stands before the rows of the packet 3 there: the bits before it, its number and its direction, and
+/// L_PACKET of this project's order.
+#[tactic(auto, using(crate::proofs::Pieces::three, crate::proofs::Pieces::head_passed))]
+fn write_front(
+    reader: &mut BitReader<'_>,
+    writer: &mut BitWriter<TELEGRAM_BYTES>,
+    place: PacketPlace,
+)
+    requires length { (176 ≤ place.length) × (place.length ≤ 486) }
+    requires there { place.start + place.length ≤ length reader.old }
+    requires room { length writer.old + length reader.old ≤ 8 * TELEGRAM_BYTES }
+    ensures written { writer.new ≡ writer.old ++ front place reader.old }
+    ensures rest { reader.new ≡ drop 23 (drop place.start reader.old) }
+    ensures left { length reader.old ≡ length reader.new + place.start + 23 }
+    ensures room { length writer.new + length reader.new ≤ 8 * TELEGRAM_BYTES }
+{
+    copy(reader, writer, place.start);
+    copy(reader, writer, 10);
+    pass(reader, 13);
+    writer.write(13, u64::from(place.length - 29));
+}
+
+/// Writes the rows of packet 3 that are kept, and passes the others.
+#[tactic(auto, using(crate::proofs::Pieces::total_is))]
+fn keep_all(countries: u32, reader: &mut BitReader<'_>, writer: &mut BitWriter<TELEGRAM_BYTES>)
+    requires few { countries ≤ 31 }
+    requires there { 153 + 10 * countries ≤ length reader.old }
+    requires room { length writer.old + length reader.old ≤ 8 * TELEGRAM_BYTES }
+    ensures written { writer.new ≡ writer.old ++ kept countries (rows_told 3) reader.old }
+    ensures rest { reader.new ≡ drop (153 + 10 * countries) reader.old }
+    ensures room { length writer.new + length reader.new ≤ 8 * TELEGRAM_BYTES }
+{
+    keep_rows(rows_of(3), countries, reader, writer);
+}
+
+/// Writes all bits that are left.
+#[tactic(auto, using(crate::proofs::Pieces::all_taken))]
+fn write_rest(reader: &mut BitReader<'_>, writer: &mut BitWriter<TELEGRAM_BYTES>)
+    requires { length writer.old + length reader.old ≤ 8 * TELEGRAM_BYTES }
+    ensures { writer.new ≡ writer.old ++ reader.old }
+{
+    let left = reader.remaining() as u32;
+    copy(reader, writer, left);
+}
+
 /// Writes a telegram with its packet 3 in this project's order, and answers how many bytes that are.
-fn write(bytes: &[u8], place: PacketPlace, countries: u32, out: &mut [u8; TELEGRAM_BYTES]) -> usize
+fn write(
+    bits: &BitReader<'_>,
+    place: PacketPlace,
+    countries: u32,
+    out: &mut [u8; TELEGRAM_BYTES],
+) -> usize
     requires few { countries ≤ 31 }
     requires length { place.length ≡ 176 + 10 * countries }
-    requires there { place.start + place.length ≤ length (bits_of bytes.now) }
-    requires room { length (bits_of bytes.now) ≤ 8 * TELEGRAM_BYTES }
-    ensures { Rewrites (adapted_bits countries place (bits_of bytes.now)) out.old out.new result }
+    requires there { place.start + place.length ≤ length bits.now }
+    requires room { length bits.now ≤ 8 * TELEGRAM_BYTES }
+    ensures { Rewrites (adapted_bits countries place bits.now) out.old out.new result }
 {
-    let mut reader = BitReader::new(bytes);
+    let mut reader = bits.fork();
     let mut writer: BitWriter<TELEGRAM_BYTES> = BitWriter::new();
-    copy(&mut reader, &mut writer, place.start + 10);
-    pass(&mut reader, 13);
-    writer.write(13, u64::from(place.length - 29));
-    keep_rows(rows_of(3), countries, &mut reader, &mut writer);
-    let left = reader.remaining() as u32;
-    copy(&mut reader, &mut writer, left);
+    write_front(&mut reader, &mut writer, place);
+    keep_all(countries, &mut reader, &mut writer);
+    write_rest(&mut reader, &mut writer);
     writer.copy_to(out)
 }
 
 /// Writes a telegram with the packet 3 there in this project's order, where its length is that of its layout.
-fn rewrite(bytes: &[u8], place: PacketPlace, out: &mut [u8; TELEGRAM_BYTES]) -> Option<usize>
-    requires { length (bits_of bytes.now) ≤ 8 * TELEGRAM_BYTES }
-    ensures { Adapts place (bits_of bytes.now) result out.old out.new }
+fn rewrite(
+    bits: &BitReader<'_>,
+    place: PacketPlace,
+    out: &mut [u8; TELEGRAM_BYTES],
+) -> Option<usize>
+    requires { length bits.now ≤ 8 * TELEGRAM_BYTES }
+    ensures { Adapts place bits.now result out.old out.new }
 {
-    let mut reader = BitReader::new(bytes);
-    if reader.remaining() < u128::from(place.start) {
+    let whole = u64::from(place.start) + u64::from(place.length);
+    if place.length < 176 {
         return None;
     }
-    pass(&mut reader, place.start);
-    if place.length < 176 || reader.remaining() < u128::from(place.length) {
+    if bits.remaining() < u128::from(whole) {
         return None;
     }
-    let countries = countries(&reader);
+    let mut ahead = bits.fork();
+    pass(&mut ahead, place.start);
+    let countries = countries(&ahead);
     if place.length != 176 + 10 * countries {
         return None;
     }
-    Some(write(bytes, place, countries, out))
+    Some(write(bits, place, countries, out))
 }
 
 /// Writes a telegram that has a packet 3 as a track of issue 2.3.0 sends it with this project's packet 3: its variables in
@@ -110,14 +162,19 @@ fn rewrite(bytes: &[u8], place: PacketPlace, out: &mut [u8; TELEGRAM_BYTES]) -> 
 /// padded with zero bits to whole bytes. A telegram without one, with no end mark, or too long for a unit is to be handed on
 /// as it is. Where nothing is written, `out` stays.
 pub fn adapt(bytes: &[u8], out: &mut [u8; TELEGRAM_BYTES]) -> Result<Adaptation, AdaptError>
-    ensures { Tells (found_in bytes.now) (bits_of bytes.now) result out.old out.new }
+    ensures long { 104 < length bytes.now → (result ≡ Ok Adaptation.AsItIs) × (out.new ≡ out.old) }
+    ensures told { length bytes.now ≤ 104 → Tells (found_in bytes.now) (bits_of bytes.now) result out.old out.new }
 {
+    if bytes.len() > TELEGRAM_BYTES {
+        return Ok(Adaptation::AsItIs);
+    }
     let place = match found_of(bytes) {
         Found::Nothing => return Ok(Adaptation::AsItIs),
         Found::Several(place) => return Err(AdaptError::Several(place)),
         Found::One(place) => place,
     };
-    match rewrite(bytes, place, out) {
+    let bits = BitReader::new(bytes);
+    match rewrite(&bits, place, out) {
         Some(count) => Ok(Adaptation::Written(count, place)),
         None => Err(AdaptError::WrongLength(place)),
     }

@@ -40,6 +40,7 @@ fn keep_row<const N: usize>(
     requires room { length writer.old + length reader.old ≤ 8 * N }
     ensures written { writer.new ≡ writer.old ++ kept_row countries row.now reader.old }
     ensures rest { reader.new ≡ drop (bits_of_row countries row.now) reader.old }
+    ensures left { length reader.new + bits_of_row countries row.now ≡ length reader.old }
     ensures room { length writer.new + length reader.new ≤ 8 * N }
 {
     let bits = row_bits(row, countries);

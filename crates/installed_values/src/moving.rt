@@ -4,9 +4,11 @@ ghost use Rattle.std.specs.Prelude.{◌≡◌, ◌+◌, ◌*◌, ◌≤◌, ◌+
 use bits::{BitReader, BitWriter};
 
 /// Passes so many bits. The caller owes that there are so many.
+#[tactic(auto, using(crate::proofs::Pieces::left_is))]
 pub(crate) fn pass(reader: &mut BitReader<'_>, bits: u32)
     requires { bits ≤ length reader.old }
-    ensures { reader.new ≡ drop bits reader.old }
+    ensures rest { reader.new ≡ drop bits reader.old }
+    ensures left { length reader.new + bits ≡ length reader.old }
 {
     match reader.run(bits) {
         Some(_passed) => {}
@@ -15,11 +17,14 @@ pub(crate) fn pass(reader: &mut BitReader<'_>, bits: u32)
 }
 
 /// Writes the next bits as they are. The caller owes that there are so many, and room for them.
+#[tactic(auto, using(crate::proofs::Pieces::left_is, crate::proofs::Pieces::taken_is))]
 pub(crate) fn copy<const N: usize>(reader: &mut BitReader<'_>, writer: &mut BitWriter<N>, bits: u32)
     requires there { bits ≤ length reader.old }
     requires room { length writer.old + bits ≤ 8 * N }
     ensures written { writer.new ≡ writer.old ++ take bits reader.old }
     ensures rest { reader.new ≡ drop bits reader.old }
+    ensures left { length reader.new + bits ≡ length reader.old }
+    ensures len { length writer.new ≡ length writer.old + bits }
 {
     match reader.run(bits) {
         Some(run) => writer.write_run(&run),

@@ -1,0 +1,25 @@
+use Rattle.std.proofs.Common.{◌≡◌, ◌+◌, ◌*◌, Bool, List, ◌++◌, drop, subst, ap, ◌∙◌, arith, append_assoc}
+use Rattle.std.proofs.lemmas.List.{drop-drop}
+use Rattle.track_packets.specs.Layouts.{rows_of}
+use Rattle.installed_values.specs.Adapting.{Rewrites, adapted_bits, front}
+use Rattle.installed_values.specs.Keeping.{kept}
+use Rattle.installed_values.proofs.adapting.write.Goals as goal
+
+pub returns : goal.returns
+returns c =
+    let place = c.args.place in
+    let n = c.args.countries in
+    let bits = c.fork-reader.result in
+    let behind = c.write_front.new.reader in
+    let whole : 23 + (153 + 10 * n) ≡ place.length = omega (arith, c.requires.length) in
+    let same : c.write_rest.new.writer ≡ adapted_bits n place c.args.bits.now =
+    c.write_rest.ensures
+    ∙ ap (λ w. w ++ c.keep_all.new.reader) c.keep_all.ensures.written
+    ∙ ap (λ w. (w ++ kept n (rows_of 3) behind) ++ c.keep_all.new.reader) (c.write_front.ensures.written ∙ ap (λ w. w ++ front place bits) c.new-writer.ensures)
+    ∙ append_assoc (front place bits) (kept n (rows_of 3) behind) c.keep_all.new.reader
+    ∙ ap (λ r. front place bits ++ (kept n (rows_of 3) behind ++ r)) c.keep_all.ensures.rest
+    ∙ ap (λ r. front place bits ++ (kept n (rows_of 3) r ++ drop (153 + 10 * n) r)) c.write_front.ensures.rest
+    ∙ ap (λ r. front place bits ++ (kept n (rows_of 3) (drop 23 (drop place.start bits)) ++ r)) (drop-drop (153 + 10 * n) 23 (drop place.start bits) ∙ ap (λ k. drop k (drop place.start bits)) whole)
+    ∙ ap (λ all. adapted_bits n place all) c.fork-reader.ensures in
+    subst (λ (w : List Bool). Rewrites w c.args.out.now c.copy_to.new.out c.copy_to.result) same
+    (record { count = c.copy_to.ensures.len; written = c.copy_to.ensures.bits; rest = c.copy_to.ensures.rest })

@@ -10,7 +10,7 @@ etcs=${2:-$top/crates/etcs/out/etcs}
 lab=$(realpath "$lab") && etcs=$(realpath "$etcs") || exit 1
 export PYTHONDONTWRITEBYTECODE=1 GAKNIFUR_ETCS_LAB=$lab GAKNIFUR_ETCS=$etcs
 python=/usr/bin/python3 # Debian's packages belong to this one
-least=740 # results of suites/, each with one more for each case
+least=1010 # results of suites/, each with one more for each case
 made=$(mktemp -d) || exit 1
 trap 'rm -rf "$made"' EXIT
 for program in "$lab" "$etcs"; do

@@ -6,7 +6,7 @@ docs/WIRESHARK.md says how both are used.
 """
 import struct
 
-from . import files
+from . import _track_packets, files
 from .reading import Journal
 from .telegrams import END_MARK, HEADER, LAYOUTS, WIDTH, WITHOUT_SCALE, Part, Repeated, Where
 
@@ -146,7 +146,7 @@ def part_of(part: Part) -> str:
 
 def lua() -> str:
     """The dissector."""
-    widths = ", ".join(f"{name} = {width}" for name, width in sorted(WIDTH.items()))
+    widths = ", ".join(f"{name} = {width}" for name, width in sorted(WIDTH.items()) if name not in _track_packets.WIDTHS)
     layouts = "\n".join(f"    [{number}] = {{{parts_of(layout)}}}," for number, layout in sorted(LAYOUTS.items()))
     return (f"{MADE}balise telegrams of ETCS (SUBSET-026, 7 and 8.4.2), by link type USER0 (147)\n"
             f"local WIDTH = {{{widths}}}\n"

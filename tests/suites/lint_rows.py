@@ -19,7 +19,7 @@ TOP = Path(__file__).resolve().parents[2]
 sys.path.insert(0, str(TOP / "python"))
 from gaknifur import track_checks  # noqa: E402
 
-LEAST_ROWS, LEAST_ITEMS, LEAST_CASES = 48, 26, 178
+LEAST_ROWS, LEAST_ITEMS, LEAST_CASES = 48, 26, 240
 HEAD = """test_case: NAME
 feature: Lint
 sections: [3.13]

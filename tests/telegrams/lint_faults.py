@@ -3,7 +3,7 @@ simulator, and names that come again in an object."""
 from named import written
 
 GOOD = written("NID_BG 2, N_TOTAL 2; 65: NID_TSR 7, D_TSR 100, L_TSR 50, Q_FRONT 1, V_TSR 4").upper()
-SKIPPED = written("NID_BG 2; 44: NID_XUSER 0; 136: NID_BG 3").upper()
+SKIPPED = written("NID_BG 2; 44: ; 136: ").upper()
 SPARE = written("NID_BG 2, M_DUP 3").upper()
 
 

@@ -1,7 +1,7 @@
 pub mod Beside
 pub mod Carrying
 pub mod Emptying
-pub mod Explaining
+pub mod Untold
 pub mod Floating
 pub mod Handling
 pub mod HeldValues

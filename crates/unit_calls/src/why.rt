@@ -1,6 +1,7 @@
 //! Why the newest released output is what it is, as C gets it.
 ghost use Rattle.std.specs.Prelude.{◌≡◌};
-ghost use Rattle.kernel.specs.Causes.{marked};
+ghost use Rattle.image_calls.specs.KeptItems.{flag_of};
+ghost use Rattle.kernel.specs.Causes.{is_among, marked};
 ghost use Rattle.kernel.specs.StandsFor.{StandsForLife};
 ghost use Rattle.mode_control.specs.Life.{Life};
 ghost use Rattle.track_store.specs.Segments.{profile_kept};
@@ -9,7 +10,7 @@ ghost use Rattle.unit_calls.specs.Whys.{holds_in, target_of, releases, distance_
 use crate::outputs::{EtcsOutput, output_told};
 use braking::Target;
 use image_calls::{flag, limit_number, or_zero, place_or_zero};
-use kernel::{Acknowledgements, BrakeCauses, State, Waiting};
+use kernel::{Acknowledgements, BrakeCause, BrakeCauses, State, Waiting};
 use limit_causes::{LimitCause, SpeedCause};
 use reasons::{LimitTold, limit_told};
 use units::{Cm, Mph};
@@ -100,21 +101,28 @@ pub struct Told {
     pub holds: [u8; 10],
 }
 
+// 1 where a cause holds, else 0.
+fn mark_of(causes: &BrakeCauses, cause: BrakeCause) -> u8
+    ensures { result ≡ flag_of (is_among cause (marked causes.now)) }
+{
+    u8::from(causes.holds(cause))
+}
+
 // Which causes hold, in the order of the table.
 fn holds_in(causes: &BrakeCauses) -> [u8; 10]
     ensures { result ≡ holds_in (marked causes.now) }
 {
     [
-        u8::from(causes.not_revalidated),
-        u8::from(causes.in_trip),
-        u8::from(causes.in_system_failure),
-        u8::from(causes.owes_trip),
-        u8::from(causes.far_too_fast),
-        u8::from(causes.rolled_too_far),
-        u8::from(causes.asked_for_service),
-        u8::from(causes.too_fast),
-        u8::from(causes.must_stand),
-        u8::from(causes.owes_too_long),
+        mark_of(causes, BrakeCause::NotRevalidated),
+        mark_of(causes, BrakeCause::InTrip),
+        mark_of(causes, BrakeCause::InSystemFailure),
+        mark_of(causes, BrakeCause::OwesTrip),
+        mark_of(causes, BrakeCause::FarTooFast),
+        mark_of(causes, BrakeCause::RolledTooFar),
+        mark_of(causes, BrakeCause::AskedForService),
+        mark_of(causes, BrakeCause::TooFast),
+        mark_of(causes, BrakeCause::MustStand),
+        mark_of(causes, BrakeCause::OwesTooLong),
     ]
 }
 
@@ -230,12 +238,15 @@ pub fn why_told(event: u64, state: &State) -> EtcsUnitWhy
     ensures { (life : Life) → StandsForLife profile_kept profile_kept state.now life → TellsLifeWhy event life result }
 {
     let output = state.output();
+    let permitted = output.limit;
     let decides = state.limit_cause();
-    why_with(&Told {
+    let limit = limit_told(permitted, &decides);
+    let causes = state.brake_causes();
+    let told = Told {
         output: output_told(event, output),
         backward: state.rolled_backward(),
         allowed: state.allowed_backward(),
-        limit: limit_told(output.limit, &decides),
+        limit,
         target: target_of(&decides),
         releases: releases(&decides),
         front: state.max_front(),
@@ -243,6 +254,7 @@ pub fn why_told(event: u64, state: &State) -> EtcsUnitWhy
         service_speed: state.service_speed(),
         emergency_speed: state.emergency_speed(),
         speed: state.speed(),
-        holds: holds_in(&state.brake_causes()),
-    })
+        holds: holds_in(&causes),
+    };
+    why_with(&told)
 }

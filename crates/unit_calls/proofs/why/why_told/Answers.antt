@@ -13,7 +13,7 @@ returns c = λ life stands.
     let told = c.output_told.ensures ∙ ap (λ (o : Output). told_of (record { number = c.args.event; output = o })) output in
     let backward = c.rolled_backward.ensures life stands in
     let allowed = c.allowed_backward.ensures life stands in
-    let limit = c.limit_told.ensures ∙ ap (λ (o : Output). limit_told o.limit decides) output in
+    let limit = c.limit_told-limit.ensures ∙ ap (λ (o : Output). limit_told o.limit decides) output in
     let target = c.target_of.ensures in
     let releases = c.releases.ensures in
     let front = c.max_front.ensures life stands in
@@ -21,7 +21,7 @@ returns c = λ life stands.
     let service = c.service_speed.ensures life stands in
     let emergency = c.emergency_speed.ensures life stands in
     let speed = c.speed.ensures life stands in
-    let holds = c.holds_in.ensures ∙ ap (λ (l : List BrakeCause). holds_in l) (c.brake_causes.ensures life stands) in (
+    let holds = c.holds_in.ensures ∙ ap (λ (l : List BrakeCause). holds_in l) (c.brake_causes-causes.ensures life stands) in (
       decides,
       c.limit_cause-decides.ensures life stands,
       c.why_with.ensures ∙ (λ i. why_with (record {

@@ -40,8 +40,7 @@ NEXT = """\
   4 made, and something of an image is lost, damaged or contradicts, or the replay differs
 
 Of a damaged image all is told that can be read, and one line on standard error says what is wrong. Take a digest of the image
-before anything reads it, and work on a copy. docs/LABORATORY.md goes through the first three words,
-docs/TESTING_A_TRAIN.md, CLOSED_LOOP.md and CAMPAIGNS.md through the others."""
+before anything reads it, and work on a copy. docs/LABORATORY.md tells where each word is gone through."""
 
 
 class Parser(argparse.ArgumentParser):

@@ -1,8 +1,10 @@
 """The words of `./lab`: in which order they may stand; and what pytest makes of a suite."""
+import argparse
 import contextlib
 import io
 import json
 import os
+import subprocess
 import tempfile
 import unittest
 import xml.etree.ElementTree
@@ -51,6 +53,23 @@ class Order(unittest.TestCase):
             with self.assertRaises(SystemExit) as ended, contextlib.redirect_stderr(io.StringIO()):
                 lab.understood(given.split())
             self.assertEqual(ended.exception.code, 2, given)
+
+
+class Completion(unittest.TestCase):
+    """What bash completes is each word and each option of the help, and nothing else."""
+
+    def completed(self, *words: str) -> set[str]:
+        """What the words of `lab` behind which a further one begins may go on with."""
+        path = Path(__file__).parents[2] / "packaging/completion"
+        told = f'. "$0"; COMP_WORDS=(lab "$@"); COMP_CWORD={len(words)}; _gaknifur; echo "${{COMPREPLY[@]}}"'
+        return set(subprocess.run(["bash", "-c", told, path, *words], capture_output=True, text=True,
+                                  check=True).stdout.split())
+
+    def test_of_words_and_options(self) -> None:
+        subjects = next(one for one in lab.words()._actions if isinstance(one, argparse._SubParsersAction)).choices
+        self.assertEqual(self.completed(""), {*subjects, "--version", "--help"})
+        options = {name for one in subjects.values() for action in one._actions for name in action.option_strings}
+        self.assertEqual(self.completed("table", "-"), {name for name in options if len(name) > 2} - {"--junit-xml"})
 
 
 class Names(unittest.TestCase):

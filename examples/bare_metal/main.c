@@ -2,7 +2,7 @@
  * buffer, its journal lies where a reset leaves it, and what is commanded goes to the serial line.
  *
  * A cycle of 100 ms, as a timer would call it: the odometer, the clock, and where there is one a telegram; then all of it
- * goes onto the medium, and what is released is obeyed. The train is simulated: it gets an authority of 2,000 m, and
+ * goes onto the medium, and what is released is obeyed. The train is simulated: it gets an authority of 1,000 m, and
  * doesn't heed it. Where it stands, the board is reset, and the next life goes on from the medium. */
 #include "board.h"
 #include "etcs_memory.h"

@@ -59,7 +59,7 @@ static uint32_t flush(train *our, etcs_file *file, etcs_unit *unit) {
     return answer;
 }
 
-/* The driver makes the train ready, and a group gives an authority of 2,000 m. */
+/* The driver makes the train ready, and a group gives an authority of 1,000 m. */
 static uint32_t make_ready(etcs_unit *unit) {
     static const uint8_t identity[] = "IC 704";
     static const uint8_t authority[] = {0x90, 0x00, 0x7F, 0x80, 0x20, 0x01, 0x43, 0x20, 0x24, 0xA8, 0x00, 0x7F, 0xE0, 0x07, 0xD0, 0x02,

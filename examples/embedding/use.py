@@ -40,7 +40,7 @@ class Train:
 
 
 def make_ready(unit: Unit) -> None:
-    """The driver makes the train ready, and a group gives an authority of 2,000 m."""
+    """The driver makes the train ready, and a group gives an authority of 1,000 m."""
     unit.telegram(AUTHORITY)
     unit.identity("IC 704")
     unit.action(Action.CHOOSE_LEVEL_1)

@@ -2,7 +2,6 @@
 import argparse
 import csv
 import io
-import json
 from collections.abc import Callable
 from dataclasses import asdict, replace
 from pathlib import Path

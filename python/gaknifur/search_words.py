@@ -2,7 +2,6 @@
 import argparse
 import json
 import secrets
-import sys
 from collections.abc import Callable
 from pathlib import Path
 from typing import Any

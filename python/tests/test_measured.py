@@ -10,7 +10,7 @@ from gaknifur.__main__ import understood
 from gaknifur.causes import Known as Causes
 from gaknifur.causes import Trip
 from gaknifur.measured import Measured, add_floors, check_floors
-from gaknifur.measuring import Driver, Follow, Reached, follow, measure_causes
+from gaknifur.measuring import Driver, Reached, follow, measure_causes
 from gaknifur.messages import Known
 from gaknifur.program import Failed
 from gaknifur.reading import Json

@@ -17,10 +17,10 @@ from pathlib import Path
 HERE = Path(__file__).resolve().parent
 TOP = HERE.parents[1]
 sys.path[:0] = [str(TOP / "tests/plain"), str(TOP / "tests/hostile")]
-from blocks import data_of, entry, with_  # noqa: E402
+from blocks import data_of, with_  # noqa: E402
 from disk import Disk  # noqa: E402
 from items import Kept  # noqa: E402
-from journal import COLD, block_of, event_of, first_sector, kept_in, record_of  # noqa: E402
+from journal import COLD, block_of, event_of, first_sector, record_of  # noqa: E402
 from life import Life  # noqa: E402
 from onboard import Unit  # noqa: E402
 from plain_images import lived  # noqa: E402

@@ -17,7 +17,7 @@ from pathlib import Path
 TOP = Path(__file__).resolve().parents[2]
 sys.path[:0] = [str(TOP / part) for part in ("python", "tests", "tests/plain", "tests/lab")]
 
-from blocks import block, data_of, entry, with_  # noqa: E402
+from blocks import block, entry, with_  # noqa: E402
 from compared import Compared, run  # noqa: E402
 from gaknifur import difference  # noqa: E402
 from image_cases import image_of, patched, ring  # noqa: E402

@@ -18,7 +18,6 @@ import itertools
 import json
 import os
 import re
-import sqlite3
 import sys
 import tempfile
 from collections import Counter

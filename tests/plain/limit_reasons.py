@@ -5,7 +5,7 @@ from collections import namedtuple
 import areas
 from authority import NATIONAL
 from speed import Target
-from track import covers, pieces, restriction_starts, speed_for
+from track import covers, pieces, speed_for
 
 Told = namedtuple("Told", "kind speed place number", defaults=(None, None))
 

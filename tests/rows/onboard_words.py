@@ -38,7 +38,6 @@ from functools import lru_cache
 
 from asking import Told, packed, signed
 from kernel_words import BRAKES, COLD, ITEMS, LEVELS, MODES, an_input
-from kernel_words import ALONE as ACTIONS
 
 SLOT_BYTES = 3_072
 MOST_BLOCKS = 4  # that are listed

@@ -20,7 +20,7 @@ import program as plain_program
 from compared import Compared, loaded, run, status_of_full
 from items import Kept
 from life import Life
-from lint_faults import AGAIN, FAULTS, GOOD, GROUP, SCENARIO, SKIPPED, SPARE, STEP, TRIED, Key, group, scenario, shape
+from lint_faults import AGAIN, FAULTS, GOOD, GROUP, SCENARIO, SKIPPED, SPARE, STEP, TRIED, Key, group, scenario
 from random_inputs import Made, cut_text
 from random_lists import Numbers
 

@@ -2,15 +2,24 @@
 // bits that they come to. Layouts, widths and usual numbers are those of python/gaknifur/telegrams.py, which tools/page
 // writes into the page. Whether a telegram is one the unit says.
 
-/** A variable by its name; variables that follow where one has a number; a list, with a first element where `more`. */
+/**
+ * A variable by its name; a variable and those that follow where it has a number; variables that stand where an
+ * earlier one has a number; a list behind its counter, with a first element before that where `more`.
+ */
 export type Part = string|{
     where: string;
     number: number;
     parts: Part[]
 }
 |{
+    choice: string;
+    number: number;
+    parts: Part[]
+}
+|{
     list: Part[];
-    more: boolean
+    more: boolean;
+    counter: string
 };
 export interface Grammar {
     widths: Record<string, number>;
@@ -18,6 +27,9 @@ export interface Grammar {
     header: [string, number|null][];
     usual: Record<string, number>;
     layouts: Record<string, Part[]>;
+    /** Of packets that the kernel skips; of some the layout is only the beginning. */
+    skipped: Record<string, Part[]>;
+    thenBits: number[];
     withoutScale: number[];
     endMark: number;
     mostBytes: number
@@ -27,6 +39,12 @@ export interface Telegram {
     header: Pairs;
     packets: Pairs[]
 }
+/** What a text tells: a number that a `number` can't have exactly is a bigint. */
+type ToldPairs = [string, number | bigint][];
+export interface Told {
+    header: ToldPairs;
+    packets: ToldPairs[]
+}
 
 /** A telegram that can't be written so. */
 export class Wrong extends Error {}
@@ -35,24 +53,54 @@ const HEAD = ["Q_DIR", "L_PACKET", "Q_SCALE"], HEAD_BITS = 23;
 
 function isList(part: Part): part is {
     list: Part[];
-    more: boolean
+    more: boolean;
+    counter: string
 }
 { return typeof part !== "string" && "list" in part; }
 
+function isChoice(part: Part): part is {
+    choice: string;
+    number: number;
+    parts: Part[]
+}
+{ return typeof part !== "string" && "choice" in part; }
+
 function firstOf(parts: Part[]): string {
     const [part = ""] = parts;
-    return typeof part === "string" ? part : isList(part) ? "" : part.where;
+    return typeof part === "string" ? part : isList(part) || isChoice(part) ? "" : part.where;
+}
+
+/** The names that may be told first of an element: what a qualifier that isn't told decides, too. */
+function begins(element: Part[]): Set<string> {
+    const found = new Set([firstOf(element)]);
+    for (const part of element.slice(1)) {
+        if (!isChoice(part)) {
+            if (typeof part === "string" && found.size > 1) found.add(part);
+            break;
+        }
+        found.add(firstOf(part.parts));
+    }
+    return found;
+}
+
+/** What a qualifier that isn't told has to be: the number of the choice behind it whose first variable is told. */
+function answerOf(name: string, rest: Part[], comes: string|undefined): number|undefined {
+    const choices = rest.filter(isChoice).filter(one => one.choice === name);
+    const told = choices.find(one => one.parts[0] !== undefined && firstOf(one.parts) === comes);
+    if (told) return told.number;
+    if (!choices[0] || !name.startsWith("Q_")) return undefined;
+    return [0, 1].find(number => choices.every(one => one.number !== number));
 }
 
 /** Takes the variables of a packet one by one: those that are told, or what stands for them. */
 class Writer {
-    readonly written: Pairs = [];
+    readonly written: ToldPairs = [];
 
-    constructor(private readonly grammar: Grammar, private readonly packet: number, readonly left: Pairs) {}
+    constructor(private readonly grammar: Grammar, private readonly packet: number, readonly left: ToldPairs) {}
 
     private get comes(): string|undefined { return this.left[0]?.[0]; }
 
-    private take(name: string, usual: number|undefined): number {
+    private take(name: string, usual: number|undefined): number|bigint {
         const told = this.comes === name ? this.left.shift()?.[1] : usual;
         if (told === undefined) {
             throw new Wrong(
@@ -63,10 +111,14 @@ class Writer {
     }
 
     write(parts: Part[]): void {
-        for (const part of parts) {
-            if (typeof part === "string") this.take(part, this.grammar.usual[part]);
-            else if (isList(part)) this.writeList(part.list, part.more);
-            else {
+        for (const [at, part] of parts.entries()) {
+            if (typeof part === "string")
+                this.take(part, this.grammar.usual[part] ?? answerOf(part, parts.slice(at + 1), this.comes));
+            else if (isList(part)) this.writeList(part.list, part.more, part.counter);
+            else if (isChoice(part)) {
+                const last = this.written.filter(([name]) => name === part.choice).pop();
+                if (last?.[1] === part.number) this.write(part.parts);
+            } else {
                 const follows = this.comes === firstOf(part.parts);
                 const usual = part.where.startsWith("M_") ? undefined : follows ? part.number : 0;
                 if (this.take(part.where, usual) === part.number) this.write(part.parts);
@@ -74,15 +126,16 @@ class Writer {
         }
     }
 
-    private writeList(element: Part[], more: boolean): void {
+    private writeList(element: Part[], more: boolean, counter: string): void {
         if (more) this.write(element);
-        const at = this.written.length, left = this.comes === "N_ITER" ? this.take("N_ITER", undefined) : null;
+        const at = this.written.length, left = this.comes === counter ? this.take(counter, undefined) : null;
+        const names = begins(element);
         let count = 0;
-        while (left === null ? this.comes === firstOf(element) : count < left) {
+        while (left === null ? names.has(this.comes ?? "") : count < left) {
             this.write(element);
             count++;
         }
-        if (left === null) this.written.splice(at, 0, ["N_ITER", count]);
+        if (left === null) this.written.splice(at, 0, [counter, count]);
     }
 }
 
@@ -101,11 +154,12 @@ class Bits {
         for (const part of parts) {
             if (isList(part)) {
                 if (part.more) this.read(part.list, found);
-                const count = this.take("N_ITER");
-                found.push(["N_ITER", count]);
+                const count = this.take(part.counter);
+                found.push([part.counter, count]);
                 for (let n = 0; n < count; n++) this.read(part.list, found);
                 continue;
             }
+            if (isChoice(part)) throw new Wrong("packets that are skipped aren't read by their layouts");
             const name = typeof part === "string" ? part : part.where, number = this.take(name);
             found.push([name, number]);
             if (typeof part !== "string" && number === part.number) this.read(part.parts, found);
@@ -126,23 +180,29 @@ export class Telegrams {
         return width;
     }
 
-    private pairs(text: string): Pairs {
+    private pairs(text: string): ToldPairs {
         return text.split(",").map(one => one.trim()).filter(one => one).map(one => {
-            const found = /^([A-Z][A-Z_0-9]*)\s+([0-9]{1,10})$/.exec(one);
+            const found = /^([A-Z][A-Z_0-9]*)\s+([0-9]{1,20})$/.exec(one);
             if (!found) throw new Wrong(`"${one}" is no variable with a number`);
             this.width(found[1] ?? "");
-            return [found[1] ?? "", Number(found[2])];
+            const number = Number(found[2]);
+            return [found[1] ?? "", Number.isSafeInteger(number) ? number : BigInt(found[2] ?? "")];
         });
     }
 
-    private packet(number: number, told: Pairs): Pairs {
-        const head = new Map(told.filter(([name]) => HEAD.includes(name))), { layouts, usual } = this.grammar;
-        const body = told.filter(([name]) => !HEAD.includes(name)), layout = layouts[String(number)];
+    private packet(number: number, told: ToldPairs): ToldPairs {
+        const head = new Map(told.filter(([name]) => HEAD.includes(name)));
+        const { layouts, skipped, thenBits, usual } = this.grammar;
+        const body = told.filter(([name]) => !HEAD.includes(name)), layout = layouts[number] ?? skipped[number];
+        if (skipped[number]?.includes("Q_SCALE")) {
+            body.unshift(["Q_SCALE", head.get("Q_SCALE") ?? usual["Q_SCALE"] ?? 1]);
+            head.delete("Q_SCALE");
+        }
         const writer = new Writer(this.grammar, number, body);
-        if (layout) {
-            writer.write(layout);
-            if (writer.left[0]) throw new Wrong(`packet ${number} has no ${writer.left[0][0]} there`);
-        } else writer.written.push(...body);
+        if (layout) writer.write(layout);
+        if (layout && !thenBits.includes(number) && writer.left[0])
+            throw new Wrong(`packet ${number} has no ${writer.left[0][0]} there`);
+        writer.written.push(...writer.left);
         if (this.hasScale(number) || head.has("Q_SCALE"))
             writer.written.unshift(["Q_SCALE", head.get("Q_SCALE") ?? usual["Q_SCALE"] ?? 1]);
         const length = writer.written.reduce((sum, [name]) => sum + this.width(name), HEAD_BITS);
@@ -153,8 +213,9 @@ export class Telegrams {
     }
 
     /** The telegram that a text tells. */
-    told(text: string): Telegram {
-        const [first = "", ...rest] = text.split(";"), told = this.pairs(first), header = new Map(this.grammar.header);
+    told(text: string): Told {
+        const [first = "", ...rest] = text.split(";"), told = this.pairs(first);
+        const header = new Map<string, number|bigint|null>(this.grammar.header);
         for (const [name, number] of told) {
             if (!header.has(name)) throw new Wrong(`the header has no ${name}`);
             header.set(name, number);
@@ -170,7 +231,7 @@ export class Telegrams {
         return { header: [...header].map(([name, number]) => [name, number ?? 0]), packets };
     }
 
-    private bits(pairs: Pairs): string {
+    private bits(pairs: ToldPairs): string {
         return pairs
             .map(([name, number]) => {
                 const width = this.width(name);
@@ -184,7 +245,7 @@ export class Telegrams {
     }
 
     /** Its bytes in hex: the end mark stands behind the packets, and zeros fill the last byte. */
-    digits({ header, packets }: Telegram): string {
+    digits({ header, packets }: Told): string {
         const { endMark, mostBytes } = this.grammar;
         let bits = [header, ...packets].map(pairs => this.bits(pairs)).join("") + endMark.toString(2).padStart(8, "0");
         bits += "0".repeat((8 - bits.length % 8) % 8);
@@ -200,7 +261,7 @@ export class Telegrams {
     read(digits: string): Telegram {
         const all = (digits.match(/../g) ?? []).map(byte => parseInt(byte, 16).toString(2).padStart(8, "0")).join("");
         const bits = new Bits(this.grammar, all), { header, endMark, layouts } = this.grammar, packets: Pairs[] = [];
-        const found = header.map(([name]): [string, number] => [name, bits.take(name)]);
+        const found: Pairs = header.map(([name]) => [name, bits.take(name)]);
         for (let at = bits.at, number = bits.take("NID_PACKET"); number !== endMark; number = bits.take("NID_PACKET")) {
             const direction = bits.take("Q_DIR"), length = bits.take("L_PACKET"), layout = layouts[String(number)];
             const pairs: Pairs = [["NID_PACKET", number], ["Q_DIR", direction], ["L_PACKET", length]];

@@ -45,9 +45,9 @@ PLANTS = (
     (
         "a section without a case",
         "suites/chapter_3.case.yaml",
-        "sections: [3.8.3]",
-        "sections: [3.8.4]",
-        "the section 3.8.3 has no test case",
+        "sections: [3.4.4, 3.16.2.7]",
+        "sections: [3.4.4]",
+        "the section 3.16.2.7 has no test case",
     ),
     (
         "a renamed definition",

@@ -225,7 +225,7 @@ def edited(browser: Browser, _page: Path, folder: Path) -> int:
     browser.run("const a = document.getElementById('group-at'); a.value = '150'; a.dispatchEvent(new Event('change'))")
     assert handles[2].get_attribute("aria-valuenow") == "150"
     area = browser.driver.find_element("id", "telegram-0")
-    for text, says, kind in (("NID_BG 9; 65: NID_TSR 1", "packet 65: D_TSR is missing at the end.", "bad"), ("NID_BG 9; 44: ", "The unit skips packet 44.", "warn"),
+    for text, says, kind in (("NID_BG 9; 65: NID_TSR 1", "packet 65: D_TSR is missing at the end.", "bad"), ("NID_BG 9; 44: NID_XUSER 0", "The unit skips packet 44.", "warn"),
                              ("NID_BG 9, M_VERSION 17", "The unit refuses this telegram: 5 WrongVersion.", "bad"),
                              ("NID_BG 9; 65: NID_TSR 1, D_TSR 100, L_TSR 100, Q_FRONT 1, V_TSR 4", "The unit takes this telegram: 1 packet.", "good")):
         area.clear()

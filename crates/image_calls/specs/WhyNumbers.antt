@@ -1,10 +1,12 @@
 -- The numbers by which C is told why (this project's profile; docs/BRAKES.md tells each cause at length).
-use Rattle.std.specs.Prelude.{ℕ, ℤ, pos, List, [], ◌∷◌, Option, Some, None, is_some}
+use Rattle.std.specs.Prelude.{ℕ, ℤ, pos, List, map, Option, Some, None, is_some}
+use Rattle.kernel.specs.Causes.{all_causes}
 use Rattle.mode_control.specs.declared.tripping.TripCause.{TripCause}
 use Rattle.mode_control.specs.declared.tripping.TripCause.TheVariants.{EndPassed, Linking, Stop, StaffDistance, Level}
 use Rattle.reasons.specs.declared.limit_words.LimitKind.{LimitKind}
 use Rattle.reasons.specs.declared.limit_words.LimitKind.TheVariants as kind
 use Rattle.reasons.specs.declared.runs.Runs.{Runs}
+use Rattle.reasons.specs.Runs.{first_in}
 use Rattle.reasons.specs.declared.trips.TripTold.{TripTold}
 use Rattle.image_calls.specs.KeptItems.{or_zero, flag_of}
 
@@ -14,15 +16,11 @@ place_or_zero (Some place) = place
 
 -- of each cause of a brake, in the order of the table, from which event on it has held; 0 where it doesn't hold
 abbrev pub since_of : Runs → List ℕ
-since_of r = or_zero r.not_revalidated ∷ or_zero r.in_trip ∷ or_zero r.in_system_failure ∷ or_zero r.owes_trip ∷ or_zero r.far_too_fast
-    ∷ or_zero r.rolled_too_far ∷ or_zero r.asked_for_service ∷ or_zero r.too_fast ∷ or_zero r.must_stand ∷ or_zero r.owes_too_long ∷ []
+since_of runs = map (λ why. or_zero (first_in runs why)) all_causes
 
 -- .. and whether it holds
 abbrev pub holds_of : Runs → List ℕ
-holds_of r = flag_of (is_some r.not_revalidated) ∷ flag_of (is_some r.in_trip) ∷ flag_of (is_some r.in_system_failure)
-    ∷ flag_of (is_some r.owes_trip) ∷ flag_of (is_some r.far_too_fast) ∷ flag_of (is_some r.rolled_too_far)
-    ∷ flag_of (is_some r.asked_for_service) ∷ flag_of (is_some r.too_fast) ∷ flag_of (is_some r.must_stand)
-    ∷ flag_of (is_some r.owes_too_long) ∷ []
+holds_of runs = map (λ why. flag_of (is_some (first_in runs why))) all_causes
 
 abbrev pub trip_number : TripCause → ℕ
 trip_number EndPassed = 1

@@ -3,7 +3,7 @@ ghost use Rattle.std.specs.Prelude.{◌≡◌, is_some};
 ghost use Rattle.image_calls.specs.KeptItems.{or_zero, flag_of};
 ghost use Rattle.image_calls.specs.WhyNumbers.{place_or_zero, since_of, holds_of, trip_number, trip_cause_told, trip_event_told, limit_number};
 
-use kernel::TripCause;
+use kernel::{BrakeCause, TripCause};
 use reasons::{LimitKind, Runs, TripTold};
 
 /// A number, 0 where there is none.
@@ -30,17 +30,18 @@ pub fn place_or_zero(place: Option<i64>) -> i64
 pub(crate) fn since_of(runs: &Runs) -> [u64; 10]
     ensures { result ≡ since_of runs.now }
 {
+    let since = |cause| or_zero(runs.first(cause));
     [
-        or_zero(runs.not_revalidated),
-        or_zero(runs.in_trip),
-        or_zero(runs.in_system_failure),
-        or_zero(runs.owes_trip),
-        or_zero(runs.far_too_fast),
-        or_zero(runs.rolled_too_far),
-        or_zero(runs.asked_for_service),
-        or_zero(runs.too_fast),
-        or_zero(runs.must_stand),
-        or_zero(runs.owes_too_long),
+        since(BrakeCause::NotRevalidated),
+        since(BrakeCause::InTrip),
+        since(BrakeCause::InSystemFailure),
+        since(BrakeCause::OwesTrip),
+        since(BrakeCause::FarTooFast),
+        since(BrakeCause::RolledTooFar),
+        since(BrakeCause::AskedForService),
+        since(BrakeCause::TooFast),
+        since(BrakeCause::MustStand),
+        since(BrakeCause::OwesTooLong),
     ]
 }
 
@@ -58,17 +59,18 @@ pub fn flag<T: Copy>(told: Option<T>) -> u8
 pub(crate) fn holds_of(runs: &Runs) -> [u8; 10]
     ensures { result ≡ holds_of runs.now }
 {
+    let holds = |cause| flag(runs.first(cause));
     [
-        flag(runs.not_revalidated),
-        flag(runs.in_trip),
-        flag(runs.in_system_failure),
-        flag(runs.owes_trip),
-        flag(runs.far_too_fast),
-        flag(runs.rolled_too_far),
-        flag(runs.asked_for_service),
-        flag(runs.too_fast),
-        flag(runs.must_stand),
-        flag(runs.owes_too_long),
+        holds(BrakeCause::NotRevalidated),
+        holds(BrakeCause::InTrip),
+        holds(BrakeCause::InSystemFailure),
+        holds(BrakeCause::OwesTrip),
+        holds(BrakeCause::FarTooFast),
+        holds(BrakeCause::RolledTooFar),
+        holds(BrakeCause::AskedForService),
+        holds(BrakeCause::TooFast),
+        holds(BrakeCause::MustStand),
+        holds(BrakeCause::OwesTooLong),
     ]
 }
 

@@ -1,29 +1,62 @@
--- What the causes of a list command, and what the rows of a table do.
-use Rattle.std.proofs.Common.{◌≡◌, Bool, true, false, ◌||◌, cond, refl, ap, sym, subst, ◌∙◌, List, [], ◌∷◌}
+-- The first row that holds commands what the causes of all rows that hold command.
+use Rattle.std.proofs.Common.{◌≡◌, Bool, true, false, ◌||◌, cond, refl, ap, sym, List, [], ◌∷◌}
 use Rattle.std.specs.Prelude.{◌↔◌, IsTrue}
 use Rattle.std.specs.List.{list_any}
 use Rattle.kernel.specs.declared.causes.BrakeCause.{BrakeCause}
 use Rattle.kernel.specs.declared.causes.BrakeCause.TheVariants as cause
-use Rattle.kernel.specs.declared.causes.BrakeCauses.{BrakeCauses}
 use Rattle.events.specs.declared.output.Brake.{Brake}
 use Rattle.events.specs.declared.output.Brake.TheVariants as brake
-use Rattle.kernel.proofs.Marking.{mark, all, any_picked}
-use Rattle.kernel.specs.Causes.{command_of, is_emergency, is_service, marked}
+use Rattle.mode_control.specs.Life.{Life}
+use Rattle.mode_table.specs.declared.mode.Mode.TheVariants.{Trip, SystemFailure}
+use Rattle.kernel.specs.Brake.{is_not_revalidated, is_in, owes_trip, has_begun, is_above_limit_by, train_stood, has_rolled_too_far, asked_for_service, was_within_limit, must_stand, owes_too_long, where_so, brake_of, causes_of}
+use Rattle.kernel.specs.Causes.{command_of, is_emergency, is_service}
 
 -- ---- what is commanded where a cause for the emergency brake is there, or else one for the service brake
 
-abbrev pub commanded : Bool → Bool → Brake
+abbrev pub for_emergency : List BrakeCause → Bool
+for_emergency causes = list_any (λ why. is_emergency (command_of why)) causes
+
+abbrev pub for_service : List BrakeCause → Bool
+for_service causes = list_any (λ why. is_service (command_of why)) causes
+
+abbrev commanded : Bool → Bool → Brake
 commanded emergency service = cond emergency brake.Emergency (cond service brake.Service brake.None)
 
-pub by_emergency : (holds emergency service : Bool) (later : Brake) → later ≡ commanded emergency service →
-    cond holds brake.Emergency later ≡ commanded (holds || emergency) service
-by_emergency true emergency service later e = refl
-by_emergency false emergency service later e = e
+abbrev pub by_causes : List BrakeCause → Brake
+by_causes causes = commanded (for_emergency causes) (for_service causes)
 
-pub by_service : (holds service : Bool) (later : Brake) → later ≡ commanded false service →
-    cond holds brake.Service later ≡ commanded false (holds || service)
-by_service true service later e = refl
-by_service false service later e = e
+-- ---- a row more at the top: of the emergency brake, or of the service brake over such rows alone
+
+emergency_row : (holds : Bool) (why : BrakeCause) (causes : List BrakeCause) (later : Brake) → command_of why ≡ brake.Emergency →
+    later ≡ by_causes causes → cond holds brake.Emergency later ≡ by_causes (where_so holds why causes)
+emergency_row true why causes later is told =
+    sym (λ i. commanded (is_emergency (is i) || for_emergency causes) (is_service (is i) || for_service causes))
+emergency_row false why causes later is told = told
+
+service_row : (holds : Bool) (why : BrakeCause) (causes : List BrakeCause) (later : Brake) → command_of why ≡ brake.Service →
+    (later ≡ by_causes causes) × (for_emergency causes ≡ false) →
+    (cond holds brake.Service later ≡ by_causes (where_so holds why causes)) × (for_emergency (where_so holds why causes) ≡ false)
+service_row true why causes later is told = (
+  sym (λ i. commanded (is_emergency (is i) || told.1 i) (is_service (is i) || for_service causes)),
+  (λ i. is_emergency (is i) || told.1 i),
+)
+service_row false why causes later is told = told
+
+pub commands : (life : Life) → brake_of life ≡ by_causes (causes_of life)
+commands life =
+    let services =
+    service_row (has_begun asked_for_service train_stood life) cause.AskedForService _ _ refl
+    (service_row (has_begun (is_above_limit_by 5_000) was_within_limit life) cause.TooFast _ _ refl
+    (service_row (must_stand life) cause.MustStand _ _ refl
+    (service_row (owes_too_long life) cause.OwesTooLong [] brake.None refl (refl, refl)))) in
+    emergency_row (is_not_revalidated life) cause.NotRevalidated _ _ refl
+    (emergency_row (is_in Trip life) cause.InTrip _ _ refl
+    (emergency_row (is_in SystemFailure life) cause.InSystemFailure _ _ refl
+    (emergency_row (owes_trip life) cause.OwesTrip _ _ refl
+    (emergency_row (has_begun (is_above_limit_by 10_000) train_stood life) cause.FarTooFast _ _ refl
+    (emergency_row (has_rolled_too_far life) cause.RolledTooFar _ _ refl services.0)))))
+
+-- ---- what a commanded brake says of its causes
 
 pub emergency_so : (emergency service : Bool) → (commanded emergency service ≡ brake.Emergency) ↔ IsTrue emergency
 emergency_so true service = ((λ h. refl), (λ h. refl))
@@ -35,13 +68,12 @@ service_so true service = ((λ h. absurd cc), (λ h. absurd (h.1 refl)))
 service_so false true = ((λ h. (refl, (λ e. cc))), (λ h. refl))
 service_so false false = ((λ h. absurd cc), (λ h. let no = h.0 in absurd cc))
 
-pub none_so : (emergency service : Bool) → commanded emergency service ≡ brake.None → (emergency ≡ false) × (service ≡ false)
+none_so : (emergency service : Bool) → commanded emergency service ≡ brake.None → (emergency ≡ false) × (service ≡ false)
 none_so true service h = absurd cc
 none_so false true h = absurd cc
 none_so false false h = (refl, refl)
 
--- ---- a list without a cause for either is empty
-
+-- a list without a cause for either is empty
 each : (why : BrakeCause) → is_emergency (command_of why) ≡ false → is_service (command_of why) ≡ false → ⊥
 each cause.NotRevalidated e s = cc
 each cause.InTrip e s = cc
@@ -58,82 +90,12 @@ neither : (one other : Bool) → (one || other) ≡ false → one ≡ false
 neither true other h = h
 neither false other h = refl
 
-pub empty : (causes : List BrakeCause) → list_any (λ why. is_emergency (command_of why)) causes ≡ false →
-    list_any (λ why. is_service (command_of why)) causes ≡ false → causes ≡ []
+empty : (causes : List BrakeCause) → for_emergency causes ≡ false → for_service causes ≡ false → causes ≡ []
 empty [] e s = refl
 empty (why ∷ later) e s = absurd (each why (neither _ _ e) (neither _ _ s))
 
--- ---- the whole table, by its marks: the brake of the first row that holds, and its causes
-
-abbrev pub for_emergency : BrakeCause → Bool
-for_emergency why = is_emergency (command_of why)
-
-abbrev pub for_service : BrakeCause → Bool
-for_service why = is_service (command_of why)
-
-module _ (m : BrakeCauses) where
-  abbrev any_emergency : Bool
-  any_emergency = m.not_revalidated || (m.in_trip || (m.in_system_failure || (m.owes_trip || (m.far_too_fast || (m.rolled_too_far || false)))))
-
-  abbrev any_service : Bool
-  any_service = m.asked_for_service || (m.too_fast || (m.must_stand || (m.owes_too_long || false)))
-
-  emergencies : list_any for_emergency (marked m) ≡ any_emergency
-  emergencies = any_picked for_emergency (mark m) all
-
-  services : list_any for_service (marked m) ≡ any_service
-  services = any_picked for_service (mark m) all
-
-  -- the brake of the first mark that is set
-  abbrev first_service : Brake
-  first_service =
-      cond m.asked_for_service brake.Service (cond m.too_fast brake.Service
-      (cond m.must_stand brake.Service (cond m.owes_too_long brake.Service brake.None)))
-
-  abbrev pub first_marked : Brake
-  first_marked =
-      cond m.not_revalidated brake.Emergency (cond m.in_trip brake.Emergency
-      (cond m.in_system_failure brake.Emergency (cond m.owes_trip brake.Emergency
-      (cond m.far_too_fast brake.Emergency (cond m.rolled_too_far brake.Emergency first_service)))))
-
-  service_so_far : first_service ≡ commanded false any_service
-  service_so_far =
-      by_service m.asked_for_service (m.too_fast || (m.must_stand || (m.owes_too_long || false))) (cond m.too_fast
-      brake.Service (cond m.must_stand brake.Service (cond m.owes_too_long brake.Service brake.None))) (by_service
-      m.too_fast (m.must_stand || (m.owes_too_long || false)) (cond m.must_stand brake.Service (cond m.owes_too_long
-      brake.Service brake.None)) (by_service m.must_stand (m.owes_too_long || false) (cond m.owes_too_long
-      brake.Service brake.None) (by_service m.owes_too_long false brake.None refl)))
-
-  commanded_so : first_marked ≡ commanded any_emergency any_service
-  commanded_so =
-      by_emergency m.not_revalidated (m.in_trip || (m.in_system_failure || (m.owes_trip || (m.far_too_fast ||
-      (m.rolled_too_far || false))))) any_service (cond m.in_trip brake.Emergency (cond m.in_system_failure
-      brake.Emergency (cond m.owes_trip brake.Emergency (cond m.far_too_fast brake.Emergency (cond m.rolled_too_far
-      brake.Emergency first_service))))) (by_emergency m.in_trip (m.in_system_failure || (m.owes_trip ||
-      (m.far_too_fast || (m.rolled_too_far || false)))) any_service (cond m.in_system_failure brake.Emergency (cond
-      m.owes_trip brake.Emergency (cond m.far_too_fast brake.Emergency (cond m.rolled_too_far brake.Emergency
-      first_service)))) (by_emergency m.in_system_failure (m.owes_trip || (m.far_too_fast || (m.rolled_too_far ||
-      false))) any_service (cond m.owes_trip brake.Emergency (cond m.far_too_fast brake.Emergency (cond
-      m.rolled_too_far brake.Emergency first_service))) (by_emergency m.owes_trip (m.far_too_fast ||
-      (m.rolled_too_far || false)) any_service (cond m.far_too_fast brake.Emergency (cond m.rolled_too_far
-      brake.Emergency first_service)) (by_emergency m.far_too_fast (m.rolled_too_far || false) any_service (cond
-      m.rolled_too_far brake.Emergency first_service) (by_emergency m.rolled_too_far false any_service first_service
-      service_so_far)))))
-
-  pub emergency_marked : (first_marked ≡ brake.Emergency) ↔ IsTrue (list_any for_emergency (marked m))
-  emergency_marked =
-      let so = emergency_so any_emergency any_service in
-      ((λ h. subst IsTrue (sym emergencies) (so.0 (sym commanded_so ∙ h))), (λ h. commanded_so ∙ so.1 (subst IsTrue emergencies h)))
-
-  pub service_marked : (first_marked ≡ brake.Service) ↔ (IsTrue (list_any for_service (marked m)) × (IsTrue (list_any for_emergency (marked m)) → ⊥))
-  service_marked =
-      let so = service_so any_emergency any_service in (
-        (λ h. let it = so.0 (sym commanded_so ∙ h) in (subst IsTrue (sym services) it.0, (λ e. it.1 (subst IsTrue emergencies e)))),
-        (λ h. commanded_so ∙ so.1 (subst IsTrue services h.0, (λ e. h.1 (subst IsTrue (sym emergencies) e)))),
-      )
-
-  pub none_marked : (first_marked ≡ brake.None) ↔ (marked m ≡ [])
-  none_marked = (
-    (λ h. let it = none_so any_emergency any_service (sym commanded_so ∙ h) in empty (marked m) (emergencies ∙ it.0) (services ∙ it.1)),
-    (λ h. commanded_so ∙ (λ i. commanded ((sym emergencies ∙ ap (list_any for_emergency) h) i) ((sym services ∙ ap (list_any for_service) h) i))),
-  )
+pub none_commanded : (causes : List BrakeCause) → (by_causes causes ≡ brake.None) ↔ (causes ≡ [])
+none_commanded causes = (
+  (λ h. let it = none_so (for_emergency causes) (for_service causes) h in empty causes it.0 it.1),
+  (λ h. ap by_causes h),
+)

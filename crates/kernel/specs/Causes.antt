@@ -1,6 +1,6 @@
 -- The causes of a brake, one by one (this project's profile). Lists are in the order of the brake table, whose causes
 -- these are (`rows`, in Brake).
-use Rattle.std.specs.Prelude.{◌≡◌, ◌↔◌, ℕ, ◌==◌, Bool, true, false, IsTrue, List, []}
+use Rattle.std.specs.Prelude.{◌≡◌, ◌↔◌, ℕ, ◌==◌, Bool, true, false, IsTrue, List, [], filter, map, slice_index_or}
 use Rattle.std.specs.List.{list_any}
 use Rattle.events.specs.declared.input.Event.{Event}
 use Rattle.events.specs.declared.output.Brake.{Brake}
@@ -8,7 +8,7 @@ use Rattle.events.specs.declared.output.Brake.TheVariants as brake
 use Rattle.kernel.specs.declared.causes.BrakeCause.{BrakeCause}
 use Rattle.kernel.specs.declared.causes.BrakeCause.TheVariants as cause
 use Rattle.kernel.specs.declared.causes.BrakeCauses.{BrakeCauses}
-use Rattle.kernel.specs.Brake.{where_so, causes_of}
+use Rattle.kernel.specs.Brake.{rows, causes_of}
 use Rattle.kernel.specs.Lives.{life_of}
 use Rattle.kernel.specs.Output.{output_after}
 
@@ -44,14 +44,16 @@ is_cause one other = place_of other == place_of one
 abbrev pub is_among : BrakeCause → List BrakeCause → Bool
 is_among one causes = list_any (is_cause one) causes
 
+abbrev pub all_causes : List BrakeCause
+all_causes = map (λ row. row.cause) rows
+
+-- whether a cause is marked
+abbrev pub mark : BrakeCauses → BrakeCause → Bool
+mark m why = slice_index_or m.marks (place_of why) false
+
 -- the causes that are marked, as a list
 abbrev pub marked : BrakeCauses → List BrakeCause
-marked m =
-    where_so m.not_revalidated cause.NotRevalidated (where_so m.in_trip cause.InTrip
-    (where_so m.in_system_failure cause.InSystemFailure (where_so m.owes_trip cause.OwesTrip
-    (where_so m.far_too_fast cause.FarTooFast (where_so m.rolled_too_far cause.RolledTooFar
-    (where_so m.asked_for_service cause.AskedForService (where_so m.too_fast cause.TooFast
-    (where_so m.must_stand cause.MustStand (where_so m.owes_too_long cause.OwesTooLong [])))))))))
+marked m = filter (mark m) all_causes
 
 -- ---- a brake is commanded exactly where it has a cause, the service brake where the emergency brake has none
 

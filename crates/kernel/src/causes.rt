@@ -85,26 +85,8 @@ impl BrakeCause {
 /// The causes that hold after an event, each marked.
 #[derive(Clone, Copy)]
 pub struct BrakeCauses {
-    /// `BrakeCause::NotRevalidated` holds.
-    pub not_revalidated: bool,
-    /// `BrakeCause::InTrip` holds.
-    pub in_trip: bool,
-    /// `BrakeCause::InSystemFailure` holds.
-    pub in_system_failure: bool,
-    /// `BrakeCause::OwesTrip` holds.
-    pub owes_trip: bool,
-    /// `BrakeCause::FarTooFast` holds.
-    pub far_too_fast: bool,
-    /// `BrakeCause::RolledTooFar` holds.
-    pub rolled_too_far: bool,
-    /// `BrakeCause::AskedForService` holds.
-    pub asked_for_service: bool,
-    /// `BrakeCause::TooFast` holds.
-    pub too_fast: bool,
-    /// `BrakeCause::MustStand` holds.
-    pub must_stand: bool,
-    /// `BrakeCause::OwesTooLong` holds.
-    pub owes_too_long: bool,
+    /// Whether each one holds, in the order of `BrakeCause::ALL`.
+    pub marks: [bool; 10],
 }
 
 impl BrakeCauses {
@@ -112,17 +94,6 @@ impl BrakeCauses {
     pub fn holds(&self, cause: BrakeCause) -> bool
         ensures { result ≡ is_among cause (marked self.now) }
     {
-        match cause {
-            BrakeCause::NotRevalidated => self.not_revalidated,
-            BrakeCause::InTrip => self.in_trip,
-            BrakeCause::InSystemFailure => self.in_system_failure,
-            BrakeCause::OwesTrip => self.owes_trip,
-            BrakeCause::FarTooFast => self.far_too_fast,
-            BrakeCause::RolledTooFar => self.rolled_too_far,
-            BrakeCause::AskedForService => self.asked_for_service,
-            BrakeCause::TooFast => self.too_fast,
-            BrakeCause::MustStand => self.must_stand,
-            BrakeCause::OwesTooLong => self.owes_too_long,
-        }
+        self.marks[cause.place()]
     }
 }

@@ -103,16 +103,18 @@ impl<G: ProfileStore<Permille> + Drop, S: ProfileStore<CategorySpeeds> + Drop> S
         let driver = self.supervision.driver();
         let window = &self.parts.window;
         BrakeCauses {
-            not_revalidated: !driver.is_revalidated(),
-            in_trip: is_trip(mode),
-            in_system_failure: is_system_failure(mode),
-            owes_trip: driver.is_trip_outstanding(),
-            far_too_fast: window.far_too_fast,
-            rolled_too_far: self.has_rolled_too_far(),
-            asked_for_service: window.asked_for_service,
-            too_fast: window.too_fast,
-            must_stand: self.must_stand(),
-            owes_too_long: self.owes_too_long(),
+            marks: [
+                !driver.is_revalidated(),
+                is_trip(mode),
+                is_system_failure(mode),
+                driver.is_trip_outstanding(),
+                window.far_too_fast,
+                self.has_rolled_too_far(),
+                window.asked_for_service,
+                window.too_fast,
+                self.must_stand(),
+                self.owes_too_long(),
+            ],
         }
     }
 

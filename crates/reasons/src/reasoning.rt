@@ -12,7 +12,7 @@ ghost use Rattle.reasons.specs.Trips.{trip_of};
 use crate::runs::Runs;
 use crate::trips::{TripTold, trip_before, trip_held};
 use events::{Event, Kept, Output};
-use kernel::{BrakeCauses, State, TripCause};
+use kernel::{BrakeCause, BrakeCauses, State, TripCause};
 use limit_causes::LimitCause;
 use mode_table::Cold;
 use std::alloc::Global;
@@ -88,7 +88,7 @@ impl Reasoning {
         let causes = self.state.brake_causes();
         let number = self.next;
         let before = trip_before(event, self.trip);
-        let trip = trip_held(causes.owes_trip, entered, before, number);
+        let trip = trip_held(causes.holds(BrakeCause::OwesTrip), entered, before, number);
         self.runs = self.runs.after(event, &causes, number);
         self.trip = trip;
         self.next = number.saturating_add(1);

@@ -47,12 +47,6 @@ abbrev pub IsShown : Story → Shown → Type 0
 IsShown story shown =
     (cause : LimitCause) × IsLimitCause (past_at story).life (output_at story).limit cause × (shown ≡ shown_of story cause)
 
--- since which event each cause of the brake has held, in the order of the brake table
-abbrev pub firsts_of : Runs → List (Option ℕ)
-firsts_of r =
-    r.not_revalidated ∷ r.in_trip ∷ r.in_system_failure ∷ r.owes_trip ∷ r.far_too_fast ∷ r.rolled_too_far
-    ∷ r.asked_for_service ∷ r.too_fast ∷ r.must_stand ∷ r.owes_too_long ∷ []
-
 -- Two events were answered in the same way, for the same reasons. Where what decides the limit lies doesn't count.
 pub record IsSo (one other : Shown) : Type 0 where
   pub brake : one.brake ≡ other.brake

@@ -1,13 +1,14 @@
 -- The line of an event with the causes of its brake and of its limit, for people and as a JSON object (this project's
 -- profile). Events are numbered from 0; speeds are metres per hour, distances centimetres.
-use Rattle.std.specs.Prelude.{ℕ, ℤ, Option, Some, None, List, [], ◌∷◌, ◌++◌, codes, decimal, flat_map}
+use Rattle.std.specs.Prelude.{ℕ, ℤ, Option, Some, None, List, [], ◌∷◌, ◌++◌, codes, decimal, map, flat_map}
 use Rattle.std.specs.Fmt.{signed_decimal}
 use Rattle.kernel.specs.declared.causes.BrakeCause.{BrakeCause}
-use Rattle.kernel.specs.declared.causes.BrakeCause.TheVariants as a_cause
+use Rattle.kernel.specs.Causes.{all_causes}
 use Rattle.command_line.specs.OutputWords.{brake_text}
 use Rattle.pieces.specs.Pieces.{text_in, joined}
 use Rattle.pieces.specs.declared.piece.Form.{Form}
 use Rattle.reasons.specs.declared.runs.Runs.{Runs}
+use Rattle.reasons.specs.Runs.{first_in}
 use Rattle.reasons.specs.Words.{word_of, sentence_of, ending_of}
 use Rattle.reasons.specs.declared.limit_words.LimitKind.{LimitKind}
 use Rattle.reasons.specs.declared.limit_words.LimitTold.{LimitTold}
@@ -46,22 +47,8 @@ abbrev pub cause_text : Form → Told → List ℕ
 cause_text form told = run_text form told.cause told.first
 
 -- each cause with its first event, in the order of the brake table
-abbrev pub cause_told : BrakeCause → Option ℕ → Told
-cause_told cause first = record { cause = cause; first = first }
-
 abbrev pub told_of : Runs → List Told
-told_of runs =
-    cause_told a_cause.NotRevalidated runs.not_revalidated
-    ∷ cause_told a_cause.InTrip runs.in_trip
-    ∷ cause_told a_cause.InSystemFailure runs.in_system_failure
-    ∷ cause_told a_cause.OwesTrip runs.owes_trip
-    ∷ cause_told a_cause.FarTooFast runs.far_too_fast
-    ∷ cause_told a_cause.RolledTooFar runs.rolled_too_far
-    ∷ cause_told a_cause.AskedForService runs.asked_for_service
-    ∷ cause_told a_cause.TooFast runs.too_fast
-    ∷ cause_told a_cause.MustStand runs.must_stand
-    ∷ cause_told a_cause.OwesTooLong runs.owes_too_long
-    ∷ []
+told_of runs = map (λ why. record { cause = why; first = first_in runs why }) all_causes
 
 -- the trip that is owed, where it is known why: why, its event and the sections
 abbrev pub trip_known_text : Form → TripCause → ℕ → List ℕ

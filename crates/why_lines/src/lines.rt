@@ -46,47 +46,21 @@ pub struct Told {
 pub fn told_of(runs: &Runs) -> [Told; 10]
     ensures { result ≡ told_of runs.now }
 {
+    let told = |cause: BrakeCause| Told {
+        cause,
+        first: runs.first(cause),
+    };
     [
-        Told {
-            cause: BrakeCause::NotRevalidated,
-            first: runs.not_revalidated,
-        },
-        Told {
-            cause: BrakeCause::InTrip,
-            first: runs.in_trip,
-        },
-        Told {
-            cause: BrakeCause::InSystemFailure,
-            first: runs.in_system_failure,
-        },
-        Told {
-            cause: BrakeCause::OwesTrip,
-            first: runs.owes_trip,
-        },
-        Told {
-            cause: BrakeCause::FarTooFast,
-            first: runs.far_too_fast,
-        },
-        Told {
-            cause: BrakeCause::RolledTooFar,
-            first: runs.rolled_too_far,
-        },
-        Told {
-            cause: BrakeCause::AskedForService,
-            first: runs.asked_for_service,
-        },
-        Told {
-            cause: BrakeCause::TooFast,
-            first: runs.too_fast,
-        },
-        Told {
-            cause: BrakeCause::MustStand,
-            first: runs.must_stand,
-        },
-        Told {
-            cause: BrakeCause::OwesTooLong,
-            first: runs.owes_too_long,
-        },
+        told(BrakeCause::NotRevalidated),
+        told(BrakeCause::InTrip),
+        told(BrakeCause::InSystemFailure),
+        told(BrakeCause::OwesTrip),
+        told(BrakeCause::FarTooFast),
+        told(BrakeCause::RolledTooFar),
+        told(BrakeCause::AskedForService),
+        told(BrakeCause::TooFast),
+        told(BrakeCause::MustStand),
+        told(BrakeCause::OwesTooLong),
     ]
 }
 

@@ -1,7 +1,6 @@
 use Rattle.std.proofs.Common.{sym, subst, ap, ◌∙◌, arith}
 use Rattle.kernel.specs.declared.causes.BrakeCause.TheVariants as cause
 use Rattle.kernel.specs.Causes.{is_among}
-use Rattle.kernel.proofs.Marking.{mark_so}
 use Rattle.kernel.specs.Lives.{onward, past_at}
 use Rattle.reasons.specs.Told.{Reasoned, Reasons}
 use Rattle.reasons.specs.Runs.{in_this_life}
@@ -16,7 +15,7 @@ returns-clause-stands c = λ story stands.
     let knows = c.in-Ok-apply.ensures.reaches (past_at story) at.knows in
     let causes = c.brake_causes-causes.ensures (past_at (onward story event)).life knows.life_is in
     let entered = c.in-Ok.ensures story stands in
-    let owes = sym (mark_so c.brake_causes-causes.result cause.OwesTrip) ∙ ap (is_among cause.OwesTrip) causes in
+    let owes = c.holds.ensures ∙ ap (is_among cause.OwesTrip) causes in
     let before = c.trip_before-before.ensures ∙ ap (in_this_life event) at.trip_is in
     record {
       knows = knows;

@@ -1,0 +1,27 @@
+use Rattle.std.proofs.Common.{◌≡◌, ℕ, Option, None, slice_index_or, refl, ap, ◌∙◌}
+use Rattle.kernel.specs.declared.causes.BrakeCause.{BrakeCause}
+use Rattle.kernel.specs.declared.causes.BrakeCause.TheVariants as cause
+use Rattle.kernel.specs.Lives.{Story}
+use Rattle.reasons.specs.declared.runs.Runs.{Runs}
+use Rattle.reasons.specs.Runs.{first_in, run_of, runs_of}
+use Rattle.reasons.proofs.runs.Runs.first.Goals as goal
+
+found : (story : Story) (why : BrakeCause) → first_in (runs_of story) why ≡ run_of why story
+found story cause.NotRevalidated = refl
+found story cause.InTrip = refl
+found story cause.InSystemFailure = refl
+found story cause.OwesTrip = refl
+found story cause.FarTooFast = refl
+found story cause.RolledTooFar = refl
+found story cause.AskedForService = refl
+found story cause.TooFast = refl
+found story cause.MustStand = refl
+found story cause.OwesTooLong = refl
+
+pub returns-clause-value : goal.returns-clause-value
+returns-clause-value c = ap (λ (place : ℕ). slice_index_or c.args.self.now.firsts place None) c.place.ensures
+
+pub returns-clause-run : goal.returns-clause-run
+returns-clause-run c story is =
+    ap (λ (place : ℕ). slice_index_or c.args.self.now.firsts place None) c.place.ensures
+    ∙ ap (λ (runs : Runs). first_in runs c.args.cause) is ∙ found story c.args.cause

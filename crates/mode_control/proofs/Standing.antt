@@ -1,11 +1,10 @@
 -- What stands for a life, by what is inside a state.
-use Rattle.std.proofs.Common.{◌≡◌, ℤ, sym, subst}
-use Rattle.track_store.specs.Profiles.{Profile}
-use Rattle.speed_profile.specs.declared.told.CategorySpeeds.{CategorySpeeds}
+use Rattle.std.proofs.Common.{◌≡◌, sym, subst}
+use Rattle.track_picture.specs.Stores.{Stores}
 use Rattle.mode_control.specs.Life.{Life}
 use Rattle.mode_control.specs.StandsFor.{Knowledge, StandsForLife}
 
-module _ {G S : Type 0} {gradients_in : G → Profile ℤ} {speeds_in : S → Profile CategorySpeeds} where
+module _ {G S : Type 0} {stores : Stores G S} where
   pub seen : {inside known : Knowledge G S} {life : Life} →
-      inside ≡ known → StandsForLife gradients_in speeds_in known life → StandsForLife gradients_in speeds_in inside life
-  seen {life = life} is s = subst (λ k. StandsForLife gradients_in speeds_in k life) (sym is) s
+      inside ≡ known → StandsForLife stores known life → StandsForLife stores inside life
+  seen {life = life} is s = subst (λ k. StandsForLife stores k life) (sym is) s

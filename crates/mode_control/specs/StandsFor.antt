@@ -1,12 +1,11 @@
 -- What is known represents a life (this project's profile). Places are centimetres, moments milliseconds.
-use Rattle.std.specs.Prelude.{◌≡◌, ℕ, ℤ, Option}
+use Rattle.std.specs.Prelude.{◌≡◌, ℕ, Option}
 use Rattle.areas.specs.declared.acknowledgement.Acknowledgement.{Acknowledgement}
 use Rattle.driver.specs.declared.action.Action.{Action}
 use Rattle.driver.specs.Known as driver
 use Rattle.mode_table.specs.declared.mode.Mode.{Mode}
-use Rattle.speed_profile.specs.declared.told.CategorySpeeds.{CategorySpeeds}
-use Rattle.track_store.specs.Profiles.{Profile}
 use Rattle.track_picture.specs.StandsFor as track_picture
+use Rattle.track_picture.specs.Stores.{Stores}
 use Rattle.mode_control.specs.History.{mode_of, staff_from, done_in, on_sight_of, shunting_of, level_0_of}
 use Rattle.mode_control.specs.Life.{Life, track_of, driver_of}
 
@@ -38,6 +37,6 @@ parts_of life = record {
 }
 
 -- it represents a life; what the two stores give is read off them so
-pub record StandsForLife {G S : Type 0} (gradients_in : G → Profile ℤ) (speeds_in : S → Profile CategorySpeeds) (known : Knowledge G S) (life : Life) : Type 0 where
+pub record StandsForLife {G S : Type 0} (stores : Stores G S) (known : Knowledge G S) (life : Life) : Type 0 where
   pub parts_are : known.parts ≡ parts_of life
-  pub track_is : track_picture.StandsForLife gradients_in speeds_in known.track (track_of life)
+  pub track_is : track_picture.StandsForLife stores known.track (track_of life)

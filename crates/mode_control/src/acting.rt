@@ -14,9 +14,7 @@ use crate::parts::Parts;
 use crate::state::SupervisionOver;
 use driver::{Action, ActionSituation, Occasion};
 use events::Input;
-use speed_profile::CategorySpeeds;
-use track_store::ProfileStore;
-use units::Permille;
+use track_picture::ProfileStores;
 
 impl Parts {
     // An action is accepted.
@@ -43,13 +41,10 @@ impl Parts {
     }
 }
 
-impl<G: ProfileStore<Permille> + Drop, S: ProfileStore<CategorySpeeds> + Drop> SupervisionOver<
-    G,
-    S,
-> {
+impl<T: ProfileStores> SupervisionOver<T> {
     // What bears on which actions are accepted.
     fn situation(&self) -> ActionSituation
-        ensures { (life : Life) → StandsForLife G.profile S.profile self.now life → result ≡ situation life }
+        ensures { (life : Life) → StandsForLife T.stores self.now life → result ≡ situation life }
     {
         ActionSituation {
             mode: self.parts.mode,
@@ -63,7 +58,7 @@ impl<G: ProfileStore<Permille> + Drop, S: ProfileStore<CategorySpeeds> + Drop> S
 
     // When an action is accepted now, and how long an override lasts.
     fn occasion(&self) -> Occasion
-        ensures { (life : Life) → StandsForLife G.profile S.profile self.now life → result ≡ occasion life }
+        ensures { (life : Life) → StandsForLife T.stores self.now life → result ≡ occasion life }
     {
         let values = self.track.national().values();
         let override_time = match values.override_time {
@@ -80,7 +75,7 @@ impl<G: ProfileStore<Permille> + Drop, S: ProfileStore<CategorySpeeds> + Drop> S
 
     /// Whether an action would be accepted now, as the next event.
     pub fn accepts(&self, action: &Action) -> bool
-        ensures { (life : Life) → StandsForLife G.profile S.profile self.now life
+        ensures { (life : Life) → StandsForLife T.stores self.now life
             → result ≡ accepts (driver_of life) (situation life) action.now }
     {
         self.parts.driver.accepts(action, &self.situation())
@@ -89,7 +84,7 @@ impl<G: ProfileStore<Permille> + Drop, S: ProfileStore<CategorySpeeds> + Drop> S
     // What an action does, if it is accepted. It stands out of line, so that other inputs don't go about a deed.
     #[inline(never)]
     fn deed_by(&self, action: &Action) -> Option<Deed>
-        ensures { (life : Life) → StandsForLife G.profile S.profile self.now life → result ≡ deed_by life action.now }
+        ensures { (life : Life) → StandsForLife T.stores self.now life → result ≡ deed_by life action.now }
     {
         if !self.accepts(action) {
             return None;
@@ -102,7 +97,7 @@ impl<G: ProfileStore<Permille> + Drop, S: ProfileStore<CategorySpeeds> + Drop> S
 
     /// What the driver does by an input, if it is accepted.
     pub(crate) fn deed(&self, input: &Input) -> Option<Deed>
-        ensures { (life : Life) → StandsForLife G.profile S.profile self.now life → result ≡ deed_of life input.now }
+        ensures { (life : Life) → StandsForLife T.stores self.now life → result ≡ deed_of life input.now }
     {
         match input {
             Input::Driver(action) => self.deed_by(action),

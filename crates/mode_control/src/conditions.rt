@@ -12,9 +12,8 @@ use crate::state::SupervisionOver;
 use authority::End;
 use driver::{Acknowledged, Action, Datum};
 use mode_table::{Conditions, Mode, TrainLevel, next_mode};
-use speed_profile::CategorySpeeds;
-use track_store::ProfileStore;
-use units::{Cm, Permille, Stretch};
+use track_picture::ProfileStores;
+use units::{Cm, Stretch};
 use vars::AreaMode;
 
 fn is_level_0(level: &Datum<TrainLevel>) -> bool
@@ -84,13 +83,10 @@ fn is_beyond(min_front: Cm, end: &End) -> bool
     end.place < min_front && end.speed.get() == 0
 }
 
-impl<G: ProfileStore<Permille> + Drop, S: ProfileStore<CategorySpeeds> + Drop> SupervisionOver<
-    G,
-    S,
-> {
+impl<T: ProfileStores> SupervisionOver<T> {
     // Whether the track ahead is known up to the end of authority.
     fn is_full_to(&self, front: Cm, end: &End) -> bool
-        ensures { (life : Life) → StandsForLife G.profile S.profile self.now life → result ≡ is_full_to life front end.now }
+        ensures { (life : Life) → StandsForLife T.stores self.now life → result ≡ is_full_to life front end.now }
     {
         front < end.place
             && is_known(self.track.speeds(), front, end.place)
@@ -99,7 +95,7 @@ impl<G: ProfileStore<Permille> + Drop, S: ProfileStore<CategorySpeeds> + Drop> S
 
     // Whether an authority is stored, and the track ahead is known up to its end.
     fn is_full(&self, train: &Stretch) -> bool
-        ensures { (life : Life) → StandsForLife G.profile S.profile self.now life → result ≡ is_full life train.now }
+        ensures { (life : Life) → StandsForLife T.stores self.now life → result ≡ is_full life train.now }
     {
         match self.track.authority().end() {
             None => false,
@@ -109,7 +105,7 @@ impl<G: ProfileStore<Permille> + Drop, S: ProfileStore<CategorySpeeds> + Drop> S
 
     /// Whether the trip is overridden.
     pub fn is_overridden(&self) -> bool
-        ensures { (life : Life) → StandsForLife G.profile S.profile self.now life → result ≡ is_overridden life }
+        ensures { (life : Life) → StandsForLife T.stores self.now life → result ≡ is_overridden life }
     {
         let path = self.track.place().sums().path();
         self.parts.driver.is_overridden(self.track.moment(), path)
@@ -117,7 +113,7 @@ impl<G: ProfileStore<Permille> + Drop, S: ProfileStore<CategorySpeeds> + Drop> S
 
     /// Whether the minimum safe front is above the end of authority while no speed is allowed there.
     pub(crate) fn is_beyond_end(&self, train: &Stretch) -> bool
-        ensures { (life : Life) → StandsForLife G.profile S.profile self.now life → result ≡ is_beyond_end life train.now }
+        ensures { (life : Life) → StandsForLife T.stores self.now life → result ≡ is_beyond_end life train.now }
     {
         match self.track.authority().end() {
             None => false,
@@ -127,7 +123,7 @@ impl<G: ProfileStore<Permille> + Drop, S: ProfileStore<CategorySpeeds> + Drop> S
 
     /// Whether the train is to be tripped.
     pub(crate) fn trips(&self, train: &Stretch) -> bool
-        ensures { (life : Life) → StandsForLife G.profile S.profile self.now life → result ≡ trips life train.now }
+        ensures { (life : Life) → StandsForLife T.stores self.now life → result ≡ trips life train.now }
     {
         !self.is_overridden()
             && (self.is_beyond_end(train)
@@ -137,7 +133,7 @@ impl<G: ProfileStore<Permille> + Drop, S: ProfileStore<CategorySpeeds> + Drop> S
 
     // Whether the train has run too far in Staff Responsible.
     fn is_beyond_staff_distance(&self) -> bool
-        ensures { (life : Life) → StandsForLife G.profile S.profile self.now life → result ≡ is_beyond_staff_distance life }
+        ensures { (life : Life) → StandsForLife T.stores self.now life → result ≡ is_beyond_staff_distance life }
     {
         match self.track.national().values().staff_responsible_distance {
             None => false,
@@ -150,7 +146,7 @@ impl<G: ProfileStore<Permille> + Drop, S: ProfileStore<CategorySpeeds> + Drop> S
 
     // All conditions, where the train is there, but whether the track ahead is known, which is told.
     fn conditions(&self, full: bool, train: &Stretch) -> Conditions
-        ensures { (life : Life) → StandsForLife G.profile S.profile self.now life → result ≡ record (conditions life train.now) { full = full } }
+        ensures { (life : Life) → StandsForLife T.stores self.now life → result ≡ record (conditions life train.now) { full = full } }
     {
         let level = self.parts.driver.level();
         let done = &self.parts.done;
@@ -175,7 +171,7 @@ impl<G: ProfileStore<Permille> + Drop, S: ProfileStore<CategorySpeeds> + Drop> S
     /// The mode behind the event, where the train is there. Whether the track ahead is known up to the end of authority
     /// is looked for only where rows ask for it: in Full Supervision none does.
     pub(crate) fn mode_behind(&self, train: &Stretch) -> Mode
-        ensures { (life : Life) → StandsForLife G.profile S.profile self.now life → result ≡ next_mode (mode_of life.entries) (conditions life train.now) }
+        ensures { (life : Life) → StandsForLife T.stores self.now life → result ≡ next_mode (mode_of life.entries) (conditions life train.now) }
     {
         let mode = self.parts.mode;
         let full = asks_for_full(mode) && self.is_full(train);

@@ -9,20 +9,16 @@ ghost use Rattle.mode_control.specs.StandsFor.{StandsForLife};
 
 use crate::state::SupervisionOver;
 use events::Input;
-use speed_profile::CategorySpeeds;
-use track_store::ProfileStore;
-use units::{NoMemory, Permille};
+use track_picture::ProfileStores;
+use units::NoMemory;
 
-impl<G: ProfileStore<Permille> + Drop, S: ProfileStore<CategorySpeeds> + Drop> SupervisionOver<
-    G,
-    S,
-> {
+impl<T: ProfileStores> SupervisionOver<T> {
     /// What the input itself brings, and the groups that it closes.
     pub(crate) fn begin(&mut self, input: &Input) -> Result<(), NoMemory>
-        ensures quiet { HasRoomFor G.room S.room self.old.track input.now → IsOk result }
-        ensures idle { packets_by self.old.track.parts input.now ≡ 0 → OnOk result (size_in G.size S.size self.new.track ≡ size_in G.size S.size self.old.track) }
-        ensures stands { OnOk result ((life : Life) → StandsForLife G.profile S.profile self.old life
-            → StandsForLife G.profile S.profile self.new (grown life (begun (told life input.now) (deed_of life input.now)))) }
+        ensures quiet { HasRoomFor T.stores self.old.track input.now → IsOk result }
+        ensures idle { packets_by self.old.track.parts input.now ≡ 0 → OnOk result (size_in T.stores self.new.track ≡ size_in T.stores self.old.track) }
+        ensures stands { OnOk result ((life : Life) → StandsForLife T.stores self.old life
+            → StandsForLife T.stores self.new (grown life (begun (told life input.now) (deed_of life input.now)))) }
         ensures err { OnErr result (self.new ≡ self.old) }
     {
         let deed = self.deed(input);
@@ -35,9 +31,9 @@ impl<G: ProfileStore<Permille> + Drop, S: ProfileStore<CategorySpeeds> + Drop> S
     // The track far behind the train is forgotten.
     fn forget(&mut self)
         ensures stands { (life : Life) (event : SupervisionEntry)
-            → StandsForLife G.profile S.profile self.old (grown life (record event { track = record event.track { mark = None } }))
-            → StandsForLife G.profile S.profile self.new (grown life (the_track_behind_is_forgotten (grown life event) event)) }
-        ensures size { size_in G.size S.size self.new.track ≤ size_in G.size S.size self.old.track }
+            → StandsForLife T.stores self.old (grown life (record event { track = record event.track { mark = None } }))
+            → StandsForLife T.stores self.new (grown life (the_track_behind_is_forgotten (grown life event) event)) }
+        ensures size { size_in T.stores self.new.track ≤ size_in T.stores self.old.track }
     {
         self.track.forget(self.parts.length());
     }
@@ -45,10 +41,10 @@ impl<G: ProfileStore<Permille> + Drop, S: ProfileStore<CategorySpeeds> + Drop> S
     /// All that an input does. Where memory is refused, nothing changes; none is refused where there is room for what
     /// the input may use. An input that uses no packet keeps no more track.
     pub fn receive(&mut self, input: &Input) -> Result<(), NoMemory>
-        ensures quiet { HasRoomFor G.room S.room self.old.track input.now → IsOk result }
-        ensures idle { packets_by self.old.track.parts input.now ≡ 0 → OnOk result (size_in G.size S.size self.new.track ≤ size_in G.size S.size self.old.track) }
-        ensures stands { OnOk result ((life : Life) → StandsForLife G.profile S.profile self.old life
-            → StandsForLife G.profile S.profile self.new (grown life (entry_of life input.now))) }
+        ensures quiet { HasRoomFor T.stores self.old.track input.now → IsOk result }
+        ensures idle { packets_by self.old.track.parts input.now ≡ 0 → OnOk result (size_in T.stores self.new.track ≤ size_in T.stores self.old.track) }
+        ensures stands { OnOk result ((life : Life) → StandsForLife T.stores self.old life
+            → StandsForLife T.stores self.new (grown life (entry_of life input.now))) }
         ensures err { OnErr result (self.new ≡ self.old) }
     {
         self.begin(input)?;

@@ -17,9 +17,8 @@ use crate::parts::Parts;
 use crate::state::SupervisionOver;
 use driver::Driver;
 use mode_table::TrainLevel;
-use speed_profile::CategorySpeeds;
-use track_store::ProfileStore;
-use units::{Permille, Stretch};
+use track_picture::ProfileStores;
+use units::Stretch;
 
 /// What was seen of the train.
 #[derive(Clone, Copy)]
@@ -49,22 +48,19 @@ impl Parts {
     }
 }
 
-impl<G: ProfileStore<Permille> + Drop, S: ProfileStore<CategorySpeeds> + Drop> SupervisionOver<
-    G,
-    S,
-> {
+impl<T: ProfileStores> SupervisionOver<T> {
     /// The look at the train: what is announced comes into force where the maximum safe front has reached its place.
     pub(crate) fn see(&mut self) -> Seen
-        ensures train { (life : Life) (event : SupervisionEntry) → StandsForLife G.profile S.profile self.old (grown life event)
+        ensures train { (life : Life) (event : SupervisionEntry) → StandsForLife T.stores self.old (grown life event)
             → result.train ≡ span_of (grown life event) }
         ensures level { (life : Life) (told : TrackEntry) (deed : Option Deed)
             → (let event = begun (record told { train = None; entered = None }) deed in
-            StandsForLife G.profile S.profile self.old (grown life event) → result.level ≡ level_in (grown life event)) }
+            StandsForLife T.stores self.old (grown life event) → result.level ≡ level_in (grown life event)) }
         ensures stands { (life : Life) (told : TrackEntry) (deed : Option Deed)
             → (let event = begun (record told { train = None; entered = None }) deed in
-            StandsForLife G.profile S.profile self.old (grown life event)
-            → StandsForLife G.profile S.profile self.new (grown life (the_train_is_seen (grown life event) event))) }
-        ensures size { size_in G.size S.size self.new.track ≡ size_in G.size S.size self.old.track }
+            StandsForLife T.stores self.old (grown life event)
+            → StandsForLife T.stores self.new (grown life (the_train_is_seen (grown life event) event))) }
+        ensures size { size_in T.stores self.new.track ≡ size_in T.stores self.old.track }
     {
         let length = self.parts.length();
         let train = self.track.place().stretch(length);

@@ -10,39 +10,34 @@ use areas::Acknowledgement;
 use driver::Driver;
 use events::Kept;
 use mode_table::{Cold, Mode};
-use speed_profile::CategorySpeeds;
 use std::alloc::Global;
 use std::marker::Model;
-use track_picture::TracksideOver;
-use track_store::{ProfileStore, SegmentStore};
-use units::{Length, NoMemory, Permille, Stretch};
+use track_picture::{ProfileStores, Segments, TracksideOver};
+use units::{Length, NoMemory, Stretch};
 
 /// The supervision of a train, with stores for the gradients and the static speeds (this project's profile).
 #[derive(Drop)]
-pub struct SupervisionOver<G, S> {
+pub struct SupervisionOver<T: ProfileStores> {
     pub(crate) parts: Parts,
-    pub(crate) track: TracksideOver<G, S>,
+    pub(crate) track: TracksideOver<T>,
 }
 
 /// With stores that stay short however long the life.
-pub type Supervision = SupervisionOver<SegmentStore<Permille>, SegmentStore<CategorySpeeds>>;
+pub type Supervision = SupervisionOver<Segments>;
 
-impl<G, S> Model for SupervisionOver<G, S> {
+impl<T: ProfileStores> Model for SupervisionOver<T> {
     ghost use Rattle.mode_control.specs.StandsFor.{Knowledge};
 
-    ghost Value = { Knowledge G S };
+    ghost Value = { Knowledge T.Gradients T.Speeds };
 
     ghost view = { λ s. record { parts = s.parts; track = s.track } };
 }
 
-impl<G: ProfileStore<Permille> + Drop, S: ProfileStore<CategorySpeeds> + Drop> SupervisionOver<
-    G,
-    S,
-> {
+impl<T: ProfileStores> SupervisionOver<T> {
     /// What is known before the first event of a life, of what was kept. Takes no memory.
     pub fn new(alloc: Global, kept: Kept, cold: Cold) -> Self
-        ensures stands { StandsForLife G.profile S.profile result (record { kept = kept; cold = cold; entries = [] }) }
-        ensures size { size_in G.size S.size result.track ≡ 0 }
+        ensures stands { StandsForLife T.stores result (record { kept = kept; cold = cold; entries = [] }) }
+        ensures size { size_in T.stores result.track ≡ 0 }
     {
         SupervisionOver {
             parts: Parts::new(&kept, cold),
@@ -53,8 +48,8 @@ impl<G: ProfileStore<Permille> + Drop, S: ProfileStore<CategorySpeeds> + Drop> S
     /// A life begins with what was kept; what is known of movements while the power was off decides what of it stays
     /// valid. Takes no memory.
     pub fn power_up(alloc: Global, kept: Kept, cold: Cold) -> Self
-        ensures stands { StandsForLife G.profile S.profile result (begun_life kept cold) }
-        ensures size { size_in G.size S.size result.track ≡ 0 }
+        ensures stands { StandsForLife T.stores result (begun_life kept cold) }
+        ensures size { size_in T.stores result.track ≡ 0 }
     {
         let parts = Parts::new(&kept, cold);
         let mut track = TracksideOver::new(alloc, kept.national);
@@ -64,7 +59,7 @@ impl<G: ProfileStore<Permille> + Drop, S: ProfileStore<CategorySpeeds> + Drop> S
 
     /// Where the train is: from the minimum safe rear to the maximum safe front.
     pub fn stretch(&self) -> Stretch
-        ensures { (life : Life) → StandsForLife G.profile S.profile self.now life → result ≡ span_of life }
+        ensures { (life : Life) → StandsForLife T.stores self.now life → result ≡ span_of life }
     {
         self.track.place().stretch(self.parts.length())
     }
@@ -73,7 +68,7 @@ impl<G: ProfileStore<Permille> + Drop, S: ProfileStore<CategorySpeeds> + Drop> S
     /// room for one.
     pub fn copy(&self, alloc: Global) -> Result<Self, NoMemory>
         ensures value { IfOk result (λ copy. copy ≡ self.now) }
-        ensures quiet { size_in G.size S.size self.now.track ≡ 0 → IsOk result }
+        ensures quiet { size_in T.stores self.now.track ≡ 0 → IsOk result }
     {
         Ok(SupervisionOver {
             parts: self.parts,
@@ -82,9 +77,9 @@ impl<G: ProfileStore<Permille> + Drop, S: ProfileStore<CategorySpeeds> + Drop> S
     }
 }
 
-impl<G, S> SupervisionOver<G, S> {
+impl<T: ProfileStores> SupervisionOver<T> {
     /// What the track sent.
-    pub fn track(&self) -> &TracksideOver<G, S>
+    pub fn track(&self) -> &TracksideOver<T>
         ensures { result.now ≡ self.now.track }
     {
         &self.track

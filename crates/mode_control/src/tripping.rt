@@ -10,10 +10,9 @@ ghost use Rattle.track_picture.specs.Steps.{HasRoomFor};
 use crate::state::SupervisionOver;
 use events::Input;
 use mode_table::Mode;
-use speed_profile::CategorySpeeds;
 use std::alloc::Global;
-use track_store::ProfileStore;
-use units::{NoMemory, Permille, Stretch};
+use track_picture::ProfileStores;
+use units::{NoMemory, Stretch};
 
 /// Why Trip is entered: which row of the mode table leads there, and of rows 3 to 5 the first of their conditions that
 /// holds (SUBSET-026, 4.6; the rows: this project's profile).
@@ -42,13 +41,10 @@ fn leads_to_trip(mode: Mode) -> bool
     )
 }
 
-impl<G: ProfileStore<Permille> + Drop, S: ProfileStore<CategorySpeeds> + Drop> SupervisionOver<
-    G,
-    S,
-> {
+impl<T: ProfileStores> SupervisionOver<T> {
     // Of rows 3 to 5.
     fn why_trips(&self, train: &Stretch) -> TripCause
-        ensures { (life : Life) → StandsForLife G.profile S.profile self.now life → result ≡ why_trips life train.now }
+        ensures { (life : Life) → StandsForLife T.stores self.now life → result ≡ why_trips life train.now }
     {
         if self.is_beyond_end(train) {
             TripCause::EndPassed
@@ -61,7 +57,7 @@ impl<G: ProfileStore<Permille> + Drop, S: ProfileStore<CategorySpeeds> + Drop> S
 
     // The row to Trip from the mode.
     fn row_from(&self, train: &Stretch) -> TripCause
-        ensures { (life : Life) → StandsForLife G.profile S.profile self.now life → result ≡ row_from (mode_of life.entries) life train.now }
+        ensures { (life : Life) → StandsForLife T.stores self.now life → result ≡ row_from (mode_of life.entries) life train.now }
     {
         match self.parts.mode {
             Mode::Unfitted => TripCause::Level,
@@ -78,7 +74,7 @@ impl<G: ProfileStore<Permille> + Drop, S: ProfileStore<CategorySpeeds> + Drop> S
 
     // Why Trip is entered, if it is, where the train is there.
     fn trip_in(&self, train: &Stretch) -> Option<TripCause>
-        ensures { (life : Life) → StandsForLife G.profile S.profile self.now life → result ≡ trip_in life train.now }
+        ensures { (life : Life) → StandsForLife T.stores self.now life → result ≡ trip_in life train.now }
     {
         match self.entered(train) {
             Some(Mode::Trip) => Some(self.row_from(train)),
@@ -90,10 +86,10 @@ impl<G: ProfileStore<Permille> + Drop, S: ProfileStore<CategorySpeeds> + Drop> S
     /// memory is refused for that, or for what the input adds. None is taken in a mode from which no row leads to Trip;
     /// nor where no restriction and no profile is kept, nor room for one, of an input that uses no packet.
     pub fn trip_by(&self, alloc: Global, input: &Input) -> Result<Option<TripCause>, NoMemory>
-        ensures cause { IfOk result (λ cause. (life : Life) → StandsForLife G.profile S.profile self.now life
+        ensures cause { IfOk result (λ cause. (life : Life) → StandsForLife T.stores self.now life
             → cause ≡ trip_by life input.now) }
         ensures rowless { leads_to_trip self.now.parts.mode ≡ false → IsOk result }
-        ensures quiet { size_in G.size S.size self.now.track ≡ 0 → HasRoomFor G.room S.room self.now.track input.now
+        ensures quiet { size_in T.stores self.now.track ≡ 0 → HasRoomFor T.stores self.now.track input.now
             → IsOk result }
     {
         if !leads_to_trip(self.mode()) {

@@ -22,10 +22,8 @@ use crate::seeing::Seen;
 use crate::state::SupervisionOver;
 use driver::Driver;
 use mode_table::{Mode, TrainLevel};
-use speed_profile::CategorySpeeds;
-use track_picture::TracksideOver;
-use track_store::ProfileStore;
-use units::{Length, Ms, Permille, Stretch};
+use track_picture::{ProfileStores, TracksideOver};
+use units::{Length, Ms, Stretch};
 use vars::AreaMode;
 
 // The mode that is entered, if it is another one.
@@ -106,7 +104,7 @@ impl Parts {
 }
 
 // What is left of what the track sent.
-fn left_by<G, S>(track: &TracksideOver<G, S>, train: &Stretch) -> Left
+fn left_by<T: ProfileStores>(track: &TracksideOver<T>, train: &Stretch) -> Left
     ensures { (life : TrackLife) → track.now.parts ≡ track_parts_of life → result ≡ left_in life.entries train.now }
 {
     let front = train.min_front();
@@ -119,27 +117,21 @@ fn left_by<G, S>(track: &TracksideOver<G, S>, train: &Stretch) -> Left
 }
 
 // The track takes note of another mode that is entered.
-fn enter<G: ProfileStore<Permille> + Drop, S: ProfileStore<CategorySpeeds> + Drop>(
-    track: &mut TracksideOver<G, S>,
-    entered: &Option<Mode>,
-)
+fn enter<T: ProfileStores>(track: &mut TracksideOver<T>, entered: &Option<Mode>)
     ensures stands { (life : TrackLife) (event : TrackEntry)
-        → StandsForTrack G.profile S.profile track.old (track_grown life (record event { entered = None }))
-        → StandsForTrack G.profile S.profile track.new (track_grown life (record event { entered = entered.now })) }
-    ensures size { size_in G.size S.size track.new ≤ size_in G.size S.size track.old }
+        → StandsForTrack T.stores track.old (track_grown life (record event { entered = None }))
+        → StandsForTrack T.stores track.new (track_grown life (record event { entered = entered.now })) }
+    ensures size { size_in T.stores track.new ≤ size_in T.stores track.old }
 {
     if let Some(mode) = entered {
         track.enter(*mode);
     }
 }
 
-impl<G: ProfileStore<Permille> + Drop, S: ProfileStore<CategorySpeeds> + Drop> SupervisionOver<
-    G,
-    S,
-> {
+impl<T: ProfileStores> SupervisionOver<T> {
     /// The mode that is entered, if another one is, where the train is there.
     pub(crate) fn entered(&self, train: &Stretch) -> Option<Mode>
-        ensures { (life : Life) → StandsForLife G.profile S.profile self.now life → result ≡ entered_in life train.now }
+        ensures { (life : Life) → StandsForLife T.stores self.now life → result ≡ entered_in life train.now }
     {
         changed(self.parts.mode, self.mode_behind(train))
     }
@@ -153,7 +145,7 @@ impl<G: ProfileStore<Permille> + Drop, S: ProfileStore<CategorySpeeds> + Drop> S
         train: &Stretch,
         entered: &Option<Mode>,
     ) -> Call
-        ensures { (life : Life) → StandsForLife G.profile S.profile self.now life → result ≡ call_of_areas kind mode chosen life train.now entered.now }
+        ensures { (life : Life) → StandsForLife T.stores self.now life → result ≡ call_of_areas kind mode chosen life train.now entered.now }
     {
         let after = mode_after(self.parts.mode, entered);
         let holds = after.number() == mode.number();
@@ -165,7 +157,7 @@ impl<G: ProfileStore<Permille> + Drop, S: ProfileStore<CategorySpeeds> + Drop> S
 
     // What is called for by the announcement of level 0.
     fn call_of_level(&self, seen: &Seen) -> Call
-        ensures { (life : Life) → StandsForLife G.profile S.profile self.now life → result ≡ call_of_level life seen.now.train seen.now.level }
+        ensures { (life : Life) → StandsForLife T.stores self.now life → result ≡ call_of_level life seen.now.train seen.now.level }
     {
         Call {
             turned: moment_where(is_coming_to_level_0(&seen.level), self.track.moment()),
@@ -175,7 +167,7 @@ impl<G: ProfileStore<Permille> + Drop, S: ProfileStore<CategorySpeeds> + Drop> S
 
     // What is called for, where this mode is entered.
     fn calls(&self, seen: &Seen, entered: &Option<Mode>) -> Calls
-        ensures { (life : Life) → StandsForLife G.profile S.profile self.now life → result ≡ calls_in life seen.now.train seen.now.level entered.now }
+        ensures { (life : Life) → StandsForLife T.stores self.now life → result ≡ calls_in life seen.now.train seen.now.level entered.now }
     {
         let train = &seen.train;
         let chosen = is_shunting_choice(&self.parts.done);
@@ -197,9 +189,9 @@ impl<G: ProfileStore<Permille> + Drop, S: ProfileStore<CategorySpeeds> + Drop> S
     pub(crate) fn turn(&mut self, seen: &Seen)
         ensures stands { (life : Life) (told : TrackEntry) (deed : Option Deed)
             → (let event = record (begun (record told { train = Some seen.now.train; entered = None }) deed) { level = seen.now.level } in
-            StandsForLife G.profile S.profile self.old (grown life event)
-            → StandsForLife G.profile S.profile self.new (grown life (written (the_mode_changes ∷ the_calls_are_settled ∷ []) life event))) }
-        ensures size { size_in G.size S.size self.new.track ≤ size_in G.size S.size self.old.track }
+            StandsForLife T.stores self.old (grown life event)
+            → StandsForLife T.stores self.new (grown life (written (the_mode_changes ∷ the_calls_are_settled ∷ []) life event))) }
+        ensures size { size_in T.stores self.new.track ≤ size_in T.stores self.old.track }
     {
         let entered = self.entered(&seen.train);
         let calls = self.calls(seen, &entered);

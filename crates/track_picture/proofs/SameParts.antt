@@ -1,6 +1,6 @@
 -- What is known of a life by the facts that count is what the lists of its parts give: so what stands for the one stands
 -- for the other.
-use Rattle.std.proofs.Common.{◌≡◌, ℤ, Bool, true, false, List, [], ◌∷◌, Option, Some, None, refl, ap, sym, ◌∙◌}
+use Rattle.std.proofs.Common.{◌≡◌, Bool, true, false, List, [], ◌∷◌, Option, Some, None, refl, ap, sym, ◌∙◌}
 use Rattle.std.specs.Prelude.{◌||◌, ◌==◌}
 use Rattle.std.specs.List.{list_any}
 use Rattle.std.specs.Option.{option_map, option_map_or}
@@ -14,10 +14,8 @@ use Rattle.national.specs.InForce as national
 use Rattle.odometry.specs.Place as odometry
 use Rattle.packets.specs.Packets.{as_movement_authority}
 use Rattle.packets.specs.declared.authority.MovementAuthority.{MovementAuthority}
-use Rattle.speed_profile.specs.declared.told.CategorySpeeds.{CategorySpeeds}
 use Rattle.std.specs.Prelude.{not, filter}
 use Rattle.track_store.specs.Facts as profiles
-use Rattle.track_store.specs.Profiles.{Profile}
 use Rattle.track_picture.specs.Entry.{TrackEntry, Begun, Fact, Outcome, nothing, facts_in}
 use Rattle.track_picture.specs.Happenings.{happenings}
 use Rattle.track_picture.specs.Parts.{newest, granted_in, looks_in, looked, acceptance, authorities_in}
@@ -28,6 +26,7 @@ use Rattle.track_picture.specs.Sentences as sentences
 use Rattle.track_picture.specs.StandsFor.{Life, Knowledge, StandsForLife, parts_of, national_of}
 use Rattle.track_picture.specs.Columns as columns
 use Rattle.track_picture.specs.Columns.{StandsForColumns, columns_of, after_facts, after_told, after_stop}
+use Rattle.track_picture.specs.Stores.{Stores}
 use Rattle.track_picture.proofs.Profile.{gradients_are_live, speeds_are_live}
 use Rattle.track_picture.proofs.Mark.{mark_is_read}
 use Rattle.track_picture.proofs.Granted.{newest_listed, granted_all, looks_all, moment_all}
@@ -139,8 +138,8 @@ same_gradients events = (λ i. profiles.profile_of (record { mark = mark_is_read
 same_speeds : (events : List TrackEntry) → picture.speeds_of events ≡ columns.speeds_of events
 same_speeds events = (λ i. profiles.profile_of (record { mark = mark_is_read events i; facts = speeds_are_live events i }))
 
-module _ {G S : Type 0} {gradients_in : G → Profile ℤ} {speeds_in : S → Profile CategorySpeeds} {known : Knowledge G S} where
-  pub by_columns : (life : Life) → StandsForLife gradients_in speeds_in known life → StandsForColumns gradients_in speeds_in known life
+module _ {G S : Type 0} {stores : Stores G S} {known : Knowledge G S} where
+  pub by_columns : (life : Life) → StandsForLife stores known life → StandsForColumns stores known life
   by_columns life s = record {
     parts_are = s.parts_are ∙ same_parts life;
     restrictions_are = s.restrictions_are ∙ restrictions_are_live life.entries;
@@ -148,7 +147,7 @@ module _ {G S : Type 0} {gradients_in : G → Profile ℤ} {speeds_in : S → Pr
     speeds_are = s.speeds_are ∙ same_speeds life.entries;
   }
 
-  pub by_facts : (life : Life) → StandsForColumns gradients_in speeds_in known life → StandsForLife gradients_in speeds_in known life
+  pub by_facts : (life : Life) → StandsForColumns stores known life → StandsForLife stores known life
   by_facts life s = record {
     parts_are = s.parts_are ∙ sym (same_parts life);
     restrictions_are = s.restrictions_are ∙ sym (restrictions_are_live life.entries);

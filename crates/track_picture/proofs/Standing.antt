@@ -1,15 +1,22 @@
 -- What stands for a life, by what is inside.
-use Rattle.std.proofs.Common.{◌≡◌, ℤ, sym, subst}
-use Rattle.track_store.specs.Profiles.{Profile}
-use Rattle.speed_profile.specs.declared.told.CategorySpeeds.{CategorySpeeds}
+use Rattle.std.proofs.Common.{◌≡◌, ap, sym, subst}
 use Rattle.track_picture.specs.StandsFor.{Knowledge, Life, StandsForLife}
 use Rattle.track_picture.specs.Columns.{StandsForColumns}
+use Rattle.track_picture.specs.Stores.{Stores}
 
-module _ {G S : Type 0} {gradients_in : G → Profile ℤ} {speeds_in : S → Profile CategorySpeeds} where
+-- what two stores give, where these are the same
+module _ {G S : Type 0} {stores other : Stores G S} (are : stores ≡ other) where
+  pub gradients_as : (kept : G) → stores.gradients kept ≡ other.gradients kept
+  gradients_as kept = ap (λ (s : Stores G S). s.gradients kept) are
+
+  pub speeds_as : (kept : S) → stores.speeds kept ≡ other.speeds kept
+  speeds_as kept = ap (λ (s : Stores G S). s.speeds kept) are
+
+module _ {G S : Type 0} {stores : Stores G S} where
   pub seen : {inside known : Knowledge G S} {life : Life} →
-      inside ≡ known → StandsForLife gradients_in speeds_in known life → StandsForLife gradients_in speeds_in inside life
-  seen {life = life} is s = subst (λ k. StandsForLife gradients_in speeds_in k life) (sym is) s
+      inside ≡ known → StandsForLife stores known life → StandsForLife stores inside life
+  seen {life = life} is s = subst (λ k. StandsForLife stores k life) (sym is) s
 
   pub seen_columns : {inside known : Knowledge G S} {life : Life} →
-      inside ≡ known → StandsForColumns gradients_in speeds_in known life → StandsForColumns gradients_in speeds_in inside life
-  seen_columns {life = life} is s = subst (λ k. StandsForColumns gradients_in speeds_in k life) (sym is) s
+      inside ≡ known → StandsForColumns stores known life → StandsForColumns stores inside life
+  seen_columns {life = life} is s = subst (λ k. StandsForColumns stores k life) (sym is) s

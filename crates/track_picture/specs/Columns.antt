@@ -48,6 +48,7 @@ use Rattle.track_picture.specs.Live.{is_deleted, restriction_of}
 use Rattle.track_picture.specs.History.{place_of, group_of_fix, speed_of, groups_of, moment_of, happened_of}
 use Rattle.track_picture.specs.Sentences.{alone, with_path, closed_by}
 use Rattle.track_picture.specs.StandsFor.{Life, KnownTrack, Knowledge, grown_so_far}
+use Rattle.track_picture.specs.Stores.{Stores}
 
 -- ---- what the mode that an event enters deletes
 
@@ -277,11 +278,11 @@ columns_of life =
       stopped = is_stopped life.entries;
     }
 
-pub record StandsForColumns {G S : Type 0} (gradients_in : G → Profile ℤ) (speeds_in : S → Profile CategorySpeeds) (known : Knowledge G S) (life : Life) : Type 0 where
+pub record StandsForColumns {G S : Type 0} (stores : Stores G S) (known : Knowledge G S) (life : Life) : Type 0 where
   pub parts_are : known.parts ≡ columns_of life
   pub restrictions_are : known.restrictions.track ≡ track.in_force (restrictions life.entries)
-  pub gradients_are : gradients_in known.gradients ≡ gradients_of life.entries
-  pub speeds_are : speeds_in known.speeds ≡ speeds_of life.entries
+  pub gradients_are : stores.gradients known.gradients ≡ gradients_of life.entries
+  pub speeds_are : stores.speeds known.speeds ≡ speeds_of life.entries
 
 -- ---- a movement, by the announced groups that are left in these lists
 

@@ -7,6 +7,7 @@ pub mod Parts
 pub mod History
 pub mod Sentences
 pub mod Steps
+pub mod Stores
 pub mod StandsFor
 pub mod Ending
 pub mod Columns

@@ -1,5 +1,5 @@
 -- What is known represents a life (this project's profile). Places are centimetres, moments milliseconds.
-use Rattle.std.specs.Prelude.{◌≡◌, ℕ, ◌+◌, min, ℤ, Bool, Option, List, ◌∷◌}
+use Rattle.std.specs.Prelude.{◌≡◌, ℕ, ◌+◌, min, Bool, Option, List, ◌∷◌}
 use Rattle.areas.specs.declared.announcement.Announcement.{Announcement as AnnouncedLevel}
 use Rattle.areas.specs.declared.area.Area.{Area}
 use Rattle.authority.specs.Known.{KnownAuthority as Authority}
@@ -8,8 +8,6 @@ use Rattle.linking.specs.Linking as linking
 use Rattle.national.specs.InForce as national
 use Rattle.national.specs.Values.{ValuesFor}
 use Rattle.odometry.specs.Place as odometry
-use Rattle.speed_profile.specs.declared.told.CategorySpeeds.{CategorySpeeds}
-use Rattle.track_store.specs.Profiles.{Profile}
 use Rattle.track_store.specs.Restrictions as track
 use Rattle.vars.specs.declared.group.GroupIdentity.{GroupIdentity}
 use Rattle.track_picture.specs.declared.happened.Happened.{Happened}
@@ -17,6 +15,7 @@ use Rattle.track_picture.specs.Entry.{TrackEntry, Begun, Used, blank}
 use Rattle.track_picture.specs.History.{place_of, group_of_fix, speed_of, groups_of, links_of, restrictions_of, moment_of, authority_of, areas_of, announced_level, gradients_of, speeds_of, happened_of, is_stopped}
 use Rattle.track_picture.specs.Happenings.{happenings}
 use Rattle.track_picture.specs.Parts.{national_in}
+use Rattle.track_picture.specs.Stores.{Stores}
 
 -- the national values that were kept as the life began, and what its events brought, the newest first
 pub record Life : Type 0 where
@@ -67,21 +66,21 @@ parts_of life =
     }
 
 -- It represents a life; what the two stores give is read off them so.
-pub record StandsForLife {G S : Type 0} (gradients_in : G → Profile ℤ) (speeds_in : S → Profile CategorySpeeds) (known : Knowledge G S) (life : Life) : Type 0 where
+pub record StandsForLife {G S : Type 0} (stores : Stores G S) (known : Knowledge G S) (life : Life) : Type 0 where
   pub parts_are : known.parts ≡ parts_of life
   pub restrictions_are : known.restrictions.track ≡ restrictions_of life.entries
-  pub gradients_are : gradients_in known.gradients ≡ gradients_of life.entries
-  pub speeds_are : speeds_in known.speeds ≡ speeds_of life.entries
+  pub gradients_are : stores.gradients known.gradients ≡ gradients_of life.entries
+  pub speeds_are : stores.speeds known.speeds ≡ speeds_of life.entries
 
 -- for how many packets there is room in all of them
-abbrev pub room_in : {G S : Type 0} → (G → ℕ) → (S → ℕ) → Knowledge G S → ℕ
-room_in gradients_room speeds_room known =
-    min known.restrictions.room (min (gradients_room known.gradients) (speeds_room known.speeds))
+abbrev pub room_in : {G S : Type 0} → Stores G S → Knowledge G S → ℕ
+room_in stores known =
+    min known.restrictions.room (min (stores.gradients_room known.gradients) (stores.speeds_room known.speeds))
 
 -- how many restrictions and pieces of profiles it keeps or has room for
-abbrev pub size_in : {G S : Type 0} → (G → ℕ) → (S → ℕ) → Knowledge G S → ℕ
-size_in gradients_size speeds_size known =
-    track.size_of known.restrictions + (gradients_size known.gradients + speeds_size known.speeds)
+abbrev pub size_in : {G S : Type 0} → Stores G S → Knowledge G S → ℕ
+size_in stores known =
+    track.size_of known.restrictions + (stores.gradients_size known.gradients + stores.speeds_size known.speeds)
 
 -- the restrictions and profiles are the same, with their room
 pub record SameTrack {G S : Type 0} (old new : Knowledge G S) : Type 0 where

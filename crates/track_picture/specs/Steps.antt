@@ -12,6 +12,7 @@ use Rattle.track_picture.specs.Bytes.{telegram_in}
 use Rattle.track_picture.specs.Entry.{Fact}
 use Rattle.track_picture.specs.Sentences.{is_used}
 use Rattle.track_picture.specs.StandsFor.{KnownTrack, Knowledge, room_in}
+use Rattle.track_picture.specs.Stores.{Stores}
 
 -- a packet that is used so, and all that are used of a message
 abbrev pub fact_of : Use → Packet → Fact
@@ -34,5 +35,5 @@ packets_by known (Clock moment) = 0
 packets_by known (Driver action) = 0
 
 -- there is room for them
-abbrev pub HasRoomFor : {G S : Type 0} → (G → ℕ) → (S → ℕ) → Knowledge G S → Input → Type 0
-HasRoomFor gradients_room speeds_room known input = packets_by known.parts input ≤ room_in gradients_room speeds_room known
+abbrev pub HasRoomFor : {G S : Type 0} → Stores G S → Knowledge G S → Input → Type 0
+HasRoomFor stores known input = packets_by known.parts input ≤ room_in stores known

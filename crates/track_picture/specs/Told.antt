@@ -13,11 +13,11 @@ use Rattle.national.specs.InForce as national
 use Rattle.national.specs.Values.{ValuesFor}
 use Rattle.speed_profile.specs.declared.told.CategorySpeeds.{CategorySpeeds}
 use Rattle.track_store.specs.Facts as profiles
-use Rattle.track_store.specs.Profiles.{Profile}
 use Rattle.track_store.specs.Restrictions as track
 use Rattle.track_picture.specs.Entry.{Fact}
 use Rattle.track_picture.specs.Columns.{after_values, after_links, after_authority, after_stop, after_grant, after_areas, after_level, after_gradients, after_speeds, after_restriction, after_revocation}
 use Rattle.track_picture.specs.StandsFor.{KnownTrack, Knowledge}
+use Rattle.track_picture.specs.Stores.{Stores}
 
 -- what the parts took that packets concern, and what the others know
 pub record TrackTold : Type 0 where
@@ -46,12 +46,12 @@ known_of told =
     }
 
 -- the state is what was taken
-pub record IsTold {G S : Type 0} (gradients_in : G → Profile ℤ) (speeds_in : S → Profile CategorySpeeds) (known : Knowledge G S) (told : TrackTold) : Type 0 where
+pub record IsTold {G S : Type 0} (stores : Stores G S) (known : Knowledge G S) (told : TrackTold) : Type 0 where
   pub parts_are : known.parts ≡ known_of told
   pub restrictions_are : known.restrictions.track ≡ track.in_force told.restrictions
   pub mark_is : track.mark_of told.restrictions ≡ told.mark
-  pub gradients_are : gradients_in known.gradients ≡ profiles.profile_of (record { mark = told.mark; facts = told.gradients })
-  pub speeds_are : speeds_in known.speeds ≡ profiles.profile_of (record { mark = told.mark; facts = told.speeds })
+  pub gradients_are : stores.gradients known.gradients ≡ profiles.profile_of (record { mark = told.mark; facts = told.gradients })
+  pub speeds_are : stores.speeds known.speeds ≡ profiles.profile_of (record { mark = told.mark; facts = told.speeds })
 
 -- what a packet brings in the first walk
 abbrev pub after_earlier : Fact → TrackTold → TrackTold

@@ -3,6 +3,7 @@ ghost use Rattle.std.specs.Prelude.{◌≡◌};
 
 use crate::happened::Happened;
 use crate::state::TracksideOver;
+use crate::stores::ProfileStores;
 use areas::{AnnouncedLevel, Areas};
 use authority::Authority;
 use national::National;
@@ -11,7 +12,7 @@ use track_store::Restrictions;
 use units::{Mph, Ms};
 use vars::GroupIdentity;
 
-impl<G, S> TracksideOver<G, S> {
+impl<T: ProfileStores> TracksideOver<T> {
     /// Where the train is.
     pub fn place(&self) -> Place
         ensures { result ≡ self.now.parts.place }
@@ -90,14 +91,14 @@ impl<G, S> TracksideOver<G, S> {
     }
 
     /// The gradients, in per mille.
-    pub fn gradients(&self) -> &G
+    pub fn gradients(&self) -> &T::Gradients
         ensures { result.now ≡ self.now.gradients }
     {
         &self.gradients
     }
 
     /// The static speeds.
-    pub fn speeds(&self) -> &S
+    pub fn speeds(&self) -> &T::Speeds
         ensures { result.now ≡ self.now.speeds }
     {
         &self.speeds

@@ -16,13 +16,11 @@ ghost use Rattle.track_picture.specs.Columns.{StandsForColumns, columns_of};
 
 use crate::parts::Parts;
 use crate::state::TracksideOver;
+use crate::stores::ProfileStores;
 use crate::using::{Earlier, Later, Use, take_all};
 use balise_groups::{Broken, Closed, GroupPackets, Message};
 use linking::{Announcement, GroupRead, Verdict};
 use mode_table::Mode;
-use speed_profile::CategorySpeeds;
-use track_store::ProfileStore;
-use units::Permille;
 use vars::LinkOrientation;
 
 impl Parts {
@@ -59,31 +57,31 @@ impl Parts {
     }
 }
 
-impl<G: ProfileStore<Permille> + Drop, S: ProfileStore<CategorySpeeds> + Drop> TracksideOver<G, S> {
+impl<T: ProfileStores> TracksideOver<T> {
     // The packets of an accepted group are used: in rising number, equal numbers in the order of the message. A message
     // without a packet for the second walk is read once. There is room for them, so that no memory is taken; so it is
     // up to `close`.
     fn take_packets(&mut self, packets: &GroupPackets, used: &Use)
-        requires { length packets.now ≤ room_in G.room S.room self.old }
+        requires { length packets.now ≤ room_in T.stores self.old }
         ensures stands { (life : Life) (begun : Begun) (groups : Used) (message : Message) (announced : Option Announcement) (fix : Option Fix)
-            → StandsForColumns G.profile S.profile self.old (grown_so_far life begun (added (Accepted message announced fix []) groups))
-            → StandsForColumns G.profile S.profile self.new (grown_so_far life begun (added (Accepted message announced fix (facts used.now packets.now)) groups)) }
-        ensures room { room_in G.room S.room self.old ≤ room_in G.room S.room self.new + length packets.now }
+            → StandsForColumns T.stores self.old (grown_so_far life begun (added (Accepted message announced fix []) groups))
+            → StandsForColumns T.stores self.new (grown_so_far life begun (added (Accepted message announced fix (facts used.now packets.now)) groups)) }
+        ensures room { room_in T.stores self.old ≤ room_in T.stores self.new + length packets.now }
         ensures idle { length packets.now ≡ 0 → SameTrack self.old self.new }
     {
-        if take_all::<TracksideOver<G, S>, Earlier>(self, packets, used) {
-            take_all::<TracksideOver<G, S>, Later>(self, packets, used);
+        if take_all::<TracksideOver<T>, Earlier>(self, packets, used) {
+            take_all::<TracksideOver<T>, Later>(self, packets, used);
         }
     }
 
     // An accepted group is used.
     fn accept(&mut self, mode: Mode, message: &Message, announced: &Option<Announcement>)
-        requires { length message.now.packets ≤ room_in G.room S.room self.old }
+        requires { length message.now.packets ≤ room_in T.stores self.old }
         ensures stands { (life : Life) (begun : Begun) (used : Used)
             → (let judged_only = record blank { begun = begun; used = added (Accepted message.now announced.now None []) used } in
-            StandsForColumns G.profile S.profile self.old (grown life judged_only)
-            → StandsForColumns G.profile S.profile self.new (grown_so_far life begun (added (accepted mode (judged_only ∷ life.entries) message.now announced.now) used))) }
-        ensures room { room_in G.room S.room self.old ≤ room_in G.room S.room self.new + length message.now.packets }
+            StandsForColumns T.stores self.old (grown life judged_only)
+            → StandsForColumns T.stores self.new (grown_so_far life begun (added (accepted mode (judged_only ∷ life.entries) message.now announced.now) used))) }
+        ensures room { room_in T.stores self.old ≤ room_in T.stores self.new + length message.now.packets }
         ensures idle { length message.now.packets ≡ 0 → SameTrack self.old self.new }
     {
         let free = self.is_free();
@@ -100,12 +98,12 @@ impl<G: ProfileStore<Permille> + Drop, S: ProfileStore<CategorySpeeds> + Drop> T
 
     // A whole group that was judged: one that is accepted is used.
     fn follow(&mut self, mode: Mode, message: &Message, verdict: Verdict)
-        requires { length message.now.packets ≤ room_in G.room S.room self.old }
+        requires { length message.now.packets ≤ room_in T.stores self.old }
         ensures stands { (life : Life) (begun : Begun) (used : Used)
             → (let judged_only = record blank { begun = begun; used = added (outcome_at_first message.now verdict) used } in
-            StandsForColumns G.profile S.profile self.old (grown life judged_only)
-            → StandsForColumns G.profile S.profile self.new (grown_so_far life begun (added (outcome mode (judged_only ∷ life.entries) message.now verdict) used))) }
-        ensures room { room_in G.room S.room self.old ≤ room_in G.room S.room self.new + length message.now.packets }
+            StandsForColumns T.stores self.old (grown life judged_only)
+            → StandsForColumns T.stores self.new (grown_so_far life begun (added (outcome mode (judged_only ∷ life.entries) message.now verdict) used))) }
+        ensures room { room_in T.stores self.old ≤ room_in T.stores self.new + length message.now.packets }
         ensures idle { length message.now.packets ≡ 0 → SameTrack self.old self.new }
     {
         match verdict {
@@ -116,10 +114,10 @@ impl<G: ProfileStore<Permille> + Drop, S: ProfileStore<CategorySpeeds> + Drop> T
 
     // A whole group.
     fn close_whole(&mut self, mode: Mode, message: &Message)
-        requires { length message.now.packets ≤ room_in G.room S.room self.old }
-        ensures stands { (life : Life) (begun : Begun) (used : Used) → StandsForColumns G.profile S.profile self.old (grown_so_far life begun used)
-            → StandsForColumns G.profile S.profile self.new (grown_so_far life begun (after_group mode life.entries begun used (closed.Whole message.now))) }
-        ensures room { room_in G.room S.room self.old ≤ room_in G.room S.room self.new + length message.now.packets }
+        requires { length message.now.packets ≤ room_in T.stores self.old }
+        ensures stands { (life : Life) (begun : Begun) (used : Used) → StandsForColumns T.stores self.old (grown_so_far life begun used)
+            → StandsForColumns T.stores self.new (grown_so_far life begun (after_group mode life.entries begun used (closed.Whole message.now))) }
+        ensures room { room_in T.stores self.old ≤ room_in T.stores self.new + length message.now.packets }
         ensures idle { length message.now.packets ≡ 0 → SameTrack self.old self.new }
     {
         let verdict = self.parts.judge(message);
@@ -129,10 +127,10 @@ impl<G: ProfileStore<Permille> + Drop, S: ProfileStore<CategorySpeeds> + Drop> T
     // A group that closed. It stands out of line, since few events close one.
     #[inline(never)]
     fn close_one(&mut self, mode: Mode, group: &Closed)
-        requires { packets_of_closed (Some group.now) ≤ room_in G.room S.room self.old }
-        ensures stands { (life : Life) (begun : Begun) (used : Used) → StandsForColumns G.profile S.profile self.old (grown_so_far life begun used)
-            → StandsForColumns G.profile S.profile self.new (grown_so_far life begun (after_group mode life.entries begun used group.now)) }
-        ensures room { room_in G.room S.room self.old ≤ room_in G.room S.room self.new + packets_of_closed (Some group.now) }
+        requires { packets_of_closed (Some group.now) ≤ room_in T.stores self.old }
+        ensures stands { (life : Life) (begun : Begun) (used : Used) → StandsForColumns T.stores self.old (grown_so_far life begun used)
+            → StandsForColumns T.stores self.new (grown_so_far life begun (after_group mode life.entries begun used group.now)) }
+        ensures room { room_in T.stores self.old ≤ room_in T.stores self.new + packets_of_closed (Some group.now) }
         ensures idle { packets_of_closed (Some group.now) ≡ 0 → SameTrack self.old self.new }
     {
         match group {
@@ -143,10 +141,10 @@ impl<G: ProfileStore<Permille> + Drop, S: ProfileStore<CategorySpeeds> + Drop> T
 
     /// A group that closed, if one did.
     pub(crate) fn close(&mut self, mode: Mode, group: &Option<Closed>)
-        requires { packets_of_closed group.now ≤ room_in G.room S.room self.old }
-        ensures stands { (life : Life) (begun : Begun) (used : Used) → StandsForColumns G.profile S.profile self.old (grown_so_far life begun used)
-            → StandsForColumns G.profile S.profile self.new (grown_so_far life begun (with_closed mode life.entries begun group.now used)) }
-        ensures room { room_in G.room S.room self.old ≤ room_in G.room S.room self.new + packets_of_closed group.now }
+        requires { packets_of_closed group.now ≤ room_in T.stores self.old }
+        ensures stands { (life : Life) (begun : Begun) (used : Used) → StandsForColumns T.stores self.old (grown_so_far life begun used)
+            → StandsForColumns T.stores self.new (grown_so_far life begun (with_closed mode life.entries begun group.now used)) }
+        ensures room { room_in T.stores self.old ≤ room_in T.stores self.new + packets_of_closed group.now }
         ensures idle { packets_of_closed group.now ≡ 0 → SameTrack self.old self.new }
     {
         match group {

@@ -17,13 +17,12 @@ ghost use Rattle.track_picture.specs.StandsFor.{Life, StandsForLife, grown, size
 
 use crate::parts::Parts;
 use crate::state::TracksideOver;
+use crate::stores::ProfileStores;
 use areas::{AnnouncedLevel, Areas};
 use authority::Authority;
 use linking::Links;
 use mode_table::{Fate, Item, Mode, status_on};
-use speed_profile::CategorySpeeds;
 use track_store::ProfileStore;
-use units::Permille;
 
 // Whether a mode deletes an item that is entered.
 fn is_deleted(item: Item, mode: Mode) -> bool
@@ -91,12 +90,12 @@ impl Parts {
     }
 }
 
-impl<G: ProfileStore<Permille> + Drop, S: ProfileStore<CategorySpeeds> + Drop> TracksideOver<G, S> {
+impl<T: ProfileStores> TracksideOver<T> {
     /// Another mode is entered: what the table of statuses deletes there is deleted.
     pub fn enter(&mut self, mode: Mode)
-        ensures stands { (life : Life) (event : TrackEntry) → StandsForLife G.profile S.profile self.old (grown life (record event { entered = None }))
-            → StandsForLife G.profile S.profile self.new (grown life (record event { entered = Some mode })) }
-        ensures size { size_in G.size S.size self.new ≤ size_in G.size S.size self.old }
+        ensures stands { (life : Life) (event : TrackEntry) → StandsForLife T.stores self.old (grown life (record event { entered = None }))
+            → StandsForLife T.stores self.new (grown life (record event { entered = Some mode })) }
+        ensures size { size_in T.stores self.new ≤ size_in T.stores self.old }
     {
         self.parts.enter(mode);
         leave_profile(&mut self.gradients, mode);

@@ -10,12 +10,12 @@ ghost use Rattle.track_picture.specs.Columns.{columns_of};
 
 use crate::parts::Parts;
 use crate::state::TracksideOver;
+use crate::stores::ProfileStores;
 use balise_groups::Message;
 use linking::Announcement;
 use odometry::Fix;
-use speed_profile::CategorySpeeds;
-use track_store::{ProfileStore, is_known};
-use units::{Cm, GroupPlace, Length, Permille};
+use track_store::is_known;
+use units::{Cm, GroupPlace, Length};
 use vars::Variable;
 
 // Where a group is to be fixed, and how exactly that is known.
@@ -61,10 +61,10 @@ impl Parts {
     }
 }
 
-impl<G: ProfileStore<Permille> + Drop, S: ProfileStore<CategorySpeeds> + Drop> TracksideOver<G, S> {
+impl<T: ProfileStores> TracksideOver<T> {
     /// Whether a group that wasn't announced makes a fix: nothing is known that lies at places of its own.
     pub(crate) fn is_free(&self) -> bool
-        ensures { (life : Life) → StandsForLife G.profile S.profile self.now life → result ≡ is_free life.entries }
+        ensures { (life : Life) → StandsForLife T.stores self.now life → result ≡ is_free life.entries }
     {
         let announced = self.parts.links.is_in_use();
         let authorised = self.parts.authority.is_stored();

@@ -16,6 +16,7 @@ mod parts;
 mod receiving;
 mod rooms;
 mod state;
+mod stores;
 mod using;
 
 pub use ending::{
@@ -25,3 +26,4 @@ pub use ending::{
 pub use happened::Happened;
 pub use laws::telegrams_are_carried;
 pub use state::{Trackside, TracksideOver};
+pub use stores::{Facts, ProfileStores, Segments};

@@ -10,10 +10,10 @@ ghost use Rattle.track_picture.specs.Columns.{StandsForColumns, columns_of};
 
 use crate::parts::Parts;
 use crate::state::TracksideOver;
+use crate::stores::ProfileStores;
 use mode_table::TrainLevel;
-use speed_profile::CategorySpeeds;
 use track_store::ProfileStore;
-use units::{Cm, Length, Permille, Stretch};
+use units::{Cm, Length, Stretch};
 
 /// How much track behind the minimum safe rear isn't forgotten, in centimetres.
 const REMEMBERED: i64 = 100_000;
@@ -41,19 +41,19 @@ impl Parts {
     }
 }
 
-impl<G: ProfileStore<Permille> + Drop, S: ProfileStore<CategorySpeeds> + Drop> TracksideOver<G, S> {
+impl<T: ProfileStores> TracksideOver<T> {
     /// The look at a train of some length (0 where it isn't known), once an event: the authority's timers see where it
     /// is, and national values and the level that are announced come into force where the maximum safe front has
     /// reached their places. Answers the level that does.
     pub fn look(&mut self, length: Length) -> Option<TrainLevel>
         ensures level { (life : Life) (event : TrackEntry)
             → (let now = grown life (record event { train = None; entered = None }) in
-            StandsForLife G.profile S.profile self.old now → result ≡ coming (span_with length now.entries).max_front (announced_level now.entries)) }
+            StandsForLife T.stores self.old now → result ≡ coming (span_with length now.entries).max_front (announced_level now.entries)) }
         ensures stands { (life : Life) (event : TrackEntry)
             → (let now = grown life (record event { train = None; entered = None }) in
-            StandsForLife G.profile S.profile self.old now
-            → StandsForLife G.profile S.profile self.new (grown life (record event { train = Some (span_with length now.entries); entered = None }))) }
-        ensures size { size_in G.size S.size self.new ≡ size_in G.size S.size self.old }
+            StandsForLife T.stores self.old now
+            → StandsForLife T.stores self.new (grown life (record event { train = Some (span_with length now.entries); entered = None }))) }
+        ensures size { size_in T.stores self.new ≡ size_in T.stores self.old }
     {
         let stretch = self.parts.place.stretch(length);
         self.parts.look(&stretch)
@@ -61,9 +61,9 @@ impl<G: ProfileStore<Permille> + Drop, S: ProfileStore<CategorySpeeds> + Drop> T
 
     // The track before a place is forgotten. Where the forgetting mark stays, both profiles have nothing before it.
     fn forget_before(&mut self, mark: Cm)
-        ensures stands { (life : Life) (event : TrackEntry) → StandsForColumns G.profile S.profile self.old (grown life (record event { mark = None }))
-            → StandsForColumns G.profile S.profile self.new (grown life (record event { mark = Some mark })) }
-        ensures size { size_in G.size S.size self.new ≤ size_in G.size S.size self.old }
+        ensures stands { (life : Life) (event : TrackEntry) → StandsForColumns T.stores self.old (grown life (record event { mark = None }))
+            → StandsForColumns T.stores self.new (grown life (record event { mark = Some mark })) }
+        ensures size { size_in T.stores self.new ≤ size_in T.stores self.old }
     {
         let moves = self.restrictions.mark() < mark;
         self.restrictions.drop_behind(mark);
@@ -78,9 +78,9 @@ impl<G: ProfileStore<Permille> + Drop, S: ProfileStore<CategorySpeeds> + Drop> T
     pub fn forget(&mut self, length: Length)
         ensures stands { (life : Life) (event : TrackEntry)
             → (let now = grown life (record event { mark = None }) in
-            StandsForLife G.profile S.profile self.old now
-            → StandsForLife G.profile S.profile self.new (grown life (record event { mark = Some (mark_behind (span_with length now.entries)) }))) }
-        ensures size { size_in G.size S.size self.new ≤ size_in G.size S.size self.old }
+            StandsForLife T.stores self.old now
+            → StandsForLife T.stores self.new (grown life (record event { mark = Some (mark_behind (span_with length now.entries)) }))) }
+        ensures size { size_in T.stores self.new ≤ size_in T.stores self.old }
     {
         let stretch = self.parts.place.stretch(length);
         self.forget_before(mark_behind(&stretch));

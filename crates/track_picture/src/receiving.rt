@@ -14,13 +14,12 @@ ghost use Rattle.track_picture.specs.Steps.{packets_by, HasRoomFor};
 use crate::happened::Happened;
 use crate::parts::Parts;
 use crate::state::TracksideOver;
+use crate::stores::ProfileStores;
 use balise_groups::{Closed, Reading as GroupReading};
 use events::{Input, Reading};
 use mode_table::Mode;
-use speed_profile::CategorySpeeds;
 use telegram::Received;
-use track_store::ProfileStore;
-use units::{Ms, NoMemory, Permille};
+use units::{Ms, NoMemory};
 
 impl Parts {
     // An event begins.
@@ -96,13 +95,13 @@ impl Parts {
     }
 }
 
-impl<G: ProfileStore<Permille> + Drop, S: ProfileStore<CategorySpeeds> + Drop> TracksideOver<G, S> {
+impl<T: ProfileStores> TracksideOver<T> {
     // A movement while a group is being read, and the group that closes by it. There is room for its packets.
     fn move_on(&mut self, mode: Mode, reading: &Reading)
-        requires { packets_in self.old.parts.groups.readings ≤ room_in G.room S.room self.old }
+        requires { packets_in self.old.parts.groups.readings ≤ room_in T.stores self.old }
         ensures idle { packets_in self.old.parts.groups.readings ≡ 0 → SameTrack self.old self.new }
-        ensures stands { (life : Life) → StandsForColumns G.profile S.profile self.old life
-            → StandsForColumns G.profile S.profile self.new (grown_so_far life (moved life.entries reading.now)
+        ensures stands { (life : Life) → StandsForColumns T.stores self.old life
+            → StandsForColumns T.stores self.new (grown_so_far life (moved life.entries reading.now)
             (with_groups mode life.entries (moved life.entries reading.now) (happened_by life.entries reading.now))) }
     {
         if self.parts.go(reading) {
@@ -113,10 +112,10 @@ impl<G: ProfileStore<Permille> + Drop, S: ProfileStore<CategorySpeeds> + Drop> T
 
     // A movement, and the group that closed by it. Where memory is refused, nothing changes.
     fn move_by(&mut self, mode: Mode, reading: &Reading) -> Result<(), NoMemory>
-        ensures quiet { HasRoomFor G.room S.room self.old (inputs.Odometer reading.now) → IsOk result }
+        ensures quiet { HasRoomFor T.stores self.old (inputs.Odometer reading.now) → IsOk result }
         ensures idle { packets_by self.old.parts (inputs.Odometer reading.now) ≡ 0 → OnOk result (SameTrack self.old self.new) }
-        ensures stands { OnOk result ((life : Life) → StandsForColumns G.profile S.profile self.old life
-            → StandsForColumns G.profile S.profile self.new (grown_so_far life (moved life.entries reading.now)
+        ensures stands { OnOk result ((life : Life) → StandsForColumns T.stores self.old life
+            → StandsForColumns T.stores self.new (grown_so_far life (moved life.entries reading.now)
             (with_groups mode life.entries (moved life.entries reading.now) (happened_by life.entries reading.now)))) }
         ensures err { OnErr result (self.new ≡ self.old) }
     {
@@ -133,10 +132,10 @@ impl<G: ProfileStore<Permille> + Drop, S: ProfileStore<CategorySpeeds> + Drop> T
     // A telegram: the group that it ends closes, and behind that its own where that is whole now. There is room for the
     // packets of both.
     fn take(&mut self, mode: Mode, telegram: Received)
-        requires { packets_in self.old.parts.groups.readings + length telegram.packets.items ≤ room_in G.room S.room self.old }
+        requires { packets_in self.old.parts.groups.readings + length telegram.packets.items ≤ room_in T.stores self.old }
         ensures idle { packets_in self.old.parts.groups.readings + length telegram.packets.items ≡ 0 → SameTrack self.old self.new }
-        ensures stands { (life : Life) (bytes : List ℕ) → StandsForColumns G.profile S.profile self.old life → telegram_in bytes ≡ Some telegram
-            → StandsForColumns G.profile S.profile self.new (grown_so_far life (heard life.entries bytes)
+        ensures stands { (life : Life) (bytes : List ℕ) → StandsForColumns T.stores self.old life → telegram_in bytes ≡ Some telegram
+            → StandsForColumns T.stores self.new (grown_so_far life (heard life.entries bytes)
             (with_groups mode life.entries (heard life.entries bytes) nothing_happened)) }
     {
         let mut ended = None;
@@ -150,10 +149,10 @@ impl<G: ProfileStore<Permille> + Drop, S: ProfileStore<CategorySpeeds> + Drop> T
     // for groups. Where memory is refused, nothing changes.
     #[inline(never)]
     fn read(&mut self, mode: Mode, telegram: Received) -> Result<(), NoMemory>
-        ensures quiet { packets_in self.old.parts.groups.readings + length telegram.packets.items ≤ room_in G.room S.room self.old → IsOk result }
+        ensures quiet { packets_in self.old.parts.groups.readings + length telegram.packets.items ≤ room_in T.stores self.old → IsOk result }
         ensures idle { packets_in self.old.parts.groups.readings + length telegram.packets.items ≡ 0 → OnOk result (SameTrack self.old self.new) }
-        ensures stands { OnOk result ((life : Life) (bytes : List ℕ) → StandsForColumns G.profile S.profile self.old life → telegram_in bytes ≡ Some telegram
-            → StandsForColumns G.profile S.profile self.new (grown_so_far life (heard life.entries bytes)
+        ensures stands { OnOk result ((life : Life) (bytes : List ℕ) → StandsForColumns T.stores self.old life → telegram_in bytes ≡ Some telegram
+            → StandsForColumns T.stores self.new (grown_so_far life (heard life.entries bytes)
             (with_groups mode life.entries (heard life.entries bytes) nothing_happened))) }
         ensures err { OnErr result (self.new ≡ self.old) }
     {
@@ -165,10 +164,10 @@ impl<G: ProfileStore<Permille> + Drop, S: ProfileStore<CategorySpeeds> + Drop> T
 
     // The bytes of a balise. Those that carry no telegram do nothing.
     fn listen(&mut self, mode: Mode, bytes: &[u8]) -> Result<(), NoMemory>
-        ensures quiet { HasRoomFor G.room S.room self.old (inputs.Telegram bytes.now) → IsOk result }
+        ensures quiet { HasRoomFor T.stores self.old (inputs.Telegram bytes.now) → IsOk result }
         ensures idle { packets_by self.old.parts (inputs.Telegram bytes.now) ≡ 0 → OnOk result (SameTrack self.old self.new) }
-        ensures stands { OnOk result ((life : Life) → StandsForColumns G.profile S.profile self.old life
-            → StandsForColumns G.profile S.profile self.new (grown_so_far life (heard life.entries bytes.now)
+        ensures stands { OnOk result ((life : Life) → StandsForColumns T.stores self.old life
+            → StandsForColumns T.stores self.new (grown_so_far life (heard life.entries bytes.now)
             (with_groups mode life.entries (heard life.entries bytes.now) nothing_happened))) }
         ensures err { OnErr result (self.new ≡ self.old) }
     {
@@ -186,10 +185,10 @@ impl<G: ProfileStore<Permille> + Drop, S: ProfileStore<CategorySpeeds> + Drop> T
     /// memory is refused for it, nothing changes. Where there is room for them, none is refused. An input that uses no
     /// packet keeps no more track.
     pub fn receive(&mut self, mode: Mode, input: &Input) -> Result<(), NoMemory>
-        ensures quiet { HasRoomFor G.room S.room self.old input.now → IsOk result }
-        ensures idle { packets_by self.old.parts input.now ≡ 0 → OnOk result (size_in G.size S.size self.new ≡ size_in G.size S.size self.old) }
-        ensures stands { OnOk result ((life : Life) → StandsForLife G.profile S.profile self.old life
-            → StandsForLife G.profile S.profile self.new (grown life (received mode life.entries input.now))) }
+        ensures quiet { HasRoomFor T.stores self.old input.now → IsOk result }
+        ensures idle { packets_by self.old.parts input.now ≡ 0 → OnOk result (size_in T.stores self.new ≡ size_in T.stores self.old) }
+        ensures stands { OnOk result ((life : Life) → StandsForLife T.stores self.old life
+            → StandsForLife T.stores self.new (grown life (received mode life.entries input.now))) }
         ensures err { OnErr result (self.new ≡ self.old) }
     {
         match input {

@@ -4,14 +4,14 @@ ghost use Rattle.track_picture.specs.StandsFor.{Life, room_in};
 ghost use Rattle.track_picture.specs.Columns.{StandsForColumns};
 
 use crate::state::TracksideOver;
-use speed_profile::CategorySpeeds;
+use crate::stores::ProfileStores;
 use track_store::ProfileStore;
-use units::{NoMemory, Permille};
+use units::NoMemory;
 
-impl<G: ProfileStore<Permille> + Drop, S: ProfileStore<CategorySpeeds> + Drop> TracksideOver<G, S> {
+impl<T: ProfileStores> TracksideOver<T> {
     // For how many packets there is room.
     fn room(&self) -> usize
-        ensures { result ≡ room_in G.room S.room self.now }
+        ensures { result ≡ room_in T.stores self.now }
     {
         let profiles = self.gradients.room().min(self.speeds.room());
         self.restrictions.room().min(profiles)
@@ -20,12 +20,12 @@ impl<G: ProfileStore<Permille> + Drop, S: ProfileStore<CategorySpeeds> + Drop> T
     /// Makes room for so many packets, unless there is room for them: then, and where memory is refused, nothing
     /// changes.
     pub(crate) fn make_room(&mut self, packets: usize) -> Result<(), NoMemory>
-        ensures quiet { packets ≤ room_in G.room S.room self.old → IsOk result }
-        ensures same { packets ≤ room_in G.room S.room self.old → self.new ≡ self.old }
-        ensures room { OnOk result (packets ≤ room_in G.room S.room self.new) }
+        ensures quiet { packets ≤ room_in T.stores self.old → IsOk result }
+        ensures same { packets ≤ room_in T.stores self.old → self.new ≡ self.old }
+        ensures room { OnOk result (packets ≤ room_in T.stores self.new) }
         ensures parts { OnOk result (self.new.parts ≡ self.old.parts) }
-        ensures stands { OnOk result ((life : Life) → StandsForColumns G.profile S.profile self.old life
-            → StandsForColumns G.profile S.profile self.new life) }
+        ensures stands { OnOk result ((life : Life) → StandsForColumns T.stores self.old life
+            → StandsForColumns T.stores self.new life) }
         ensures err { OnErr result (self.new ≡ self.old) }
     {
         if packets <= self.room() {

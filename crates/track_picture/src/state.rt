@@ -3,45 +3,45 @@ ghost use Rattle.std.specs.Prelude.{◌≡◌, [], IsOk, IfOk};
 ghost use Rattle.track_picture.specs.StandsFor.{StandsForLife, size_in};
 
 use crate::parts::Parts;
+use crate::stores::{ProfileStores, Segments};
 use national::CountryValues;
-use speed_profile::CategorySpeeds;
 use std::alloc::Global;
 use std::marker::Model;
-use track_store::{ProfileStore, Restrictions, SegmentStore};
-use units::{NoMemory, Permille};
+use track_store::{ProfileStore, Restrictions};
+use units::NoMemory;
 
 /// What the track sent and where the train is, with stores for the gradients and the static speeds (this project's
 /// profile).
 #[derive(Drop)]
-pub struct TracksideOver<G, S> {
+pub struct TracksideOver<T: ProfileStores> {
     pub(crate) parts: Parts,
     pub(crate) restrictions: Restrictions,
-    pub(crate) gradients: G,
-    pub(crate) speeds: S,
+    pub(crate) gradients: T::Gradients,
+    pub(crate) speeds: T::Speeds,
 }
 
 /// With stores that stay short however long the life.
-pub type Trackside = TracksideOver<SegmentStore<Permille>, SegmentStore<CategorySpeeds>>;
+pub type Trackside = TracksideOver<Segments>;
 
-impl<G, S> Model for TracksideOver<G, S> {
+impl<T: ProfileStores> Model for TracksideOver<T> {
     ghost use Rattle.track_picture.specs.StandsFor.{Knowledge};
 
-    ghost Value = { Knowledge G S };
+    ghost Value = { Knowledge T.Gradients T.Speeds };
 
     ghost view = { λ s. record { parts = s.parts; restrictions = s.restrictions; gradients = s.gradients; speeds = s.speeds } };
 }
 
-impl<G: ProfileStore<Permille> + Drop, S: ProfileStore<CategorySpeeds> + Drop> TracksideOver<G, S> {
+impl<T: ProfileStores> TracksideOver<T> {
     /// What is known as a life begins, with the national values that were kept. Takes no memory.
     pub fn new(alloc: Global, kept: CountryValues) -> Self
-        ensures stands { StandsForLife G.profile S.profile result (record { kept = kept; entries = [] }) }
-        ensures size { size_in G.size S.size result ≡ 0 }
+        ensures stands { StandsForLife T.stores result (record { kept = kept; entries = [] }) }
+        ensures size { size_in T.stores result ≡ 0 }
     {
         TracksideOver {
             parts: Parts::new(kept),
             restrictions: Restrictions::new(alloc),
-            gradients: G::empty(alloc),
-            speeds: S::empty(alloc),
+            gradients: T::Gradients::empty(alloc),
+            speeds: T::Speeds::empty(alloc),
         }
     }
 
@@ -49,7 +49,7 @@ impl<G: ProfileStore<Permille> + Drop, S: ProfileStore<CategorySpeeds> + Drop> T
     /// room for one.
     pub fn copy(&self, alloc: Global) -> Result<Self, NoMemory>
         ensures value { IfOk result (λ copy. copy ≡ self.now) }
-        ensures quiet { size_in G.size S.size self.now ≡ 0 → IsOk result }
+        ensures quiet { size_in T.stores self.now ≡ 0 → IsOk result }
     {
         Ok(TracksideOver {
             parts: self.parts.copy(),

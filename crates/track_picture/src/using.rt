@@ -23,12 +23,11 @@ mod values;
 
 use crate::parts::Parts;
 use crate::state::TracksideOver;
+use crate::stores::ProfileStores;
 use balise_groups::GroupPackets;
 use mode_table::{Mode, uses};
 use packets::Packet;
-use speed_profile::CategorySpeeds;
-use track_store::ProfileStore;
-use units::{GroupPlace, Ms, Permille};
+use units::{GroupPlace, Ms};
 use vars::{GroupIdentity, LinkOrientation, ValidityDirection, Variable};
 
 /// How the packets of a group are used.
@@ -176,22 +175,20 @@ impl Parts {
 /// The walk over all kinds of packets but those that come behind another kind of the same part.
 pub struct Earlier;
 
-impl<G: ProfileStore<Permille> + Drop, S: ProfileStore<CategorySpeeds> + Drop> Walk<
-    TracksideOver<G, S>,
-> for Earlier {
+impl<T: ProfileStores> Walk<TracksideOver<T>> for Earlier {
     ghost use Rattle.std.proofs.Common.{arith};
 
     ghost Told = { TrackTold };
 
-    ghost IsTold = { λ state told. IsAllTold G.profile S.profile state told };
+    ghost IsTold = { λ state told. IsAllTold T.stores state told };
 
-    ghost HasRoom = { λ left behind state. left + behind ≤ room_in G.room S.room state };
+    ghost HasRoom = { λ left behind state. left + behind ≤ room_in T.stores state };
 
     ghost after = { after_earlier };
 
     ghost less = { λ left behind state room. omega arith };
 
-    fn take(state: &mut TracksideOver<G, S>, packet: &Packet<'_>, used: &Use) {
+    fn take(state: &mut TracksideOver<T>, packet: &Packet<'_>, used: &Use) {
         let mark = state.restrictions.mark();
         state.parts.tell(packet, used);
         restrictions::take(&mut state.restrictions, packet, used);
@@ -204,20 +201,18 @@ impl<G: ProfileStore<Permille> + Drop, S: ProfileStore<CategorySpeeds> + Drop> W
 /// room.
 pub struct Later;
 
-impl<G: ProfileStore<Permille> + Drop, S: ProfileStore<CategorySpeeds> + Drop> Walk<
-    TracksideOver<G, S>,
-> for Later {
+impl<T: ProfileStores> Walk<TracksideOver<T>> for Later {
     ghost Told = { TrackTold };
 
-    ghost IsTold = { λ state told. IsAllTold G.profile S.profile state told };
+    ghost IsTold = { λ state told. IsAllTold T.stores state told };
 
-    ghost HasRoom = { λ left behind state. behind ≤ room_in G.room S.room state };
+    ghost HasRoom = { λ left behind state. behind ≤ room_in T.stores state };
 
     ghost after = { after_later };
 
     ghost less = { λ left behind state room. room };
 
-    fn take(state: &mut TracksideOver<G, S>, packet: &Packet<'_>, used: &Use) {
+    fn take(state: &mut TracksideOver<T>, packet: &Packet<'_>, used: &Use) {
         state.parts.tell_later(packet, used);
         revocations::take(&mut state.restrictions, packet, used);
     }

@@ -15,7 +15,7 @@ returns-clause-stands g c life s =
     let mode = c.mode-mode.ensures ∙ ap (λ (k : KnownModes). k.mode) s.parts_are in
     let deed = c.deed-deed.ensures life s in
     let input = c.args.input.now in
-    subst (λ (x : Mode × Option Deed). StandsForLife g.G.ProfileStore.profile g.S.ProfileStore.profile
+    subst (λ (x : Mode × Option Deed). StandsForLife g.T.ProfileStores.stores
     (record { parts = c.note.new.self; track = c.receive.new.self })
     (grown life (begun (received x.0 (tracks life.entries) input) x.1)))
     (λ i. (mode i, deed i))

@@ -11,8 +11,8 @@ returns-clause-stands g c life event s =
     let before = seen c.self.view_is s in
     let length = c.length.ensures ∙ ap (λ (k : KnownModes). length_by k.driver.train_data) before.parts_are in
     let all = event.track ∷ tracks life.entries in
-    let known : Knowledge g.row.G.Denot g.row.S.Denot = record { parts = c.self.inside.parts; track = c.forget.new.self } in
-    subst (λ (n : ℕ). StandsForLife g.G.ProfileStore.profile g.S.ProfileStore.profile known
+    let known : Knowledge g.row.T-Gradients.Denot g.row.T-Speeds.Denot = record { parts = c.self.inside.parts; track = c.forget.new.self } in
+    subst (λ (n : ℕ). StandsForLife g.T.ProfileStores.stores known
     (grown life (record event { track = record event.track { mark = Some (mark_behind (span_with n all)) } })))
     length
     (record {

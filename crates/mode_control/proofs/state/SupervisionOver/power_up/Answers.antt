@@ -14,9 +14,9 @@ returns-clause-stands g c =
     let empty : Life = record { kept = kept; cold = c.args.cold; entries = [] } in
     let track : TrackLife = record { kept = kept.national; entries = [] } in
     let length = c.length.ensures ∙ ap (λ (k : KnownModes). length_by k.driver.train_data) c.new-parts.ensures in
-    let bare : StandsForTrack g.G.ProfileStore.profile g.S.ProfileStore.profile c.new-track.result (track_grown track blank) =
+    let bare : StandsForTrack g.T.ProfileStores.stores c.new-track.result (track_grown track blank) =
     record { parts_are = s.parts_are; restrictions_are = s.restrictions_are; gradients_are = s.gradients_are; speeds_are = s.speeds_are } in
-    let known : Knowledge g.row.G.Denot g.row.S.Denot = record { parts = c.new-parts.result; track = c.forget.new.self } in
-    subst (λ (n : ℕ). StandsForLife g.G.ProfileStore.profile g.S.ProfileStore.profile known (grown empty (begun (powered_up n) None)))
+    let known : Knowledge g.row.T-Gradients.Denot g.row.T-Speeds.Denot = record { parts = c.new-parts.result; track = c.forget.new.self } in
+    subst (λ (n : ℕ). StandsForLife g.T.ProfileStores.stores known (grown empty (begun (powered_up n) None)))
     length
     (record { parts_are = c.new-parts.ensures; track_is = c.forget.ensures.stands track blank bare })

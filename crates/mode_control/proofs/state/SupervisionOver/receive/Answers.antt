@@ -23,10 +23,10 @@ returns-clause-stands g c life s =
     let train = c.see-seen.ensures.train life event began in
     let level = c.see-seen.ensures.level life t deed began in
     let saw = c.see-seen.ensures.stands life t deed began in
-    let turned = subst (λ (x : Span × Option TrainLevel). StandsForLife g.G.ProfileStore.profile g.S.ProfileStore.profile c.turn.new.self
+    let turned = subst (λ (x : Span × Option TrainLevel). StandsForLife g.T.ProfileStores.stores c.turn.new.self
     (grown life (turned_at life event x)))
     (λ i. (train i, level i))
     (c.turn.ensures.stands life t deed
-    (subst (λ (x : Span × Option TrainLevel). StandsForLife g.G.ProfileStore.profile g.S.ProfileStore.profile c.see-seen.new.self
+    (subst (λ (x : Span × Option TrainLevel). StandsForLife g.T.ProfileStores.stores c.see-seen.new.self
     (grown life (seen_at event x))) (λ i. (sym train i, sym level i)) saw)) in
     c.forget.ensures.stands life (written (the_train_is_seen ∷ the_mode_changes ∷ the_calls_are_settled ∷ []) life event) turned

@@ -26,7 +26,7 @@ returns-clause-stands g c life told deed s =
     let all : List TrackEntry = record told { train = None; entered = None } ∷ tracks life.entries in
     let level = c.look-level.ensures.level (track_of life) told before.track_is
     ∙ ap (λ (n : ℕ). coming (span_with n all).max_front (announced_level all)) length in
-    subst (λ (x : ℕ × Option TrainLevel). StandsForLife g.G.ProfileStore.profile g.S.ProfileStore.profile
+    subst (λ (x : ℕ × Option TrainLevel). StandsForLife g.T.ProfileStores.stores
     (record { parts = c.come_in.new.self; track = c.look-level.new.self })
     (grown life (record (begun (record told { train = Some (span_with x.0 all); entered = None }) deed) { level = x.1 })))
     (λ i. (length i, level i))

@@ -27,12 +27,12 @@ returns-clause-stands g c life told deed s =
     let track = c.enter.ensures.stands (track_of life) looked before.track_is in
     let left = c.left_by-left.ensures (track_grown (track_of life) after) track.parts_are in
     let path = c.path-path.ensures ∙ ap (λ x. x.path) (c.sums.ensures ∙ ap (λ p. p.sums) (c.place.ensures ∙ ap (λ (k : KnownTrack). k.place) track.parts_are)) in
-    let known : Knowledge g.row.G.Denot g.row.S.Denot = record { parts = c.turn.new.self; track = c.enter.new.track } in
-    let given = subst (λ (x : Calls × Left). StandsForLife g.G.ProfileStore.profile g.S.ProfileStore.profile known
+    let known : Knowledge g.row.T-Gradients.Denot g.row.T-Speeds.Denot = record { parts = c.turn.new.self; track = c.enter.new.track } in
+    let given = subst (λ (x : Calls × Left). StandsForLife g.T.ProfileStores.stores known
     (grown life (record event { track = after; calls = x.0; left = x.1 })))
     (λ i. (calls i, left i))
     (record { parts_are = c.turn.ensures life looked deed level before.parts_are path; track_is = track }) in
-    subst (λ (m : Option Mode). StandsForLife g.G.ProfileStore.profile g.S.ProfileStore.profile known
+    subst (λ (m : Option Mode). StandsForLife g.T.ProfileStores.stores known
     (grown life (record event {
       track = record looked { entered = m };
       calls = calls_in here train level m;

@@ -30,7 +30,7 @@ returns-clause-stands g c life begun used s =
     let fixed = c.fix-place.ensures.stands life begun used inside.parts_are in
     let moment = ap (λ (k : KnownTrack). k.moment) (ap (λ w. w.parts) c.self-inside.view_is ∙ fixed) in
     let direction = c.direction_by.ensures in
-    subst (λ (o : Option Fix × List Fact). StandsForColumns g.G.ProfileStore.profile g.S.ProfileStore.profile c.take_packets.new.self (grown_so_far life begun (added (Accepted m a o.0 o.1) used)))
+    subst (λ (o : Option Fix × List Fact). StandsForColumns g.T.ProfileStores.stores c.take_packets.new.self (grown_so_far life begun (added (Accepted m a o.0 o.1) used)))
     (λ i. (fix i, facts (record { mode = c.args.mode; group = m.group; place = place i; moment = moment i; direction = direction i }) m.packets))
     (c.take_packets.ensures.stands life begun used m a (fix_of here c.is_free-free.result m a)
     (record { parts_are = fixed; restrictions_are = inside.restrictions_are; gradients_are = inside.gradients_are; speeds_are = inside.speeds_are }))

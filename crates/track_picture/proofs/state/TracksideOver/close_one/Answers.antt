@@ -16,10 +16,10 @@ returns-in-Broken-clause-stands g c life begun used s =
     let b = c.in-Broken.broken in
     let inside = seen c.self.view_is s in
     let asked = ap (λ (k : KnownTrack). broken_effect k.links b.group b.linked) (inside.parts_are ∙ sym (same_parts (grown_so_far life begun used))) in
-    subst (λ (group : Closed). StandsForColumns g.G.ProfileStore.profile g.S.ProfileStore.profile (record { parts = c.give_up.new.self; restrictions = c.self.inside.restrictions; gradients = c.self.inside.gradients; speeds = c.self.inside.speeds })
+    subst (λ (group : Closed). StandsForColumns g.T.ProfileStores.stores (record { parts = c.give_up.new.self; restrictions = c.self.inside.restrictions; gradients = c.self.inside.gradients; speeds = c.self.inside.speeds })
     (grown_so_far life begun (after_group c.args.mode life.entries begun used group)))
     (sym c.in-Broken.is)
-    (subst (λ (effect : Effect). StandsForColumns g.G.ProfileStore.profile g.S.ProfileStore.profile (record { parts = c.give_up.new.self; restrictions = c.self.inside.restrictions; gradients = c.self.inside.gradients; speeds = c.self.inside.speeds })
+    (subst (λ (effect : Effect). StandsForColumns g.T.ProfileStores.stores (record { parts = c.give_up.new.self; restrictions = c.self.inside.restrictions; gradients = c.self.inside.gradients; speeds = c.self.inside.speeds })
     (grown_so_far life begun (added (NoMessage b) (asking_for effect used))))
     asked
     (record {

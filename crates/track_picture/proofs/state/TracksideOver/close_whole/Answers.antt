@@ -22,6 +22,6 @@ returns-clause-stands g c life begun used s =
     let verdict = c.judge-verdict.ensures.answer ∙ ap (λ (x : Judgement). x.verdict) same in
     let parts = subst (λ (x : Judgement). c.judge-verdict.new.self ≡ columns_of (grown_so_far life begun (added (outcome_at_first m x.verdict) (asking_for x.effect used))))
     same (c.judge-verdict.ensures.stands life begun used inside.parts_are) in
-    subst (λ (v : Verdict). StandsForColumns g.G.ProfileStore.profile g.S.ProfileStore.profile (record { parts = c.judge-verdict.new.self; restrictions = c.self.inside.restrictions; gradients = c.self.inside.gradients; speeds = c.self.inside.speeds }) (grown life (record blank { begun = begun; used = added (outcome_at_first m v) asking }))
-    → StandsForColumns g.G.ProfileStore.profile g.S.ProfileStore.profile c.follow.new.self (grown_so_far life begun (added (outcome c.args.mode (record blank { begun = begun; used = added (outcome_at_first m v) asking } ∷ life.entries) m v) asking)))
+    subst (λ (v : Verdict). StandsForColumns g.T.ProfileStores.stores (record { parts = c.judge-verdict.new.self; restrictions = c.self.inside.restrictions; gradients = c.self.inside.gradients; speeds = c.self.inside.speeds }) (grown life (record blank { begun = begun; used = added (outcome_at_first m v) asking }))
+    → StandsForColumns g.T.ProfileStores.stores c.follow.new.self (grown_so_far life begun (added (outcome c.args.mode (record blank { begun = begun; used = added (outcome_at_first m v) asking } ∷ life.entries) m v) asking)))
     verdict (c.follow.ensures.stands life begun asking) (judged_only life begun used j.effect m j.verdict parts inside)

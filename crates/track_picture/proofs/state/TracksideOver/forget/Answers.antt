@@ -14,7 +14,7 @@ returns-clause-stands g c life event s =
     let mark = c.mark_behind.ensures
     ∙ ap mark_behind (c.stretch-stretch.ensures.value ∙ ap (λ w. stretch w.parts.place c.args.length) c.self-inside.view_is
     ∙ ap (λ (k : KnownTrack). stretch k.place c.args.length) before.parts_are) in
-    subst (λ (z : ℤ). StandsForLife g.G.ProfileStore.profile g.S.ProfileStore.profile c.forget_before.new.self (grown life (record event { mark = Some z })))
+    subst (λ (z : ℤ). StandsForLife g.T.ProfileStores.stores c.forget_before.new.self (grown life (record event { mark = Some z })))
     mark
     (by_facts (grown life (record event { mark = Some c.mark_behind.result }))
     (c.forget_before.ensures.stands life event (by_columns (grown life entry) s)))

@@ -22,7 +22,7 @@ returns-in-Ok-clause-stands g c =
 pub returns-in-Ok-clause-quiet : goal.returns-in-Ok-clause-quiet
 returns-in-Ok-clause-quiet g c room =
     let packets = packets_in c.args.self.now.parts.groups.readings in
-    let most = room_in g.G.ProfileStore.room g.S.ProfileStore.room c.args.self.now in
+    let most = room_in g.T.ProfileStores.stores c.args.self.now in
     c.read.ensures.quiet
     (subst (λ (o : Option Telegram). option_map_or (λ t. packets + length t.packets.items) o 0 ≤ most) (carried_in _ _ ((c.in-Ok.ensures.found _).0 refl)) room)
 
@@ -40,6 +40,6 @@ returns-in-Err-clause-stands g c life s =
     let none = refused_none _ _ ((c.in-Err.ensures.fault _).0 refl) in
     let before = seen c.self.view_is s in
     subst
-    (λ (o : Option Telegram). StandsForColumns g.G.ProfileStore.profile g.S.ProfileStore.profile (record { parts = c.pass_over.new.self; restrictions = c.self.inside.restrictions; gradients = c.self.inside.gradients; speeds = c.self.inside.speeds }) (grown_so_far life (with_telegram life o) (with_groups c.args.mode life.entries (with_telegram life o) nothing_happened)))
+    (λ (o : Option Telegram). StandsForColumns g.T.ProfileStores.stores (record { parts = c.pass_over.new.self; restrictions = c.self.inside.restrictions; gradients = c.self.inside.gradients; speeds = c.self.inside.speeds }) (grown_so_far life (with_telegram life o) (with_groups c.args.mode life.entries (with_telegram life o) nothing_happened)))
     (sym none)
     (record { parts_are = c.pass_over.ensures life before.parts_are; restrictions_are = before.restrictions_are; gradients_are = before.gradients_are; speeds_are = before.speeds_are })

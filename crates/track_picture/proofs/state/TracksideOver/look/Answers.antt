@@ -22,7 +22,7 @@ returns-clause-stands g c life event s =
     let before = by_columns (grown life entry) (seen c.self.view_is s) in
     let train = c.stretch-stretch.ensures.value ∙ ap (λ w. stretch w.parts.place c.args.length) c.self-inside.view_is
     ∙ ap (λ (k : KnownTrack). stretch k.place c.args.length) before.parts_are in
-    subst (λ (t : Span). StandsForLife g.G.ProfileStore.profile g.S.ProfileStore.profile (record { parts = c.look.new.self; restrictions = c.self.inside.restrictions; gradients = c.self.inside.gradients; speeds = c.self.inside.speeds })
+    subst (λ (t : Span). StandsForLife g.T.ProfileStores.stores (record { parts = c.look.new.self; restrictions = c.self.inside.restrictions; gradients = c.self.inside.gradients; speeds = c.self.inside.speeds })
     (grown life (record event { train = Some t; entered = None })))
     train
     (by_facts (grown life (record event { train = Some c.stretch-stretch.result; entered = None }))

@@ -4,16 +4,18 @@ use Rattle.track_store.specs.Profiles.{profile_with}
 use Rattle.track_store.proofs.Telling.{none_told}
 use Rattle.track_picture.specs.Columns.{mark_of}
 use Rattle.track_picture.proofs.SameParts.{by_facts}
+use Rattle.track_picture.proofs.Standing.{gradients_as, speeds_as}
 use Rattle.track_picture.proofs.state.TracksideOver.new.Goals as goal
 
 pub returns-clause-stands : goal.returns-clause-stands
 returns-clause-stands g c =
+    let are = g.met.T.ProfileStores.stores_are in
     by_facts (record { kept = c.args.kept; entries = [] })
     (record {
       parts_are = c.new.ensures;
       restrictions_are = ap (λ (h : Held). h.track) c.new-2.ensures;
-      gradients_are = g.met.G.ProfileStore.profile_is _
-          ∙ none_told (profile_with g.G.Profile.value c.empty.result) (mark_of []) c.empty.ensures.value;
-      speeds_are = g.met.S.ProfileStore.profile_is _
-          ∙ none_told (profile_with g.S.Profile.value c.empty-2.result) (mark_of []) c.empty-2.ensures.value;
+      gradients_are = gradients_as are _ ∙ g.met.T.Gradients.ProfileStore.profile_is _
+          ∙ none_told (profile_with g.T.Gradients.Profile.value c.empty.result) (mark_of []) c.empty.ensures.value;
+      speeds_are = speeds_as are _ ∙ g.met.T.Speeds.ProfileStore.profile_is _
+          ∙ none_told (profile_with g.T.Speeds.Profile.value c.empty-2.result) (mark_of []) c.empty-2.ensures.value;
     })

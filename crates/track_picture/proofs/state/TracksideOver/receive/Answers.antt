@@ -14,9 +14,9 @@ use Rattle.track_picture.proofs.state.TracksideOver.receive.Goals as goal
 pub returns-in-Telegram-clause-stands : goal.returns-in-Telegram-clause-stands
 returns-in-Telegram-clause-stands g c =
     on_ok_weaker c.listen.result
-    (λ taken life s. subst (λ (x : Input). StandsForLife g.G.ProfileStore.profile g.S.ProfileStore.profile c.listen.new.self (grown life (received c.args.mode life.entries x)))
+    (λ taken life s. subst (λ (x : Input). StandsForLife g.T.ProfileStores.stores c.listen.new.self (grown life (received c.args.mode life.entries x)))
     (sym c.in-Telegram.is)
-    (subst (λ (bytes : List ℕ). StandsForLife g.G.ProfileStore.profile g.S.ProfileStore.profile c.listen.new.self (grown life (received c.args.mode life.entries (inputs.Telegram bytes))))
+    (subst (λ (bytes : List ℕ). StandsForLife g.T.ProfileStores.stores c.listen.new.self (grown life (received c.args.mode life.entries (inputs.Telegram bytes))))
     c.as_slice.ensures.value
     (by_facts (grown life (received c.args.mode life.entries (inputs.Telegram c.as_slice.result.now))) (taken life (by_columns life s)))))
     c.listen.ensures.stands
@@ -25,10 +25,10 @@ pub returns-in-Odometer-clause-stands : goal.returns-in-Odometer-clause-stands
 returns-in-Odometer-clause-stands g c =
     let reading = c.in-Odometer.reading in
     on_ok_weaker c.move_by.result
-    (λ taken life s. subst (λ (x : Input). StandsForLife g.G.ProfileStore.profile g.S.ProfileStore.profile c.move_by.new.self (grown life (received c.args.mode life.entries x)))
+    (λ taken life s. subst (λ (x : Input). StandsForLife g.T.ProfileStores.stores c.move_by.new.self (grown life (received c.args.mode life.entries x)))
     (sym c.in-Odometer.is)
     (by_facts (grown life (received c.args.mode life.entries (inputs.Odometer reading)))
-    (subst (λ (x : Begun × Happened). StandsForColumns g.G.ProfileStore.profile g.S.ProfileStore.profile c.move_by.new.self (grown_so_far life x.0 (with_groups c.args.mode life.entries x.0 x.1)))
+    (subst (λ (x : Begun × Happened). StandsForColumns g.T.ProfileStores.stores c.move_by.new.self (grown_so_far life x.0 (with_groups c.args.mode life.entries x.0 x.1)))
     (λ i. (sym (same_moved life.entries reading) i, sym (same_happened life.entries reading) i))
     (taken life (by_columns life s)))))
     c.move_by.ensures.stands
@@ -36,7 +36,7 @@ returns-in-Odometer-clause-stands g c =
 pub returns-in-Clock-clause-stands : goal.returns-in-Clock-clause-stands
 returns-in-Clock-clause-stands g c life s =
     let before = by_columns life (seen c.self.view_is s) in
-    subst (λ (x : Input). StandsForLife g.G.ProfileStore.profile g.S.ProfileStore.profile
+    subst (λ (x : Input). StandsForLife g.T.ProfileStores.stores
     (record { parts = c.tick.new.self; restrictions = c.self.inside.restrictions; gradients = c.self.inside.gradients; speeds = c.self.inside.speeds })
     (grown life (received c.args.mode life.entries x)))
     (sym c.in-Clock.is)
@@ -51,7 +51,7 @@ returns-in-Clock-clause-stands g c life s =
 pub returns-in-Driver-clause-stands : goal.returns-in-Driver-clause-stands
 returns-in-Driver-clause-stands g c life s =
     let before = by_columns life (seen c.self-in-Driver.view_is s) in
-    subst (λ (x : Input). StandsForLife g.G.ProfileStore.profile g.S.ProfileStore.profile
+    subst (λ (x : Input). StandsForLife g.T.ProfileStores.stores
     (record { parts = c.pass_over.new.self; restrictions = c.self-in-Driver.inside.restrictions; gradients = c.self-in-Driver.inside.gradients; speeds = c.self-in-Driver.inside.speeds })
     (grown life (received c.args.mode life.entries x)))
     (sym c.in-Driver.is)

@@ -1,10 +1,8 @@
-use Rattle.std.proofs.Common.{◌≡◌, ℤ, ◌+◌, ◌-◌, ◌≤◌, List, ◌∷◌, [], Option, false, length, ap, sym, subst, ◌∙◌, arith}
+use Rattle.std.proofs.Common.{◌≡◌, ◌+◌, ◌-◌, ◌≤◌, List, ◌∷◌, [], Option, false, length, ap, sym, subst, ◌∙◌, arith}
 use Rattle.std.specs.List.{list_any}
 use Rattle.linking.specs.declared.announcement.Announcement.{Announcement}
 use Rattle.balise_groups.specs.declared.message.Message.{Message}
 use Rattle.odometry.specs.declared.fix.Fix.{Fix}
-use Rattle.speed_profile.specs.declared.told.CategorySpeeds.{CategorySpeeds}
-use Rattle.track_store.specs.Profiles.{Profile}
 use Rattle.track_picture.specs.Entry.{TrackEntry, Begun, Used, Fact, blank, added}
 use Rattle.track_picture.specs.Entry.Outcome.{Accepted}
 use Rattle.track_picture.specs.Columns.{after_facts, links, national_entries, authorities, is_stopped, all_areas, announced_levels, restrictions, mark_of, gradients, speeds, StandsForColumns, columns_of}
@@ -12,6 +10,7 @@ use Rattle.track_picture.specs.Steps.{facts}
 use Rattle.track_picture.specs.StandsFor.{Life, Knowledge, grown, grown_so_far, room_in}
 use Rattle.track_picture.specs.Told.{TrackTold, IsTold, after_earlier, after_later}
 use Rattle.track_picture.specs.Happenings.{comes_later}
+use Rattle.track_picture.specs.Stores.{Stores}
 use Rattle.track_picture.proofs.Marking.{one_mark}
 use Rattle.track_picture.proofs.Telling.{each_later, all_earlier, all_later}
 use Rattle.track_picture.proofs.Walking.{none_later}
@@ -36,8 +35,8 @@ before life entry =
       speeds = speeds all;
     }
 
-module _ {G S : Type 0} (gradients_in : G → Profile ℤ) (speeds_in : S → Profile CategorySpeeds) (known : Knowledge G S) (life : Life) where
-  stood : (entry : TrackEntry) → StandsForColumns gradients_in speeds_in known (grown life entry) → IsTold gradients_in speeds_in known (before life entry)
+module _ {G S : Type 0} (stores : Stores G S) (known : Knowledge G S) (life : Life) where
+  stood : (entry : TrackEntry) → StandsForColumns stores known (grown life entry) → IsTold stores known (before life entry)
   stood entry s = record {
     parts_are = s.parts_are;
     restrictions_are = s.restrictions_are;
@@ -48,39 +47,39 @@ module _ {G S : Type 0} (gradients_in : G → Profile ℤ) (speeds_in : S → Pr
 
   -- behind both walks
   stands : (told : List Fact) (begun : Begun) (groups : Used) (message : Message) (announced : Option Announcement) (fix : Option Fix) →
-      IsTold gradients_in speeds_in known (after_facts after_later told (after_facts after_earlier told (before life (record blank { begun = begun; used = added (Accepted message announced fix []) groups })))) →
-      StandsForColumns gradients_in speeds_in known (grown_so_far life begun (added (Accepted message announced fix told) groups))
+      IsTold stores known (after_facts after_later told (after_facts after_earlier told (before life (record blank { begun = begun; used = added (Accepted message announced fix []) groups })))) →
+      StandsForColumns stores known (grown_so_far life begun (added (Accepted message announced fix told) groups))
   stands told begun groups message announced fix t =
       let was = before life (record blank { begun = begun; used = added (Accepted message announced fix []) groups }) in
       let is = all_later told _ ∙ ap (each_later told) (all_earlier told was) in
-      let after = subst (IsTold gradients_in speeds_in known) is t in
+      let after = subst (IsTold stores known) is t in
       record { parts_are = after.parts_are; restrictions_are = after.restrictions_are; gradients_are = after.gradients_are; speeds_are = after.speeds_are }
 
 pub returns-then-take_all-clause-stands : goal.returns-then-take_all-clause-stands
 returns-then-take_all-clause-stands g c life begun groups message announced fix s =
     let told = facts c.args.used.now c.args.packets.now in
     let entry : TrackEntry = record blank { begun = begun; used = added (Accepted message announced fix []) groups } in
-    let first = c.take_all.ensures.told (before life entry) (stood _ _ _ life entry s) in
-    stands _ _ _ life told begun groups message announced fix (c.take_all-then-take_all.ensures.told _ first)
+    let first = c.take_all.ensures.told (before life entry) (stood _ _ life entry s) in
+    stands _ _ life told begun groups message announced fix (c.take_all-then-take_all.ensures.told _ first)
 
 -- the first walk met no packet for the second
 pub returns-else-take_all-clause-stands : goal.returns-else-take_all-clause-stands
 returns-else-take_all-clause-stands g c life begun groups message announced fix s =
     let told = facts c.args.used.now c.args.packets.now in
     let entry : TrackEntry = record blank { begun = begun; used = added (Accepted message announced fix []) groups } in
-    let first = c.take_all.ensures.told (before life entry) (stood _ _ _ life entry s) in
+    let first = c.take_all.ensures.told (before life entry) (stood _ _ life entry s) in
     let none : list_any comes_later c.args.packets.now ≡ false = sym c.take_all.ensures.later ∙ c.if-take_all.false in
-    stands _ _ _ life told begun groups message announced fix
-    (subst (IsTold g.G.ProfileStore.profile g.S.ProfileStore.profile c.take_all.new.state) (sym (none_later c.args.used.now c.args.packets.now _ none)) first)
+    stands _ _ life told begun groups message announced fix
+    (subst (IsTold g.T.ProfileStores.stores c.take_all.new.state) (sym (none_later c.args.used.now c.args.packets.now _ none)) first)
 
 -- the first walk takes no more room than for its packets, the second none
 pub returns-then-take_all-clause-room : goal.returns-then-take_all-clause-room
 returns-then-take_all-clause-room g c =
     let count = length c.args.packets.now in
-    let room = room_in g.G.ProfileStore.room g.S.ProfileStore.room c.args.self.now in
+    let room = room_in g.T.ProfileStores.stores c.args.self.now in
     let inside : count ≤ room = c.requires in
     let split : count + (room - count) ≤ room = omega arith in
-    let first : room - count ≤ room_in g.G.ProfileStore.room g.S.ProfileStore.room c.take_all.new.state =
+    let first : room - count ≤ room_in g.T.ProfileStores.stores c.take_all.new.state =
     omega (arith, c.take_all.ensures.room (room - count) split) in
     let left = c.take_all-then-take_all.ensures.room (room - count) first in
     omega arith
@@ -88,7 +87,7 @@ returns-then-take_all-clause-room g c =
 pub returns-else-take_all-clause-room : goal.returns-else-take_all-clause-room
 returns-else-take_all-clause-room g c =
     let count = length c.args.packets.now in
-    let room = room_in g.G.ProfileStore.room g.S.ProfileStore.room c.args.self.now in
+    let room = room_in g.T.ProfileStores.stores c.args.self.now in
     let inside : count ≤ room = c.requires in
     let split : count + (room - count) ≤ room = omega arith in
     let left = c.take_all.ensures.room (room - count) split in

@@ -6,7 +6,7 @@ use Rattle.track_picture.proofs.using.LaterWalkTracksideOver.take.Goals as goal
 
 pub returns-clause-told : goal.returns-clause-told
 returns-clause-told g c told s =
-    let before = subst (λ k. IsTold g.G.ProfileStore.profile g.S.ProfileStore.profile k told) (sym c.state.view_is) s in
+    let before = subst (λ k. IsTold g.T.ProfileStores.stores k told) (sym c.state.view_is) s in
     let fact = fact_of c.args.used.now c.args.packet.now in
     record {
       parts_are = c.tell_later.ensures told before.parts_are;

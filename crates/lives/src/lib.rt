@@ -11,5 +11,6 @@ mod walking;
 
 pub use errors::{LateError, WalkError, late};
 pub use reading::{held, slots_of};
+pub use seeing::number_of_life;
 pub use visit::{Seen, Unknown, Visit};
-pub use walking::walk;
+pub use walking::{walk, walk_from};

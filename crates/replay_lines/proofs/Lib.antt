@@ -1,3 +1,2 @@
-pub mod Parts
 pub mod Records
 pub mod Wholeness

@@ -1,6 +1,6 @@
 -- All that a replay tells of an image, from the oldest block that is retained to the last line (this project's profile;
 -- docs/FORMAT.md). Blocks are numbered from 1.
-use Rattle.std.specs.Prelude.{◌≡◌, ℕ, ◌≤◌, ◌++◌, List, Option}
+use Rattle.std.specs.Prelude.{◌≡◌, ℕ, ◌≤◌, ◌++◌, false, List, Option}
 use Rattle.std.specs.Io.KnownBytes.{Appends}
 use Rattle.blocks.specs.declared.block.Block.{Block}
 use Rattle.lives.specs.Walks.{IsWalked}
@@ -18,7 +18,7 @@ use Rattle.replay_lines.specs.declared.walk.Outcome.{Outcome}
 pub record TellsReplay {W : Type 0} (contents : W → Option (List ℕ)) (form : Form) (sectors : ℕ) (image : ℕ → List ℕ) (old new : W) (outcome : Outcome) : Type 0 where
   pub last : Course
   pub mid : W
-  pub steps : IsWalked (λ step c out next after. AddsStep step c next (contents out) (contents after)) sectors image (begun form) old last mid
+  pub steps : IsWalked (λ step c out next after. AddsStep step c next (contents out) (contents after)) (λ _. false) sectors image (begun form) old last mid
   pub left : Appends (contents mid) (contents new) (open_text form last ++ outcome_text form outcome)
   pub outcome_is : outcome ≡ outcome_of last.is_whole
 

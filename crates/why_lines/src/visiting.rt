@@ -1,5 +1,5 @@
 //! The steps of a walk, told: a life is run again, and its events have their lines.
-ghost use Rattle.std.specs.Prelude.{◌≡◌, IfOk, OnOk};
+ghost use Rattle.std.specs.Prelude.{◌≡◌, false, IfOk, OnOk};
 ghost use Rattle.std.specs.Io.KnownBytes.{Appends};
 ghost use Rattle.kernel.specs.Lives.{Story};
 ghost use Rattle.kernel.specs.Output.{output_at};
@@ -139,13 +139,13 @@ fn tell<W: Write>(
     output: &Option<Output>,
     out: &mut W,
 ) -> Result<(), LateError>
-    ensures { OnOk result (Tells output.now seen.now.life seen.now.record.now.number course.old course.new
+    ensures { OnOk result (Tells output.now seen.now.life seen.now.entry.now.number course.old course.new
         (W.contents out.old) (W.contents out.new)) }
 {
     match output {
-        Some(output) => tell_one(course, seen.record.number, output, out),
+        Some(output) => tell_one(course, seen.entry.number, output, out),
         None => {
-            leave_out(course, seen.life, seen.record.number);
+            leave_out(course, seen.life, seen.entry.number);
             Ok(())
         }
     }
@@ -163,6 +163,12 @@ fn lost_pieces(only: Option<u64>, number: u64) -> [Piece; 3]
 
 impl<W: Write> Visit<W> for Course {
     ghost IsTold = { λ step old out new after. AddsStep step old new (W.contents out) (W.contents after) };
+
+    ghost enough = { λ _. false };
+
+    fn has_enough(&self) -> bool {
+        false
+    }
 
     fn unreadable(&mut self, number: u64, out: &mut W) -> Result<(), LateError> {
         let form = self.form;
@@ -189,12 +195,12 @@ impl<W: Write> Visit<W> for Course {
         let form = self.form;
         let left = finish(self);
         write_pieces(form, &left, out)?;
-        let output = begin(alloc, self, before, &seen.record.event)?;
+        let output = begin(alloc, self, before, &seen.entry.event)?;
         tell(self, seen, &output, out)
     }
 
     fn goes_on(&mut self, alloc: Global, seen: &Seen<'_>, out: &mut W) -> Result<(), LateError> {
-        let output = follow(alloc, self, &seen.record.event)?;
+        let output = follow(alloc, self, &seen.entry.event)?;
         tell(self, seen, &output, out)
     }
 

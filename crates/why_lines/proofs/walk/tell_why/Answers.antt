@@ -1,4 +1,4 @@
-use Rattle.std.proofs.Common.{refl, subst}
+use Rattle.std.proofs.Common.{false, refl, subst}
 use Rattle.lives.specs.Walks.{IsWalked}
 use Rattle.why_lines.specs.Courses.{AddsStep}
 use Rattle.why_lines.specs.declared.course.Course.{Course}
@@ -12,7 +12,7 @@ returns-in-Ok-clause-lines g c = λ honest.
     record {
       last = c.walk.new.visitor;
       mid = c.walk.new.out;
-      steps = subst (λ (x : Course). IsWalked (λ step old out next after. AddsStep step old next (contents out) (contents after)) before.sectors (contents_of before) x c.args.out.now c.walk.new.visitor c.walk.new.out)
+      steps = subst (λ (x : Course). IsWalked (λ step old out next after. AddsStep step old next (contents out) (contents after)) (λ _. false) before.sectors (contents_of before) x c.args.out.now c.walk.new.visitor c.walk.new.out)
           c.begun-course.ensures (c.in_ok-walk.ensures.told honest);
       left = c.in-Ok.ensures;
       lines_are = refl;

@@ -12,6 +12,6 @@ returns g c =
     on_ok_weaker c.tell.result (λ told. (
       g.W.Write.contents c.write_pieces.new.out,
       rw (c.finish-left.ensures.text old.form) at c.in_ok-write_pieces.ensures,
-      begins seen.life _ c.begin.new.course c.tell.new.course c.in_ok-output.output _ _ c.args.before.now seen.record.now
-          (subst (λ (x : Course). IsBegun c.args.before.now seen.record.now.event x c.begin.new.course c.in_ok-output.output) c.finish-left.ensures.goes_on c.in_ok-output.ensures) told,
+      begins seen.life _ c.begin.new.course c.tell.new.course c.in_ok-output.output _ _ c.args.before.now seen.entry.now
+          (subst (λ (x : Course). IsBegun c.args.before.now seen.entry.now.event x c.begin.new.course c.in_ok-output.output) c.finish-left.ensures.goes_on c.in_ok-output.ensures) told,
     )) c.tell.ensures

@@ -6,4 +6,4 @@ pub returns : goal.returns
 returns g c =
     let seen = c.args.seen.now in
     on_ok_weaker c.tell.result (λ told.
-    adds_next seen.life c.args.self.now c.follow.new.course c.tell.new.course c.in_ok-output.output _ _ c.args.self.now.life seen.record.now c.in_ok-output.ensures told) c.tell.ensures
+    adds_next seen.life c.args.self.now c.follow.new.course c.tell.new.course c.in_ok-output.output _ _ c.args.self.now.life seen.entry.now c.in_ok-output.ensures told) c.tell.ensures

@@ -98,6 +98,8 @@ def lives_differ(told, lines):
     """Why lives that C tells aren't those of the lines of a replay, or None."""
     at = 0
     for life in told:
+        if "verdict" not in life:
+            return f"{life}: it wasn't run again"
         if life["verdict"] == "unreadable":
             if at >= len(lines) or lines[at] != {"block": life["block"], "replay": "unreadable"}:
                 return f"{life}: no such line"

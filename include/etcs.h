@@ -1,4 +1,5 @@
-/*
+/**
+ * @file
  * Telegrams of balises (ERTMS/ETCS level 1, UNISIG SUBSET-026 issue 2.3.0), for C and C++.
  *
  * Link with libetcs_c.a, which `rt lib` in crates/etcs_c builds.
@@ -26,29 +27,29 @@
 extern "C" {
 #endif
 
-/* The bytes of a telegram, at most. */
+/** The bytes of a telegram, at most. */
 #define ETCS_TELEGRAM_BYTES 104
 
-/* Why bytes carry no telegram. TOO_LONG comes before all others; else the fault that is told is the first one in the
+/** Why bytes carry no telegram. TOO_LONG comes before all others; else the fault that is told is the first one in the
  * order of the bits. */
 enum etcs_fault {
-    ETCS_OK = 0,            /* no fault */
-    ETCS_TRUNCATED = 1,     /* the bits end within the header or a packet */
-    ETCS_WRONG_LENGTH = 2,  /* L_PACKET is not the number of bits of its packet */
-    ETCS_SPARE = 3,         /* a variable has a number that the language keeps spare */
-    ETCS_OUT_OF_RANGE = 4,  /* a variable has a number outside its range */
-    ETCS_WRONG_VERSION = 5, /* M_VERSION is not 16 */
-    ETCS_NOT_UPLINK = 6,    /* Q_UPDOWN is not 1 */
-    ETCS_NOT_BALISE = 7,    /* Q_MEDIA is not 0 */
-    ETCS_NO_END = 8,        /* the bits end before the end mark */
-    ETCS_TOO_LONG = 9       /* there are more than ETCS_TELEGRAM_BYTES bytes */
+    ETCS_OK = 0,            /**< no fault */
+    ETCS_TRUNCATED = 1,     /**< the bits end within the header or a packet */
+    ETCS_WRONG_LENGTH = 2,  /**< L_PACKET is not the number of bits of its packet */
+    ETCS_SPARE = 3,         /**< a variable has a number that the language keeps spare */
+    ETCS_OUT_OF_RANGE = 4,  /**< a variable has a number outside its range */
+    ETCS_WRONG_VERSION = 5, /**< M_VERSION is not 16 */
+    ETCS_NOT_UPLINK = 6,    /**< Q_UPDOWN is not 1 */
+    ETCS_NOT_BALISE = 7,    /**< Q_MEDIA is not 0 */
+    ETCS_NO_END = 8,        /**< the bits end before the end mark */
+    ETCS_TOO_LONG = 9       /**< there are more than ETCS_TELEGRAM_BYTES bytes */
 };
 
-/* Whether the bytes carry a telegram (SUBSET-026, 8.4.2): ETCS_OK, or the number of the fault (enum etcs_fault).
+/** Whether the bytes carry a telegram (SUBSET-026, 8.4.2): ETCS_OK, or the number of the fault (enum etcs_fault).
  * The bits of each byte count from its highest one. What follows the end mark is free. */
 uint32_t etcs_decode(const uint8_t *bytes, size_t len);
 
-/* How many packets stand before the end mark, from 0 to 33. It is 0 where the bytes carry no telegram, and also
+/** How many packets stand before the end mark, from 0 to 33. It is 0 where the bytes carry no telegram, and also
  * where they carry one with no packet: etcs_decode tells which. */
 uint32_t etcs_packet_count(const uint8_t *bytes, size_t len);
 

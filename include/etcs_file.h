@@ -1,4 +1,5 @@
-/*
+/**
+ * @file
  * A unit's journal in a file, for C and C++ on systems with the calls of POSIX and flock (Linux, BSD, macOS): what
  * etcs_unit.h leaves to the maker. It is of this header alone; there is nothing to link but the library of etcs_unit.h.
  *
@@ -57,28 +58,29 @@
 extern "C" {
 #endif
 
-/* What failed. */
+/** What failed. */
 enum etcs_file_answer {
-    ETCS_FILE_OK = 0,
-    ETCS_FILE_CANT_OPEN = 1,  /* the file can't be opened to read and to write, or be made; `error` says why */
-    ETCS_FILE_LOCKED = 2,     /* another program, or another handle of this one, holds a lock on it */
-    ETCS_FILE_CANT_LOCK = 3,  /* the lock can't be had for another reason, as where a file system has none */
-    ETCS_FILE_CANT_READ = 4,  /* the size or the bytes can't be read */
-    ETCS_FILE_CANT_WRITE = 5, /* a write, or setting the length, failed */
-    ETCS_FILE_CANT_SYNC = 6,  /* a sync failed, of the file or its folder, or the system drops no copies of pages */
-    ETCS_FILE_NO_MEMORY = 7,  /* there is no memory for the bytes of the file */
-    ETCS_FILE_WRONG_SIZE = 8, /* formatting: a device that hasn't just 1 + 6 * slots sectors */
-    ETCS_FILE_UNIT = 9        /* the unit refused; `status` says why */
+    ETCS_FILE_OK = 0,         /**< the call did what it was asked */
+    ETCS_FILE_CANT_OPEN = 1,  /**< the file can't be opened to read and to write, or be made; `error` says why */
+    ETCS_FILE_LOCKED = 2,     /**< another program, or another handle of this one, holds a lock on it */
+    ETCS_FILE_CANT_LOCK = 3,  /**< the lock can't be had for another reason, as where a file system has none */
+    ETCS_FILE_CANT_READ = 4,  /**< the size or the bytes can't be read */
+    ETCS_FILE_CANT_WRITE = 5, /**< a write, or setting the length, failed */
+    ETCS_FILE_CANT_SYNC = 6,  /**< a sync failed, of the file or its folder, or the system drops no copies of pages */
+    ETCS_FILE_NO_MEMORY = 7,  /**< there is no memory for the bytes of the file */
+    ETCS_FILE_WRONG_SIZE = 8, /**< formatting: a device that hasn't just 1 + 6 * slots sectors */
+    ETCS_FILE_UNIT = 9        /**< the unit refused; `status` says why */
 };
 
-/* A file that is open, or was; all zeros before its first call. */
+/** A file that is open, or was; all zeros before its first call. */
 typedef struct {
-    int descriptor;  /* of a file that is open */
-    int error;       /* errno of what failed, or 0 */
-    uint32_t status; /* what the unit answered last (enum etcs_unit_status) */
-    uint32_t held;   /* ETCS_FILE_HELD where a file is open */
+    int descriptor;  /**< of a file that is open */
+    int error;       /**< errno of what failed, or 0 */
+    uint32_t status; /**< what the unit answered last (enum etcs_unit_status) */
+    uint32_t held;   /**< ETCS_FILE_HELD where a file is open */
 } etcs_file;
 
+/** What `held` of an etcs_file is where a file is open. */
 #define ETCS_FILE_HELD 0x68656c64u
 
 /* ---- the parts of the calls below; nobody else needs them */
@@ -311,7 +313,7 @@ static inline uint32_t etcs_file_is_open_(etcs_file *file) {
 
 /* ---- the calls */
 
-/* Opens and locks the file, settles and reads it, and powers the unit up on it. Behind it the requests of the power-up
+/** Opens and locks the file, settles and reads it, and powers the unit up on it. Behind it the requests of the power-up
  * are in the list: carry them out, and release. Where the file or the unit is open already, it answers UNIT (IS_OPEN),
  * and both stay so. Where it answers something else than OK, the file isn't open and as it was, and the unit is as
  * before. It takes memory for the bytes of the file while it runs; of a file whose first sector isn't that of a journal
@@ -326,7 +328,7 @@ static inline uint32_t etcs_file_open(etcs_file *file, const char *path, etcs_un
     return answer;
 }
 
-/* Carries out the unit's requests that aren't done, one after the other, and says of each that it is done. Where the
+/** Carries out the unit's requests that aren't done, one after the other, and says of each that it is done. Where the
  * file fails it says so to the unit (etcs_unit_fail), so that nothing is released any more. */
 static inline uint32_t etcs_file_carry_out(etcs_file *file, etcs_unit *unit) {
     uint8_t bytes[ETCS_UNIT_REQUEST_BYTES];
@@ -355,7 +357,7 @@ static inline uint32_t etcs_file_release_(etcs_file *file, etcs_unit *unit, etcs
     return etcs_file_told_(file, etcs_unit_release(unit, outputs, ETCS_UNIT_OUTPUTS, count));
 }
 
-/* Prepares what is pending, carries it out, and releases it: `count` outputs, the oldest first, in room for
+/** Prepares what is pending, carries it out, and releases it: `count` outputs, the oldest first, in room for
  * ETCS_UNIT_OUTPUTS. Behind etcs_file_open it carries out the power-up too. Where requests of an earlier
  * etcs_unit_prepare are owed that hold outputs back, it releases those alone, and what is pending waits for the next
  * flush. Where it answers something else than OK, `count` is 0. */
@@ -371,7 +373,7 @@ static inline uint32_t etcs_file_flush(etcs_file *file, etcs_unit *unit, etcs_un
     return answer == ETCS_FILE_OK ? etcs_file_release_(file, unit, outputs, count) : answer;
 }
 
-/* Closes the unit, and then the file, which gives its lock back. What isn't released is lost to this life. It may be
+/** Closes the unit, and then the file, which gives its lock back. What isn't released is lost to this life. It may be
  * called on a file and a unit that aren't open, also of zeros, and answers OK or UNIT (the unit wasn't open). */
 static inline uint32_t etcs_file_close(etcs_file *file, etcs_unit *unit) {
     const uint32_t answer = etcs_file_told_(file, etcs_unit_close(unit));
@@ -379,7 +381,7 @@ static inline uint32_t etcs_file_close(etcs_file *file, etcs_unit *unit) {
     return answer;
 }
 
-/* Makes the file, or empties the one that is there, and makes it an empty journal of so many slots, as `etcs format`
+/** Makes the file, or empties the one that is there, and makes it an empty journal of so many slots, as `etcs format`
  * does. What is there is locked before it is emptied, and its folder is synced, so that the name of a new file
  * survives a loss of power. The file isn't open behind it. One that is open already stays so: UNIT (IS_OPEN). */
 static inline uint32_t etcs_file_format(etcs_file *file, const char *path, uint32_t slots) {
@@ -422,29 +424,30 @@ static inline uint32_t etcs_file_format(etcs_file *file, const char *path, uint3
 extern "C" {
 #endif
 
+/** The bytes of a block in an archive. */
 #define ETCS_ARCHIVE_ENTRY (6 * ETCS_UNIT_SECTOR)
 
-/* What failed beside enum etcs_file_answer. */
+/** What failed beside enum etcs_file_answer. */
 enum etcs_archive_answer {
-    ETCS_FILE_NO_ARCHIVE = 10, /* what is there is no archive of blocks; it stays as it is */
-    ETCS_FILE_NO_MARKS = 11,   /* what is there holds no marks of the time of day; it stays as it is */
-    ETCS_FILE_BAD_MARK = 12    /* a time beyond the years 1970 to 9999, or a source that isn't 1 to 64 letters, digits, or of " ._-" */
+    ETCS_FILE_NO_ARCHIVE = 10, /**< what is there is no archive of blocks; it stays as it is */
+    ETCS_FILE_NO_MARKS = 11,   /**< what is there holds no marks of the time of day; it stays as it is */
+    ETCS_FILE_BAD_MARK = 12    /**< a time beyond the years 1970 to 9999, or a source that isn't 1 to 64 letters, digits, or of " ._-" */
 };
 
-/* An archive that is open, or was; all zeros before its first call. */
+/** An archive that is open, or was; all zeros before its first call. */
 typedef struct {
-    etcs_file file;    /* its file; `error` says why what failed */
-    uint64_t entries;  /* how many blocks it has */
-    uint64_t behind;   /* behind which block those of the image are new */
-    uint32_t slots;    /* how many slots the image has; 0 before the first look at it */
-    uint32_t reserved;
+    etcs_file file;    /**< its file; `error` says why what failed */
+    uint64_t entries;  /**< how many blocks it has */
+    uint64_t behind;   /**< behind which block those of the image are new */
+    uint32_t slots;    /**< how many slots the image has; 0 before the first look at it */
+    uint32_t reserved; /**< zero */
 } etcs_archive;
 
-/* Marks that are open, or were; all zeros before their first call. */
+/** Marks that are open, or were; all zeros before their first call. */
 typedef struct {
-    etcs_file file;
-    uint32_t life;     /* in which life the unit is */
-    uint32_t reserved;
+    etcs_file file;    /**< their file; `error` says why what failed */
+    uint32_t life;     /**< in which life the unit is */
+    uint32_t reserved; /**< zero */
 } etcs_times;
 
 static inline uint32_t etcs_archive_read_(etcs_file *file, uint8_t *bytes, size_t len, uint64_t from) {
@@ -521,7 +524,7 @@ static inline uint32_t etcs_archive_begin_(etcs_archive *archive, const char *pa
     return ETCS_FILE_OK;
 }
 
-/* Opens an archive under a lock of its own, or begins one. Where it answers something else than OK, it isn't open. */
+/** Opens an archive under a lock of its own, or begins one. Where it answers something else than OK, it isn't open. */
 static inline uint32_t etcs_archive_open(etcs_archive *archive, const char *path) {
     if (etcs_file_at_(&archive->file) >= 0)
         return etcs_file_is_open_(&archive->file);
@@ -534,7 +537,7 @@ static inline uint32_t etcs_archive_open(etcs_archive *archive, const char *path
     return answer;
 }
 
-/* Closes an archive; one that isn't open stays so. */
+/** Closes an archive; one that isn't open stays so. */
 static inline void etcs_archive_close(etcs_archive *archive) {
     etcs_file_shut_(&archive->file);
 }
@@ -620,7 +623,7 @@ static inline uint32_t etcs_archive_next_(etcs_archive *archive, etcs_file *file
     return answer;
 }
 
-/* Appends what the image holds that is newer than the archive, and syncs; `count` is how many blocks that were. Call it
+/** Appends what the image holds that is newer than the archive, and syncs; `count` is how many blocks that were. Call it
  * at least once in as many flushes as the ring has slots, less two: a block that is written over before is missing, and
  * `./lab join` tells that. The file has to be open (etcs_file_open), and no thread may flush meanwhile. The first call
  * reads all slots, each other one what is new and two sectors. Where it answers something else than OK, the archive may
@@ -658,6 +661,7 @@ static inline uint32_t etcs_archive_keep(etcs_archive *archive, etcs_file *file,
 /* ---- marks of the time of day: a line each, in CSV, which ./lab reads beside the journal (docs/FORMAT.md). The journal has
  * no time of day, and nothing proves what a mark says. */
 
+/** The first line of marks. */
 #define ETCS_TIMES_FIRST "life,moment_ms,event,utc,uncertainty_ms,source\n"
 
 /* In which life the journal is: what the head of its newest block tells. */
@@ -708,7 +712,7 @@ static inline uint32_t etcs_times_begin_(etcs_times *times, const char *path) {
     return answer == ETCS_FILE_OK ? etcs_file_sync_folder_(&times->file, path) : answer;
 }
 
-/* Opens the marks of a journal under a lock of their own, or begins them. The file is that of the journal; it has to be
+/** Opens the marks of a journal under a lock of their own, or begins them. The file is that of the journal; it has to be
  * open, and the power-up flushed, since the marks are of the life of the newest block. Where it answers something else
  * than OK, the marks aren't open. */
 static inline uint32_t etcs_times_open(etcs_times *times, const char *path, etcs_file *file) {
@@ -724,7 +728,7 @@ static inline uint32_t etcs_times_open(etcs_times *times, const char *path, etcs
     return answer;
 }
 
-/* Closes marks; such that aren't open stay so. */
+/** Closes marks; such that aren't open stay so. */
 static inline void etcs_times_close(etcs_times *times) {
     etcs_file_shut_(&times->file);
 }
@@ -734,7 +738,7 @@ static inline int etcs_times_is_source_(const char *source) {
     return len >= 1 && len <= 64 && strspn(source, "abcdefghijklmnopqrstuvwxyzABCDEFGHIJKLMNOPQRSTUVWXYZ0123456789 ._-") == len;
 }
 
-/* Appends a mark and syncs: at this moment of the life, as the unit's clock told it last, a clock told this time of day, in
+/** Appends a mark and syncs: at this moment of the life, as the unit's clock told it last, a clock told this time of day, in
  * milliseconds since 1970-01-01 UTC without leap seconds, right to so many milliseconds. `source` is a word for that clock,
  * as "GNSS". Two marks of a life bound how far the unit's clock runs off; one each ten minutes is plenty. */
 static inline uint32_t etcs_times_mark(etcs_times *times, uint64_t moment_ms, int64_t utc_ms, uint32_t uncertainty_ms, const char *source) {

@@ -1,4 +1,5 @@
-/*
+/**
+ * @file
  * What a program asks an image: the bytes of a journal of the onboard unit (ERTMS/ETCS level 1, UNISIG SUBSET-026 issue
  * 2.3.0), as `etcs run` and etcs_file.h leave them, for C, C++ and whatever calls C.
  *
@@ -39,207 +40,207 @@
 extern "C" {
 #endif
 
-/* The bytes of a record's payload, at most. */
+/** The bytes of a record's payload, at most. */
 #define ETCS_PAYLOAD_BYTES 104
 
-/* A time or a distance that has no end. */
+/** A time or a distance that has no end. */
 #define ETCS_ENDLESS UINT32_C(0xFFFFFFFF)
 
-/* What a slot holds (docs/FORMAT.md). */
+/** What a slot holds (docs/FORMAT.md). */
 enum etcs_slot_state {
-    ETCS_SLOT_EMPTY = 0,      /* all its bytes are zero */
-    ETCS_SLOT_BLOCK = 1,      /* its gate is open, and head and records spell the block of this number, which belongs there */
-    ETCS_SLOT_UNREADABLE = 2, /* its gate is open and its head begins with this number, but they spell no block */
-    ETCS_SLOT_MISPLACED = 3,  /* its gate is open, and its head begins with this number, which belongs to another slot */
-    ETCS_SLOT_FOREIGN = 4,    /* its gate is open, and its head begins with no mark and number */
-    ETCS_SLOT_UNWRITTEN = 5,  /* its gate is closed, behind it is the block after the newest: none of its outputs was released */
-    ETCS_SLOT_REPLACED = 6,   /* its gate is closed, behind it is another block of this slot: one that was being replaced */
-    ETCS_SLOT_REMAINS = 7     /* its gate is closed, and behind it are neither zeros nor a block of this slot */
+    ETCS_SLOT_EMPTY = 0,      /**< all its bytes are zero */
+    ETCS_SLOT_BLOCK = 1,      /**< its gate is open, and head and records spell the block of this number, which belongs there */
+    ETCS_SLOT_UNREADABLE = 2, /**< its gate is open and its head begins with this number, but they spell no block */
+    ETCS_SLOT_MISPLACED = 3,  /**< its gate is open, and its head begins with this number, which belongs to another slot */
+    ETCS_SLOT_FOREIGN = 4,    /**< its gate is open, and its head begins with no mark and number */
+    ETCS_SLOT_UNWRITTEN = 5,  /**< its gate is closed, behind it is the block after the newest: none of its outputs was released */
+    ETCS_SLOT_REPLACED = 6,   /**< its gate is closed, behind it is another block of this slot: one that was being replaced */
+    ETCS_SLOT_REMAINS = 7     /**< its gate is closed, and behind it are neither zeros nor a block of this slot */
 };
 
-/* The kind of an event. */
+/** The kind of an event. */
 enum etcs_kind { ETCS_POWER_UP = 1, ETCS_TELEGRAM = 2, ETCS_ODOMETER = 3, ETCS_CLOCK = 4, ETCS_DRIVER = 5 };
 
-/* Whether a datum may be relied on (SUBSET-026, 4.10). */
+/** Whether a datum may be relied on (SUBSET-026, 4.10). */
 enum etcs_datum { ETCS_DATUM_UNKNOWN = 0, ETCS_DATUM_VALID = 1, ETCS_DATUM_INVALID = 2 };
 
-/* What a life came to that was run through the kernel again. */
+/** What a life came to that was run through the kernel again. */
 enum etcs_verdict {
-    ETCS_VERDICT_AGREES = 1,         /* each record and each head is what this kernel answers and keeps */
-    ETCS_VERDICT_RECORD_DIFFERS = 2, /* a record differs: what is behind it wasn't compared */
-    ETCS_VERDICT_HEAD_DIFFERS = 3,   /* the head of a block differs, likewise */
-    ETCS_VERDICT_BEFORE_OLDEST = 4,  /* not run: its power-up, or the head before that, is in no slot any more */
-    ETCS_VERDICT_BEHIND_GAP = 5,     /* not run: the block before can't be read, or its events aren't those before these */
-    ETCS_VERDICT_BEGINS_EARLIER = 6  /* not run: it begins in a block before the one that the journal was at */
+    ETCS_VERDICT_AGREES = 1,         /**< each record and each head is what this kernel answers and keeps */
+    ETCS_VERDICT_RECORD_DIFFERS = 2, /**< a record differs: what is behind it wasn't compared */
+    ETCS_VERDICT_HEAD_DIFFERS = 3,   /**< the head of a block differs, likewise */
+    ETCS_VERDICT_BEFORE_OLDEST = 4,  /**< not run: its power-up, or the head before that, is in no slot any more */
+    ETCS_VERDICT_BEHIND_GAP = 5,     /**< not run: the block before can't be read, or its events aren't those before these */
+    ETCS_VERDICT_BEGINS_EARLIER = 6  /**< not run: it begins in a block before the one that the journal was at */
 };
 
-/* What of a record differs first, in the order in which it is compared. */
+/** What of a record differs first, in the order in which it is compared. */
 enum etcs_record_field {
-    ETCS_RECORD_EVENT = 1,       /* the number of the event */
-    ETCS_RECORD_WORD = 2,        /* the word of a power-up, in a format that doesn't tell it */
-    ETCS_RECORD_MOMENT = 3,
-    ETCS_RECORD_MODE = 4,
-    ETCS_RECORD_LEVEL = 5,
-    ETCS_RECORD_BRAKE = 6,
-    ETCS_RECORD_INDICATIONS = 7,
-    ETCS_RECORD_PLACE = 8,       /* place and limit, which one of the two tells and the other doesn't */
-    ETCS_RECORD_FRONT = 9,
-    ETCS_RECORD_UNCERTAINTY = 10,
-    ETCS_RECORD_LIMIT = 11
+    ETCS_RECORD_EVENT = 1,       /**< the number of the event */
+    ETCS_RECORD_WORD = 2,        /**< the word of a power-up, in a format that doesn't tell it */
+    ETCS_RECORD_MOMENT = 3,      /**< its moment */
+    ETCS_RECORD_MODE = 4,        /**< the mode */
+    ETCS_RECORD_LEVEL = 5,       /**< the level */
+    ETCS_RECORD_BRAKE = 6,       /**< the command to the brakes */
+    ETCS_RECORD_INDICATIONS = 7, /**< what the driver is shown */
+    ETCS_RECORD_PLACE = 8,       /**< place and limit, which one of the two tells and the other doesn't */
+    ETCS_RECORD_FRONT = 9,       /**< where the front is thought to be */
+    ETCS_RECORD_UNCERTAINTY = 10, /**< how far that may be wrong */
+    ETCS_RECORD_LIMIT = 11       /**< the permitted speed */
 };
 
-/* What of a head differs first, in the order in which it is compared. */
+/** What of a head differs first, in the order in which it is compared. */
 enum etcs_kept_field {
-    ETCS_KEPT_EVENTS = 1, /* how many events, and how many lives, there were: etcs_image_block tells what the head has */
-    ETCS_KEPT_LIVES = 2,
-    ETCS_KEPT_TRIP = 3,
-    ETCS_KEPT_IDENTITY = 4,
-    ETCS_KEPT_RUNNING_NUMBER = 5,
-    ETCS_KEPT_TRAIN = 6,
-    ETCS_KEPT_LEVEL = 7,
-    ETCS_KEPT_POSITION = 8,
-    ETCS_KEPT_NATIONAL = 9,
-    ETCS_KEPT_COUNTRIES = 10
+    ETCS_KEPT_EVENTS = 1,         /**< how many events there were: etcs_image_block tells what the head has */
+    ETCS_KEPT_LIVES = 2,          /**< how many lives there were */
+    ETCS_KEPT_TRIP = 3,           /**< whether a trip is outstanding */
+    ETCS_KEPT_IDENTITY = 4,       /**< the driver's identity */
+    ETCS_KEPT_RUNNING_NUMBER = 5, /**< the running number */
+    ETCS_KEPT_TRAIN = 6,          /**< train data */
+    ETCS_KEPT_LEVEL = 7,          /**< the level */
+    ETCS_KEPT_POSITION = 8,       /**< the position */
+    ETCS_KEPT_NATIONAL = 9,       /**< the national values */
+    ETCS_KEPT_COUNTRIES = 10      /**< the countries that they are for */
 };
 
-/* Why Trip was entered (docs/BRAKES.md). */
+/** Why Trip was entered (docs/BRAKES.md). */
 enum etcs_trip_cause {
-    ETCS_TRIP_UNKNOWN = 0, /* no trip is owed, or it was entered in a life before */
-    ETCS_TRIP_END_PASSED = 1,
-    ETCS_TRIP_LINKING = 2,
-    ETCS_TRIP_STOP = 3,
-    ETCS_TRIP_STAFF_DISTANCE = 4,
-    ETCS_TRIP_LEVEL = 5
+    ETCS_TRIP_UNKNOWN = 0,        /**< no trip is owed, or it was entered in a life before */
+    ETCS_TRIP_END_PASSED = 1,     /**< the minimum safe front was past the end of authority */
+    ETCS_TRIP_LINKING = 2,        /**< linking or a balise group asked for it */
+    ETCS_TRIP_STOP = 3,           /**< an authority with V_MAIN 0 was used */
+    ETCS_TRIP_STAFF_DISTANCE = 4, /**< the path in Staff Responsible was above D_NVSTFF */
+    ETCS_TRIP_LEVEL = 5           /**< the level was 1, and the authority or the track ahead was not known */
 };
 
-/* What an image has at first sight. */
+/** What an image has at first sight. */
 typedef struct {
-    uint64_t sectors; /* how many whole sectors */
-    uint64_t slots;   /* how many slots its first sector tells, 2 to 1,048,576 */
-    uint64_t whole;   /* how many of them are there with all their sectors */
-    uint64_t newest;  /* the greatest number of a block that is valid in these, 0 where there is none */
+    uint64_t sectors; /**< how many whole sectors */
+    uint64_t slots;   /**< how many slots its first sector tells, 2 to 1,048,576 */
+    uint64_t whole;   /**< how many of them are there with all their sectors */
+    uint64_t newest;  /**< the greatest number of a block that is valid in these, 0 where there is none */
 } etcs_image;
 
-/* What a slot holds. */
+/** What a slot holds. */
 typedef struct {
-    uint64_t number;       /* the number that its state tells, 0 where it tells none */
-    uint64_t fault_at;     /* the offset of the first field that isn't one, from the first byte behind the gate; 0 where all are */
-    uint32_t state;        /* enum etcs_slot_state */
-    uint32_t is_sound;     /* 1 where it is as a unit leaves it: empty, or a block behind its own gate; else 0 */
-    uint32_t has_fault;    /* 1 where a field isn't one, else 0 */
-    uint32_t fault_record; /* in which record that field is, from 1 on; 0 where in none */
+    uint64_t number;       /**< the number that its state tells, 0 where it tells none */
+    uint64_t fault_at;     /**< the offset of the first field that isn't one, from the first byte behind the gate; 0 where all are */
+    uint32_t state;        /**< enum etcs_slot_state */
+    uint32_t is_sound;     /**< 1 where it is as a unit leaves it: empty, or a block behind its own gate; else 0 */
+    uint32_t has_fault;    /**< 1 where a field isn't one, else 0 */
+    uint32_t fault_record; /**< in which record that field is, from 1 on; 0 where in none */
 } etcs_slot;
 
-/* National values (SUBSET-026, 3.18.2). */
+/** National values (SUBSET-026, 3.18.2). */
 typedef struct {
-    uint32_t shunting_m_per_h;
-    uint32_t staff_responsible_m_per_h;
-    uint32_t on_sight_m_per_h;
-    uint32_t unfitted_m_per_h;
-    uint32_t release_m_per_h;
-    uint32_t roll_cm;
-    uint32_t override_allowed_m_per_h;
-    uint32_t override_m_per_h;
-    uint32_t override_distance_cm;
-    uint32_t override_time_ms;              /* or ETCS_ENDLESS */
-    uint32_t staff_responsible_distance_cm; /* or ETCS_ENDLESS */
-    uint32_t count;                         /* how many countries they are for, at most 32 */
-    uint16_t countries[32];                 /* NID_C of each */
+    uint32_t shunting_m_per_h;              /**< V_NVSHUNT */
+    uint32_t staff_responsible_m_per_h;     /**< V_NVSTFF */
+    uint32_t on_sight_m_per_h;              /**< V_NVONSIGHT */
+    uint32_t unfitted_m_per_h;              /**< V_NVUNFIT */
+    uint32_t release_m_per_h;               /**< V_NVREL */
+    uint32_t roll_cm;                       /**< D_NVROLL */
+    uint32_t override_allowed_m_per_h;      /**< V_NVALLOWOVTRP */
+    uint32_t override_m_per_h;              /**< V_NVSUPOVTRP */
+    uint32_t override_distance_cm;          /**< D_NVOVTRP */
+    uint32_t override_time_ms;              /**< T_NVOVTRP, or ETCS_ENDLESS */
+    uint32_t staff_responsible_distance_cm; /**< D_NVSTFF, or ETCS_ENDLESS */
+    uint32_t count;                         /**< how many countries they are for, at most 32 */
+    uint16_t countries[32];                 /**< NID_C of each */
 } etcs_national;
 
-/* What is kept behind a block (SUBSET-026, 4.10). What isn't known is zero. */
+/** What is kept behind a block (SUBSET-026, 4.10). What isn't known is zero. */
 typedef struct {
-    int64_t distance_cm; /* how far behind the group the estimated front lies */
-    etcs_train_data train;
-    uint32_t running_number;
-    uint32_t country;    /* NID_C of the group that the position is told by */
-    uint32_t group;      /* NID_BG of that group */
-    uint8_t identity[16];
-    uint8_t identity_len; /* 0 where no identity is known */
-    uint8_t has_running_number;
-    uint8_t has_train;
-    uint8_t level_status;    /* enum etcs_datum */
-    uint8_t level;           /* enum etcs_level */
-    uint8_t position_status; /* enum etcs_datum */
-    uint8_t trip_outstanding;
-    uint8_t reserved;
-    etcs_national national;
+    int64_t distance_cm; /**< how far behind the group the estimated front lies */
+    etcs_train_data train; /**< train data, where has_train is 1 */
+    uint32_t running_number; /**< where has_running_number is 1 */
+    uint32_t country;    /**< NID_C of the group that the position is told by */
+    uint32_t group;      /**< NID_BG of that group */
+    uint8_t identity[16];    /**< of the driver */
+    uint8_t identity_len;    /**< 0 where no identity is known */
+    uint8_t has_running_number; /**< 1 where one is known, else 0 */
+    uint8_t has_train;       /**< 1 where train data are known, else 0 */
+    uint8_t level_status;    /**< enum etcs_datum */
+    uint8_t level;           /**< enum etcs_level */
+    uint8_t position_status; /**< enum etcs_datum */
+    uint8_t trip_outstanding; /**< 1 where a trip isn't acknowledged yet, else 0 */
+    uint8_t reserved;        /**< zero */
+    etcs_national national;  /**< the national values in force */
 } etcs_kept;
 
-/* What the head of a block tells. */
+/** What the head of a block tells. */
 typedef struct {
-    uint64_t number;
-    uint64_t first_event; /* the number of its first event, over all lives */
-    uint64_t events;      /* how many events there were up to and with its last one */
-    uint32_t lives;       /* how many power-ups there were up to and with them */
-    uint8_t format;       /* 1 to 3 */
-    uint8_t records;      /* how many records it has, 1 to 16 */
-    uint16_t reserved;
-    etcs_kept kept;
+    uint64_t number;      /**< its own, from 1 on */
+    uint64_t first_event; /**< the number of its first event, over all lives */
+    uint64_t events;      /**< how many events there were up to and with its last one */
+    uint32_t lives;       /**< how many power-ups there were up to and with them */
+    uint8_t format;       /**< 1 to 3 */
+    uint8_t records;      /**< how many records it has, 1 to 16 */
+    uint16_t reserved;    /**< zero */
+    etcs_kept kept;       /**< what a power-up behind it finds */
 } etcs_block;
 
-/* A record with all that its block tells of it. */
+/** A record with all that its block tells of it. */
 typedef struct {
-    uint64_t event;          /* the number of the event, over all lives */
-    uint64_t block;
-    uint64_t moment_ms;      /* of its life */
-    int64_t front_cm;        /* where the front was thought to be, from where its life began; 0 in format 1 */
-    uint64_t uncertainty_cm; /* how far that may have been wrong to either side; 0 in format 1 */
-    uint32_t limit_m_per_h;  /* 0 in format 1 */
-    uint32_t life;           /* how many power-ups there were up to and with its block */
-    uint8_t format;          /* of its block, 1 to 3 */
-    uint8_t kind;            /* enum etcs_kind */
-    uint8_t mode;            /* enum etcs_mode */
-    uint8_t level;           /* enum etcs_level */
-    uint8_t brake;           /* enum etcs_brake */
-    uint8_t indications;     /* the sum of enum etcs_indication */
-    uint8_t has_place;       /* 1 where place, uncertainty and limit are told: from format 2 on */
-    uint8_t payload_len;
-    uint8_t payload[ETCS_PAYLOAD_BYTES]; /* what the event tells (docs/FORMAT.md), and zeros behind it */
+    uint64_t event;          /**< the number of the event, over all lives */
+    uint64_t block;          /**< the number of its block */
+    uint64_t moment_ms;      /**< of its life */
+    int64_t front_cm;        /**< where the front was thought to be, from where its life began; 0 in format 1 */
+    uint64_t uncertainty_cm; /**< how far that may have been wrong to either side; 0 in format 1 */
+    uint32_t limit_m_per_h;  /**< 0 in format 1 */
+    uint32_t life;           /**< how many power-ups there were up to and with its block */
+    uint8_t format;          /**< of its block, 1 to 3 */
+    uint8_t kind;            /**< enum etcs_kind */
+    uint8_t mode;            /**< enum etcs_mode */
+    uint8_t level;           /**< enum etcs_level */
+    uint8_t brake;           /**< enum etcs_brake */
+    uint8_t indications;     /**< the sum of enum etcs_indication */
+    uint8_t has_place;       /**< 1 where place, uncertainty and limit are told: from format 2 on */
+    uint8_t payload_len;     /**< how many bytes of the payload there are */
+    uint8_t payload[ETCS_PAYLOAD_BYTES]; /**< what the event tells (docs/FORMAT.md), and zeros behind it */
 } etcs_record;
 
-/* How far a journal was read. Its fields are for the calls below; it may be copied, to read on from there again. */
+/** How far a journal was read. Its fields are for the calls below; it may be copied, to read on from there again. */
 typedef struct {
-    uint64_t block;
-    uint64_t last;
-    uint64_t index;
+    uint64_t block; /**< the number of the block that is read */
+    uint64_t last;  /**< the number of the newest one */
+    uint64_t index; /**< which of its records comes next */
 } etcs_journal;
 
-/* What a life came to that was run again. What isn't told is zero. */
+/** What a life came to that was run again. What isn't told is zero. */
 typedef struct {
-    uint64_t first_event; /* the number of its first event that is there */
-    uint64_t last_event;
-    uint64_t block;       /* of what differs first */
-    uint64_t event;       /* of a record that differs */
-    uint32_t life;        /* how many power-ups there were up to and with its last block */
-    uint32_t verdict;     /* enum etcs_verdict */
-    uint32_t field;       /* of a record enum etcs_record_field, of a head enum etcs_kept_field */
-    uint32_t reserved;
-    etcs_record journal;  /* the record that differs, as the journal tells it */
-    etcs_record kernel;   /* .. and as this kernel answers it */
-    etcs_kept journal_kept; /* what the head that differs tells */
-    etcs_kept kernel_kept;  /* .. and what this kernel keeps */
+    uint64_t first_event; /**< the number of its first event that is there */
+    uint64_t last_event;  /**< that of its last one */
+    uint64_t block;       /**< of what differs first */
+    uint64_t event;       /**< of a record that differs */
+    uint32_t life;        /**< how many power-ups there were up to and with its last block */
+    uint32_t verdict;     /**< enum etcs_verdict */
+    uint32_t field;       /**< of a record enum etcs_record_field, of a head enum etcs_kept_field */
+    uint32_t reserved;    /**< zero */
+    etcs_record journal;  /**< the record that differs, as the journal tells it */
+    etcs_record kernel;   /**< the same record, as this kernel answers it */
+    etcs_kept journal_kept; /**< what the head that differs tells */
+    etcs_kept kernel_kept;  /**< what this kernel keeps there */
 } etcs_replay;
 
-/* Why an event was answered so, as this kernel answers it. */
+/** Why an event was answered so, as this kernel answers it. */
 typedef struct {
-    uint64_t event;
-    uint64_t since[ETCS_BRAKE_CAUSES]; /* of each cause that holds the first event of the run behind each of which it has held */
-    uint64_t trip_event;               /* by which event Trip was entered, where trip_cause isn't 0 */
-    uint64_t backward_cm;              /* how far the train has rolled backward since it stood */
-    uint64_t allowed_backward_cm;      /* D_NVROLL */
-    int64_t limit_cause_cm;            /* the place of what decides the limit, or 0 */
-    uint64_t restriction;              /* NID_TSR of a restriction that decides it, or 0 */
-    uint32_t limit_m_per_h;
-    uint32_t speed_m_per_h;            /* of the last reading */
-    uint32_t limit_cause_m_per_h;      /* of what lies ahead the speed that it asks for there, else the limit */
-    uint8_t holds[ETCS_BRAKE_CAUSES];  /* 1 of each enum etcs_brake_cause that holds, else 0 */
-    uint8_t brake;                     /* enum etcs_brake */
-    uint8_t trip_cause;                /* enum etcs_trip_cause */
-    uint8_t limit_cause;               /* enum etcs_limit_cause */
-    uint8_t has_place;                 /* 1 where limit_cause_cm is one */
-    uint8_t has_restriction;           /* 1 where restriction is one */
-    uint8_t reserved[5];
+    uint64_t event;                    /**< its number */
+    uint64_t since[ETCS_BRAKE_CAUSES]; /**< of each cause that holds the first event of the run behind each of which it has held */
+    uint64_t trip_event;               /**< by which event Trip was entered, where trip_cause isn't 0 */
+    uint64_t backward_cm;              /**< how far the train has rolled backward since it stood */
+    uint64_t allowed_backward_cm;      /**< D_NVROLL */
+    int64_t limit_cause_cm;            /**< the place of what decides the limit, or 0 */
+    uint64_t restriction;              /**< NID_TSR of a restriction that decides it, or 0 */
+    uint32_t limit_m_per_h;            /**< the permitted speed behind it */
+    uint32_t speed_m_per_h;            /**< of the last reading */
+    uint32_t limit_cause_m_per_h;      /**< of what lies ahead the speed that it asks for there, else the limit */
+    uint8_t holds[ETCS_BRAKE_CAUSES];  /**< 1 of each enum etcs_brake_cause that holds, else 0 */
+    uint8_t brake;                     /**< enum etcs_brake */
+    uint8_t trip_cause;                /**< enum etcs_trip_cause */
+    uint8_t limit_cause;               /**< enum etcs_limit_cause */
+    uint8_t has_place;                 /**< 1 where limit_cause_cm is one */
+    uint8_t has_restriction;           /**< 1 where restriction is one */
+    uint8_t reserved[5];               /**< zeros */
 } etcs_why;
 
 ETCS_UNIT_ASSERT(sizeof(etcs_image) == 32u && offsetof(etcs_image, newest) == 24u);
@@ -269,37 +270,37 @@ uint32_t etcs_image_why_(const uint8_t *image, size_t size, uint32_t abi, uint64
 
 /* ---- the calls */
 
-/* What an image has at first sight. It reads the first sector, each gate, and the head behind each open one. Answers OK,
+/** What an image has at first sight. It reads the first sector, each gate, and the head behind each open one. Answers OK,
  * OTHER_ABI, or IMAGE_NOT_FORMATTED. */
 static inline uint32_t etcs_image_facts(const uint8_t *image, size_t size, etcs_image *facts) {
     return ((image != NULL) && (facts != NULL)) ? etcs_image_facts_(image, size, ETCS_UNIT_ABI, facts) : (uint32_t)ETCS_UNIT_NULL_POINTER;
 }
 
-/* What a slot holds, where the newest block has this number, as etcs_image_facts tells it. Answers OK, OTHER_ABI,
+/** What a slot holds, where the newest block has this number, as etcs_image_facts tells it. Answers OK, OTHER_ABI,
  * IMAGE_NOT_FORMATTED, OUT_OF_RANGE (a newest number above 2^40), or NO_SUCH_SLOT. */
 static inline uint32_t etcs_image_slot(const uint8_t *image, size_t size, uint64_t newest, uint64_t slot, etcs_slot *told) {
     return ((image != NULL) && (told != NULL)) ? etcs_image_slot_(image, size, ETCS_UNIT_ABI, newest, slot, told) : (uint32_t)ETCS_UNIT_NULL_POINTER;
 }
 
-/* What the head of the block of this number tells. Answers OK, OTHER_ABI, IMAGE_NOT_FORMATTED, or NO_SUCH_BLOCK where its
+/** What the head of the block of this number tells. Answers OK, OTHER_ABI, IMAGE_NOT_FORMATTED, or NO_SUCH_BLOCK where its
  * slot doesn't hold it behind an open gate. */
 static inline uint32_t etcs_image_block(const uint8_t *image, size_t size, uint64_t number, etcs_block *block) {
     return ((image != NULL) && (block != NULL)) ? etcs_image_block_(image, size, ETCS_UNIT_ABI, number, block) : (uint32_t)ETCS_UNIT_NULL_POINTER;
 }
 
-/* A record of the block of this number. Answers OK, OTHER_ABI, IMAGE_NOT_FORMATTED, NO_SUCH_BLOCK, or NO_SUCH_RECORD. */
+/** A record of the block of this number. Answers OK, OTHER_ABI, IMAGE_NOT_FORMATTED, NO_SUCH_BLOCK, or NO_SUCH_RECORD. */
 static inline uint32_t etcs_image_record(const uint8_t *image, size_t size, uint64_t number, uint32_t index, etcs_record *record) {
     return ((image != NULL) && (record != NULL)) ? etcs_image_record_(image, size, ETCS_UNIT_ABI, number, index, record) : (uint32_t)ETCS_UNIT_NULL_POINTER;
 }
 
-/* Begins at the oldest record of the journal: of the longest unbroken run of blocks up to the newest, which `etcs journal`
+/** Begins at the oldest record of the journal: of the longest unbroken run of blocks up to the newest, which `etcs journal`
  * lists. It reads what etcs_image_facts reads. Answers OK, OTHER_ABI, IMAGE_NOT_FORMATTED, or IMAGE_DAMAGED where the
  * image hasn't just 1 + 6 * slots sectors. */
 static inline uint32_t etcs_journal_open(const uint8_t *image, size_t size, etcs_journal *journal) {
     return ((image != NULL) && (journal != NULL)) ? etcs_journal_open_(image, size, ETCS_UNIT_ABI, journal) : (uint32_t)ETCS_UNIT_NULL_POINTER;
 }
 
-/* The next record of the journal. It reads one slot, and takes as long whatever size the image has. Answers OK, END,
+/** The next record of the journal. It reads one slot, and takes as long whatever size the image has. Answers OK, END,
  * NOT_OPEN (a journal of zeros), OUT_OF_RANGE (one that no call left), IMAGE_NOT_FORMATTED, NO_SUCH_RECORD (one of another
  * image), or IMAGE_DAMAGED where a block of the journal can't be read: then the journal is behind that block, and the next
  * call goes on there. */
@@ -307,7 +308,7 @@ static inline uint32_t etcs_journal_next(const uint8_t *image, size_t size, etcs
     return ((image != NULL) && (journal != NULL) && (record != NULL)) ? etcs_journal_next_(image, size, journal, record) : (uint32_t)ETCS_UNIT_NULL_POINTER;
 }
 
-/* Runs the life through the kernel again that begins with the block at which the journal is, whatever its index, and
+/** Runs the life through the kernel again that begins with the block at which the journal is, whatever its index, and
  * tells what it came to; then the journal is behind the last block of this life. So from etcs_journal_open on it tells
  * one life after the other, the oldest first, until END. A life ends before a power-up, before a block that can't be
  * read, and before one whose events don't follow; what is behind such a gap is told as a life of its own, which is
@@ -319,7 +320,7 @@ static inline uint32_t etcs_image_replay(const uint8_t *image, size_t size, etcs
     return ((image != NULL) && (journal != NULL) && (replay != NULL)) ? etcs_image_replay_(image, size, ETCS_UNIT_ABI, journal, replay) : (uint32_t)ETCS_UNIT_NULL_POINTER;
 }
 
-/* Why the event of this number in the block of this number was answered so: its life is run through the kernel again, from
+/** Why the event of this number in the block of this number was answered so: its life is run through the kernel again, from
  * its power-up up to the event. etcs_journal_next tells both numbers of each record. It takes memory. Answers OK,
  * OTHER_ABI, IMAGE_NOT_FORMATTED, NO_SUCH_BLOCK, NO_SUCH_RECORD where the block has no such event, NOT_REPLAYED where what
  * was kept before the life isn't known (etcs_image_replay tells why), or NO_MEMORY. */

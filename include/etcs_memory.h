@@ -1,4 +1,5 @@
-/*
+/**
+ * @file
  * Memory of the maker's own for the onboard unit: of the variant of the library that takes none from a C library
  * (libetcs_unit_static.a, and all libraries for machines without one).
  *
@@ -31,11 +32,13 @@
 extern "C" {
 #endif
 
-/* The bytes of a buffer, at least and at most. */
+/** The bytes of a buffer, at least. */
 #define ETCS_MEMORY_LEAST UINT64_C(4096)
+
+/** The bytes of a buffer, at most. */
 #define ETCS_MEMORY_MOST UINT64_C(0x400000000)
 
-/* What one unit, alone on a buffer, needs at most, in bytes, of:
+/** What one unit, alone on a buffer, needs at most, in bytes, of:
  *
  * - slots: of its medium, which has 1 + 6 * slots sectors;
  * - packets: that the telegrams of one group have together, at most (264: eight telegrams of 33);
@@ -50,23 +53,23 @@ extern "C" {
      + UINT64_C(136) * (uint64_t)(restrictions) + UINT64_C(68) * (uint64_t)(gradients)                                 \
      + UINT64_C(136) * (uint64_t)(speeds))
 
-/* What of the buffer is out. */
+/** What of the buffer is out. */
 typedef struct {
-    uint64_t size;      /* what all pieces together may take of the buffer, with 16 bytes that each takes for itself */
-    uint64_t used;      /* what they take now */
-    uint64_t most_used; /* the most that they took at once since the buffer is used */
-    uint64_t pieces;    /* how many there are now */
-    uint64_t refused;   /* how many requests were refused since the buffer is used */
+    uint64_t size;      /**< what all pieces together may take of the buffer, with 16 bytes that each takes for itself */
+    uint64_t used;      /**< what they take now */
+    uint64_t most_used; /**< the most that they took at once since the buffer is used */
+    uint64_t pieces;    /**< how many there are now */
+    uint64_t refused;   /**< how many requests were refused since the buffer is used */
 } etcs_memory_told;
 
 ETCS_UNIT_ASSERT(sizeof(etcs_memory_told) == 40u && offsetof(etcs_memory_told, most_used) == 16u && offsetof(etcs_memory_told, refused) == 32u);
 
-/* From now on memory comes from this buffer, which may lie anywhere. Answers OK; OUT_OF_RANGE where it has fewer bytes
+/** From now on memory comes from this buffer, which may lie anywhere. Answers OK; OUT_OF_RANGE where it has fewer bytes
  * than ETCS_MEMORY_LEAST or more than ETCS_MEMORY_MOST; IS_OPEN where a piece of the one before is out (a unit is open);
  * NULL_POINTER. But for OK nothing changes. Before the first one every request is refused. */
 uint32_t etcs_memory_use(void *buffer, uint64_t size);
 
-/* Tells what is used. Answers OK; NOT_OPEN where no buffer is used; NULL_POINTER. */
+/** Tells what is used. Answers OK; NOT_OPEN where no buffer is used; NULL_POINTER. */
 uint32_t etcs_memory_state(etcs_memory_told *told);
 
 #ifdef __cplusplus

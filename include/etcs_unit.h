@@ -1,4 +1,5 @@
-/*
+/**
+ * @file
  * The onboard unit (ERTMS/ETCS level 1, UNISIG SUBSET-026 issue 2.3.0), for C, C++ and whatever calls C.
  *
  * Link with libetcs_unit.a or libetcs_unit.so, which `tools/library PREFIX` builds and installs with this header.
@@ -78,81 +79,95 @@ extern "C" {
 #define ETCS_UNIT_ASSERT(what) extern char etcs_unit_assert_[(what) ? 1 : -1]
 #endif
 
-/* The number of this interface: counted up with each change that a caller can see. */
+/** The number of this interface: counted up with each change that a caller can see. */
 #define ETCS_UNIT_ABI 2
 
-/* The bytes of the version, at most. */
+/** The bytes of the version, at most. */
 #define ETCS_VERSION_BYTES 32
 
-/* The bytes of a sector. */
+/** The bytes of a sector. */
 #define ETCS_UNIT_SECTOR 512
 
-/* The outputs that one release hands out, at most. */
+/** The outputs that one release hands out, at most. */
 #define ETCS_UNIT_OUTPUTS 8
 
-/* The bytes that one request writes, at most. */
+/** The bytes that one request writes, at most. */
 #define ETCS_UNIT_REQUEST_BYTES 8192
 
-/* What calls answer. docs/REFUSALS.md says more of each. */
+/** What calls answer. docs/REFUSALS.md says more of each.
+ *
+ * - 1 to 6, opening: no unit was opened, and the medium is to be left as it is.
+ * - 10 to 13, taking an input: nothing changed.
+ * - 21 to 23, preparing and releasing: nothing is released.
+ * - 31 to 39, reading an image (etcs_image.h): nothing is written.
+ * - 41, formatting.
+ * - 247 to 255, the call itself: nothing changed. */
 enum etcs_unit_status {
-    ETCS_UNIT_OK = 0,
+    ETCS_UNIT_OK = 0, /**< the call did what it was asked */
 
-    /* opening: no unit was opened, and the medium is to be left as it is */
-    ETCS_UNIT_OPEN_DEVICE_FAULT = 1,  /* never answered: the copy has room for all requests */
-    ETCS_UNIT_OPEN_NOT_FORMATTED = 2, /* the first sector isn't that of a journal, or there is none */
-    ETCS_UNIT_OPEN_DAMAGED = 3,       /* the size isn't that of the slots, or the newest block isn't readable */
-    ETCS_UNIT_OPEN_NO_MEMORY = 4,     /* there is no memory for the copy */
-    ETCS_UNIT_OPEN_WORN_OUT = 6,      /* there is no block number after 2^40: a new medium */
+    /* opening */
+    ETCS_UNIT_OPEN_DEVICE_FAULT = 1,  /**< never answered: the copy has room for all requests */
+    ETCS_UNIT_OPEN_NOT_FORMATTED = 2, /**< the first sector isn't that of a journal, or there is none */
+    ETCS_UNIT_OPEN_DAMAGED = 3,       /**< the size isn't that of the slots, or the newest block isn't readable */
+    ETCS_UNIT_OPEN_NO_MEMORY = 4,     /**< there is no memory for the copy */
+    ETCS_UNIT_OPEN_WORN_OUT = 6,      /**< there is no block number after 2^40: a new medium */
 
-    /* taking an input: nothing changed */
-    ETCS_UNIT_PENDING_FULL = 10, /* eight events are pending: prepare and release first */
-    ETCS_UNIT_CLOCK_BACK = 11,   /* the moment lies before the last one of this life */
-    ETCS_UNIT_NO_MEMORY = 12,    /* memory was refused for the event, or for a life that is run again (etcs_image.h) */
-    ETCS_UNIT_INPUT_FAILED = 13, /* the medium failed before: close, and open again */
+    /* taking an input */
+    ETCS_UNIT_PENDING_FULL = 10, /**< eight events are pending: prepare and release first */
+    ETCS_UNIT_CLOCK_BACK = 11,   /**< the moment lies before the last one of this life */
+    ETCS_UNIT_NO_MEMORY = 12,    /**< memory was refused for the event, or for a life that is run again (etcs_image.h) */
+    ETCS_UNIT_INPUT_FAILED = 13, /**< the medium failed before: close, and open again */
 
-    /* preparing and releasing: nothing is released */
-    ETCS_UNIT_FAILED = 21,        /* the medium failed: close, and open again */
-    ETCS_UNIT_REQUESTS_OWED = 22, /* requests aren't done, or not released yet */
-    ETCS_UNIT_WORN_OUT = 23,      /* there is no block number after 2^40: a new medium */
+    /* preparing and releasing */
+    ETCS_UNIT_FAILED = 21,        /**< the medium failed: close, and open again */
+    ETCS_UNIT_REQUESTS_OWED = 22, /**< requests aren't done, or not released yet */
+    ETCS_UNIT_WORN_OUT = 23,      /**< there is no block number after 2^40: a new medium */
 
-    /* reading an image (etcs_image.h): nothing is written */
-    ETCS_UNIT_IMAGE_NOT_FORMATTED = 31, /* the first sector isn't that of a journal, or there is none */
-    ETCS_UNIT_IMAGE_DAMAGED = 32,       /* the size isn't that of the slots, or a block of the journal isn't readable */
-    ETCS_UNIT_NO_SUCH_SLOT = 35,        /* the image has no such slot with all its sectors */
-    ETCS_UNIT_NO_SUCH_BLOCK = 36,       /* no slot holds the block of this number */
-    ETCS_UNIT_NO_SUCH_RECORD = 37,      /* the block has fewer records */
-    ETCS_UNIT_END = 38,                 /* the journal ends */
-    ETCS_UNIT_NOT_REPLAYED = 39,        /* the life of the event can't be run again */
+    /* reading an image */
+    ETCS_UNIT_IMAGE_NOT_FORMATTED = 31, /**< the first sector isn't that of a journal, or there is none */
+    ETCS_UNIT_IMAGE_DAMAGED = 32,       /**< the size isn't that of the slots, or a block of the journal isn't readable */
+    ETCS_UNIT_NO_SUCH_SLOT = 35,        /**< the image has no such slot with all its sectors */
+    ETCS_UNIT_NO_SUCH_BLOCK = 36,       /**< no slot holds the block of this number */
+    ETCS_UNIT_NO_SUCH_RECORD = 37,      /**< the block has fewer records */
+    ETCS_UNIT_END = 38,                 /**< the journal ends */
+    ETCS_UNIT_NOT_REPLAYED = 39,        /**< the life of the event can't be run again */
 
     /* formatting */
-    ETCS_UNIT_BAD_SLOTS = 41, /* the number of slots isn't 2 to 1,048,576 */
+    ETCS_UNIT_BAD_SLOTS = 41, /**< the number of slots isn't 2 to 1,048,576 */
 
-    /* the call itself: nothing changed */
-    ETCS_UNIT_NOT_RELEASED = 247,    /* an input is pending, or requests aren't released yet: release first */
-    ETCS_UNIT_WRONG_COUNT = 248,     /* more requests were said to be done than there are, or fewer than before */
-    ETCS_UNIT_NO_SUCH_REQUEST = 249, /* the list ends before it */
-    ETCS_UNIT_NOT_OPEN = 250,        /* the unit is closed, or was never opened */
-    ETCS_UNIT_IS_OPEN = 251,         /* the unit is open already */
-    ETCS_UNIT_NO_ROOM = 252,         /* the buffer is too small */
-    ETCS_UNIT_NULL_POINTER = 253,    /* a pointer is null */
-    ETCS_UNIT_OTHER_ABI = 254,       /* the header is of another interface than the library */
-    ETCS_UNIT_OUT_OF_RANGE = 255     /* a number or a length is outside its limits */
+    /* the call itself */
+    ETCS_UNIT_NOT_RELEASED = 247,    /**< an input is pending, or requests aren't released yet: release first */
+    ETCS_UNIT_WRONG_COUNT = 248,     /**< more requests were said to be done than there are, or fewer than before */
+    ETCS_UNIT_NO_SUCH_REQUEST = 249, /**< the list ends before it */
+    ETCS_UNIT_NOT_OPEN = 250,        /**< the unit is closed, or was never opened */
+    ETCS_UNIT_IS_OPEN = 251,         /**< the unit is open already */
+    ETCS_UNIT_NO_ROOM = 252,         /**< the buffer is too small */
+    ETCS_UNIT_NULL_POINTER = 253,    /**< a pointer is null */
+    ETCS_UNIT_OTHER_ABI = 254,       /**< the header is of another interface than the library */
+    ETCS_UNIT_OUT_OF_RANGE = 255     /**< a number or a length is outside its limits */
 };
 
-/* What an answer is (etcs_status_kind). */
+/** What an answer is (etcs_status_kind). */
 enum etcs_status_kind {
-    ETCS_KIND_OK = 0,      /* the call did what it was asked */
-    ETCS_KIND_MISTAKE = 1, /* the driver or the program asked what can't be done: nothing changed; put it right, and call again */
-    ETCS_KIND_FAULT = 2    /* a sensor, the clock, the medium, memory or the library failed: the emergency brake */
+    ETCS_KIND_OK = 0,      /**< the call did what it was asked */
+    ETCS_KIND_MISTAKE = 1, /**< the driver or the program asked what can't be done: nothing changed; put it right, and call again */
+    ETCS_KIND_FAULT = 2    /**< a sensor, the clock, the medium, memory or the library failed: the emergency brake */
 };
 
-/* Whom a call's values come from. */
-enum etcs_source { ETCS_OF_DRIVER = 0, ETCS_OF_EQUIPMENT = 1 };
+/** Whom a call's values come from. */
+enum etcs_source {
+    ETCS_OF_DRIVER = 0,   /**< the driver: an identity, a number, train data, an action */
+    ETCS_OF_EQUIPMENT = 1 /**< a sensor, the clock, a reader of balises, the program */
+};
 
-/* Whether the train was moved while the unit was without power. */
-enum etcs_cold { ETCS_COLD_UNKNOWN = 0, ETCS_COLD_MOVED = 1, ETCS_COLD_NOT_MOVED = 2 };
+/** Whether the train was moved while the unit was without power. */
+enum etcs_cold {
+    ETCS_COLD_UNKNOWN = 0,  /**< nothing is sure to have watched it */
+    ETCS_COLD_MOVED = 1,    /**< it was moved */
+    ETCS_COLD_NOT_MOVED = 2 /**< something watched it, and it stood (docs/SAFETY.md, 13) */
+};
 
-/* What the driver does without further values (SUBSET-026, 5). */
+/** What the driver does without further values (SUBSET-026, 5). */
 enum etcs_action {
     ETCS_CHOOSE_LEVEL_0 = 1,
     ETCS_CHOOSE_LEVEL_1 = 2,
@@ -171,7 +186,7 @@ enum etcs_action {
     ETCS_CLOSE_DESK = 15
 };
 
-/* M_MODE (SUBSET-026, 7.5.1). */
+/** M_MODE (SUBSET-026, 7.5.1). */
 enum etcs_mode {
     ETCS_FULL_SUPERVISION = 0,
     ETCS_ON_SIGHT = 1,
@@ -184,13 +199,13 @@ enum etcs_mode {
     ETCS_SYSTEM_FAILURE = 9
 };
 
-/* The level of the train. */
+/** The level of the train. */
 enum etcs_level { ETCS_LEVEL_0 = 0, ETCS_LEVEL_1 = 1, ETCS_LEVEL_INVALID = 255 };
 
-/* What the brakes are commanded to do. */
+/** What the brakes are commanded to do. */
 enum etcs_brake { ETCS_BRAKE_NONE = 0, ETCS_BRAKE_SERVICE = 1, ETCS_BRAKE_EMERGENCY = 2 };
 
-/* What the driver is shown; etcs_unit_output has the sum. */
+/** What the driver is shown; etcs_unit_output has the sum. */
 enum etcs_indication {
     ETCS_SHOWS_ON_SIGHT = 1,
     ETCS_SHOWS_SHUNTING = 2,
@@ -201,10 +216,10 @@ enum etcs_indication {
     ETCS_SHOWS_OVERSPEED = 64
 };
 
-/* What is to be done on the medium. */
+/** What is to be done on the medium. */
 enum etcs_request_kind { ETCS_REQUEST_WRITE = 1, ETCS_REQUEST_SYNC = 2 };
 
-/* Why a brake is commanded: the rows of the brake table, by their places in etcs_unit_why and etcs_why
+/** Why a brake is commanded: the rows of the brake table, by their places in etcs_unit_why and etcs_why
  * (docs/BRAKES.md, which tells how each ends). The first six command the emergency brake. */
 enum etcs_brake_cause {
     ETCS_CAUSE_NOT_REVALIDATED = 0,
@@ -219,10 +234,10 @@ enum etcs_brake_cause {
     ETCS_CAUSE_OWES_TOO_LONG = 9
 };
 
-/* How many they are. */
+/** How many rows the table of causes has. */
 #define ETCS_BRAKE_CAUSES 10
 
-/* What decides a limit (docs/BRAKES.md). */
+/** What decides a limit (docs/BRAKES.md). */
 enum etcs_limit_cause {
     ETCS_LIMIT_NO_SPEED = 1,
     ETCS_LIMIT_NO_TRAIN_DATA = 2,
@@ -246,86 +261,86 @@ enum etcs_limit_cause {
     ETCS_LIMIT_NATIONAL_RELEASE_SPEED = 20
 };
 
-/* Whether the driver is waited for (SUBSET-026, 5.7, 5.9, 5.10). */
+/** Whether the driver is waited for (SUBSET-026, 5.7, 5.9, 5.10). */
 enum etcs_acknowledgement {
-    ETCS_ACKNOWLEDGEMENT_NONE = 0,
-    ETCS_ACKNOWLEDGEMENT_ASKED = 1, /* before the transition */
-    ETCS_ACKNOWLEDGEMENT_OWED = 2   /* behind it: 5 s later the service brake comes */
+    ETCS_ACKNOWLEDGEMENT_NONE = 0,  /**< he isn't */
+    ETCS_ACKNOWLEDGEMENT_ASKED = 1, /**< before the transition */
+    ETCS_ACKNOWLEDGEMENT_OWED = 2   /**< behind it: 5 s later the service brake comes */
 };
 
-/* A unit, in the caller's memory. Its fields are the library's. */
+/** A unit, in the caller's memory. Its fields are the library's. */
 typedef struct {
-    void *at;
-    uint64_t is_open;
+    void *at;         /**< where the unit is */
+    uint64_t is_open; /**< 1 where it is open, else 0 */
 } etcs_unit;
 
-/* An output that may reach the train. */
+/** An output that may reach the train. */
 typedef struct {
-    uint64_t event;        /* the number of its event, from 0 on over all lives */
-    uint32_t limit_m_per_h;
-    uint8_t mode;          /* enum etcs_mode */
-    uint8_t level;         /* enum etcs_level */
-    uint8_t brake;         /* enum etcs_brake */
-    uint8_t indications;   /* the sum of enum etcs_indication */
+    uint64_t event;        /**< the number of its event, from 0 on over all lives */
+    uint32_t limit_m_per_h; /**< the permitted speed */
+    uint8_t mode;          /**< enum etcs_mode */
+    uint8_t level;         /**< enum etcs_level */
+    uint8_t brake;         /**< enum etcs_brake */
+    uint8_t indications;   /**< the sum of enum etcs_indication */
 } etcs_unit_output;
 
-/* Something to be done on the medium. */
+/** Something to be done on the medium. */
 typedef struct {
-    uint64_t sector;  /* of a write: the first sector, from 0 on; else 0 */
-    uint64_t sectors; /* of a write: how many sectors, with ETCS_UNIT_SECTOR bytes each; else 0 */
-    uint64_t kind;    /* enum etcs_request_kind */
+    uint64_t sector;  /**< of a write: the first sector, from 0 on; else 0 */
+    uint64_t sectors; /**< of a write: how many sectors, with ETCS_UNIT_SECTOR bytes each; else 0 */
+    uint64_t kind;    /**< enum etcs_request_kind */
 } etcs_unit_request_told;
 
-/* Train data (SUBSET-026, 3.18.3). */
+/** Train data (SUBSET-026, 3.18.3). */
 typedef struct {
-    uint32_t length_cm;
-    uint32_t maximum_m_per_h;
-    uint32_t deceleration_cm_per_s2;
-    uint32_t reaction_ms;
-    uint32_t category; /* 0 to 15 */
+    uint32_t length_cm;              /**< of the whole train */
+    uint32_t maximum_m_per_h;        /**< the greatest speed that the train may run at */
+    uint32_t deceleration_cm_per_s2; /**< what its brakes are sure to reach */
+    uint32_t reaction_ms;            /**< until they are built up, with all delays of the equipment (docs/INTEGRATION.md) */
+    uint32_t category;               /**< of its static speeds, 0 to 15 */
 } etcs_train_data;
 
-/* How far a unit is. */
+/** How far a unit is. */
 typedef struct {
-    etcs_unit_output last; /* of the last release that had an output; before one: event 0, Stand By, no valid level, emergency brake, not revalidated */
-    uint64_t requests;     /* how many requests the list has */
-    uint64_t done;         /* how many of them are done */
-    uint64_t held;         /* how many outputs are held back */
-    uint64_t has_failed;   /* 1 where etcs_unit_fail was called or a flush failed, else 0 */
-    uint64_t pending;      /* how many inputs were taken since the last preparation, at most eight */
-    uint64_t moment_ms;    /* the last moment of this life that was taken; 0 before one */
-    int64_t front_cm;      /* where the train's front is thought to be behind all inputs that were taken, from where this life began */
-    uint64_t uncertainty_cm; /* how far that may be wrong to either side */
+    etcs_unit_output last; /**< of the last release that had an output; before one: event 0, Stand By, no valid level, emergency brake, not revalidated */
+    uint64_t requests;     /**< how many requests the list has */
+    uint64_t done;         /**< how many of them are done */
+    uint64_t held;         /**< how many outputs are held back */
+    uint64_t has_failed;   /**< 1 where etcs_unit_fail was called or a flush failed, else 0 */
+    uint64_t pending;      /**< how many inputs were taken since the last preparation, at most eight */
+    uint64_t moment_ms;    /**< the last moment of this life that was taken; 0 before one */
+    int64_t front_cm;      /**< where the train's front is thought to be behind all inputs that were taken, from where this life began */
+    uint64_t uncertainty_cm; /**< how far that may be wrong to either side */
 } etcs_unit_state_told;
 
-/* Why the newest released output is what it is, and what a display shows of it. ERA's names for displays are in brackets.
+/** Why the newest released output is what it is, and what a display shows of it. ERA's names for displays are in brackets.
  * What isn't there is 0. */
 typedef struct {
-    etcs_unit_output output;            /* its limit is the permitted speed [V_PERM] */
-    uint64_t backward_cm;               /* how far the train has rolled backward since it stood */
-    uint64_t allowed_backward_cm;       /* D_NVROLL */
-    int64_t limit_cause_cm;             /* the place of what decides the limit, from where this life began */
-    uint64_t restriction;               /* NID_TSR of a restriction that decides it */
-    uint64_t target_distance_cm;        /* from the maximum safe front to what lies ahead and decides the limit [D_TARGET] */
-    uint64_t on_sight_ms;               /* how long an acknowledgement that is owed may be owed yet until the service brake comes; 0 where it has come */
-    uint64_t shunting_ms;
-    uint64_t level_0_ms;
-    uint32_t service_brake_m_per_h;     /* above this speed the service brake comes [V_SBI]: the limit and 5 km/h */
-    uint32_t emergency_brake_m_per_h;   /* above this one the emergency brake comes [V_EBI]: the limit and 10 km/h */
-    uint32_t speed_m_per_h;             /* of the last reading [V_TRAIN] */
-    uint32_t limit_cause_m_per_h;       /* of what lies ahead the speed that it asks for there, else the limit */
-    uint32_t target_m_per_h;            /* the speed that what lies ahead asks for there [V_TARGET] */
-    uint32_t release_m_per_h;           /* the release speed, where it is the limit [V_RELEASE] */
-    uint8_t holds[ETCS_BRAKE_CAUSES];   /* 1 of each enum etcs_brake_cause that holds, else 0 */
-    uint8_t limit_cause;                /* enum etcs_limit_cause */
-    uint8_t has_place;                  /* 1 where limit_cause_cm is one */
-    uint8_t has_restriction;            /* 1 where restriction is one */
-    uint8_t has_target;                 /* 1 where what decides the limit lies ahead */
-    uint8_t has_release;                /* 1 where the release speed decides it */
-    uint8_t on_sight;                   /* enum etcs_acknowledgement */
-    uint8_t shunting;
-    uint8_t level_0;
-    uint8_t reserved[6];
+    etcs_unit_output output;            /**< its limit is the permitted speed [V_PERM] */
+    uint64_t backward_cm;               /**< how far the train has rolled backward since it stood */
+    uint64_t allowed_backward_cm;       /**< D_NVROLL */
+    int64_t limit_cause_cm;             /**< the place of what decides the limit, from where this life began */
+    uint64_t restriction;               /**< NID_TSR of a restriction that decides it */
+    uint64_t target_distance_cm;        /**< from the maximum safe front to what lies ahead and decides the limit [D_TARGET] */
+    uint64_t on_sight_ms;               /**< how long an acknowledgement that is owed may be owed yet until the service brake comes; 0 where it has come */
+    uint64_t shunting_ms;               /**< the same of shunting */
+    uint64_t level_0_ms;                /**< the same of level 0 */
+    uint32_t service_brake_m_per_h;     /**< above this speed the service brake comes [V_SBI]: the limit and 5 km/h */
+    uint32_t emergency_brake_m_per_h;   /**< above this one the emergency brake comes [V_EBI]: the limit and 10 km/h */
+    uint32_t speed_m_per_h;             /**< of the last reading [V_TRAIN] */
+    uint32_t limit_cause_m_per_h;       /**< of what lies ahead the speed that it asks for there, else the limit */
+    uint32_t target_m_per_h;            /**< the speed that what lies ahead asks for there [V_TARGET] */
+    uint32_t release_m_per_h;           /**< the release speed, where it is the limit [V_RELEASE] */
+    uint8_t holds[ETCS_BRAKE_CAUSES];   /**< 1 of each enum etcs_brake_cause that holds, else 0 */
+    uint8_t limit_cause;                /**< enum etcs_limit_cause */
+    uint8_t has_place;                  /**< 1 where limit_cause_cm is one */
+    uint8_t has_restriction;            /**< 1 where restriction is one */
+    uint8_t has_target;                 /**< 1 where what decides the limit lies ahead */
+    uint8_t has_release;                /**< 1 where the release speed decides it */
+    uint8_t on_sight;                   /**< whether the driver is waited for to acknowledge on sight: enum etcs_acknowledgement */
+    uint8_t shunting;                   /**< the same of shunting */
+    uint8_t level_0;                    /**< the same of level 0 */
+    uint8_t reserved[6];                /**< zeros */
 } etcs_unit_why_told;
 
 ETCS_UNIT_ASSERT((sizeof(void *) == 8u) && (sizeof(size_t) == 8u));
@@ -365,16 +380,16 @@ uint32_t etcs_unit_format_request_(uint32_t slots, uint32_t index, etcs_unit_req
 
 /* ---- the calls */
 
-/* The number of the library's interface: that of a header beside it is ETCS_UNIT_ABI. */
+/** The number of the library's interface: that of a header beside it is ETCS_UNIT_ABI. */
 uint32_t etcs_abi(void);
 
-/* Writes the version of the product, as "0.1.0", with no zero behind it, and to `len` how many bytes it has. Answers OK,
+/** Writes the version of the product, as "0.1.0", with no zero behind it, and to `len` how many bytes it has. Answers OK,
  * or NO_ROOM; then nothing is written. ETCS_VERSION_BYTES are always enough. */
 static inline uint32_t etcs_version(uint8_t *out, size_t room, uint32_t *len) {
     return ((out != NULL) && (len != NULL)) ? etcs_version_(out, room, len) : (uint32_t)ETCS_UNIT_NULL_POINTER;
 }
 
-/* The name of a status, as enum etcs_unit_status has it behind ETCS_UNIT_; "unknown" for a number that it doesn't have.
+/** The name of a status, as enum etcs_unit_status has it behind ETCS_UNIT_; "unknown" for a number that it doesn't have.
  * The text is the program's own, and never ends. */
 static inline const char *etcs_status_text(uint32_t status) {
     const char *text = "unknown";
@@ -414,7 +429,7 @@ static inline const char *etcs_status_text(uint32_t status) {
     return text;
 }
 
-/* What an answer is (enum etcs_status_kind), of a call whose values come from there (enum etcs_source): an identity, a
+/** What an answer is (enum etcs_status_kind), of a call whose values come from there (enum etcs_source): an identity, a
  * number, train data or an action from the driver, all else from the equipment. Out of range is a mistake of the driver,
  * and a fault of a sensor, the clock or a reader of balises. A mistake of the program, such as PENDING_FULL, is one as long
  * as it is put right at once; a reading that is never handed in is as good as a sensor that failed. */
@@ -444,7 +459,7 @@ static inline uint32_t etcs_status_kind(uint32_t status, uint32_t source) {
     return kind;
 }
 
-/* Powers up on these sectors: `len` bytes, the whole medium, of which the unit keeps a copy. Behind it the requests of
+/** Powers up on these sectors: `len` bytes, the whole medium, of which the unit keeps a copy. Behind it the requests of
  * the power-up are in the list, and no output is held back: carry them out, say that they are done, and release.
  * Answers OK, IS_OPEN, OTHER_ABI, OUT_OF_RANGE (the word), or one of the statuses of opening; then the unit is as
  * before. Takes memory: the copy, some 9 kB of room for requests, and the unit. */
@@ -455,68 +470,68 @@ static inline uint32_t etcs_unit_open(etcs_unit *unit, const uint8_t *image, siz
 /* ---- inputs: each takes one input into memory, also while requests are carried out. Nothing is released. They answer
  * OK, NOT_OPEN, OUT_OF_RANGE, or a status of taking an input, tested in this order; but for OK nothing changed. */
 
-/* The bytes that a balise sent, from 1 to ETCS_TELEGRAM_BYTES; they need not carry a telegram. */
+/** The bytes that a balise sent, from 1 to ETCS_TELEGRAM_BYTES; they need not carry a telegram. */
 static inline uint32_t etcs_unit_telegram(etcs_unit *unit, const uint8_t *bytes, size_t len) {
     return ((unit != NULL) && (bytes != NULL)) ? etcs_unit_telegram_(unit, bytes, len) : (uint32_t)ETCS_UNIT_NULL_POINTER;
 }
 
-/* A reading of the odometer: the movement since the last one, forward or backward, and the speed now, 0 only at
+/** A reading of the odometer: the movement since the last one, forward or backward, and the speed now, 0 only at
  * standstill. */
 static inline uint32_t etcs_unit_odometer(etcs_unit *unit, int64_t movement_cm, uint32_t speed_m_per_h) {
     return (unit != NULL) ? etcs_unit_odometer_(unit, movement_cm, speed_m_per_h) : (uint32_t)ETCS_UNIT_NULL_POINTER;
 }
 
-/* A moment of this life. Moments don't fall. */
+/** A moment of this life. Moments don't fall. */
 static inline uint32_t etcs_unit_clock(etcs_unit *unit, uint64_t moment_ms) {
     return (unit != NULL) ? etcs_unit_clock_(unit, moment_ms) : (uint32_t)ETCS_UNIT_NULL_POINTER;
 }
 
-/* An action of the driver (enum etcs_action). */
+/** An action of the driver (enum etcs_action). */
 static inline uint32_t etcs_unit_action(etcs_unit *unit, uint32_t action) {
     return (unit != NULL) ? etcs_unit_action_(unit, action) : (uint32_t)ETCS_UNIT_NULL_POINTER;
 }
 
-/* The driver enters an identity, of 1 to 16 bytes. */
+/** The driver enters an identity, of 1 to 16 bytes. */
 static inline uint32_t etcs_unit_identity(etcs_unit *unit, const uint8_t *bytes, size_t len) {
     return ((unit != NULL) && (bytes != NULL)) ? etcs_unit_identity_(unit, bytes, len) : (uint32_t)ETCS_UNIT_NULL_POINTER;
 }
 
-/* The driver enters the running number. */
+/** The driver enters the running number. */
 static inline uint32_t etcs_unit_running_number(etcs_unit *unit, uint32_t number) {
     return (unit != NULL) ? etcs_unit_running_number_(unit, number) : (uint32_t)ETCS_UNIT_NULL_POINTER;
 }
 
-/* The driver enters train data. */
+/** The driver enters train data. */
 static inline uint32_t etcs_unit_train_data(etcs_unit *unit, const etcs_train_data *data) {
     return ((unit != NULL) && (data != NULL)) ? etcs_unit_train_data_(unit, data) : (uint32_t)ETCS_UNIT_NULL_POINTER;
 }
 
 /* ---- from inputs to outputs */
 
-/* Puts what is pending onto the copy: its requests are then in the list, and its outputs held back. Where nothing is
+/** Puts what is pending onto the copy: its requests are then in the list, and its outputs held back. Where nothing is
  * pending the list stays empty. Answers OK, NOT_OPEN, or a status of preparing. */
 static inline uint32_t etcs_unit_prepare(etcs_unit *unit) {
     return (unit != NULL) ? etcs_unit_prepare_(unit) : (uint32_t)ETCS_UNIT_NULL_POINTER;
 }
 
-/* Tells a request of the list, from 0 on, and the bytes that it writes. Answers OK, NOT_OPEN, NO_SUCH_REQUEST, or NO_ROOM
+/** Tells a request of the list, from 0 on, and the bytes that it writes. Answers OK, NOT_OPEN, NO_SUCH_REQUEST, or NO_ROOM
  * where it writes more than `room` bytes; but for OK nothing is written. ETCS_UNIT_REQUEST_BYTES are always enough. */
 static inline uint32_t etcs_unit_request(etcs_unit *unit, uint32_t index, etcs_unit_request_told *request, uint8_t *bytes, size_t room) {
     return ((unit != NULL) && (request != NULL) && (bytes != NULL)) ? etcs_unit_request_(unit, index, request, bytes, room) : (uint32_t)ETCS_UNIT_NULL_POINTER;
 }
 
-/* Says that so many requests, from the first on, are done. Answers OK, NOT_OPEN or WRONG_COUNT. */
+/** Says that so many requests, from the first on, are done. Answers OK, NOT_OPEN or WRONG_COUNT. */
 static inline uint32_t etcs_unit_done(etcs_unit *unit, uint32_t count) {
     return (unit != NULL) ? etcs_unit_done_(unit, count) : (uint32_t)ETCS_UNIT_NULL_POINTER;
 }
 
-/* Says that the medium failed: from then on inputs answer INPUT_FAILED, and prepare and release FAILED. Answers OK or
+/** Says that the medium failed: from then on inputs answer INPUT_FAILED, and prepare and release FAILED. Answers OK or
  * NOT_OPEN. */
 static inline uint32_t etcs_unit_fail(etcs_unit *unit) {
     return (unit != NULL) ? etcs_unit_fail_(unit) : (uint32_t)ETCS_UNIT_NULL_POINTER;
 }
 
-/* Releases what was held back, all of it, into room for ETCS_UNIT_OUTPUTS, and empties the list; `count` says how many
+/** Releases what was held back, all of it, into room for ETCS_UNIT_OUTPUTS, and empties the list; `count` says how many
  * there are, the oldest first. Answers OK, NOT_OPEN, NO_ROOM (fewer than ETCS_UNIT_OUTPUTS), FAILED, or REQUESTS_OWED
  * where not all requests are done; but for OK nothing changes, and neither an output nor `count` is written. */
 static inline uint32_t etcs_unit_release(etcs_unit *unit, etcs_unit_output *outputs, size_t room, uint32_t *count) {
@@ -531,12 +546,12 @@ static inline uint32_t etcs_unit_release(etcs_unit *unit, etcs_unit_output *outp
     return status;
 }
 
-/* Tells how far the unit is, and what is known of its life. Answers OK, or NOT_OPEN; then `state` isn't written. */
+/** Tells how far the unit is, and what is known of its life. Answers OK, or NOT_OPEN; then `state` isn't written. */
 static inline uint32_t etcs_unit_state(etcs_unit *unit, etcs_unit_state_told *state) {
     return ((unit != NULL) && (state != NULL)) ? etcs_unit_state_(unit, state) : (uint32_t)ETCS_UNIT_NULL_POINTER;
 }
 
-/* Why the newest released output is what it is, and what a display shows of it. It takes no memory, nothing of it is worked
+/** Why the newest released output is what it is, and what a display shows of it. It takes no memory, nothing of it is worked
  * out before it is asked, and nothing changes. Behind a release it tells of the last output; behind that of the opening, of
  * the power-up, whose output no release hands out. Since when a cause holds, and why a trip was entered, etcs_image_why tells
  * of the medium's bytes. Answers OK, NOT_OPEN, or NOT_RELEASED, exactly while an input is pending or requests aren't
@@ -545,13 +560,13 @@ static inline uint32_t etcs_unit_why(etcs_unit *unit, etcs_unit_why_told *why) {
     return ((unit != NULL) && (why != NULL)) ? etcs_unit_why_(unit, why) : (uint32_t)ETCS_UNIT_NULL_POINTER;
 }
 
-/* Closes it, and gives its memory back. What is pending, and what is held back, is lost to this life; what was prepared
+/** Closes it, and gives its memory back. What is pending, and what is held back, is lost to this life; what was prepared
  * may be found by the next one. Answers OK, or NOT_OPEN, which is allowed. */
 static inline uint32_t etcs_unit_close(etcs_unit *unit) {
     return (unit != NULL) ? etcs_unit_close_(unit) : (uint32_t)ETCS_UNIT_NULL_POINTER;
 }
 
-/* Tells what is to be done, from 0 on, to make a medium of 1 + 6 * slots sectors an empty journal. It needs no unit.
+/** Tells what is to be done, from 0 on, to make a medium of 1 + 6 * slots sectors an empty journal. It needs no unit.
  * Answers OK, BAD_SLOTS, NO_SUCH_REQUEST behind the last one, or NO_ROOM (fewer than ETCS_UNIT_SECTOR bytes). */
 static inline uint32_t etcs_unit_format_request(uint32_t slots, uint32_t index, etcs_unit_request_told *request, uint8_t *bytes, size_t room) {
     return ((request != NULL) && (bytes != NULL)) ? etcs_unit_format_request_(slots, index, request, bytes, room) : (uint32_t)ETCS_UNIT_NULL_POINTER;

@@ -136,6 +136,7 @@ grep -q 'generator" content="gaknifur lab"' "$room/work/report.html" || fails "l
 tried=$((tried + 1))
 inside lab test "$root/usr/share/gaknifur/suites" -k trip >"$room/printed" 2>&1 && grep -qE '^[1-9][0-9]* passed' "$room/printed" ||
     { fails "lab test:"; tail -n 5 "$room/printed"; }
+grep -q 'etcs_unit_release' "$root/usr/share/doc/gaknifur/html/c/etcs__unit_8h.html" || fails "there are no pages of the headers"
 wants "import gaknifur" "agrees" inside "$python" -c 'import gaknifur; print(*{one.verdict.name.lower() for one in gaknifur.replay("image")})'
 refuses "etcs --prove" "its repository proves" inside etcs --prove
 echo >>"$root/usr/lib/gaknifur/programs/etcs"

@@ -218,7 +218,7 @@ runs_well "$made/string_calls.checked"
 link=("$static")
 build bounded.gcc "$top/tests/unit/bounded.c" gcc -x c -std=c99 -O2
 "$python" "$top/tests/unit/bounded_lives.py" "$made/bounded.gcc" || status=1
-"$python" "$top/tests/unit/bounded_lives.py" "$made/bounded.gcc" hours 1 || status=1
+"$python" "$top/tests/unit/bounded_lives.py" "$made/bounded.gcc" hours 24 || status=1
 # (the archive as the toolchain built it, which asks for memory by three names)
 raw=${ETCS_UNIT_ARCHIVE:-$top/crates/etcs_unit/out/libetcs_unit.a}
 link=("$raw" -Wl,--wrap=rattle_alloc,--wrap=rattle_realloc,--wrap=rattle_dealloc)

@@ -18,7 +18,7 @@
  *
  * Each line is answered by its number, the status, and a digest of what was written (FNV-1a); released outputs each have a line. */
 #include "etcs_image.h"
-#include "platform.h"
+#include "lines.h"
 
 #define SECTORS (1 + 6 * 64)
 
@@ -28,74 +28,6 @@ static etcs_unit units[2];
 static etcs_journal journal;
 static size_t reads_at_most;
 static unsigned on, which, line_number;
-
-static char line[1024];
-static const char *at;
-
-/* ---- texts */
-
-static void put(const char *text) {
-    while (*text != 0)
-        put_char(*text++);
-}
-
-static void put_number(uint64_t number, unsigned base) {
-    char digits[24];
-    unsigned count = 0;
-    do {
-        digits[count++] = "0123456789abcdef"[number % base];
-        number /= base;
-    } while (number > 0);
-    while (count > 0)
-        put_char(digits[--count]);
-}
-
-static int read_line(void) {
-    unsigned length = 0;
-    int byte;
-    while ((byte = next_char()) > 0 && byte != '\n')
-        if (length + 1 < sizeof line)
-            line[length++] = (char)byte;
-    line[length] = 0;
-    at = line;
-    return byte > 0 || length > 0;
-}
-
-/* Whether the line's next word is this one; then it is passed. */
-static int word(const char *wanted) {
-    const char *here = at;
-    while (*wanted != 0)
-        if (*here++ != *wanted++)
-            return 0;
-    if (*here != 0 && *here != ' ')
-        return 0;
-    at = *here == ' ' ? here + 1 : here;
-    return 1;
-}
-
-/* The next number of the line, modulo 2^64. */
-static uint64_t number(void) {
-    uint64_t found = 0;
-    const int is_negative = *at == '-';
-    if (is_negative)
-        at++;
-    while (*at >= '0' && *at <= '9')
-        found = 10 * found + (uint64_t)(*at++ - '0');
-    if (*at == ' ')
-        at++;
-    return is_negative ? 0 - found : found;
-}
-
-static unsigned digit(char of) {
-    return of >= 'a' ? (unsigned)(of - 'a') + 10 : of >= 'A' ? (unsigned)(of - 'A') + 10 : (unsigned)(of - '0');
-}
-
-static size_t bytes_of_line(uint8_t *bytes, size_t room) {
-    size_t length = 0;
-    for (; at[0] > ' ' && at[1] > ' ' && length < room; at += 2)
-        bytes[length++] = (uint8_t)(16 * digit(at[0]) + digit(at[1]));
-    return length;
-}
 
 /* ---- answers */
 
@@ -248,33 +180,10 @@ static int about_units(uint32_t *status) {
 }
 
 static int about_inputs(uint32_t *status) {
-    uint8_t bytes[256];
-    if (word("telegram")) {
-        const size_t length = bytes_of_line(bytes, sizeof bytes);
-        *status = etcs_unit_telegram(unit(), bytes, length);
-    } else if (word("odometer")) {
-        const int64_t movement = (int64_t)number();
-        *status = etcs_unit_odometer(unit(), movement, (uint32_t)number());
-    } else if (word("clock")) {
-        *status = etcs_unit_clock(unit(), number());
-    } else if (word("action")) {
-        *status = etcs_unit_action(unit(), (uint32_t)number());
-    } else if (word("identity")) {
-        const size_t length = bytes_of_line(bytes, sizeof bytes);
-        *status = etcs_unit_identity(unit(), bytes, length);
-    } else if (word("number")) {
-        *status = etcs_unit_running_number(unit(), (uint32_t)number());
-    } else if (word("train")) {
-        etcs_train_data data;
-        data.length_cm = (uint32_t)number();
-        data.maximum_m_per_h = (uint32_t)number();
-        data.deceleration_cm_per_s2 = (uint32_t)number();
-        data.reaction_ms = (uint32_t)number();
-        data.category = (uint32_t)number();
-        *status = etcs_unit_train_data(unit(), &data);
-    } else {
+    input in;
+    if (!read_input(&in))
         return 0;
-    }
+    *status = hand_in(unit(), &in);
     return 1;
 }
 

@@ -8,10 +8,12 @@ climb over tracks of groups with restrictions, gradients, static speeds, and pac
 A life is lived three times, one behind another, on the same buffer. The exit status is 1 where a request is refused, or where no life used so much
 of its bound that the bound would be seen to be too small by half.
 """
+import contextlib
 import random
 import re
 import subprocess
 import sys
+import tempfile
 from pathlib import Path
 
 TOP = Path(__file__).resolve().parents[2]
@@ -115,9 +117,15 @@ def hours(count):
 def drive(program, count):
     """Whether a train so long on its way is answered, and mostly without a brake, within the memory of its track."""
     count, compared = int(count), Compared()
-    ran = subprocess.run([program, "64", "5", "10", "60", "60"], input="\n".join(hours(count)) + "\n", capture_output=True, text=True, timeout=3_000)
-    found = re.search(r"^(\d+) bytes, (\d+) used at most, 1 lives, (\d+) outputs, (\d+) without a brake$", ran.stdout, re.M)
-    if compared.unless(ran.returncode == 0 and found, f"status {ran.returncode}\n{ran.stdout[-1500:]}{ran.stderr[-500:]}"):
+    with tempfile.TemporaryFile("w+") as told:
+        ran = subprocess.Popen([program, "64", "5", "10", "60", "60"], stdin=subprocess.PIPE, stdout=told, stderr=subprocess.STDOUT, text=True)
+        with contextlib.suppress(BrokenPipeError), ran.stdin as lines:
+            lines.writelines(f"{line}\n" for line in hours(count))
+        status = ran.wait(timeout=60)
+        told.seek(0)
+        text = told.read()
+    found = re.search(r"^(\d+) bytes, (\d+) used at most, 1 lives, (\d+) outputs, (\d+) without a brake$", text, re.M)
+    if compared.unless(status == 0 and found, f"status {status}\n{text[-2000:]}"):
         size, used, outputs, brakeless = map(int, found.groups())
         compared.unless(outputs >= 72_000 * count and brakeless >= outputs - 100, f"{outputs} outputs, {brakeless} of them without a brake")
         return compared.end(f"memory: {count} h of driving, {outputs:,} outputs, {used:,} of {size:,} bytes used at most")

@@ -1,5 +1,6 @@
 #!/usr/bin/env python3
-"""Compares docs/JSON.md with the JSON that `etcs_lab` prints of images, scenarios and telegrams.
+"""Compares docs/JSON.md with the JSON that `etcs_lab` prints of images, scenarios and telegrams, and `./lab against` of
+other units.
 
     tests/json_page.py PROGRAM..
 
@@ -7,7 +8,9 @@ Each object has to have the members of its table, in their order, with values of
 and each null of a table has to come up in some object, unless the page's last table names it.
 """
 import json
+import os
 import re
+import shlex
 import sys
 import tempfile
 from itertools import islice
@@ -16,18 +19,20 @@ from pathlib import Path
 HERE = Path(__file__).resolve().parent
 TOP = HERE.parent
 sys.path[:0] = [str(HERE), *(str(HERE / part) for part in ("plain", "hostile", "lab", "events", "telegrams"))]
+import blocks  # noqa: E402
 import event_rows  # noqa: E402
 import image_cases  # noqa: E402
 import lint_faults  # noqa: E402
 import replay_rows  # noqa: E402
 import why_rows  # noqa: E402
 from compared import Compared, run  # noqa: E402
-from images import known_telegrams  # noqa: E402
+from images import known_telegrams, slots_of  # noqa: E402
 
 PAGE = TOP / "docs/JSON.md"
 LONG = 105  # bytes: more than any telegram has
 EACH = 7  # of the cases of other tests one in so many
-LEAST_OBJECTS, LEAST_TABLES = 20_000, 25
+LEAST_OBJECTS, LEAST_TABLES = 20_000, 29
+LIVES = 9  # of a journal that other units are asked about: more than an answer has members
 PLAIN = r"\b(number|text|true or false|true|null|a name and a number|\d+)\b"
 TOKEN = re.compile(r"`([^`]+)`|\[[^]]*\]\(#([\w-]+)\)|" + PLAIN + "|(list of)")
 
@@ -232,13 +237,14 @@ LINES = {  # of each command the tables that one of its lines may have, by a mem
     "run": [("scenario", "a-life-that-is-played"), ("end", "the-end-of-a-life"), ("step", "played-output")],
     "decode": [("refused", "a-refusal"), ("", "a-telegram")],
     "lint": [("", "advice-on-a-scenario")],
+    "against": [("tells", "another-unit"), ("against", "a-comparison"), ("", "the-end-of-comparisons")],
 }
 PLAYED = ("step", "mode", "level", "indications", "place_cm", "uncertainty_cm")
 
 
-def read(page, program, word, *words):
+def read(page, program, word, *words, **how):
     """Runs a command, and compares each line."""
-    printed, _, _ = run(program, [word, *words])
+    printed, _, _ = run(program, [word, *words], **how)
     for line in printed.splitlines():
         value = json.loads(line)
         table = next((table for member, table in LINES[word] if not member or member in value), None)
@@ -284,10 +290,29 @@ def all_read(page, program, room):
         read(page, program, "decode", "--json", data.hex())
 
 
+def other_units(page, program, room):
+    """What `./lab against` prints of units that are right, wrong in each member, break off, tell little, and are none."""
+    image, records, asked = room / "image", room / "records", room / "program"
+    lives = [[blocks.entry(3 * life + at, one) for at, one in enumerate([("powerup", 0), ("clock", 5), ("clock", 6)])]
+             for life in range(LIVES)]
+    parts = [(life, blocks.data_of(blocks.block(3, life, 3 * life, life, told))) for life, told in enumerate(lives, 1)]
+    image.write_bytes(slots_of(parts, LIVES + 1))
+    records.write_text(run(program, ["events", image])[0])
+    asked.write_text(f'#!/bin/sh\nexec {shlex.join(map(str, program))} "$@"\n')
+    asked.chmod(0o755)
+    told, how = TOP / "tests/oracle/told.py", {"env": {**os.environ, "GAKNIFUR_ETCS_LAB": str(asked)}}
+    before = page.count
+    for unit in (*(shlex.join([str(told), str(records), word]) for word in ("right", "wrong", "breaks")),
+                 str(TOP / "examples/oracle/unit.py"), "false"):
+        read(page, [TOP / "lab"], "against", "--json", image, unit, **how)
+    page.unless(page.count >= before + 2 * LIVES, f"./lab against: {page.count - before} comparisons")
+
+
 def main(program):
     page = Page(PAGE.read_text())
     with tempfile.TemporaryDirectory() as folder:
         all_read(page, program, Path(folder))
+        other_units(page, program, Path(folder))
     page.close()
     return page.end(f"docs/JSON.md: {len(page.tables)} tables, {page.count} comparisons")
 

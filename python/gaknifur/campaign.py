@@ -11,8 +11,8 @@ import os
 import random
 import socket
 import sqlite3
-import tempfile
 import time
+from collections import Counter
 from collections.abc import Callable, Iterable, Iterator
 from concurrent.futures import FIRST_COMPLETED, Future, ProcessPoolExecutor, wait
 from concurrent.futures.process import BrokenProcessPool
@@ -31,8 +31,10 @@ Take = Callable[[Row], None]
 COLUMNS = ("name", "job_sha256", "kind", "ended", "image_sha256", "events", "lives", "mode", "brake", "limit_m_per_h",
            "place_cm", "emergencies", "trips", "tests", "missed", "first_missed", "sound", "seconds", "worker")
 NOT_COMPARED = ("seconds", "worker")
-MOST_LOSSES = 3
-BATCH = 16
+MOST_LOSSES, LEAST_PLAYERS = 3, 4
+BATCH_SECONDS, MOST_AT_ONCE, SHARES, AHEAD = 0.25, 64, 2, 2
+"""How long scenarios take that are handed out at once, and how many these are at the most; into how many parts for each player what
+is left is cut at the least; and how many parts each player has, with the one that it plays."""
 COMMIT_SECONDS = 0.25
 SCHEMA = """
 CREATE TABLE campaign (name TEXT PRIMARY KEY, value TEXT NOT NULL) STRICT;
@@ -89,7 +91,7 @@ def play(job: Job) -> Row:
     begun = time.perf_counter()
     row: Row = {**dict.fromkeys(COLUMNS), "name": job.name, "job_sha256": job.sha256, "kind": job.kind, "ended": "carried out", "sound": 0}
     try:
-        with tempfile.TemporaryDirectory(prefix="gaknifur-") as room:
+        with program.room(job.slots) as room:
             for name, data in job.files:
                 path = Path(room) / name
                 path.parent.mkdir(parents=True, exist_ok=True)
@@ -105,12 +107,10 @@ def play(job: Job) -> Row:
 
 def play_scenario(scenario: Path, image: Path, slots: int) -> Row:
     """Plays one life on a fresh image."""
-    status, printed = program.etcs("format", "--", str(image), str(slots))
-    if status:
-        raise Failed(f"etcs format: {' '.join(printed)}", REFUSED)
+    program.format_image(image, slots)
     status, printed = program.etcs("run", "--", str(scenario), str(image))
     ended = "carried out" if status == 0 else printed[-1] if printed else f"status {status}"
-    journal = read(image, replay=True)
+    journal = read(image, replay=True, is_own=True)
     row: Row = {"ended": ended, "image_sha256": journal.sha256, "sound": 1}
     try:
         playing.check_image(journal)
@@ -159,20 +159,49 @@ def play_all(jobs: list[Job]) -> list[Row]:
     return [play(job) for job in jobs]
 
 
-def batches(jobs: Iterable[Job], alone: int) -> Iterator[list[Job]]:
-    """The jobs as they are handed out to a scheduler, to which each costs as much as some programs do: the first ones alone,
-    so that each worker has one soon, and then scenarios by the batch. A case file is by itself."""
-    batch: list[Job] = []
-    for number, job in enumerate(jobs):
-        if number < alone or job.kind == "case":
-            yield [job]
-            continue
-        batch.append(job)
-        if len(batch) == BATCH:
-            yield batch
-            batch = []
-    if batch:
-        yield batch
+class Batches:
+    """The jobs as they are handed out, since handing out one costs as much as a program does: the first ones alone, so that each
+    player has one soon; then as many scenarios at once as take `BATCH_SECONDS`; and ever fewer towards the end of so many jobs, so
+    that all players end at about the same time. A case file is by itself, and so is what was handed out with a lost player."""
+
+    def __init__(self, jobs: Iterable[Job], count: int, players: int) -> None:
+        self.jobs, self.count, self.players = iter(jobs), count, players
+        self.again: list[Job] = []
+        self.given, self.known, self.seconds = 0, 0, 0.0
+        self.kept: Job | None = None
+
+    def learn(self, rows: list[Row]) -> None:
+        """How long jobs took."""
+        self.known += len(rows)
+        self.seconds += sum(row["seconds"] or 0.0 for row in rows)
+
+    def size(self) -> int:
+        """How many scenarios are handed out next."""
+        if not self.seconds:
+            return 1
+        by_time = int(BATCH_SECONDS * self.known / self.seconds)
+        return max(1, min(MOST_AT_ONCE, by_time, (self.count - self.given) // (SHARES * self.players)))
+
+    def next_job(self) -> Job | None:
+        """The next job."""
+        found, self.kept = self.kept or next(self.jobs, None), None
+        return found
+
+    def next(self) -> list[Job]:
+        """The next ones; none where there are no more."""
+        if self.again:
+            return [self.again.pop()]
+        batch: list[Job] = []
+        size = self.size()
+        while len(batch) < size and (job := self.next_job()):
+            if job.kind == "case" and batch:
+                self.kept = job
+                break
+            batch.append(job)
+            if job.kind == "case":
+                break
+        self.given += len(batch)
+        return batch
 
 
 # ---- who plays them
@@ -183,39 +212,49 @@ def lost(job: Job) -> Row:
             "ended": f"failed: its worker was lost {MOST_LOSSES} times"}
 
 
-def here(jobs: Iterable[Job], workers: int, take: Take) -> None:
-    """Plays the jobs by processes of this machine."""
-    left, running = iter(jobs), dict[Future[Row], tuple[Job, int]]()
+def here(jobs: Iterable[Job], count: int, workers: int, take: Take) -> None:
+    """Plays so many jobs by processes of this machine."""
+    left, losses, running = Batches(jobs, count, workers), Counter[str](), dict[Future[list[Row]], list[Job]]()
     pool = ProcessPoolExecutor(workers)
     try:
         while True:
-            while len(running) < 4 * workers and (job := next(left, None)):
-                running[pool.submit(play, job)] = job, 0
+            while len(running) < (1 if left.again else AHEAD * workers) and (batch := left.next()):
+                running[pool.submit(play_all, batch)] = batch
             if not running:
                 return
-            again = []
+            broken: list[Job] = []
             for done in wait(running, return_when=FIRST_COMPLETED).done:
-                job, losses = running.pop(done)
+                batch = running.pop(done)
                 try:
-                    take(done.result())
+                    left.learn(rows := done.result())
                 except BrokenProcessPool:
-                    again.append((job, losses + 1))
-            if again:
-                again += [(job, losses + 1) for job, losses in running.values()]
+                    broken += batch
+                    continue
+                for row in rows:
+                    take(row)
+            if broken:
+                broken += [job for batch in running.values() for job in batch]
                 running.clear()
                 pool.shutdown(wait=False)
                 pool = ProcessPoolExecutor(workers)
-                for job, losses in again:
-                    if losses >= MOST_LOSSES:
-                        take(lost(job))
-                    else:
-                        running[pool.submit(play, job)] = job, losses
+                again(broken, left, losses, take)
     finally:
         pool.shutdown(wait=False, cancel_futures=True)
 
 
-def by_scheduler(jobs: Iterable[Job], scheduler: str, take: Take) -> None:
-    """Plays the jobs by the workers of a scheduler of Dask. One that is lost hands its jobs on to the others."""
+def again(jobs: list[Job], left: Batches, losses: Counter[str], take: Take) -> None:
+    """Jobs that were handed out when a process was lost are played again, one at a time, so that the one that ends it shows. It is
+    given up in the end."""
+    for job in jobs:
+        losses[job.name] += 1
+        if losses[job.name] >= MOST_LOSSES:
+            take(lost(job))
+        else:
+            left.again.append(job)
+
+
+def by_scheduler(jobs: Iterable[Job], count: int, scheduler: str, take: Take) -> None:
+    """Plays so many jobs by the workers of a scheduler of Dask. One that is lost hands its jobs on to the others."""
     try:
         from distributed import Client, as_completed
     except ImportError as error:
@@ -226,11 +265,11 @@ def by_scheduler(jobs: Iterable[Job], scheduler: str, take: Take) -> None:
         raise Failed(f"{scheduler}: no scheduler answers there", DEVICE) from error
     with client:
         known, running = dict[str, list[Job]](), as_completed(loop=client.loop)
-        window = max(8, 4 * sum(client.nthreads().values()))
-        left = batches(jobs, window)
+        players = max(LEAST_PLAYERS, sum(client.nthreads().values()))
+        left = Batches(jobs, count, players)
 
         def hand_out() -> None:
-            while len(known) < window and (batch := next(left, None)):
+            while len(known) < AHEAD * players and (batch := left.next()):
                 future = client.submit(play_all, batch, key=f"{batch[0].name}-{len(batch)}-{batch[0].sha256}", pure=False)
                 known[future.key] = batch
                 running.add(future)
@@ -242,13 +281,14 @@ def by_scheduler(jobs: Iterable[Job], scheduler: str, take: Take) -> None:
                 continue
             batch = known.pop(future.key)
             try:
-                rows: list[Row] = future.result()
-            except Exception:  # the scheduler gave the jobs up
-                rows = [lost(job) for job in batch]
-            for row in rows:
-                take(row)
+                left.learn(rows := future.result())
+            except Exception:  # the scheduler gave the jobs up: it may be one of them that ends its workers
+                rows = [lost(job) for job in batch] if len(batch) == 1 else []
+                left.again += batch if len(batch) > 1 else []
             future.release()
             hand_out()
+            for row in rows:
+                take(row)
 
 
 # ---- the table

@@ -54,15 +54,16 @@ def play_campaign(told: argparse.Namespace, progress: Progress) -> int:
         nonlocal played
         table.take(row)
         played += 1
-        progress("campaign", played, len(left) + told.random)
+        progress("campaign", played, count)
 
     left = [job for job in jobs if not table.is_there(job)]
+    count = len(left) + told.random
     lives = (job for job in campaign.at_random(told.random, told.seed, told.slots) if not table.is_there(job))
     try:
         if told.scheduler:
-            campaign.by_scheduler(itertools.chain(left, lives), told.scheduler, take)
+            campaign.by_scheduler(itertools.chain(left, lives), count, told.scheduler, take)
         else:
-            campaign.here(itertools.chain(left, lives), max(1, told.workers), take)
+            campaign.here(itertools.chain(left, lives), count, max(1, told.workers), take)
     except KeyboardInterrupt:
         table.close()
         raise Failed(f"{played} played; the same command goes on", REFUSED) from None

@@ -5,7 +5,6 @@ The lives are played on an image of their own, and `etcs_lab events` tells their
 the kernel's own.
 """
 import json
-import tempfile
 from bisect import bisect_right
 from collections.abc import Iterator, Sequence
 from dataclasses import dataclass
@@ -139,13 +138,12 @@ def is_refused(life: Life, image: Path, folder: Path) -> bool:
 
 def played(lives: Sequence[Life]) -> list[list[Event]]:
     """The events of each life, played in turn on one image; none of a life that is refused."""
-    with tempfile.TemporaryDirectory(prefix="gaknifur-") as room:
+    slots = slots_for(lives)
+    with program.room(slots) as room:
         folder, image = Path(room), Path(room) / "image"
-        status, printed = program.etcs("format", "--", str(image), str(slots_for(lives)))
-        if status:
-            raise Failed(f"etcs format: {' '.join(printed)}", REFUSED)
+        program.format_image(image, slots)
         refused = [is_refused(life, image, folder) for life in lives]
-        journal = read(image)
+        journal = read(image, is_own=True)
     records: dict[int, list[Json]] = {}
     for record in journal.records:
         records.setdefault(record["life"], []).append(record)

@@ -4,7 +4,7 @@ import sys
 from collections.abc import Callable
 from pathlib import Path
 
-from . import brief, dissector, files
+from . import dissector, files
 from .last_net import say
 from .program import NOT_WHOLE, REFUSED, Failed
 from .reading import Progress, read
@@ -35,7 +35,8 @@ def write_dissector(told: argparse.Namespace, progress: Progress) -> None:
 
 
 def write_capture(told: argparse.Namespace, progress: Progress) -> int:
-    """The word `capture`."""
+    """The word `capture`. (pandas, by which it is told what isn't whole, takes a while to load, which other words needn't.)"""
+    from . import brief
     out = files.Out(told.out, dissector.CAPTURE, told.force)
     files.check_all([out], [told.image])
     journal = read(told.image, progress=progress)

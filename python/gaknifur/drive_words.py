@@ -3,10 +3,10 @@ import argparse
 import csv
 import io
 from collections.abc import Callable
-from dataclasses import asdict, replace
+from dataclasses import asdict
 from pathlib import Path
 
-from . import driving, files, scenarios
+from . import drives, driving, files, scenarios, sweeps
 from .closed_loop import check_library, ends_of, fresh, on_medium, over_image
 from .drives import Drive, read
 from .located import BadFile
@@ -86,24 +86,24 @@ def scenario_text(scenario: scenarios.Scenario, driven: driving.Driven) -> str:
     return scenarios.Scenario(scenario.cold, [], driven.steps).text()
 
 
-def first(driven: driving.Driven, brake: str) -> str:
-    """Where a brake was commanded first."""
-    found = next((row for row in driven.rows if row.brake == brake), None)
-    return metres(found.place_cm) if found else "-"
+BUILD_UP = """\
+- {name: service_m, at: {brake: service, train_speed_kmh: {least: 0}}, value: train_place_m}
+- {name: emergency_m, at: {brake: emergency, train_speed_kmh: {least: 0}}, value: train_place_m}
+- {name: most_above_kmh, most: above_limit_kmh}
+- {name: end_m, at: end, value: train_place_m}
+- {name: end_kmh, at: end, value: train_speed_kmh}
+- {name: beyond_m, at: end, value: beyond_location_m}
+"""
+"""What is told of a drive with each build-up time: where each brake came first, and where the train is at the end."""
 
 
-def table(scenario: scenarios.Scenario, drive: Drive, build_ups: list[int]) -> list[str]:
-    """The same drive with several build-up times, a line for each."""
-    rows = [("build-up s", "service m", "emergency m", "most above km/h", "stands m", "beyond m")]
-    for build_up in build_ups:
-        one = replace(drive, train=replace(drive.train, build_up_ms=build_up))
-        driven, _ = over_image(fresh(scenario, one), scenario, one)
-        last, ends = driven.rows[-1], ends_of(driven)
-        rows.append((f"{build_up / 1000:g}", first(driven, "service"), first(driven, "emergency"),
-                     km(max(row.above_m_per_h for row in driven.rows)), metres(last.place_cm) if not last.speed_m_per_h else "-",
-                     metres(last.place_cm - ends[1]) if ends and not last.speed_m_per_h else "-"))
-    widths = [max(map(len, column)) for column in zip(*rows)]
-    return ["  ".join(cell.rjust(width) for cell, width in zip(row, widths)) for row in rows]
+def tell_build_ups(path: Path, build_ups: list[str], progress: Progress) -> None:
+    """The drive with each of these build-up times, as the sweep that it is."""
+    from . import sweep_told, sweep_words
+    sweep = sweeps.of_train(path, "build_up", build_ups, BUILD_UP)
+    found = sweeps.play_all(sweep, progress=progress)
+    print(sweep_told.as_text(sweep, found), end="")
+    sweep_words.check(path, found)
 
 
 # ---- the word
@@ -154,12 +154,15 @@ def outs_of(given: argparse.Namespace) -> dict[str, files.Out]:
     return outs
 
 
-def build_ups_of(text: str, drive: Drive) -> list[int]:
+def build_ups_of(text: str, drive: Drive) -> list[str]:
     """The build-up times of the word."""
+    found = [one.strip() for one in text.split(",")]
     try:
-        return [scenarios.quantity(one, drive.at, "time", 0, 60_000) for one in text.split(",")]
+        for one in found:
+            scenarios.quantity(one, drive.at, "time", 0, drives.MOST_DELAY_MS)
     except BadFile as bad:
         raise Failed(f"--build-up: {str(bad).split(': ', 1)[1]}", REFUSED) from bad
+    return found
 
 
 def play_drive(given: argparse.Namespace, progress: Progress) -> None:
@@ -170,8 +173,7 @@ def play_drive(given: argparse.Namespace, progress: Progress) -> None:
         raise Failed(f"{given.yaml}: has no drive", REFUSED)
     outs = outs_of(given)
     if given.build_up:
-        print("\n".join(table(scenario, drive, build_ups_of(given.build_up, drive))))
-        return
+        return tell_build_ups(given.yaml, build_ups_of(given.build_up, drive), progress)
     driven = on_file(given.image, scenario, drive) if given.image else over_image(fresh(scenario, drive), scenario, drive)[0]
     makers: dict[str, Callable[[], str | bytes]] = {
         "csv": lambda: csv_text(driven), "scenario": lambda: scenario_text(scenario, driven),

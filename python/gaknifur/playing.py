@@ -4,7 +4,6 @@ A journal is judged only where each life ended as told, each output that was rel
 is whole, and a replay by the kernel agrees with all of it.
 """
 import re
-import tempfile
 from collections.abc import Callable
 from dataclasses import dataclass
 from pathlib import Path
@@ -90,11 +89,9 @@ def place_of(life: Life, ended: str) -> str:
 def play(case: Case, keep: Keep | None = None, why: bool = False) -> Played:
     """Plays the lives of a case in turn on one image, and reads what was recorded, with `why` the causes of brakes and limits too.
     The image is handed to `keep`, also where the lives didn't end as told."""
-    with tempfile.TemporaryDirectory(prefix="gaknifur-") as room:
+    with program.room(case.slots) as room:
         folder, image = Path(room), Path(room) / "image"
-        status, printed = program.etcs("format", "--", str(image), str(case.slots))
-        if status:
-            raise Failed(f"etcs format: {' '.join(printed)}", REFUSED)
+        program.format_image(image, case.slots)
         released: list[str] = []
         driven: list[Driven | None] = []
         try:
@@ -105,7 +102,7 @@ def play(case: Case, keep: Keep | None = None, why: bool = False) -> Played:
         finally:
             if keep:
                 keep(image.read_bytes())
-        journal = read(image, replay=True, why=why)
+        journal = read(image, replay=True, why=why, is_own=True)
     check_image(journal)
     records = with_trains(with_speeds(journal.records), driven)
     check_released(released, records)

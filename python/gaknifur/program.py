@@ -6,16 +6,20 @@ unproved, and keeps; it says so on standard error. The scripts are those of this
 installed, those beside it, or else on the PATH.
 """
 import functools
-import importlib.metadata
 import os
 import shutil
 import subprocess
 import tempfile
-from collections.abc import Iterator, Sequence
+from collections.abc import Generator, Sequence
 from dataclasses import dataclass
 from pathlib import Path
 
+from . import layout
+
 WHOLE, REFUSED, WRONG_WORDS, DEVICE, NOT_WHOLE = range(5)
+MEMORY, MANY, MOST_COPIED = Path("/dev/shm"), 64, 256
+"""The folder that Linux keeps in memory; how many images it has room for, where it is taken for one; and the greatest number of
+slots of an image that is copied."""
 
 
 class Failed(Exception):
@@ -39,6 +43,7 @@ def version() -> str:
         return subprocess.run([VERSION_TOOL], stdin=subprocess.DEVNULL, capture_output=True, text=True).stdout.strip()
     if told.exists():
         return told.read_text(encoding="utf-8").strip()
+    import importlib.metadata  # (it takes a while to load)
     return f"{importlib.metadata.version('gaknifur')}, commit unknown"
 
 
@@ -124,7 +129,7 @@ class Run:
         self.status = -1
         self.said: list[str] = []
 
-    def lines(self) -> Iterator[str]:
+    def lines(self) -> Generator[str, None, None]:
         """The lines of standard output."""
         with tempfile.TemporaryFile() as errors:
             try:
@@ -163,6 +168,40 @@ def etcs(*words: str) -> tuple[int, list[str]]:
     if not printed and (done.returncode < 0 or done.returncode > DEVICE):
         raise Failed(f"etcs {words[0]} ended with status {done.returncode}{': ' + said[-1] if said else ''}", REFUSED)
     return done.returncode, printed
+
+
+def format_image(image: Path, slots: int) -> None:
+    """Makes an empty image, as `etcs format` does. A small one is made by it once, and copied from then on."""
+    if slots > MOST_COPIED:
+        formatted(image, slots)
+    else:
+        image.write_bytes(empty_image(find("etcs"), slots))
+
+
+def formatted(image: Path, slots: int) -> None:
+    """Runs `etcs format`."""
+    status, printed = etcs("format", "--", str(image), str(slots))
+    if status:
+        raise Failed(f"etcs format: {' '.join(printed)}", REFUSED)
+
+
+@functools.lru_cache(maxsize=16)
+def empty_image(program: str, slots: int) -> bytes:
+    """The bytes of an empty image, as this program `etcs` makes it."""
+    with tempfile.TemporaryDirectory(prefix="gaknifur-") as folder:
+        image = Path(folder) / "image"
+        formatted(image, slots)
+        return image.read_bytes()
+
+
+def room(slots: int) -> tempfile.TemporaryDirectory[str]:
+    """A folder for an image of so many slots that nobody keeps: in memory, where TMPDIR names none and there is room for it
+    many times over, since each sync would wait for a disk else."""
+    if "TMPDIR" not in os.environ and os.access(MEMORY, os.W_OK | os.X_OK):
+        told = os.statvfs(MEMORY)
+        if told.f_bavail * told.f_frsize > MANY * slots * layout.SLOT:
+            return tempfile.TemporaryDirectory(prefix="gaknifur-", dir=MEMORY)
+    return tempfile.TemporaryDirectory(prefix="gaknifur-")
 
 
 @functools.lru_cache(maxsize=4096)

@@ -1,7 +1,10 @@
 """A journal as `etcs_lab` tells it: the examination of its image, its records and their replay."""
+import contextlib
+import gc
 import hashlib
+import itertools
 import json
-from collections.abc import Callable
+from collections.abc import Callable, Iterator, Sequence
 from dataclasses import dataclass, field
 from pathlib import Path
 from typing import TYPE_CHECKING, Any
@@ -15,6 +18,10 @@ if TYPE_CHECKING:
 Json = dict[str, Any]
 Progress = Callable[[str, int, int], None]
 """What is told while it goes on: what is done, how much of it, and of how much (0 where that isn't known)."""
+
+
+AT_ONCE = 512
+"""How many lines are read at once."""
 
 
 def silent(what: str, done: int, whole: int) -> None:
@@ -112,12 +119,40 @@ def parsed(line: str, what: str) -> Json:
     return told
 
 
+def parsed_all(lines: Sequence[str], what: str) -> list[Json]:
+    """The objects on some lines. They are read as one list, which takes half of the time; where that isn't a list of so many
+    objects, line by line, so that what is wrong is told."""
+    try:
+        told = json.loads(f"[{','.join(lines)}]")
+    except ValueError:
+        told = []
+    if len(told) == len(lines) and all(isinstance(one, dict) for one in told):
+        return list(told)
+    return [parsed(line, what) for line in lines]
+
+
 def objects(words: list[str], path: Path, step: Callable[[Json], None]) -> Run:
     """Hands each line of a run to `step`."""
     run = Run(words, path)
-    for line in run.lines():
-        step(parsed(line, words[0]))
+    lines = run.lines()
+    with contextlib.closing(lines), without_collecting():
+        while some := list(itertools.islice(lines, AT_ONCE)):
+            for told in parsed_all(some, words[0]):
+                step(told)
     return run
+
+
+@contextlib.contextmanager
+def without_collecting() -> Iterator[None]:
+    """Python looks for no cycles meanwhile: what is read of a long journal has none, and each look goes through all of it."""
+    if not gc.isenabled():
+        yield
+        return
+    gc.disable()
+    try:
+        yield
+    finally:
+        gc.enable()
 
 
 def examine(path: Path) -> Json:
@@ -127,6 +162,24 @@ def examine(path: Path) -> Json:
     if run.status not in (WHOLE, NOT_WHOLE) or len(told) != 1:
         raise run.failed(path)
     return told[0]
+
+
+def check(path: Path, progress: Progress) -> tuple[Json, list[Json]]:
+    """What `etcs_lab check` tells: the examination, and the lines of the replay; none where that was refused."""
+    told: list[Json] = []
+
+    def step(line: Json) -> None:
+        if len(told) == 1:
+            progress("replay", 0, 0)
+        told.append(line)
+
+    run = objects(["check", "--json"], path, step)
+    if run.status not in (WHOLE, NOT_WHOLE):
+        raise run.failed(path)
+    if len(told) < 2 or "check" not in told[-1]:
+        raise Failed(f"{path}: the check was cut off", REFUSED)
+    examination, *replay, _ = told
+    return examination, replay
 
 
 STRAY = ("misplaced", "damaged")
@@ -169,18 +222,6 @@ def tell_events(journal: Journal, other_blocks: bool, strays: bool, progress: Pr
         raise Failed(f"{journal.path}: the listing was cut off", REFUSED)
 
 
-def tell_replay(journal: Journal, progress: Progress) -> None:
-    """Takes what `etcs_lab replay` tells."""
-    progress("replay", 0, 0)
-    run = objects(["replay", "--json"], journal.path, journal.replay.append)
-    if run.status == REFUSED and not journal.replay:
-        return
-    if run.status not in (WHOLE, NOT_WHOLE):
-        raise run.failed(journal.path)
-    if not journal.replay or "end" not in journal.replay[-1]:
-        raise Failed(f"{journal.path}: the replay was cut off", REFUSED)
-
-
 def tell_why(journal: Journal, progress: Progress) -> None:
     """Takes what `etcs_lab why` tells of changes. What it leaves out the replay tells too."""
     progress("causes", 0, 0)
@@ -197,19 +238,19 @@ def tell_why(journal: Journal, progress: Progress) -> None:
 
 
 def read(path: str | Path, other_blocks: bool = False, replay: bool = False, why: bool = False,
-         progress: Progress = silent, strays: bool = False) -> Journal:
+         progress: Progress = silent, strays: bool = False, is_own: bool = False) -> Journal:
     """The journal in a file. An image that isn't formatted is an error; of one that is damaged all is told that can be.
-    Causes are known only with a replay."""
+    Causes are known only with a replay. Where the file `is_own`, nothing else writes to it, so that isn't looked at."""
     path = Path(path)
     if not path.exists():
         raise Failed(f"{path}: there is no such file", DEVICE)
     progress("examination", 0, 0)
-    journal = Journal(path, examine(path))
+    examination, replayed = check(path, progress) if replay else (examine(path), [])
+    journal = Journal(path, examination)
     tell_events(journal, other_blocks, strays, progress)
-    if replay and journal.refusal is None:
-        tell_replay(journal, progress)
+    journal.replay = replayed if journal.refusal is None else []
     if why and journal.refusal is None:
         tell_why(journal, progress)
-    if digest(path) != journal.sha256:
+    if not is_own and digest(path) != journal.sha256:
         raise Failed(f"{path}: the file changed while it was read", DEVICE)
     return journal

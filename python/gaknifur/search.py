@@ -7,7 +7,6 @@ breaks it too. It is kept as a test case.
 """
 import functools
 import json
-import tempfile
 from collections.abc import Callable
 from dataclasses import dataclass, field
 from pathlib import Path
@@ -58,20 +57,9 @@ class Found:
 
 # ---- playing
 
-@functools.cache
-def empty() -> bytes:
-    """An empty image."""
-    with tempfile.TemporaryDirectory(prefix="gaknifur-") as room:
-        image = Path(room) / "image"
-        status, printed = program.etcs("format", "--", str(image), str(SLOTS))
-        if status:
-            raise Failed(f"etcs format: {' '.join(printed)}", REFUSED)
-        return image.read_bytes()
-
-
 def image_of(scenarios: Lives, image: Path) -> None:
     """Plays lives in turn on an image."""
-    image.write_bytes(empty())
+    program.format_image(image, SLOTS)
     for text in scenarios:
         scenario = image.with_name("scenario.json")
         scenario.write_text(text, encoding="utf-8")
@@ -82,7 +70,7 @@ def image_of(scenarios: Lives, image: Path) -> None:
 
 def recorded(scenarios: Lives) -> list[Json]:
     """The records of lives."""
-    with tempfile.TemporaryDirectory(prefix="gaknifur-") as room:
+    with program.room(SLOTS) as room:
         image = Path(room) / "image"
         records: list[Json] = []
         ended: list[Json] = []

@@ -2,7 +2,7 @@
 import argparse
 import json
 import secrets
-from collections.abc import Callable
+from collections.abc import Callable, Sequence
 from pathlib import Path
 from typing import Any
 
@@ -128,6 +128,17 @@ def plain(text: str) -> str:
     return "_".join("".join(one if one.isalnum() else " " for one in text.lower()).split())[:60].strip("_") or "found"
 
 
+def names_of(notes: Sequence[str]) -> list[str]:
+    """The names of what is kept of properties: those of their notes, with a number behind where one has it already."""
+    found: list[str] = []
+    for note in notes:
+        name, number = plain(note), 1
+        while (new := f"{name}_{number}" if number > 1 else name) in found:
+            number += 1
+        found.append(new)
+    return found
+
+
 def keep(folder: Path, name: str, text: str, image: Callable[[Path], None]) -> Path:
     """Keeps a case, with its image and its report."""
     from . import report
@@ -179,11 +190,12 @@ def search(given: argparse.Namespace, progress: Progress) -> int:
     except ImportError as error:
         raise Failed("hypothesis is missing; tools/python --search installs it by Debian's packages", DEVICE) from error
     seed = secrets.randbelow(SEEDS) if given.seed is None else given.seed
-    made = strategies.made_of(told.made_of, told.shared)
+    made, names = strategies.made_of(told.made_of, told.shared), names_of([one.note for one in looked_at])
     records = searching.player(searching.Other(given.against, given.answer_within) if given.against else None)
     print(f"seed {seed}, {given.examples} scenarios", flush=True)
     wrong = 0
-    for one, begun in zip(looked_at, searching.survey(looked_at, made, records, given.examples, seed), strict=True):
+    begun_all = searching.survey(looked_at, made, records, given.examples, seed)
+    for one, name, begun in zip(looked_at, names, begun_all, strict=True):
         if begun.first is None:
             wrong += tell_held(one, begun.found.judged, f" of {begun.found.scenarios} scenarios")
             continue
@@ -192,11 +204,11 @@ def search(given: argparse.Namespace, progress: Progress) -> int:
         assert found.lives is not None
         how = (f"Found by ./lab search {shown(given.yaml.name)} --seed {seed} --examples {given.examples}, "
                "and made small")
-        text = searching.case_text(found, made, plain(f"{told.name} {one.note}"), how)
+        text = searching.case_text(found, made, f"{plain(told.name)}_{name}", how)
         print(f"broken: {one.note}: {found.steps} steps, {len(found.lives)} lives\n{indented(found.said)}", flush=True)
         if given.keep:
             lives = found.lives
-            print(f"  kept: {keep(given.keep, plain(one.note), text, lambda path: searching.image_of(lives, path))}")
+            print(f"  kept: {keep(given.keep, name, text, lambda path: searching.image_of(lives, path))}")
         else:
             print(indented(text), flush=True)
     return REFUSED if wrong else 0

@@ -4,6 +4,7 @@ and what is expected. docs/SEQUENCES.md has the words.
 What the texts of a table mean, no file of this product says: a laboratory owns a mapping file, in which patterns stand
 for steps and for expected results. What no pattern fits is told by its row, and is never guessed.
 """
+import contextlib
 import csv
 import itertools
 import re
@@ -116,13 +117,27 @@ def cells(path: Path) -> Iterator[list[str]]:
 
 def of_workbook(path: Path) -> Iterator[list[str]]:
     """The cells of the first sheet of a workbook; of a formula what it came to."""
-    import openpyxl
     try:
-        book = openpyxl.load_workbook(path, read_only=True, data_only=True)
+        import openpyxl
+    except ImportError as error:
+        raise Failed("openpyxl is missing; tools/python installs it by Debian's packages", DEVICE) from error
+    try:
+        with contextlib.closing(openpyxl.load_workbook(path, read_only=True, data_only=True)) as book:
+            sheet = book.worksheets[0]
+            sheet.reset_dimensions()  # what a sheet tells of its own size isn't always so
+            for row in sheet.iter_rows(values_only=True):
+                yield [text_of(cell) for cell in row]
     except Exception as error:  # (the reader has no kind of error of its own)
-        raise Failed(f"{path}: this is no workbook: {type(error).__name__}", REFUSED) from error
-    for row in book.worksheets[0].iter_rows(values_only=True):
-        yield ["" if cell is None else str(cell) for cell in row]
+        raise Failed(f"{path}: this is no workbook with a sheet: {type(error).__name__}", REFUSED) from error
+
+
+def text_of(cell: object) -> str:
+    """A cell of a workbook as a spreadsheet writes it into CSV; a number as it is kept, however it is shown."""
+    if isinstance(cell, bool):
+        return str(cell).upper()
+    if isinstance(cell, float) and cell.is_integer():
+        return str(int(cell))
+    return "" if cell is None else str(cell)
 
 
 def table(path: Path, columns: dict[str, str]) -> list[Row]:

@@ -1,7 +1,7 @@
 """The word `sweep` of `./lab`: plays a case with parameters at each of their values, and tells what came of it."""
 import argparse
 import sys
-from collections.abc import Callable
+from collections.abc import Callable, Sequence
 from pathlib import Path
 
 from . import files, sweeps
@@ -23,6 +23,13 @@ def add_words(word: Word) -> None:
     sweep.add_argument("--force", action="store_true", help="write over files that lab made; nothing writes over others")
 
 
+def check(path: Path, found: Sequence[sweeps.Told]) -> None:
+    """Each point could be judged, and all that was expected came."""
+    bad = sum(bool(one.missed or one.fault) for one in found)
+    if bad:
+        raise Failed(f"{path}: at {bad} of {len(found)} points not all that was expected came", REFUSED)
+
+
 def play(told: argparse.Namespace, progress: Progress) -> None:
     """The word `sweep`."""
     outs = {name: files.Out(path, kind, told.force) for name, kind in (("csv", files.SWEEP_TABLE), ("html", files.REPORT))
@@ -41,9 +48,7 @@ def play(told: argparse.Namespace, progress: Progress) -> None:
     if not outs:
         sys.stdout.write(sweep_told.as_text(sweep, found))
         sys.stdout.flush()
-    bad = sum(bool(one.missed or one.fault) for one in found)
-    if bad:
-        raise Failed(f"{told.yaml}: at {bad} of {len(found)} points not all that was expected came", REFUSED)
+    check(told.yaml, found)
 
 
 WORDS = {"sweep": play}

@@ -3,7 +3,6 @@
 `$name` in a text stands for the value of a parameter. What comes of a point is read off its records, as the expected
 results of a case are. Points are played side by side, each on an image of its own.
 """
-import functools
 import multiprocessing
 import os
 import re
@@ -185,6 +184,32 @@ def read(path: Path) -> Sweep:
     return found
 
 
+def text_node(text: str, beside: yaml.Node) -> yaml.Node:
+    """A text at the place of a node."""
+    return yaml.ScalarNode("tag:yaml.org,2002:str", text, beside.start_mark, beside.end_mark)
+
+
+def mapping_of(members: dict[str, yaml.Node], beside: yaml.Node) -> yaml.Node:
+    """Names with values at the place of a node."""
+    pairs = [(text_node(name, beside), node) for name, node in members.items()]
+    return yaml.MappingNode("tag:yaml.org,2002:map", pairs, beside.start_mark, beside.end_mark)
+
+
+def of_train(path: Path, word: str, values: list[str], tell: str) -> Sweep:
+    """The sweep of a file with a drive over values of a word of its train; `tell` is what is told of each, as YAML."""
+    at = document(path)
+    told = {name: value.node for name, value in at.entries().items()}
+    drive = {name: value.node for name, value in Value(path, told["drive"]).entries().items()}
+    train = {name: value.node for name, value in Value(path, drive["train"]).entries().items()}
+    train[word] = text_node(f"${word}", drive["train"])
+    drive["train"] = mapping_of(train, drive["train"])
+    life = {name: node for name, node in told.items() if name not in scenarios.SHARED}
+    life["drive"] = mapping_of(drive, told["drive"])
+    lives = yaml.SequenceNode("tag:yaml.org,2002:seq", [mapping_of(life, at.node)], at.node.start_mark, at.node.end_mark)
+    sweep = {name: told[name] for name in scenarios.SHARED if name in told} | {"lives": lives, "tell": yaml.compose(tell, yaml.SafeLoader)}
+    return Sweep(Value(path, mapping_of(sweep, at.node)), path.stem, {word: values})
+
+
 def at_point(sweep: Sweep, point: Point) -> tuple[Case, list[Outcome], set[str]]:
     """The case at a point, what is told of it, and which parameters stand in it."""
     filling = Filling(sweep.at.path, point)
@@ -221,23 +246,24 @@ def play(sweep: Sweep, point: Point) -> Told:
 
 # ---- all points
 
-of_file = functools.cache(read)
+held: list[Sweep] = []
+"""The sweep whose points a process plays."""
 
 
-def in_process(path: Path, point: Point) -> Told | tuple[str, int]:
+def in_process(point: Point) -> Told | tuple[str, int]:
     """Plays a point in a process of its own; a fault is handed back as what it says, and its status."""
     try:
-        return play(of_file(path), point)
+        return play(held[-1], point)
     except Failed as failed:
         return str(failed), failed.status
 
 
 def play_all(sweep: Sweep, workers: int | None = None, progress: Progress = silent) -> list[Told]:
-    """Plays all points."""
+    """Plays all points. The processes are split off this one, so that the sweep needn't be handed to them."""
     points, found = sweep.points(), list[Told]()
     context: Any = multiprocessing.get_context("fork")
-    with ProcessPoolExecutor(workers or os.cpu_count(), mp_context=context) as pool:
-        for told in pool.map(in_process, [sweep.at.path] * len(points), points):
+    with ProcessPoolExecutor(workers or os.cpu_count(), context, held.append, (sweep,)) as pool:
+        for told in pool.map(in_process, points):
             if isinstance(told, tuple):
                 pool.shutdown(cancel_futures=True)
                 raise Failed(*told)

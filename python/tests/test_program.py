@@ -36,10 +36,10 @@ class Reading(unittest.TestCase):
                         os.environ.update(GAKNIFUR_ETCS_LAB=before))
         told = journal(record(0)).examination
         told["image"]["sha256"] = hashlib.sha256(b"image").hexdigest()
+        self.told = told
+        self.replayed({"life": 1, "first_event": 0, "last_event": 0, "replay": "agrees"}, {"end": "nothing_differs"})
         self.says("examine", [told])
         self.says("events", [{"image": {}}, record(0), {"unreadable": {"block": 4}}, {"end": "done"}])
-        self.says("replay", [{"life": 1, "first_event": 0, "last_event": 0, "replay": "agrees"}, {"end": "nothing_differs"}])
-
         self.says("why", [line(0, "none")])
 
     def says(self, word: str, lines: list[object], status: int = 0, said: str = "") -> None:
@@ -48,29 +48,38 @@ class Reading(unittest.TestCase):
                           (f".{word}.status", str(status))):
             self.program.with_name(self.program.name + end).write_text(text)
 
+    def replayed(self, *lines: object) -> None:
+        """What the stand-in prints of a check: the examination, these lines of the replay, and the verdict."""
+        self.says("check", [self.told, *lines, {"check": {"whole": True, "replay": "nothing_differs"}}])
+
     def read(self) -> Journal:
         return read(self.image, replay=True, why=True)
 
     def test_all(self) -> None:
         found = self.read()
         self.assertEqual(([one["event"] for one in found.records], found.unreadable), ([0], [4]))
-        self.assertEqual(len(found.replay), 2)
+        self.assertEqual([list(one)[-1] for one in found.replay], ["replay", "end"])
+        self.assertEqual((read(self.image).records, read(self.image).replay), (found.records, []))
 
     def test_a_listing_that_was_cut_off(self) -> None:
         self.says("events", [{"image": {}}, record(0)])
         self.assertRaisesRegex(Failed, "cut off", self.read)
 
     def test_a_replay_that_was_cut_off(self) -> None:
-        self.says("replay", [{"life": 1, "replay": "agrees"}])
+        self.says("check", [self.told, {"life": 1, "replay": "agrees"}])
         self.assertRaisesRegex(Failed, "cut off", self.read)
+
+    def test_a_replay_that_is_refused(self) -> None:
+        self.replayed()
+        self.assertEqual(self.read().replay, [])
 
     def test_events_that_are_refused(self) -> None:
         self.says("events", [], 1, f"etcs_lab: {self.image}: can't be told: nothing can be written\n")
-        self.assertEqual(self.read().refusal, "can't be told: nothing can be written")
+        self.assertEqual((self.read().refusal, self.read().replay), ("can't be told: nothing can be written", []))
 
     def test_causes(self) -> None:
         self.says("events", [{"image": {}}, record(0, brake="service"), record(1, brake="service"), {"end": "done"}])
-        self.says("replay", [{"life": 1, "first_event": 0, "last_event": 1, "replay": "agrees"}, {"end": "nothing_differs"}])
+        self.replayed({"life": 1, "first_event": 0, "last_event": 1, "replay": "agrees"}, {"end": "nothing_differs"})
         self.assertEqual(self.read().why, [line(0, "none")])
 
     def test_causes_that_are_refused(self) -> None:
@@ -78,22 +87,25 @@ class Reading(unittest.TestCase):
         self.assertEqual((self.read().why, self.read().why_refusal), ([], "there is no memory"))
 
     def test_no_image(self) -> None:
-        self.says("examine", [{}], 1, f"etcs_lab: {self.image}: is not a formatted image\n")
+        self.says("check", [{}], 1, f"etcs_lab: {self.image}: is not a formatted image\n")
         self.assertRaisesRegex(Failed, "image: is not a formatted image$", self.read)
 
     def test_a_name_with_signs_that_are_escaped(self) -> None:
         self.image = self.image.with_name("it's")
         self.image.write_bytes(b"image")
-        self.says("examine", [{}], 1, f"etcs_lab: {self.image.parent}/it\\'s: is not a formatted image\n")
+        self.says("check", [{}], 1, f"etcs_lab: {self.image.parent}/it\\'s: is not a formatted image\n")
         self.assertRaisesRegex(Failed, "/it's: is not a formatted image$", self.read)
 
     def test_a_file_that_changes(self) -> None:
         self.image.write_bytes(b"other")
         self.assertRaisesRegex(Failed, "changed while it was read", self.read)
+        self.assertEqual(len(read(self.image, is_own=True).records), 1)
 
     def test_no_json(self) -> None:
-        self.program.with_name("etcs_lab.events").write_text("event 1\n")
-        self.assertRaisesRegex(Failed, "no JSON", self.read)
+        for text, said in (("event 1\n", "no JSON"), ('{"end": "done"}\n[1\n', "no JSON"), ('{"end": "done"}\n1\n', "no object"),
+                           ('{"end": "done"}, {"end": "done"}\n', "no JSON"), ('[1\n2]\n', "no JSON")):
+            self.program.with_name("etcs_lab.events").write_text(text)
+            self.assertRaisesRegex(Failed, said, self.read)
 
 
 class Unproved(unittest.TestCase):

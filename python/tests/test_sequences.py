@@ -1,7 +1,12 @@
 """Tables of steps as test cases (docs/SEQUENCES.md), and the dissector for Wireshark (docs/WIRESHARK.md)."""
 import tempfile
 import unittest
+from collections.abc import Callable
 from pathlib import Path
+from typing import Any
+from zipfile import ZipFile
+
+import openpyxl
 
 from gaknifur import dissector, sequences
 from gaknifur.program import Failed
@@ -70,6 +75,86 @@ class Tables(unittest.TestCase):
             with self.assertRaises(Failed) as found:
                 self.made(table, mapping)
             self.assertIn(said, str(found.exception))
+
+
+class Workbooks(unittest.TestCase):
+    """Tables of a workbook, as openpyxl writes it and as LibreOffice keeps what formulas came to."""
+
+    def setUp(self) -> None:
+        folder = tempfile.TemporaryDirectory()
+        self.addCleanup(folder.cleanup)
+        self.path = Path(folder.name) / "table.xlsx"
+
+    def save(self, rows: list[list[Any]], change: Callable[[str], str] = str) -> None:
+        """A workbook whose first sheet has these rows, and whose second one has others; `change` is made in the sheet's XML."""
+        book = openpyxl.Workbook()
+        assert book.active is not None
+        for row in rows:
+            book.active.append(row)
+        book.create_sheet("others").append(["No", "I/F", "Action", "Expected"])
+        book.save(self.path)
+        with ZipFile(self.path) as told:
+            parts = {name: told.read(name) for name in told.namelist()}
+        sheet = "xl/worksheets/sheet1.xml"
+        parts[sheet] = change(parts[sheet].decode()).encode()
+        with ZipFile(self.path, "w") as made:
+            for name, data in parts.items():
+                made.writestr(name, data)
+
+    def rows(self) -> list[tuple[str, ...]]:
+        """The row's place and texts."""
+        columns = {"step": "No", "interface": "I/F", "action": "Action", "expected": "Expected"}
+        return [(one.at.removeprefix(f"{self.path}:"), *one.texts.values()) for one in sequences.table(self.path, columns)]
+
+    HEAD = ["No", "I/F", "Action", "Expected"]
+
+    def test_cells(self) -> None:
+        self.save([["a title"], [], ["passed over", *self.HEAD], [None, 1, "ODO", "5  m\n", None], [],
+                   [None, "3.10", "DMI", True, 0.5], [None, 2.0, None, 12345678901, "±"]])
+        self.assertEqual(self.rows(), [("4", "1", "ODO", "5 m", ""), ("6", "3.10", "DMI", "TRUE", "0.5"),
+                                       ("7", "2", "", "12345678901", "±")])
+
+    def test_of_a_formula_what_it_came_to(self) -> None:
+        def saved(xml: str) -> str:
+            """As a spreadsheet saves it: a formula, and beside it what it came to."""
+            for place, formula, kind, value in (("A2", "1+1", "n", "2.0"), ("C2", "B2&amp;A2", "str", "ODO2")):
+                told = f'<c r="{place}"><f>{formula}</f><v></v></c>'
+                assert told in xml or told.replace("<v></v>", "<v />") in xml, xml
+                for one in (told, told.replace("<v></v>", "<v />")):
+                    xml = xml.replace(one, f'<c r="{place}" t="{kind}"><f>{formula}</f><v>{value}</v></c>')
+            return xml
+
+        self.save([self.HEAD, ["=1+1", "ODO", "=B2&A2", "=A2"]], saved)
+        self.assertEqual(self.rows(), [("2", "2", "ODO", "ODO2", "")])
+
+    def test_a_sheet_that_tells_another_size(self) -> None:
+        self.save([self.HEAD, [1, "ODO", "5 m", "brake none"]],
+                  lambda xml: xml.replace('<dimension ref="A1:D2"', '<dimension ref="A1"'))
+        self.assertEqual(self.rows(), [("2", "1", "ODO", "5 m", "brake none")])
+
+    def test_the_cases_are_those_of_the_same_table_as_text(self) -> None:
+        rows: list[list[Any]] = [self.HEAD, [1, "ODO", "5 m", "brake none"], [2, "X", "nothing", None]]
+        self.save(rows)
+        text, told = self.path.with_suffix(".csv"), self.path.with_name("map.yaml")
+        text.write_text("No,I/F,Action,Expected\n1,ODO,5 m,brake none\n2,X,nothing,\n", encoding="utf-8")
+        told.write_text(MAPPING, encoding="utf-8")
+        mapping = sequences.mapping(told)
+        first, second = (sequences.cases_of(mapping, sequences.table(one, mapping.columns), "table") for one in (self.path, text))
+        self.assertEqual((first.cases, first.steps, first.results, len(first.left_out)), (second.cases, 1, 1, 1))
+
+    def test_what_is_no_workbook(self) -> None:
+        for cut in (False, True):
+            self.save([self.HEAD], lambda xml: xml[:-20])
+            if not cut:
+                self.path.write_text("No,I/F,Action,Expected\n", encoding="utf-8")
+            with self.assertRaisesRegex(Failed, "this is no workbook with a sheet"):
+                self.rows()
+        chart: Any = openpyxl.Workbook()
+        chart.create_chartsheet("drawn")
+        del chart["Sheet"]
+        chart.save(self.path)
+        with self.assertRaisesRegex(Failed, "this is no workbook with a sheet"):
+            self.rows()
 
 
 class Captures(unittest.TestCase):

@@ -1,5 +1,5 @@
 -- A life that a power-up begins is known by what the power-up leaves of what was kept.
-use Rattle.std.proofs.Common.{◌≡◌, ℤ, refl, ap, sym, ◌∙◌, subst}
+use Rattle.std.proofs.Common.{◌≡◌, refl, ap, sym, ◌∙◌, subst}
 use Rattle.driver.specs.declared.datum.Datum.{Datum}
 use Rattle.driver.specs.declared.datum.Datum.TheVariants.{Unknown, Valid, Invalid}
 use Rattle.events.specs.declared.kept.Kept.{Kept}
@@ -7,10 +7,9 @@ use Rattle.events.specs.Kept.{PositionFrom}
 use Rattle.mode_table.specs.declared.level.TrainLevel.{TrainLevel}
 use Rattle.mode_table.specs.declared.statuses.Cold.{Cold}
 use Rattle.mode_table.specs.declared.statuses.Cold.TheVariants as cold
-use Rattle.speed_profile.specs.declared.told.CategorySpeeds.{CategorySpeeds}
-use Rattle.track_store.specs.Profiles.{Profile}
 use Rattle.mode_control.specs.Sentences.{begun_life}
 use Rattle.mode_control.specs.StandsFor.{parts_of as supervision_parts_of}
+use Rattle.track_picture.specs.Stores.{Stores}
 use Rattle.kernel.specs.Lives.{left_by}
 use Rattle.kernel.specs.Output.{output_of}
 use Rattle.kernel.specs.StandsFor.{Knowledge, StandsForLife, parts_of}
@@ -49,9 +48,9 @@ same_items cold.Moved kept (Invalid l) (Invalid p) = (refl, refl, refl)
 same : (word : Cold) (kept : Kept) → Same word kept
 same word kept = same_items word kept kept.level kept.position
 
-module _ {G S : Type 0} {gradients_in : G → Profile ℤ} {speeds_in : S → Profile CategorySpeeds} {known : Knowledge G S} where
-  to_left : (word : Cold) (kept : Kept) → StandsForLife gradients_in speeds_in known (begun_life kept word) →
-      StandsForLife gradients_in speeds_in known (begun_life (left_by word kept) word)
+module _ {G S : Type 0} {stores : Stores G S} {known : Knowledge G S} where
+  to_left : (word : Cold) (kept : Kept) → StandsForLife stores known (begun_life kept word) →
+      StandsForLife stores known (begun_life (left_by word kept) word)
   to_left word kept s =
       let is = same word kept in
       record {
@@ -59,8 +58,8 @@ module _ {G S : Type 0} {gradients_in : G → Profile ℤ} {speeds_in : S → Pr
         supervision_is = record { parts_are = s.supervision_is.parts_are ∙ is.1; track_is = s.supervision_is.track_is };
       }
 
-  from_left : (word : Cold) (kept : Kept) → StandsForLife gradients_in speeds_in known (begun_life (left_by word kept) word) →
-      StandsForLife gradients_in speeds_in known (begun_life kept word)
+  from_left : (word : Cold) (kept : Kept) → StandsForLife stores known (begun_life (left_by word kept) word) →
+      StandsForLife stores known (begun_life kept word)
   from_left word kept s =
       let is = same word kept in
       record {
@@ -70,9 +69,9 @@ module _ {G S : Type 0} {gradients_in : G → Profile ℤ} {speeds_in : S → Pr
 
   -- where the same is left of both, what stands for the one life stands for the other
   pub left_alike : (word : Cold) (one other : Kept) → left_by word one ≡ left_by word other →
-      StandsForLife gradients_in speeds_in known (begun_life one word) → StandsForLife gradients_in speeds_in known (begun_life other word)
+      StandsForLife stores known (begun_life one word) → StandsForLife stores known (begun_life other word)
   left_alike word one other alike s =
-      from_left word other (subst (λ (k : Kept). StandsForLife gradients_in speeds_in known (begun_life k word)) alike (to_left word one s))
+      from_left word other (subst (λ (k : Kept). StandsForLife stores known (begun_life k word)) alike (to_left word one s))
 
 pub answered_alike : (word : Cold) (one other : Kept) → left_by word one ≡ left_by word other → output_of (begun_life one word) ≡ output_of (begun_life other word)
 answered_alike word one other alike =

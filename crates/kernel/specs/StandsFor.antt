@@ -1,20 +1,19 @@
 -- What the kernel knows represents a life, and so a past or a list of events (this project's profile). Distances are centimetres,
 -- speeds metres per hour.
-use Rattle.std.specs.Prelude.{◌≡◌, ℕ, ◌-◌, ◌^◌, ℤ, min, Option, Some, None, List, ◌∷◌}
+use Rattle.std.specs.Prelude.{◌≡◌, ℕ, ◌-◌, ◌^◌, min, Option, Some, None, List, ◌∷◌}
 use Rattle.driver.specs.declared.datum.Datum.{Datum}
 use Rattle.events.specs.declared.input.Event.{Event}
 use Rattle.events.specs.declared.input.Input.{Input}
 use Rattle.events.specs.declared.input.Input.TheVariants.{Telegram, Odometer, Clock, Driver}
 use Rattle.events.specs.declared.input.Reading.{Reading}
 use Rattle.events.specs.Kept.{PositionFrom}
-use Rattle.speed_profile.specs.declared.told.CategorySpeeds.{CategorySpeeds}
-use Rattle.track_store.specs.Profiles.{Profile}
 use Rattle.speed_supervision.specs.Limit.{limit}
 use Rattle.track_picture.specs.History.{speed_of}
 use Rattle.mode_control.specs.Entry.{SupervisionEntry}
 use Rattle.mode_control.specs.History.{tracks}
 use Rattle.mode_control.specs.Life.{Life, grown}
 use Rattle.mode_control.specs.StandsFor as mode_control
+use Rattle.track_picture.specs.Stores.{Stores}
 use Rattle.kernel.specs.declared.counts.Counts.{Counts}
 use Rattle.kernel.specs.declared.sight.Sight.{Sight}
 use Rattle.kernel.specs.declared.window.Window.{Window}
@@ -71,16 +70,16 @@ pub record Knowledge (G S : Type 0) : Type 0 where
   pub supervision : mode_control.Knowledge G S
 
 -- It represents a life; what the two stores give is read off them so
-pub record StandsForLife {G S : Type 0} (gradients_in : G → Profile ℤ) (speeds_in : S → Profile CategorySpeeds) (known : Knowledge G S) (life : Life) : Type 0 where
+pub record StandsForLife {G S : Type 0} (stores : Stores G S) (known : Knowledge G S) (life : Life) : Type 0 where
   pub parts_are : known.parts ≡ parts_of life
-  pub supervision_is : mode_control.StandsForLife gradients_in speeds_in known.supervision life
+  pub supervision_is : mode_control.StandsForLife stores known.supervision life
 
 -- .. a past
-pub record StandsAt {G S : Type 0} (gradients_in : G → Profile ℤ) (speeds_in : S → Profile CategorySpeeds) (known : Knowledge G S) (past : Past) : Type 0 where
-  pub life_is : StandsForLife gradients_in speeds_in known past.life
+pub record StandsAt {G S : Type 0} (stores : Stores G S) (known : Knowledge G S) (past : Past) : Type 0 where
+  pub life_is : StandsForLife stores known past.life
   pub kept_is : past.kept ≡ kept_of known.counts past.life
 
 -- .. and a list of events
-pub record StandsFor {G S : Type 0} (gradients_in : G → Profile ℤ) (speeds_in : S → Profile CategorySpeeds) (known : Knowledge G S) (events : List Event) : Type 0 where
-  pub life_is : StandsForLife gradients_in speeds_in known (life_of events)
+pub record StandsFor {G S : Type 0} (stores : Stores G S) (known : Knowledge G S) (events : List Event) : Type 0 where
+  pub life_is : StandsForLife stores known (life_of events)
   pub counts_are : known.counts ≡ counts_of events

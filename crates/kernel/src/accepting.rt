@@ -9,16 +9,14 @@ ghost use Rattle.mode_control.specs.Sentences.{situation};
 
 use crate::state::StateOver;
 use driver::Action;
-use speed_profile::CategorySpeeds;
-use track_store::ProfileStore;
-use units::Permille;
+use track_picture::ProfileStores;
 
-impl<G: ProfileStore<Permille> + Drop, S: ProfileStore<CategorySpeeds> + Drop> StateOver<G, S> {
+impl<T: ProfileStores> StateOver<T> {
     /// Whether an action of the driver would be accepted as the next event (the table of actions: this project's
     /// profile): by the driver's data and the situation behind the last event. An action that wouldn't has no effect.
     /// Takes no memory.
     pub fn accepts(&self, action: &Action) -> bool
-        ensures { (events : List Event) → StandsFor G.profile S.profile self.now events
+        ensures { (events : List Event) → StandsFor T.stores self.now events
             → result ≡ accepts (driver_of (life_of events)) (situation (life_of events)) action.now }
     {
         self.supervision.accepts(action)

@@ -13,9 +13,8 @@ use crate::causes::BrakeCauses;
 use crate::state::StateOver;
 use events::Brake;
 use mode_table::Mode;
-use speed_profile::CategorySpeeds;
-use track_store::ProfileStore;
-use units::{Mph, Permille};
+use track_picture::ProfileStores;
+use units::Mph;
 
 fn is_trip(mode: Mode) -> bool
     ensures { result ≡ is_mode Mode.Trip mode }
@@ -43,10 +42,10 @@ fn must_stand_in(mode: Mode) -> bool
     matches!(mode, Mode::StandBy | Mode::PostTrip)
 }
 
-impl<G: ProfileStore<Permille> + Drop, S: ProfileStore<CategorySpeeds> + Drop> StateOver<G, S> {
+impl<T: ProfileStores> StateOver<T> {
     // Whether the train has rolled backward too far.
     fn has_rolled_too_far(&self) -> bool
-        ensures { (life : Life) → StandsForLife G.profile S.profile self.now life → result ≡ has_rolled_too_far life }
+        ensures { (life : Life) → StandsForLife T.stores self.now life → result ≡ has_rolled_too_far life }
     {
         let roll = self.supervision.track().national().values().roll;
         u64::from(roll.get()) < self.parts.window.backward
@@ -54,7 +53,7 @@ impl<G: ProfileStore<Permille> + Drop, S: ProfileStore<CategorySpeeds> + Drop> S
 
     // Whether it moves where it must stand.
     fn must_stand(&self) -> bool
-        ensures { (life : Life) → StandsForLife G.profile S.profile self.now life → result ≡ must_stand life }
+        ensures { (life : Life) → StandsForLife T.stores self.now life → result ≡ must_stand life }
     {
         let mode = self.supervision.mode();
         must_stand_in(mode) && 0 < self.supervision.track().speed().get()
@@ -62,7 +61,7 @@ impl<G: ProfileStore<Permille> + Drop, S: ProfileStore<CategorySpeeds> + Drop> S
 
     // Whether an acknowledgement has been owed too long.
     fn owes_too_long(&self) -> bool
-        ensures { (life : Life) → StandsForLife G.profile S.profile self.now life → result ≡ owes_too_long life }
+        ensures { (life : Life) → StandsForLife T.stores self.now life → result ≡ owes_too_long life }
     {
         let now = self.supervision.track().moment();
         self.supervision.on_sight().brakes(now)
@@ -72,7 +71,7 @@ impl<G: ProfileStore<Permille> + Drop, S: ProfileStore<CategorySpeeds> + Drop> S
 
     /// What the brakes are commanded to do.
     pub(crate) fn brake(&self) -> Brake
-        ensures { (life : Life) → StandsForLife G.profile S.profile self.now life → result ≡ brake_of life }
+        ensures { (life : Life) → StandsForLife T.stores self.now life → result ≡ brake_of life }
     {
         let mode = self.supervision.mode();
         let driver = self.supervision.driver();
@@ -97,7 +96,7 @@ impl<G: ProfileStore<Permille> + Drop, S: ProfileStore<CategorySpeeds> + Drop> S
 
     // Which rows of the table hold.
     fn causes(&self) -> BrakeCauses
-        ensures { (life : Life) → StandsForLife G.profile S.profile self.now life → marked result ≡ causes_of life }
+        ensures { (life : Life) → StandsForLife T.stores self.now life → marked result ≡ causes_of life }
     {
         let mode = self.supervision.mode();
         let driver = self.supervision.driver();
@@ -121,21 +120,21 @@ impl<G: ProfileStore<Permille> + Drop, S: ProfileStore<CategorySpeeds> + Drop> S
     /// Why the brakes are commanded after the last event: all rows of the brake table that hold (SUBSET-026, 3.14; the
     /// rows: this project's profile). Takes no memory, and is worked out where it is asked alone.
     pub fn brake_causes(&self) -> BrakeCauses
-        ensures { (life : Life) → StandsForLife G.profile S.profile self.now life → marked result ≡ causes_of life }
+        ensures { (life : Life) → StandsForLife T.stores self.now life → marked result ≡ causes_of life }
     {
         self.causes()
     }
 
     /// The speed of the last reading of this life, in metres per hour; 0 before the first one.
     pub fn speed(&self) -> Mph
-        ensures { (life : Life) → StandsForLife G.profile S.profile self.now life → result ≡ speed_of (tracks life.entries) }
+        ensures { (life : Life) → StandsForLife T.stores self.now life → result ≡ speed_of (tracks life.entries) }
     {
         self.supervision.track().speed()
     }
 
     /// How far the train has rolled backward since it stood, in centimetres, up to the greatest number of 64 bits.
     pub fn rolled_backward(&self) -> u64
-        ensures { (life : Life) → StandsForLife G.profile S.profile self.now life
+        ensures { (life : Life) → StandsForLife T.stores self.now life
             → result ≡ min (rolled_backward life) (2 ^ 64 - 1) }
     {
         self.parts.window.backward
@@ -143,7 +142,7 @@ impl<G: ProfileStore<Permille> + Drop, S: ProfileStore<CategorySpeeds> + Drop> S
 
     /// How far it may roll backward, in centimetres: the national value D_NVROLL that is in force.
     pub fn allowed_backward(&self) -> u64
-        ensures { (life : Life) → StandsForLife G.profile S.profile self.now life → result ≡ (values_of life).roll }
+        ensures { (life : Life) → StandsForLife T.stores self.now life → result ≡ (values_of life).roll }
     {
         u64::from(self.supervision.track().national().values().roll.get())
     }

@@ -14,15 +14,13 @@ use crate::state::StateOver;
 use driver::Datum;
 use events::{Estimate, Kept, Output, Position};
 use mode_table::Cold;
-use speed_profile::CategorySpeeds;
 use std::alloc::Global;
-use track_store::ProfileStore;
-use units::Permille;
+use track_picture::ProfileStores;
 
-impl<G: ProfileStore<Permille> + Drop, S: ProfileStore<CategorySpeeds> + Drop> StateOver<G, S> {
+impl<T: ProfileStores> StateOver<T> {
     // Where the train is, by a balise group.
     fn position(&self) -> Datum<Position>
-        ensures { (life : Life) → StandsForLife G.profile S.profile self.now life → result ≡ position_of life }
+        ensures { (life : Life) → StandsForLife T.stores self.now life → result ≡ position_of life }
     {
         let track = self.supervision.track();
         position_by(&track.group_of_fix(), &self.parts.position, &track.place())
@@ -30,7 +28,7 @@ impl<G: ProfileStore<Permille> + Drop, S: ProfileStore<CategorySpeeds> + Drop> S
 
     // What a power-up keeps of a life.
     fn kept_of_life(&self) -> Kept
-        ensures { (life : Life) → StandsForLife G.profile S.profile self.now life → result ≡ kept_of self.now.counts life }
+        ensures { (life : Life) → StandsForLife T.stores self.now life → result ≡ kept_of self.now.counts life }
     {
         let driver = self.supervision.driver().kept();
         Kept {
@@ -48,8 +46,8 @@ impl<G: ProfileStore<Permille> + Drop, S: ProfileStore<CategorySpeeds> + Drop> S
 
     /// What a power-up keeps (SUBSET-026, 4.10; what: this project's profile). Takes no memory.
     pub fn kept(&self) -> Kept
-        ensures lists { (events : List Event) → StandsFor G.profile S.profile self.now events → result ≡ kept_by events }
-        ensures pasts { (past : Past) → StandsAt G.profile S.profile self.now past → result ≡ past.kept }
+        ensures lists { (events : List Event) → StandsFor T.stores self.now events → result ≡ kept_by events }
+        ensures pasts { (past : Past) → StandsAt T.stores self.now past → result ≡ past.kept }
     {
         self.kept_of_life()
     }
@@ -58,13 +56,13 @@ impl<G: ProfileStore<Permille> + Drop, S: ProfileStore<CategorySpeeds> + Drop> S
     /// power was off decides whether level and position stay valid, so that only what it leaves of them counts. The
     /// caller owes a word that is true. Takes no memory.
     pub fn power_up(alloc: Global, kept: &Kept, cold: Cold) -> (Self, Output)
-        ensures stands { (events : List Event) → left_by cold kept.now ≡ left_by cold (kept_by events) → StandsFor G.profile S.profile result.0 (event.PowerUp cold ∷ events) }
+        ensures stands { (events : List Event) → left_by cold kept.now ≡ left_by cold (kept_by events) → StandsFor T.stores result.0 (event.PowerUp cold ∷ events) }
         ensures output { (events : List Event) → left_by cold kept.now ≡ left_by cold (kept_by events) → result.1 ≡ output_after (event.PowerUp cold ∷ events) }
         ensures begun { (past : Past) → left_by cold kept.now ≡ left_by cold past.kept
-            → StandsAt G.profile S.profile result.0 (past_after past (event.PowerUp cold)) }
+            → StandsAt T.stores result.0 (past_after past (event.PowerUp cold)) }
         ensures answer { (past : Past) → left_by cold kept.now ≡ left_by cold past.kept
             → result.1 ≡ output_of (past_after past (event.PowerUp cold)).life }
-        ensures track { HasNoTrack G.size S.size result.0 }
+        ensures track { HasNoTrack T.stores result.0 }
     {
         let state = StateOver::begin(alloc, kept.copy(), cold);
         let output = state.output();
@@ -74,9 +72,8 @@ impl<G: ProfileStore<Permille> + Drop, S: ProfileStore<CategorySpeeds> + Drop> S
     /// Where the train is thought to be, in centimetres from where its life began, and how far that may be wrong to
     /// either side. Takes no memory.
     pub fn place_of(&self) -> (Estimate, u64)
-        ensures estimate { (life : Life) → StandsForLife G.profile S.profile self.now life → result.0 ≡ estimate_in life }
-        ensures uncertainty { (life : Life) → StandsForLife G.profile S.profile self.now life
-            → result.1 ≡ uncertainty_in life }
+        ensures estimate { (life : Life) → StandsForLife T.stores self.now life → result.0 ≡ estimate_in life }
+        ensures uncertainty { (life : Life) → StandsForLife T.stores self.now life → result.1 ≡ uncertainty_in life }
     {
         let place = self.supervision.track().place();
         let estimate = Estimate::new(place.estimate().get()).unwrap();

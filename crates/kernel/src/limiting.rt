@@ -6,15 +6,13 @@ ghost use Rattle.speed_supervision.specs.Limit.{limit};
 
 use crate::state::StateOver;
 use limit_causes::{LimitCause, limit_cause};
-use speed_profile::CategorySpeeds;
-use track_store::ProfileStore;
-use units::Permille;
+use track_picture::ProfileStores;
 
-impl<G: ProfileStore<Permille> + Drop, S: ProfileStore<CategorySpeeds> + Drop> StateOver<G, S> {
+impl<T: ProfileStores> StateOver<T> {
     /// What decides the limit that was answered to the last event (SUBSET-026, 3.11 to 3.13 and 4.4; which of those of
     /// equal force is named: this project's profile). Takes no memory, and is worked out where it is asked alone.
     pub fn limit_cause(&self) -> LimitCause
-        ensures { (life : Life) → StandsForLife G.profile S.profile self.now life → IsLimitCause life (limit life) result }
+        ensures { (life : Life) → StandsForLife T.stores self.now life → IsLimitCause life (limit life) result }
     {
         limit_cause(&self.supervision)
     }

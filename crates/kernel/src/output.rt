@@ -8,9 +8,7 @@ use crate::state::StateOver;
 use driver::Datum;
 use events::{Indications, Output};
 use mode_table::TrainLevel;
-use speed_profile::CategorySpeeds;
-use track_store::ProfileStore;
-use units::Permille;
+use track_picture::ProfileStores;
 
 fn where_valid(level: &Datum<TrainLevel>) -> Option<TrainLevel>
     ensures { result ≡ where_valid level.now }
@@ -21,10 +19,10 @@ fn where_valid(level: &Datum<TrainLevel>) -> Option<TrainLevel>
     }
 }
 
-impl<G: ProfileStore<Permille> + Drop, S: ProfileStore<CategorySpeeds> + Drop> StateOver<G, S> {
+impl<T: ProfileStores> StateOver<T> {
     // What the driver is shown.
     fn indications(&self) -> Indications
-        ensures { (life : Life) → StandsForLife G.profile S.profile self.now life → result ≡ indications_of life }
+        ensures { (life : Life) → StandsForLife T.stores self.now life → result ≡ indications_of life }
     {
         let driver = self.supervision.driver();
         Indications {
@@ -40,7 +38,7 @@ impl<G: ProfileStore<Permille> + Drop, S: ProfileStore<CategorySpeeds> + Drop> S
 
     /// What is answered after the last event.
     pub fn output(&self) -> Output
-        ensures { (life : Life) → StandsForLife G.profile S.profile self.now life → result ≡ output_of life }
+        ensures { (life : Life) → StandsForLife T.stores self.now life → result ≡ output_of life }
     {
         Output {
             mode: self.supervision.mode(),

@@ -17,11 +17,10 @@ use crate::state::StateOver;
 use events::{Event, Input};
 use mode_control::SupervisionOver;
 use mode_table::Cold;
-use speed_profile::CategorySpeeds;
 use speed_supervision::limit;
 use std::alloc::Global;
-use track_store::ProfileStore;
-use units::{NoMemory, Permille};
+use track_picture::ProfileStores;
+use units::NoMemory;
 
 impl Parts {
     // An event shows this.
@@ -34,11 +33,8 @@ impl Parts {
 }
 
 // What an input shows that was just received.
-fn sight_of<G: ProfileStore<Permille> + Drop, S: ProfileStore<CategorySpeeds> + Drop>(
-    supervision: &SupervisionOver<G, S>,
-    input: &Input,
-) -> Sight
-    ensures { (life : Life) → SupervisionStandsForLife G.profile S.profile supervision.now (grown life (entry_of life input.now))
+fn sight_of<T: ProfileStores>(supervision: &SupervisionOver<T>, input: &Input) -> Sight
+    ensures { (life : Life) → SupervisionStandsForLife T.stores supervision.now (grown life (entry_of life input.now))
         → result ≡ sight_at life (entry_of life input.now) }
 {
     let reading = reading_of(input);
@@ -52,14 +48,14 @@ fn sight_of<G: ProfileStore<Permille> + Drop, S: ProfileStore<CategorySpeeds> + 
     }
 }
 
-impl<G: ProfileStore<Permille> + Drop, S: ProfileStore<CategorySpeeds> + Drop> StateOver<G, S> {
+impl<T: ProfileStores> StateOver<T> {
     // All that an input does. Where memory is refused, nothing changes.
     fn receive(&mut self, input: &Input) -> Result<(), NoMemory>
-        ensures quiet { TrackHasRoomFor G.room S.room self.old.supervision.track input.now → IsOk result }
-        ensures track { TrackHasRoomFor G.room S.room self.old.supervision.track input.now → HasNoTrack G.size S.size self.old
-            → OnOk result (HasNoTrack G.size S.size self.new) }
-        ensures life { OnOk result ((life : Life) → StandsForLife G.profile S.profile self.old life
-            → StandsForLife G.profile S.profile self.new (grown life (entry_of life input.now))) }
+        ensures quiet { TrackHasRoomFor T.stores self.old.supervision.track input.now → IsOk result }
+        ensures track { TrackHasRoomFor T.stores self.old.supervision.track input.now → HasNoTrack T.stores self.old
+            → OnOk result (HasNoTrack T.stores self.new) }
+        ensures life { OnOk result ((life : Life) → StandsForLife T.stores self.old life
+            → StandsForLife T.stores self.new (grown life (entry_of life input.now))) }
         ensures counts { OnOk result (self.new.counts ≡ counted self.old.counts (event.Input input.now)) }
         ensures err { OnErr result (self.new ≡ self.old) }
     {
@@ -73,11 +69,11 @@ impl<G: ProfileStore<Permille> + Drop, S: ProfileStore<CategorySpeeds> + Drop> S
     // A power-up. It stands out of line, so that an input clears no room for the new life.
     #[inline(never)]
     fn begin_again(&mut self, alloc: Global, cold: Cold)
-        ensures stands { (events : List Event) → StandsFor G.profile S.profile self.old events
-            → StandsFor G.profile S.profile self.new (event.PowerUp cold ∷ events) }
-        ensures reaches { (past : Past) → StandsAt G.profile S.profile self.old past
-            → StandsAt G.profile S.profile self.new (past_after past (event.PowerUp cold)) }
-        ensures track { HasNoTrack G.size S.size self.new }
+        ensures stands { (events : List Event) → StandsFor T.stores self.old events
+            → StandsFor T.stores self.new (event.PowerUp cold ∷ events) }
+        ensures reaches { (past : Past) → StandsAt T.stores self.old past
+            → StandsAt T.stores self.new (past_after past (event.PowerUp cold)) }
+        ensures track { HasNoTrack T.stores self.new }
     {
         *self = StateOver::begin(alloc, self.kept(), cold);
     }
@@ -85,13 +81,13 @@ impl<G: ProfileStore<Permille> + Drop, S: ProfileStore<CategorySpeeds> + Drop> S
     /// All that an event does. Where memory is refused, nothing changes; none is refused where there is room for the
     /// event.
     pub(crate) fn take(&mut self, alloc: Global, event: &Event) -> Result<(), NoMemory>
-        ensures quiet { HasRoomFor G.room S.room self.old event.now → IsOk result }
-        ensures track { HasRoomFor G.room S.room self.old event.now → HasNoTrack G.size S.size self.old
-            → OnOk result (HasNoTrack G.size S.size self.new) }
-        ensures stands { OnOk result ((events : List Event) → StandsFor G.profile S.profile self.old events
-            → StandsFor G.profile S.profile self.new (event.now ∷ events)) }
-        ensures reaches { OnOk result ((past : Past) → StandsAt G.profile S.profile self.old past
-            → StandsAt G.profile S.profile self.new (past_after past event.now)) }
+        ensures quiet { HasRoomFor T.stores self.old event.now → IsOk result }
+        ensures track { HasRoomFor T.stores self.old event.now → HasNoTrack T.stores self.old
+            → OnOk result (HasNoTrack T.stores self.new) }
+        ensures stands { OnOk result ((events : List Event) → StandsFor T.stores self.old events
+            → StandsFor T.stores self.new (event.now ∷ events)) }
+        ensures reaches { OnOk result ((past : Past) → StandsAt T.stores self.old past
+            → StandsAt T.stores self.new (past_after past event.now)) }
         ensures err { OnErr result (self.new ≡ self.old) }
     {
         match event {

@@ -8,9 +8,8 @@ ghost use Rattle.mode_control.specs.Sentences.{span_of};
 use crate::state::StateOver;
 use crate::window::{EMERGENCY_MARGIN, SERVICE_MARGIN};
 use areas::Acknowledgement;
-use speed_profile::CategorySpeeds;
-use track_store::ProfileStore;
-use units::{Cm, Ms, Permille};
+use track_picture::ProfileStores;
+use units::{Cm, Ms};
 
 /// How long an acknowledgement may be owed before it orders the service brake, in milliseconds.
 const BRAKE_DELAY: u64 = 5_000;
@@ -51,11 +50,11 @@ fn waits_at(now: Ms, it: Acknowledgement) -> Waiting
     }
 }
 
-impl<G: ProfileStore<Permille> + Drop, S: ProfileStore<CategorySpeeds> + Drop> StateOver<G, S> {
+impl<T: ProfileStores> StateOver<T> {
     /// Which acknowledgements the driver is waited for after the last event, and how long yet. Takes no memory, and is
     /// worked out where it is asked alone.
     pub fn acknowledgements(&self) -> Acknowledgements
-        ensures { (life : Life) → StandsForLife G.profile S.profile self.now life → result ≡ acknowledgements_of life }
+        ensures { (life : Life) → StandsForLife T.stores self.now life → result ≡ acknowledgements_of life }
     {
         let now = self.supervision.track().moment();
         Acknowledgements {
@@ -68,7 +67,7 @@ impl<G: ProfileStore<Permille> + Drop, S: ProfileStore<CategorySpeeds> + Drop> S
     /// The speed above which the service brake comes after the last event, in metres per hour: the limit and 5 km/h
     /// (SUBSET-026, 3.13; the margin: this project's profile).
     pub fn service_speed(&self) -> u32
-        ensures { (life : Life) → StandsForLife G.profile S.profile self.now life → result ≡ service_speed life }
+        ensures { (life : Life) → StandsForLife T.stores self.now life → result ≡ service_speed life }
     {
         self.parts.limit.get() + u32::from(SERVICE_MARGIN)
     }
@@ -76,7 +75,7 @@ impl<G: ProfileStore<Permille> + Drop, S: ProfileStore<CategorySpeeds> + Drop> S
     /// The speed above which the emergency brake comes after the last event, in metres per hour: the limit and 10 km/h
     /// (SUBSET-026, 3.13; the margin: this project's profile).
     pub fn emergency_speed(&self) -> u32
-        ensures { (life : Life) → StandsForLife G.profile S.profile self.now life → result ≡ emergency_speed life }
+        ensures { (life : Life) → StandsForLife T.stores self.now life → result ≡ emergency_speed life }
     {
         self.parts.limit.get() + u32::from(EMERGENCY_MARGIN)
     }
@@ -84,7 +83,7 @@ impl<G: ProfileStore<Permille> + Drop, S: ProfileStore<CategorySpeeds> + Drop> S
     /// The maximum safe front after the last event, in centimetres from where the life began (SUBSET-026, 3.6.4): from
     /// there on what lies ahead is braked for.
     pub fn max_front(&self) -> Cm
-        ensures { (life : Life) → StandsForLife G.profile S.profile self.now life → result ≡ (span_of life).max_front }
+        ensures { (life : Life) → StandsForLife T.stores self.now life → result ≡ (span_of life).max_front }
     {
         self.supervision.stretch().max_front()
     }

@@ -13,36 +13,35 @@ use driver::Datum;
 use events::Kept;
 use mode_control::SupervisionOver;
 use mode_table::{Cold, Item, power_up_status};
-use speed_profile::CategorySpeeds;
 use std::alloc::Global;
 use std::marker::Model;
-use track_store::{ProfileStore, SegmentStore};
-use units::{NoMemory, Permille};
+use track_picture::{ProfileStores, Segments};
+use units::NoMemory;
 
 /// What the kernel knows, with stores for the gradients and the static speeds.
 #[derive(Drop)]
-pub struct StateOver<G, S> {
+pub struct StateOver<T: ProfileStores> {
     pub(crate) parts: Parts,
     pub(crate) counts: Counts,
-    pub(crate) supervision: SupervisionOver<G, S>,
+    pub(crate) supervision: SupervisionOver<T>,
 }
 
 /// What the kernel knows, with stores that stay short however long the life.
-pub type State = StateOver<SegmentStore<Permille>, SegmentStore<CategorySpeeds>>;
+pub type State = StateOver<Segments>;
 
-impl<G, S> Model for StateOver<G, S> {
+impl<T: ProfileStores> Model for StateOver<T> {
     ghost use Rattle.kernel.specs.StandsFor.{Knowledge};
 
-    ghost Value = { Knowledge G S };
+    ghost Value = { Knowledge T.Gradients T.Speeds };
 
     ghost view = { λ s. record { parts = s.parts; counts = s.counts; supervision = s.supervision } };
 }
 
-impl<G: ProfileStore<Permille> + Drop, S: ProfileStore<CategorySpeeds> + Drop> StateOver<G, S> {
+impl<T: ProfileStores> StateOver<T> {
     /// What is known before the first event. Takes no memory.
     pub fn empty(alloc: Global) -> Self
-        ensures stands { StandsFor G.profile S.profile result [] }
-        ensures track { HasNoTrack G.size S.size result }
+        ensures stands { StandsFor T.stores result [] }
+        ensures track { HasNoTrack T.stores result }
     {
         StateOver {
             parts: Parts {
@@ -57,9 +56,9 @@ impl<G: ProfileStore<Permille> + Drop, S: ProfileStore<CategorySpeeds> + Drop> S
 
     /// A life begins with what was kept, and is counted. Takes no memory.
     pub(crate) fn begin(alloc: Global, kept: Kept, cold: Cold) -> Self
-        ensures life { StandsForLife G.profile S.profile result (begun_life kept cold) }
+        ensures life { StandsForLife T.stores result (begun_life kept cold) }
         ensures counts { result.counts ≡ counted (record { events = kept.events; lives = kept.lives }) (PowerUp cold) }
-        ensures track { HasNoTrack G.size S.size result }
+        ensures track { HasNoTrack T.stores result }
     {
         StateOver {
             parts: Parts {
@@ -80,7 +79,7 @@ impl<G: ProfileStore<Permille> + Drop, S: ProfileStore<CategorySpeeds> + Drop> S
     /// room for one.
     pub fn copy(&self, alloc: Global) -> Result<Self, NoMemory>
         ensures value { IfOk result (λ copy. copy ≡ self.now) }
-        ensures quiet { HasNoTrack G.size S.size self.now → IsOk result }
+        ensures quiet { HasNoTrack T.stores self.now → IsOk result }
     {
         Ok(StateOver {
             parts: self.parts,

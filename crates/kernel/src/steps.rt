@@ -10,26 +10,25 @@ ghost use Rattle.mode_table.specs.declared.statuses.Cold.{Cold};
 
 use crate::state::StateOver;
 use events::{Event, Output};
-use speed_profile::CategorySpeeds;
 use std::alloc::Global;
-use track_store::ProfileStore;
-use units::{NoMemory, Permille};
+use track_picture::ProfileStores;
+use units::NoMemory;
 
 /// One event: what is known after it, and what is answered (this project's profile). The old state is unchanged.
 /// NoMemory where memory for the new one is refused: a power-up takes none, and no event does that uses no packet while
 /// no restriction and no profile is kept, nor room for one. Else the old state is copied. The caller owes moments of
 /// the clock that don't fall in a life (`Onboard::accept` tests that).
-pub fn step<G: ProfileStore<Permille> + Drop, S: ProfileStore<CategorySpeeds> + Drop>(
+pub fn step<T: ProfileStores>(
     alloc: Global,
-    state: &StateOver<G, S>,
+    state: &StateOver<T>,
     event: &Event,
-) -> Result<(StateOver<G, S>, Output), NoMemory>
-    ensures power_up { (cold : Cold) → event.now ≡ PowerUp cold → IsOkAnd result (λ answer. HasNoTrack G.size S.size answer.0) }
-    ensures quiet { HasNoTrack G.size S.size state.now → HasRoomFor G.room S.room state.now event.now
-        → IsOkAnd result (λ answer. HasNoTrack G.size S.size answer.0) }
-    ensures stands { IfOk result (λ answer. (events : List Event) → StandsFor G.profile S.profile state.now events
-        → StandsFor G.profile S.profile answer.0 (event.now ∷ events)) }
-    ensures output { IfOk result (λ answer. (events : List Event) → StandsFor G.profile S.profile state.now events
+) -> Result<(StateOver<T>, Output), NoMemory>
+    ensures power_up { (cold : Cold) → event.now ≡ PowerUp cold → IsOkAnd result (λ answer. HasNoTrack T.stores answer.0) }
+    ensures quiet { HasNoTrack T.stores state.now → HasRoomFor T.stores state.now event.now
+        → IsOkAnd result (λ answer. HasNoTrack T.stores answer.0) }
+    ensures stands { IfOk result (λ answer. (events : List Event) → StandsFor T.stores state.now events
+        → StandsFor T.stores answer.0 (event.now ∷ events)) }
+    ensures output { IfOk result (λ answer. (events : List Event) → StandsFor T.stores state.now events
         → answer.1 ≡ output_after (event.now ∷ events)) }
 {
     match event {
@@ -42,21 +41,21 @@ pub fn step<G: ProfileStore<Permille> + Drop, S: ProfileStore<CategorySpeeds> + 
     }
 }
 
-impl<G: ProfileStore<Permille> + Drop, S: ProfileStore<CategorySpeeds> + Drop> StateOver<G, S> {
+impl<T: ProfileStores> StateOver<T> {
     /// The same in place; NoMemory where memory is refused, and then nothing changes. Room is made first for all that
     /// the event can add, so that nothing is copied. None is refused where there is room for it: there always is for a
     /// power-up, a moment, an action, and for a reading while no group is being read.
     pub fn apply(&mut self, alloc: Global, event: &Event) -> Result<Output, NoMemory>
-        ensures quiet { HasRoomFor G.room S.room self.old event.now → IsOk result }
-        ensures track { HasRoomFor G.room S.room self.old event.now → HasNoTrack G.size S.size self.old
-            → OnOk result (HasNoTrack G.size S.size self.new) }
-        ensures stands { OnOk result ((events : List Event) → StandsFor G.profile S.profile self.old events
-            → StandsFor G.profile S.profile self.new (event.now ∷ events)) }
-        ensures output { IfOk result (λ output. (events : List Event) → StandsFor G.profile S.profile self.old events
+        ensures quiet { HasRoomFor T.stores self.old event.now → IsOk result }
+        ensures track { HasRoomFor T.stores self.old event.now → HasNoTrack T.stores self.old
+            → OnOk result (HasNoTrack T.stores self.new) }
+        ensures stands { OnOk result ((events : List Event) → StandsFor T.stores self.old events
+            → StandsFor T.stores self.new (event.now ∷ events)) }
+        ensures output { IfOk result (λ output. (events : List Event) → StandsFor T.stores self.old events
             → output ≡ output_after (event.now ∷ events)) }
-        ensures reaches { OnOk result ((past : Past) → StandsAt G.profile S.profile self.old past
-            → StandsAt G.profile S.profile self.new (past_after past event.now)) }
-        ensures answers { IfOk result (λ output. (past : Past) → StandsAt G.profile S.profile self.old past
+        ensures reaches { OnOk result ((past : Past) → StandsAt T.stores self.old past
+            → StandsAt T.stores self.new (past_after past event.now)) }
+        ensures answers { IfOk result (λ output. (past : Past) → StandsAt T.stores self.old past
             → output ≡ output_of (past_after past event.now).life) }
         ensures refused { OnErr result (self.new ≡ self.old) }
     {

@@ -10,22 +10,21 @@ ghost use Rattle.mode_control.specs.Tripping.{trip_by, leads_to_trip};
 use crate::state::StateOver;
 use events::Input;
 use mode_control::TripCause;
-use speed_profile::CategorySpeeds;
 use std::alloc::Global;
-use track_store::ProfileStore;
-use units::{NoMemory, Permille};
+use track_picture::ProfileStores;
+use units::NoMemory;
 
-impl<G: ProfileStore<Permille> + Drop, S: ProfileStore<CategorySpeeds> + Drop> StateOver<G, S> {
+impl<T: ProfileStores> StateOver<T> {
     /// Why an input would enter Trip as the next event: the row of the mode table that leads there (SUBSET-026, 4.6; the
     /// rows: this project's profile); None where it wouldn't. It works on a copy, and is worked out where it is asked
     /// alone: NoMemory where memory is refused for that. None is taken in a mode from which no row leads to Trip; nor
     /// where no restriction and no profile is kept, nor room for one, of an input that uses no packet.
     pub fn trip_by(&self, alloc: Global, input: &Input) -> Result<Option<TripCause>, NoMemory>
-        ensures cause { IfOk result (λ cause. (life : Life) → StandsForLife G.profile S.profile self.now life
+        ensures cause { IfOk result (λ cause. (life : Life) → StandsForLife T.stores self.now life
             → cause ≡ trip_by life input.now) }
-        ensures rowless { (life : Life) → StandsForLife G.profile S.profile self.now life
+        ensures rowless { (life : Life) → StandsForLife T.stores self.now life
             → leads_to_trip (mode_of life.entries) ≡ false → IsOk result }
-        ensures quiet { HasNoTrack G.size S.size self.now → HasRoomFor G.room S.room self.now (event.Input input.now)
+        ensures quiet { HasNoTrack T.stores self.now → HasRoomFor T.stores self.now (event.Input input.now)
             → IsOk result }
     {
         Ok(self.supervision.trip_by(alloc, input)?)

@@ -15,18 +15,17 @@ use crate::{LimitCause, NationalValue, OverTrain, SpeedCause, restriction_over, 
 use driver::{Datum, TrainData};
 use mode_control::SupervisionOver;
 use mode_table::Mode;
-use speed_profile::{Ahead, CategorySpeeds};
+use speed_profile::Ahead;
 use speed_supervision::{along, bounds, limit, values};
-use track_store::{ProfileStore, Restriction};
-use units::{Mph, Permille};
+use track_picture::ProfileStores;
+use track_store::Restriction;
+use units::Mph;
 
 /// What decides the limit that `speed_supervision::limit` answers (SUBSET-026, 3.11 to 3.13 and 4.4; which of those of
 /// equal force is named: this project's profile). It is worked out where it is asked, and takes no memory. Which packet
 /// and which balise group brought it isn't known.
-pub fn limit_cause<G: ProfileStore<Permille> + Drop, S: ProfileStore<CategorySpeeds> + Drop>(
-    supervision: &SupervisionOver<G, S>,
-) -> LimitCause
-    ensures { (life : Life) → StandsForLife G.profile S.profile supervision.now life → IsLimitCause life (limit_of life) result }
+pub fn limit_cause<T: ProfileStores>(supervision: &SupervisionOver<T>) -> LimitCause
+    ensures { (life : Life) → StandsForLife T.stores supervision.now life → IsLimitCause life (limit_of life) result }
 {
     match supervision.mode() {
         Mode::FullSupervision | Mode::OnSight => permitted_cause(supervision),
@@ -37,10 +36,8 @@ pub fn limit_cause<G: ProfileStore<Permille> + Drop, S: ProfileStore<CategorySpe
     }
 }
 
-fn permitted_cause<G: ProfileStore<Permille> + Drop, S: ProfileStore<CategorySpeeds> + Drop>(
-    supervision: &SupervisionOver<G, S>,
-) -> LimitCause
-    ensures { (life : Life) → StandsForLife G.profile S.profile supervision.now life
+fn permitted_cause<T: ProfileStores>(supervision: &SupervisionOver<T>) -> LimitCause
+    ensures { (life : Life) → StandsForLife T.stores supervision.now life
         → IsPermittedCause life (permitted_for life (driver_of life).train_data) result (driver_of life).train_data }
 {
     match supervision.driver().train_data() {
@@ -49,11 +46,8 @@ fn permitted_cause<G: ProfileStore<Permille> + Drop, S: ProfileStore<CategorySpe
     }
 }
 
-fn train_cause<G: ProfileStore<Permille> + Drop, S: ProfileStore<CategorySpeeds> + Drop>(
-    supervision: &SupervisionOver<G, S>,
-    train: &TrainData,
-) -> SpeedCause
-    ensures { (life : Life) → StandsForLife G.profile S.profile supervision.now life
+fn train_cause<T: ProfileStores>(supervision: &SupervisionOver<T>, train: &TrainData) -> SpeedCause
+    ensures { (life : Life) → StandsForLife T.stores supervision.now life
         → IsCause (span_of life) (journey_of life train.now) (values_of life).release (permitted_speed life train.now) result }
 {
     let stretch = supervision.stretch();
@@ -70,12 +64,9 @@ fn train_cause<G: ProfileStore<Permille> + Drop, S: ProfileStore<CategorySpeeds>
     supervised_cause(&stretch, &ahead, values(supervision).release)
 }
 
-fn responsible_cause<G: ProfileStore<Permille> + Drop, S: ProfileStore<CategorySpeeds> + Drop>(
-    supervision: &SupervisionOver<G, S>,
-    limit: Mph,
-) -> LimitCause
-    requires { (life : Life) → StandsForLife G.profile S.profile supervision.now life → limit ≡ responsible_limit life }
-    ensures { (life : Life) → StandsForLife G.profile S.profile supervision.now life → IsResponsibleCause life limit result }
+fn responsible_cause<T: ProfileStores>(supervision: &SupervisionOver<T>, limit: Mph) -> LimitCause
+    requires { (life : Life) → StandsForLife T.stores supervision.now life → limit ≡ responsible_limit life }
+    ensures { (life : Life) → StandsForLife T.stores supervision.now life → IsResponsibleCause life limit result }
 {
     if let Some(restriction) = restriction_in(supervision, limit) {
         return LimitCause::Speed(SpeedCause::OverTrain(OverTrain::Restriction(restriction)));
@@ -89,12 +80,9 @@ fn responsible_cause<G: ProfileStore<Permille> + Drop, S: ProfileStore<CategoryS
     LimitCause::National(NationalValue::StaffResponsible)
 }
 
-fn unfitted_cause<G: ProfileStore<Permille> + Drop, S: ProfileStore<CategorySpeeds> + Drop>(
-    supervision: &SupervisionOver<G, S>,
-    limit: Mph,
-) -> LimitCause
-    requires { (life : Life) → StandsForLife G.profile S.profile supervision.now life → limit ≡ unfitted_limit life }
-    ensures { (life : Life) → StandsForLife G.profile S.profile supervision.now life → IsUnfittedCause life limit result }
+fn unfitted_cause<T: ProfileStores>(supervision: &SupervisionOver<T>, limit: Mph) -> LimitCause
+    requires { (life : Life) → StandsForLife T.stores supervision.now life → limit ≡ unfitted_limit life }
+    ensures { (life : Life) → StandsForLife T.stores supervision.now life → IsUnfittedCause life limit result }
 {
     if let Some(restriction) = restriction_in(supervision, limit) {
         return LimitCause::Speed(SpeedCause::OverTrain(OverTrain::Restriction(restriction)));
@@ -106,11 +94,11 @@ fn unfitted_cause<G: ProfileStore<Permille> + Drop, S: ProfileStore<CategorySpee
 }
 
 // The first restriction in force over the train that has this speed.
-fn restriction_in<G: ProfileStore<Permille> + Drop, S: ProfileStore<CategorySpeeds> + Drop>(
-    supervision: &SupervisionOver<G, S>,
+fn restriction_in<T: ProfileStores>(
+    supervision: &SupervisionOver<T>,
     limit: Mph,
 ) -> Option<Restriction>
-    ensures { (life : Life) → StandsForLife G.profile S.profile supervision.now life
+    ensures { (life : Life) → StandsForLife T.stores supervision.now life
         → MatchOption result ((speed : ℕ) → restricted life speed ≡ limit → speed ≡ limit)
         (IsRestrictionOver (restrictions_of (tracks life.entries)) (span_of life) limit) }
 {
@@ -119,11 +107,8 @@ fn restriction_in<G: ProfileStore<Permille> + Drop, S: ProfileStore<CategorySpee
 }
 
 // Whether this is the speed of an override that is active.
-fn is_override<G: ProfileStore<Permille> + Drop, S: ProfileStore<CategorySpeeds> + Drop>(
-    supervision: &SupervisionOver<G, S>,
-    limit: Mph,
-) -> bool
-    ensures { (life : Life) → StandsForLife G.profile S.profile supervision.now life
+fn is_override<T: ProfileStores>(supervision: &SupervisionOver<T>, limit: Mph) -> bool
+    ensures { (life : Life) → StandsForLife T.stores supervision.now life
         → result ≡ (is_overridden life && ((values_of life).override_speed == limit)) }
 {
     supervision.is_overridden() && values(supervision).override_speed == limit

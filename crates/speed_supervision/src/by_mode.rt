@@ -11,9 +11,8 @@ use driver::{Datum, TrainData};
 use mode_control::SupervisionOver;
 use mode_table::Mode;
 use national::Values;
-use speed_profile::CategorySpeeds;
-use track_store::ProfileStore;
-use units::{Mph, Permille};
+use track_picture::ProfileStores;
+use units::Mph;
 
 // The lesser of a speed and the train's maximum.
 fn within_maximum(train: &Datum<TrainData>, speed: Mph) -> Mph
@@ -26,40 +25,29 @@ fn within_maximum(train: &Datum<TrainData>, speed: Mph) -> Mph
 }
 
 /// The national values in force.
-pub fn values<G: ProfileStore<Permille> + Drop, S: ProfileStore<CategorySpeeds> + Drop>(
-    supervision: &SupervisionOver<G, S>,
-) -> &Values
-    ensures { (life : Life) → StandsForLife G.profile S.profile supervision.now life → result.now ≡ values_of life }
+pub fn values<T: ProfileStores>(supervision: &SupervisionOver<T>) -> &Values
+    ensures { (life : Life) → StandsForLife T.stores supervision.now life → result.now ≡ values_of life }
 {
     supervision.track().national().values()
 }
 
-fn maximum_in<G: ProfileStore<Permille> + Drop, S: ProfileStore<CategorySpeeds> + Drop>(
-    supervision: &SupervisionOver<G, S>,
-    speed: Mph,
-) -> Mph
-    ensures { (life : Life) → StandsForLife G.profile S.profile supervision.now life → result ≡ maximum_in life speed }
+fn maximum_in<T: ProfileStores>(supervision: &SupervisionOver<T>, speed: Mph) -> Mph
+    ensures { (life : Life) → StandsForLife T.stores supervision.now life → result ≡ maximum_in life speed }
 {
     within_maximum(&supervision.driver().train_data(), speed)
 }
 
 // The least of a speed and of the restrictions in force over the train.
-fn restricted<G: ProfileStore<Permille> + Drop, S: ProfileStore<CategorySpeeds> + Drop>(
-    supervision: &SupervisionOver<G, S>,
-    speed: Mph,
-) -> Mph
-    ensures { (life : Life) → StandsForLife G.profile S.profile supervision.now life → result ≡ restricted life speed }
+fn restricted<T: ProfileStores>(supervision: &SupervisionOver<T>, speed: Mph) -> Mph
+    ensures { (life : Life) → StandsForLife T.stores supervision.now life → result ≡ restricted life speed }
 {
     let stretch = supervision.stretch();
     supervision.track().restrictions().least(&stretch, speed)
 }
 
 // The least of a speed and of that of an override, while one is active.
-fn while_overridden<G: ProfileStore<Permille> + Drop, S: ProfileStore<CategorySpeeds> + Drop>(
-    supervision: &SupervisionOver<G, S>,
-    speed: Mph,
-) -> Mph
-    ensures { (life : Life) → StandsForLife G.profile S.profile supervision.now life → result ≡ while_overridden life speed }
+fn while_overridden<T: ProfileStores>(supervision: &SupervisionOver<T>, speed: Mph) -> Mph
+    ensures { (life : Life) → StandsForLife T.stores supervision.now life → result ≡ while_overridden life speed }
 {
     if supervision.is_overridden() {
         speed.min(values(supervision).override_speed)
@@ -68,30 +56,23 @@ fn while_overridden<G: ProfileStore<Permille> + Drop, S: ProfileStore<CategorySp
     }
 }
 
-fn responsible_limit<G: ProfileStore<Permille> + Drop, S: ProfileStore<CategorySpeeds> + Drop>(
-    supervision: &SupervisionOver<G, S>,
-) -> Mph
-    ensures { (life : Life) → StandsForLife G.profile S.profile supervision.now life → result ≡ responsible_limit life }
+fn responsible_limit<T: ProfileStores>(supervision: &SupervisionOver<T>) -> Mph
+    ensures { (life : Life) → StandsForLife T.stores supervision.now life → result ≡ responsible_limit life }
 {
     let national = values(supervision).staff_responsible;
     let own = maximum_in(supervision, national);
     restricted(supervision, while_overridden(supervision, own))
 }
 
-fn unfitted_limit<G: ProfileStore<Permille> + Drop, S: ProfileStore<CategorySpeeds> + Drop>(
-    supervision: &SupervisionOver<G, S>,
-) -> Mph
-    ensures { (life : Life) → StandsForLife G.profile S.profile supervision.now life → result ≡ unfitted_limit life }
+fn unfitted_limit<T: ProfileStores>(supervision: &SupervisionOver<T>) -> Mph
+    ensures { (life : Life) → StandsForLife T.stores supervision.now life → result ≡ unfitted_limit life }
 {
     let national = values(supervision).unfitted;
     restricted(supervision, maximum_in(supervision, national))
 }
 
-fn limit_in<G: ProfileStore<Permille> + Drop, S: ProfileStore<CategorySpeeds> + Drop>(
-    mode: Mode,
-    supervision: &SupervisionOver<G, S>,
-) -> Mph
-    ensures { (life : Life) → StandsForLife G.profile S.profile supervision.now life → result ≡ limit_in mode life }
+fn limit_in<T: ProfileStores>(mode: Mode, supervision: &SupervisionOver<T>) -> Mph
+    ensures { (life : Life) → StandsForLife T.stores supervision.now life → result ≡ limit_in mode life }
 {
     match mode {
         Mode::FullSupervision | Mode::OnSight => permitted_for(supervision),
@@ -104,10 +85,8 @@ fn limit_in<G: ProfileStore<Permille> + Drop, S: ProfileStore<CategorySpeeds> + 
 
 /// The speed that the train may run now, by the mode, in metres per hour (SUBSET-026, 3.12, 3.13; what counts in which
 /// mode: this project's profile).
-pub fn limit<G: ProfileStore<Permille> + Drop, S: ProfileStore<CategorySpeeds> + Drop>(
-    supervision: &SupervisionOver<G, S>,
-) -> Mph
-    ensures { (life : Life) → StandsForLife G.profile S.profile supervision.now life → result ≡ limit life }
+pub fn limit<T: ProfileStores>(supervision: &SupervisionOver<T>) -> Mph
+    ensures { (life : Life) → StandsForLife T.stores supervision.now life → result ≡ limit life }
 {
     let mode = supervision.mode();
     limit_in(mode, supervision)

@@ -12,16 +12,13 @@ use areas::NationalSpeeds;
 use driver::{Datum, TrainData};
 use mode_control::SupervisionOver;
 use national::Values;
-use speed_profile::{Ahead, Bounds, CategorySpeeds, Track, limit_on};
-use track_store::ProfileStore;
-use units::{Mph, Permille};
+use speed_profile::{Ahead, Bounds, Track, limit_on};
+use track_picture::ProfileStores;
+use units::Mph;
 
 /// What limits the train wherever it is.
-pub fn bounds<G: ProfileStore<Permille> + Drop, S: ProfileStore<CategorySpeeds> + Drop>(
-    supervision: &SupervisionOver<G, S>,
-    train: &TrainData,
-) -> Bounds
-    ensures { (life : Life) → StandsForLife G.profile S.profile supervision.now life → result ≡ bounds_of life train.now }
+pub fn bounds<T: ProfileStores>(supervision: &SupervisionOver<T>, train: &TrainData) -> Bounds
+    ensures { (life : Life) → StandsForLife T.stores supervision.now life → result ≡ bounds_of life train.now }
 {
     let authority = supervision.track().authority();
     Bounds {
@@ -43,10 +40,8 @@ fn in_areas(values: &Values) -> NationalSpeeds
 }
 
 /// The speeds along the track.
-pub fn along<G: ProfileStore<Permille> + Drop, S: ProfileStore<CategorySpeeds> + Drop>(
-    supervision: &SupervisionOver<G, S>,
-) -> Track<'_, S>
-    ensures { (life : Life) → StandsForLife G.profile S.profile supervision.now life → speeds_along S.value result ≡ along life }
+pub fn along<T: ProfileStores>(supervision: &SupervisionOver<T>) -> Track<'_, T::Speeds>
+    ensures { (life : Life) → StandsForLife T.stores supervision.now life → speeds_along T.Speeds.value result ≡ along life }
 {
     let track = supervision.track();
     Track {
@@ -57,11 +52,8 @@ pub fn along<G: ProfileStore<Permille> + Drop, S: ProfileStore<CategorySpeeds> +
     }
 }
 
-fn permitted_speed<G: ProfileStore<Permille> + Drop, S: ProfileStore<CategorySpeeds> + Drop>(
-    supervision: &SupervisionOver<G, S>,
-    train: &TrainData,
-) -> Mph
-    ensures { (life : Life) → StandsForLife G.profile S.profile supervision.now life → result ≡ permitted_speed life train.now }
+fn permitted_speed<T: ProfileStores>(supervision: &SupervisionOver<T>, train: &TrainData) -> Mph
+    ensures { (life : Life) → StandsForLife T.stores supervision.now life → result ≡ permitted_speed life train.now }
 {
     let stretch = supervision.stretch();
     let bounds = bounds(supervision, train);
@@ -79,10 +71,8 @@ fn permitted_speed<G: ProfileStore<Permille> + Drop, S: ProfileStore<CategorySpe
 }
 
 /// The permitted speed, in metres per hour; 0 where the train data aren't valid (this project's profile).
-pub fn permitted_for<G: ProfileStore<Permille> + Drop, S: ProfileStore<CategorySpeeds> + Drop>(
-    supervision: &SupervisionOver<G, S>,
-) -> Mph
-    ensures { (life : Life) → StandsForLife G.profile S.profile supervision.now life → result ≡ permitted_for life (driver_of life).train_data }
+pub fn permitted_for<T: ProfileStores>(supervision: &SupervisionOver<T>) -> Mph
+    ensures { (life : Life) → StandsForLife T.stores supervision.now life → result ≡ permitted_for life (driver_of life).train_data }
 {
     match supervision.driver().train_data() {
         Datum::Valid(train) => permitted_speed(supervision, &train),

@@ -7,6 +7,7 @@ use Rattle.speed_profile.specs.Track.{speeds_along}
 use Rattle.limit_causes.specs.Targets.{Journey}
 use Rattle.limit_causes.specs.Supervised.{permitted_on, IsCause}
 use Rattle.limit_causes.specs.Causes.{journey_of}
+use Rattle.track_picture.proofs.Standing.{gradients_as}
 use Rattle.limit_causes.proofs.by_mode.train_cause.Goals as goal
 
 pub returns : goal.returns
@@ -17,14 +18,14 @@ returns g c life s =
     let bounds = c.bounds-bounds.ensures life s in
     let along = c.along-track.ensures life s in
     let store : c.gradients.result.now ≡ known.track.gradients = c.gradients.ensures ∙ ap (λ (k : _). k.gradients) c.track.ensures in
-    let gradient = ap g.G.Profile.value store
-    ∙ ap (λ (p : Profile ℤ). p.value) (sym (g.met.G.ProfileStore.profile_is known.track.gradients) ∙ s.track_is.gradients_are) in
+    let gradient = ap g.T.Gradients.Profile.value store
+    ∙ ap (λ (p : Profile ℤ). p.value) (sym (gradients_as g.met.T.ProfileStores.stores_are _ ∙ g.met.T.Gradients.ProfileStore.profile_is known.track.gradients) ∙ s.track_is.gradients_are) in
     let national = ap (λ (v : Values). v.release) (c.values.ensures life s) in
     let here : Journey = record {
       front = c.max_front.result;
       bounds = c.bounds-bounds.result;
-      track = speeds_along g.S.Profile.value c.along-track.result;
-      gradient = g.G.Profile.value c.gradients.result.now;
+      track = speeds_along g.T.Speeds.Profile.value c.along-track.result;
+      gradient = g.T.Gradients.Profile.value c.gradients.result.now;
       brakes = c.brakes-brakes.result;
     } in
     let there : Journey = journey_of life c.args.train.now in

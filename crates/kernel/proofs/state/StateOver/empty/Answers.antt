@@ -10,7 +10,7 @@ pub returns-clause-stands : goal.returns-clause-stands
 returns-clause-stands g c =
     let window = c.new.ensures.nothing nothing_kept cold.Unknown in
     let limit = c.no_speed.ensures in
-    let supervised = subst (λ (k : Kept). StandsForLife g.G.ProfileStore.profile g.S.ProfileStore.profile c.new-2.result (record { kept = k; cold = cold.Unknown; entries = [] }))
+    let supervised = subst (λ (k : Kept). StandsForLife g.T.ProfileStores.stores c.new-2.result (record { kept = k; cold = cold.Unknown; entries = [] }))
     c.nothing.ensures c.new-2.ensures.stands in
     record {
       life_is = record { parts_are = λ i. record { window = window i; limit = limit i; position = Unknown }; supervision_is = supervised };

@@ -16,4 +16,4 @@ returns-clause-life g c life s =
 pub returns-clause-counts : goal.returns-clause-counts
 returns-clause-counts g c =
     c.received-self-inside.ensures c.args.input.now
-    ∙ ap (λ (k : Knowledge g.row.G.Denot g.row.S.Denot). counted k.counts (event.Input c.args.input.now)) c.self.view_is
+    ∙ ap (λ (k : Knowledge g.row.T-Gradients.Denot g.row.T-Speeds.Denot). counted k.counts (event.Input c.args.input.now)) c.self.view_is

@@ -3,7 +3,8 @@ use Rattle.std.specs.Prelude.{◌≡◌, ℕ, ℤ, Option}
 use Rattle.kernel.specs.Lives.{Story, past_at}
 use Rattle.kernel.specs.StandsFor.{Knowledge, StandsAt}
 use Rattle.speed_profile.specs.declared.told.CategorySpeeds.{CategorySpeeds}
-use Rattle.track_store.specs.Segments.{Segmented, profile_kept}
+use Rattle.track_store.specs.Segments.{Segmented}
+use Rattle.track_picture.specs.Stores.{segment_stores}
 use Rattle.reasons.specs.declared.runs.Runs.{Runs}
 use Rattle.reasons.specs.Runs.{number_behind, runs_of}
 use Rattle.reasons.specs.declared.trips.TripTold.{TripTold}
@@ -19,7 +20,7 @@ pub record Reasoned : Type 0 where
 
 -- it represents a story
 pub record Reasons (story : Story) (known : Reasoned) : Type 0 where
-  pub knows : StandsAt profile_kept profile_kept known.state (past_at story)
+  pub knows : StandsAt segment_stores known.state (past_at story)
   pub numbered : known.next ≡ number_behind story
   pub runs_are : known.runs ≡ runs_of story
   pub trip_is : known.trip ≡ trip_of story

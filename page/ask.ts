@@ -1,20 +1,20 @@
 // Asking an image: what is dropped goes to the worker, and what that reports is shown.
 import {behindText, imageTexts, interventionTexts, lifeCells, lostTexts, slotText} from "./answers";
-import {draw} from "./chart";
 import {bytesOfMarks, misfit, sorted, whenChosen} from "./choosing";
 import {Day, MarksFile, utcText} from "./day";
 import {Calls, Records, END, OK} from "./calls";
 import {Dial, shownOf} from "./dial";
 import {at, make, row, say, show, table} from "./dom";
+import {Graphs} from "./graphs";
 import {fieldsOf, placeOf, showBytes, sizeOf} from "./fields";
-import {Block, Facts, JournalRecord, Replay, Slot, Why} from "./layouts";
-import {Intervention, interventionsOf, LifeRange, livesOf, speedsOf} from "./lives";
-import {Head, Order, Report} from "./messages";
+import {Block, Facts, JournalRecord, POWER_UP, Replay, Slot, TELEGRAM, Why} from "./layouts";
+import {Intervention, LifeRange} from "./lives";
+import {Head, Order, RecordsReport, Report, SlotsReport} from "./messages";
 import {drawRing} from "./ring";
 import {brakeReason, brakeText, count, eventText, keptTexts, kmh, levelText, limitText} from "./shown";
 import {modeName} from "./shown";
+import {offerApart} from "./telegram";
 import {DAY, SAY, SLOTS, STATUSES, WORDS} from "./texts";
-import {isWhole} from "./whole";
 
 export class Ask {
     id = 0;
@@ -42,10 +42,9 @@ export class Ask {
     /** Whether all is told of the image. */
     isDone = false;
     private isWhole = false;
-    /** The life that the charts show. */
-    private drawn: { life: LifeRange; moves: ((index: number) => void)[] }|null = null;
     private asking = 0;
     private readonly dial = new Dial(at("ask-dial"));
+    private readonly graphs = new Graphs(n => this.choose(n));
     private readonly day = new Day(() => this.showDay());
 
     constructor(private readonly worker: { postMessage(order: Order, transfer?: Transferable[]): void },
@@ -79,22 +78,16 @@ export class Ask {
         else if (image && misfit(image)) this.refuse(misfit(image));
         else {
             const read = marks ? { name: marks.name, bytes: await bytesOfMarks(marks) } : null;
-            if (image) await this.open(image, read);
+            if (image) this.ask(image.name, image, read);
             else if (read) this.day.take(read);
         }
     }
 
-    private async open(file: File, marks: MarksFile|null): Promise<void> {
-        try {
-            await this.ask(file.name, new Uint8Array(await file.arrayBuffer()), marks);
-        } catch (error) { this.refuse(SAY.noImage(file.name, String(error))); }
-    }
-
-    /** Asks the bytes of an image. The digest is taken before anything reads them. */
-    async ask(name: string, bytes: Uint8Array, marks: MarksFile|null = null): Promise<void> {
-        const id = ++this.id;
+    /** Asks an image. */
+    ask(name: string, file: Blob, marks: MarksFile|null = null): void {
+        this.id++;
         this.name = name;
-        this.bytes = bytes;
+        this.bytes = new Uint8Array();
         this.day.begin(marks);
         this.records = this.replays = this.newest = this.facts = null;
         this.causes.clear();
@@ -103,24 +96,22 @@ export class Ask {
         this.slots = [];
         this.index = 0;
         this.isDone = false;
-        this.drawn = null;
+        this.graphs.forget();
         say("ask-error", "");
         say("ask-progress", SAY.reading);
         for (const part of ["lives", "interventions", "hex", "fields", "kept", "ring", "ring-legend"]) show(part);
         for (const part of ["replay-said", "slot-said", "verdict"]) say(part, "");
-        const digest = await crypto.subtle.digest("SHA-256", bytes);
-        if (this.id !== id) return;
-        this.digest = Array.from(new Uint8Array(digest), byte => byte.toString(16).padStart(2, "0")).join("");
-        const copy = bytes.slice();
-        this.worker.postMessage({ kind: "image", id, bytes: copy.buffer }, [copy.buffer]);
+        this.worker.postMessage({ kind: "image", id: this.id, file });
     }
 
     hear(report: Report): void {
         if (report.id !== this.id) return;
-        if (report.kind === "facts") this.showFacts(report.status, report.facts);
-        else if (report.kind === "records")
-            this.takeRecords(report.status, new Uint8Array(report.bytes), report.unreadable);
-        else if (report.kind === "slots") this.takeSlots(report.slots, report.newest, report.heads);
+        if (report.kind === "bytes") {
+            this.bytes = new Uint8Array(report.bytes);
+            this.digest = report.digest;
+        } else if (report.kind === "facts") this.showFacts(report.status, report.facts);
+        else if (report.kind === "records") this.takeRecords(report);
+        else if (report.kind === "slots") this.takeSlots(report);
         else if (report.kind === "replay") this.takeReplay(report.lives, report.unreadable);
         else if (report.kind === "causes") {
             for (const [index, why] of report.causes) this.causes.set(index, why);
@@ -155,13 +146,13 @@ export class Ask {
         show("facts", ...told.flatMap(([name, value]) => [make("dt", {}, name), make("dd", {}, value)]));
     }
 
-    private takeRecords(status: number, bytes: Uint8Array, unreadable: number[]): void {
+    private takeRecords({ status, bytes, unreadable, lives, speeds, interventions }: RecordsReport): void {
         this.journalStatus = status;
         this.unreadable = unreadable;
-        this.records = new Records(bytes);
-        this.lives = livesOf(this.records);
-        this.speeds = speedsOf(this.records, this.lives);
-        this.interventions = interventionsOf(this.records, this.lives);
+        this.records = new Records(new Uint8Array(bytes));
+        this.lives = lives;
+        this.speeds = speeds;
+        this.interventions = interventions;
         this.day.hold(this.records);
         this.showImage();
         this.showInterventions();
@@ -173,7 +164,7 @@ export class Ask {
         else say("event-said", SAY.noRecord);
     }
 
-    private takeSlots(slots: Slot[], newest: Block|null, heads: Head[]): void {
+    private takeSlots({ slots, newest, heads, isWhole: whole }: SlotsReport): void {
         this.slots = slots;
         this.newest = newest;
         for (const head of heads) this.heads.set(head.number, head);
@@ -183,8 +174,7 @@ export class Ask {
                     ? [make("li", { title: SLOTS[state]?.[1] ?? "" }, make("span", { class: `swatch state-${state}` }),
                           `${count(number)} × ${SLOTS[state]?.[0]}: ${SLOTS[state]?.[1]}`)]
                     : []));
-        const whole = this.isWhole = this.facts !== null && this.records !== null &&
-            isWhole(this.facts, slots, heads, this.records, this.journalStatus);
+        this.isWhole = whole;
         const lost = lostTexts(heads);
         say("verdict",
             whole ? SAY.whole : SAY.notWhole + (lost.length ? ` Lost: ${lost.slice(0, 20).join("; ")}.` : ""));
@@ -246,7 +236,7 @@ export class Ask {
 
     private wordOf(event: number): string {
         const record = this.recordOf(event);
-        return record && record.kind === 1 ? WORDS[record.payload[0] ?? 0] ?? "" : "not there";
+        return record && record.kind === POWER_UP ? WORDS[record.payload[0] ?? 0] ?? "" : "not there";
     }
 
     private recordOf(event: number): JournalRecord|null {
@@ -351,31 +341,12 @@ export class Ask {
         const place = placeOf(record, head.firstEvent, facts.slots);
         showBytes(at("hex"), at("fields"), this.bytes.slice(place, place + sizeOf(record)), place,
             fieldsOf(record, this.calls));
+        offerApart(record.kind === TELEGRAM ? record.payload : null);
     }
 
     private showCharts(): void {
         const { records, index } = this, life = this.lives.find(one => one.from <= index && index < one.end);
-        if (!records || !life) return;
-        if (this.drawn?.life === life) {
-            for (const move of this.drawn.moves) move(index - life.from);
-            return;
-        }
-        const places: number[] = [], moments: number[] = [], speed: number[] = [], limit: number[] = [];
-        for (let n = life.from; n < life.end; n++) {
-            places.push(records.front(n));
-            moments.push(records.moment(n));
-            speed.push(this.speeds[n] ?? 0);
-            limit.push(records.limit(n));
-        }
-        const marks = this.interventions.filter(one => one.first > life.from && one.first < life.end)
-                          .map(one => ({ index: one.first - life.from, brake: one.brake }));
-        const
-            both = { speed, limit, cursor: index - life.from, marks, pick: (n: number) => this.choose(life.from + n) };
-        const place = draw(at("place-chart") as unknown as SVGSVGElement,
-            {...both, x: places, unit: "m", per: 100, title: "Speed and limit over distance" });
-        const time = draw(at("time-chart") as unknown as SVGSVGElement,
-            {...both, x: moments, unit: "s", per: 1000, title: "Speed and limit over time" });
-        this.drawn = { life, moves: [place, time] };
+        if (records && life) this.graphs.show(records, this.speeds, life, this.interventions, index);
     }
 
     /** What tests ask. */

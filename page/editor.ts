@@ -1,14 +1,16 @@
 // A track of one's own: groups of balises on a line, which are dragged or moved by keys, and their telegrams by their
-// variables. What the unit refuses of a telegram, or skips, is marked as its calls say.
+// variables, as a text or one by one. What the unit refuses of a telegram, or skips, is marked as its calls say.
 import {Calls} from "./calls";
 import {at, make, say, show} from "./dom";
 import {Drive} from "./drive";
-import {drawLine, Handle, Kind} from "./line";
-import {bytesOfHex, Group} from "./life";
+import {Form} from "./form";
+import {Wrong} from "./grammar";
+import {judge, Kind, textOf} from "./judging";
+import {Group} from "./life";
+import {drawLine, Handle} from "./line";
 import {metres} from "./shown";
-import {EDIT, SAY, TELEGRAM_FAULTS} from "./texts";
-import {Wrong} from "./telegrams";
-import {addTrack, telegrams} from "./tracks";
+import {EDIT, SAY} from "./texts";
+import {addTrack} from "./tracks";
 
 export interface Edited {
     /** In cm; the one at 0 is what the train hears where it begins. */
@@ -16,23 +18,7 @@ export interface Edited {
     spacing: number;
     balises: string[]
 }
-interface Judged {
-    digits: string;
-    says: string;
-    kind: Kind
-}
 const MOST_AT = 100_000_000, MOST_SPACING = 1_200, MOST_BALISES = 8, METRE = 100;
-
-/** A telegram in hex by its variables, where these tell all of it. */
-function textOf(digits: string): string {
-    try {
-        const text = telegrams.text(telegrams.read(digits));
-        return telegrams.digits(telegrams.told(text)) === digits.toUpperCase() ? text : digits;
-    } catch (error) {
-        if (error instanceof Wrong) return digits;
-        throw error;
-    }
-}
 
 export class Editor {
     private groups: Edited[] = [];
@@ -78,25 +64,8 @@ export class Editor {
         this.draw();
     }
 
-    /** What the unit says of a telegram that is told by its variables, or in hex. */
-    private judge(text: string): Judged {
-        try {
-            const isHex = /^\s*([0-9A-Fa-f]{2})+\s*$/.test(text);
-            const digits = isHex ? text.trim().toUpperCase() : telegrams.digits(telegrams.told(text));
-            const [fault, count] = this.calls.decode(bytesOfHex(digits));
-            if (fault) return { digits, kind: "bad", says: EDIT.refused(fault, TELEGRAM_FAULTS[fault] ?? "") };
-            const packets = telegrams.read(digits).packets.map(([[, number] = ["", 0]]) => number);
-            const skipped = packets.filter(number => !telegrams.isKnown(number));
-            if (skipped.length) return { digits, kind: "warn", says: EDIT.skipped(skipped) };
-            return { digits, kind: "good", says: EDIT.obeyed(count) };
-        } catch (error) {
-            if (error instanceof Wrong) return { digits: "", kind: "bad", says: `${error.message}.` };
-            throw error;
-        }
-    }
-
     private worst(group: Edited): Kind {
-        const kinds = group.balises.map(text => this.judge(text).kind);
+        const kinds = group.balises.map(text => judge(this.calls, text).kind);
         return kinds.includes("bad") ? "bad" : kinds.includes("warn") ? "warn" : "good";
     }
 
@@ -169,12 +138,18 @@ export class Editor {
     }
 
     private balise(group: Edited, text: string, number: number): HTMLElement {
-        const said = make("p", {}), name = `telegram-${number}`;
+        const said = make("p", {}), name = `telegram-${number}`, root = make("div", { class: "form" });
         const field =
             make("textarea", { id: name, rows: 3, spellcheck: "false", "aria-describedby": `${name}-said` }, text);
+        const put = (told: string): void => {
+            field.value = told;
+            field.dispatchEvent(new Event("input"));
+        };
+        const form = new Form(root, this.calls, digits => put(textOf(digits)));
         const tell = (): void => {
-            const { digits, says, kind } = this.judge(field.value);
+            const { digits, says, kind } = judge(this.calls, field.value);
             said.replaceChildren(make("strong", { class: kind }, says), digits && ` ${digits}`);
+            form.show(digits);
         };
         said.id = `${name}-said`;
         field.addEventListener("input", () => {
@@ -183,17 +158,14 @@ export class Editor {
             this.handles[this.chosen]?.mark(this.worst(group));
         });
         tell();
-        const packets = make("select", { "aria-label": EDIT.addPacket }, make("option", { value: "" }, EDIT.addPacket),
-            ...EDIT.packets.map(([packet, says]) => make("option", { value: packet }, says)));
-        packets.addEventListener("change", () => {
-            field.value = `${field.value.trim()}; ${packets.value}`;
-            packets.value = "";
-            field.dispatchEvent(new Event("input"));
-            field.focus();
-        });
         const remove = make("button", { click: () => this.removeBalise(group, number) }, EDIT.removeBalise(number + 1));
-        return make("div", { class: "balise-text" }, make("label", { for: name
-        }, EDIT.balise(number + 1)), field, said, make("div", { class: "buttons" }, packets, remove));
+        return make("div", { class: "balise-text" },
+            make("label",
+                { for: name
+                },
+                EDIT.balise(number + 1)),
+            field, said, make("details", { open: number === 0 }, make("summary", {}, EDIT.variables(number + 1)), root),
+            make("div", { class: "buttons" }, remove));
     }
 
     private addBalise(): void {
@@ -215,7 +187,7 @@ export class Editor {
     /** The groups as a scenario has them; a telegram that can't be written is told. */
     private built(group: Edited): string[] {
         return group.balises.map((text, n) => {
-            const { digits, says } = this.judge(text);
+            const { digits, says } = judge(this.calls, text);
             if (!digits) throw new Wrong(EDIT.cantDrive(metres(group.at), n + 1, says));
             return digits;
         });

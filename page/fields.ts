@@ -1,7 +1,7 @@
 // Where in an image the fields of a record stand (docs/FORMAT.md), and their bytes beside what the calls read there.
 import {Calls} from "./calls";
 import {make} from "./dom";
-import {JournalRecord, SECTOR} from "./layouts";
+import {JournalRecord, ODOMETER, POWER_UP, SECTOR, TELEGRAM} from "./layouts";
 import {reading, brakeText, count, indicationTexts, kmh, levelText, metres, modeName, seconds} from "./shown";
 import {KINDS, KINDS_OWED, PLAIN_ACTIONS, SUBJECTS, TELEGRAM_FAULTS, WORDS} from "./texts";
 
@@ -79,9 +79,9 @@ function driver(payload: Uint8Array): [string, number, number, string][] {
 
 function payload(record: JournalRecord, calls: Calls): [string, number, number, string][] {
     const bytes = record.payload;
-    if (record.kind === 1) return bytes.length ? [["word on movement", 0, 1, WORDS[bytes[0] ?? 0] ?? ""]] : [];
-    if (record.kind === 2) return [["telegram", 0, bytes.length, telegramText(...calls.decode(bytes))]];
-    if (record.kind === 3) {
+    if (record.kind === POWER_UP) return bytes.length ? [["word on movement", 0, 1, WORDS[bytes[0] ?? 0] ?? ""]] : [];
+    if (record.kind === TELEGRAM) return [["telegram", 0, bytes.length, telegramText(...calls.decode(bytes))]];
+    if (record.kind === ODOMETER) {
         const [movement, speed] = reading(bytes);
         return [["movement", 0, 4, metres(movement)], ["speed", 4, 4, `${kmh(speed)} km/h`]];
     }

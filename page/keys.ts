@@ -94,4 +94,5 @@ export function setKeys(drive: Drive): void {
     });
     at("tab-drive").addEventListener("click", () => choose("drive"));
     at("tab-ask").addEventListener("click", () => choose("ask"));
+    at("tab-telegram").addEventListener("click", () => choose("telegram"));
 }

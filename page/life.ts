@@ -2,6 +2,7 @@
 // and a loss of power, also within a write. What the unit was handed is kept as the steps of a scenario, as `etcs run`
 // reads it.
 import {Calls, END, Held, NO_SUCH_REQUEST, OK} from "./calls";
+import {bytesOfHex} from "./hex";
 import {Output, Request, SECTOR, State} from "./layouts";
 
 export const PENDING = 8;
@@ -33,14 +34,6 @@ export class Refused extends Error {
 
 function must(status: number): void {
     if (status !== OK) throw new Refused(status);
-}
-
-export function bytesOfHex(text: string): Uint8Array {
-    return Uint8Array.from(text.match(/../g) ?? [], digits => parseInt(digits, 16));
-}
-
-export function hexOf(bytes: Uint8Array): string {
-    return Array.from(bytes, byte => byte.toString(16).padStart(2, "0")).join("");
 }
 
 /** A scenario as a file has it, a step on a line. */

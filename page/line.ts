@@ -1,6 +1,7 @@
 // The line of a track with its groups, each a handle that is dragged, or moved by keys.
 import {svg} from "./dom";
 import {metres} from "./shown";
+import {Kind} from "./judging";
 import {EDIT} from "./texts";
 
 export interface Handle {
@@ -8,8 +9,6 @@ export interface Handle {
     move(place: number): void;
     mark(kind: Kind): void
 }
-/** What the unit makes of telegrams: takes all, skips something, or refuses one. */
-export type Kind = "good"|"warn"|"bad";
 interface Drawn {
     at: number;
     balises: string[];

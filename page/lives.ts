@@ -1,5 +1,6 @@
 // The records of an image by lives, and the interventions of its brakes.
 import {Records} from "./calls";
+import {ODOMETER, POWER_UP} from "./layouts";
 
 export interface LifeRange {
     from: number;
@@ -11,7 +12,6 @@ export interface Intervention {
     last: number;
     brake: number
 }
-const POWER_UP = 1, ODOMETER = 3;
 
 /**
  * Each life with the indexes of its records; one whose power-up is overwritten begins with the first record. A

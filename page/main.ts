@@ -6,6 +6,8 @@ import {balisesOf, Course} from "./course";
 import {at, say} from "./dom";
 import {Drive} from "./drive";
 import {Editor} from "./editor";
+import {bitsOf} from "./hex";
+import {faultAt} from "./judging";
 import {caseOf, setKeeping} from "./keeping";
 import {setKeys} from "./keys";
 import {formatted, Life, openAt, recordsOf} from "./life";
@@ -13,6 +15,7 @@ import {Order, Report} from "./messages";
 import {readScenario} from "./scenario";
 import {choose, whenAsked} from "./tabs";
 import {SAY} from "./texts";
+import {Telegram} from "./telegram";
 import {given, telegrams} from "./tracks";
 import {Motion, round} from "./train";
 
@@ -38,11 +41,12 @@ async function begin(): Promise<void> {
     };
     const ask: Ask = new Ask(start(report => ask.hear(report)), calls);
     const asker: Asker = new Asker(start(report => asker.hear(report)));
-    whenAsked((name, bytes) => void ask.ask(name, bytes));
+    whenAsked((name, bytes) => ask.ask(name, new Blob([bytes])));
     const drive = new Drive(calls, asker);
     setKeeping(drive);
     new Editor(calls, drive);
     setKeys(drive);
+    new Telegram(calls);
     say("version", `unit ${calls.version()}, page ${given.commit}`);
     say("sentence", "");
     choose(/^#event=/.test(location.hash) ? "ask" : "drive");
@@ -62,7 +66,9 @@ async function begin(): Promise<void> {
                 round,
                 caseOf,
                 readScenario,
-                telegrams
+                telegrams,
+                bitsOf,
+                faultAt
             }
         }
     });

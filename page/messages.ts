@@ -1,5 +1,6 @@
 // What the page and its worker say to each other.
 import {Block, Facts, Replay, Slot, Why} from "./layouts";
+import {Intervention, LifeRange} from "./lives";
 
 /** The module, before all other orders. */
 export interface ModuleOrder {
@@ -10,7 +11,7 @@ export interface ModuleOrder {
 export interface ImageOrder {
     kind: "image";
     id: number;
-    bytes: ArrayBuffer
+    file: Blob
 }
 /** Asks why an event of the image that was read last was answered so. */
 export interface WhyOrder {
@@ -29,6 +30,13 @@ export interface OnceOrder {
 }
 export type Order = ModuleOrder|ImageOrder|WhyOrder|OnceOrder;
 
+/** The bytes of an image, and their SHA-256, taken before anything reads them. */
+export interface BytesReport {
+    kind: "bytes";
+    id: number;
+    bytes: ArrayBuffer;
+    digest: string
+}
 export interface FactsReport {
     kind: "facts";
     id: number;
@@ -40,14 +48,18 @@ export interface RecordsReport {
     id: number;
     status: number;
     bytes: ArrayBuffer;
-    unreadable: number[]
+    unreadable: number[];
+    lives: LifeRange[];
+    speeds: Float64Array;
+    interventions: Intervention[]
 }
 export interface SlotsReport {
     kind: "slots";
     id: number;
     slots: Slot[];
     newest: Block|null;
-    heads: Head[]
+    heads: Head[];
+    isWhole: boolean
 }
 export interface ReplayReport {
     kind: "replay";
@@ -85,8 +97,8 @@ export interface FailedReport {
     id: number;
     says: string
 }
-export type Report =
-    FactsReport|RecordsReport|SlotsReport|ReplayReport|CausesReport|WhyReport|ProgressReport|DoneReport|FailedReport;
+export type Report = BytesReport|FactsReport|RecordsReport|SlotsReport|ReplayReport|CausesReport|WhyReport|
+    ProgressReport|DoneReport|FailedReport;
 
 /** What of the head of a block is asked for all of them: whether one follows the other. */
 export interface Head {

@@ -2,6 +2,7 @@
 // when the page was built. The unit's own target is the one that it tells.
 import {svg} from "./dom";
 import {Heard} from "./course";
+import {SCALES, SPEED} from "./quantities";
 
 export interface Packet {
     packet: number;
@@ -31,7 +32,7 @@ export interface Ahead {
     areas: Area[];
     restrictions: Restriction[];
 }
-const SCALES = [10, 100, 1000], SPEED = 5, NO_SPEED = 127, NO_GRADIENT = 255, ENDLESS = 32767;
+const NO_SPEED = 127, NO_GRADIENT = 255, ENDLESS = 32767;
 
 function scaleOf(packet: Packet): number {
     return SCALES[packet.fields.find(([name]) => name === "Q_SCALE")?.[1] ?? 1] ?? 100;

@@ -1,6 +1,6 @@
 // Events, causes and numbers as people read them.
-import {JournalRecord, Kept, Why} from "./layouts";
-import {hexOf} from "./life";
+import {JournalRecord, Kept, ODOMETER, POWER_UP, TELEGRAM, Why} from "./layouts";
+import {hexOf} from "./hex";
 import {BRAKES, CAUSES, DATUM, INDICATIONS, KINDS_OWED, LIMITS, MODES} from "./texts";
 import {PLAIN_ACTIONS, SAY, SUBJECTS, TRIPS, WORDS} from "./texts";
 
@@ -49,9 +49,9 @@ export function reading(payload: Uint8Array): [number, number] {
 
 export function eventText(record: JournalRecord): string {
     const { kind, payload } = record;
-    if (kind === 1) return "power-up: " + WORDS[payload[0] ?? 0];
-    if (kind === 2) return "telegram " + hexOf(payload).toUpperCase();
-    if (kind === 3) {
+    if (kind === POWER_UP) return "power-up: " + WORDS[payload[0] ?? 0];
+    if (kind === TELEGRAM) return "telegram " + hexOf(payload).toUpperCase();
+    if (kind === ODOMETER) {
         const [movement, speed] = reading(payload);
         return `moved ${metres(movement)}, at ${kmh(speed)} km/h`;
     }

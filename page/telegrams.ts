@@ -1,74 +1,24 @@
 // Telegrams by the variables of SUBSET-026, 7.5.1, as scenarios in YAML tell them (docs/TESTING_A_TRAIN.md), and the
-// bits that they come to. Layouts, widths and usual numbers are those of python/gaknifur/telegrams.py, which tools/page
-// writes into the page. Whether a telegram is one the unit says.
+// bits that they come to. Whether a telegram is one the unit says.
+import {Grammar, isChoice, isList, Leaf, Part, Wrong} from "./grammar";
+import {bitsOf, digitsOf} from "./hex";
+import {HEAD_BITS, Reader} from "./reading";
 
-/**
- * A variable by its name; a variable and those that follow where it has a number; variables that stand where an
- * earlier one has a number; a list behind its counter, with a first element before that where `more`.
- */
-export type Part = string|{
-    where: string;
-    number: number;
-    parts: Part[]
-}
-|{
-    choice: string;
-    number: number;
-    parts: Part[]
-}
-|{
-    list: Part[];
-    more: boolean;
-    counter: string
-};
-export interface Grammar {
-    widths: Record<string, number>;
-    /** The header in its order, with what stands where a variable isn't told; null where it has to be told. */
-    header: [string, number|null][];
-    usual: Record<string, number>;
-    layouts: Record<string, Part[]>;
-    /** Of packets that the kernel skips; of some the layout is only the beginning. */
-    skipped: Record<string, Part[]>;
-    thenBits: number[];
-    withoutScale: number[];
-    endMark: number;
-    mostBytes: number
-}
-export type Pairs = [string, number][];
+/** What a text tells: a number that a `number` can't have exactly is a bigint. */
+export type Pairs = [string, number | bigint][];
 export interface Telegram {
     header: Pairs;
     packets: Pairs[]
 }
-/** What a text tells: a number that a `number` can't have exactly is a bigint. */
-type ToldPairs = [string, number | bigint][];
-export interface Told {
-    header: ToldPairs;
-    packets: ToldPairs[]
-}
 
-/** A telegram that can't be written so. */
-export class Wrong extends Error {}
-
-const HEAD = ["Q_DIR", "L_PACKET", "Q_SCALE"], HEAD_BITS = 23;
-
-function isList(part: Part): part is {
-    list: Part[];
-    more: boolean;
-    counter: string
-}
-{ return typeof part !== "string" && "list" in part; }
-
-function isChoice(part: Part): part is {
-    choice: string;
-    number: number;
-    parts: Part[]
-}
-{ return typeof part !== "string" && "choice" in part; }
+const HEAD = ["Q_DIR", "L_PACKET", "Q_SCALE"];
 
 function firstOf(parts: Part[]): string {
     const [part = ""] = parts;
     return typeof part === "string" ? part : isList(part) || isChoice(part) ? "" : part.where;
 }
+
+function pairsOf(leaves: Leaf[]): Pairs { return leaves.map(({ name, number }) => [name, number]); }
 
 /** The names that may be told first of an element: what a qualifier that isn't told decides, too. */
 function begins(element: Part[]): Set<string> {
@@ -94,9 +44,9 @@ function answerOf(name: string, rest: Part[], comes: string|undefined): number|u
 
 /** Takes the variables of a packet one by one: those that are told, or what stands for them. */
 class Writer {
-    readonly written: ToldPairs = [];
+    readonly written: Pairs = [];
 
-    constructor(private readonly grammar: Grammar, private readonly packet: number, readonly left: ToldPairs) {}
+    constructor(private readonly grammar: Grammar, private readonly packet: number, readonly left: Pairs) {}
 
     private get comes(): string|undefined { return this.left[0]?.[0]; }
 
@@ -139,48 +89,18 @@ class Writer {
     }
 }
 
-/** What is read of the bits of a packet, by its layout. */
-class Bits {
-    constructor(private readonly grammar: Grammar, private readonly bits: string, public at = 0) {}
-
-    take(name: string): number {
-        const width = this.grammar.widths[name] ?? 0, digits = this.bits.slice(this.at, this.at + width);
-        if (digits.length < width) throw new Wrong("the telegram ends within a variable");
-        this.at += width;
-        return parseInt(digits, 2);
-    }
-
-    read(parts: Part[], found: Pairs): void {
-        for (const part of parts) {
-            if (isList(part)) {
-                if (part.more) this.read(part.list, found);
-                const count = this.take(part.counter);
-                found.push([part.counter, count]);
-                for (let n = 0; n < count; n++) this.read(part.list, found);
-                continue;
-            }
-            if (isChoice(part)) throw new Wrong("packets that are skipped aren't read by their layouts");
-            const name = typeof part === "string" ? part : part.where, number = this.take(name);
-            found.push([name, number]);
-            if (typeof part !== "string" && number === part.number) this.read(part.parts, found);
-        }
-    }
-}
-
 export class Telegrams {
-    constructor(private readonly grammar: Grammar) {}
+    readonly reader: Reader;
 
-    isKnown(packet: number): boolean { return String(packet) in this.grammar.layouts; }
-    private hasScale(packet: number): boolean {
-        return this.isKnown(packet) && !this.grammar.withoutScale.includes(packet);
-    }
+    constructor(private readonly grammar: Grammar) { this.reader = new Reader(grammar); }
+
     private width(name: string): number {
         const width = this.grammar.widths[name];
         if (width === undefined) throw new Wrong(`there is no variable ${name}`);
         return width;
     }
 
-    private pairs(text: string): ToldPairs {
+    private pairs(text: string): Pairs {
         return text.split(",").map(one => one.trim()).filter(one => one).map(one => {
             const found = /^([A-Z][A-Z_0-9]*)\s+([0-9]{1,20})$/.exec(one);
             if (!found) throw new Wrong(`"${one}" is no variable with a number`);
@@ -190,7 +110,7 @@ export class Telegrams {
         });
     }
 
-    private packet(number: number, told: ToldPairs): ToldPairs {
+    private packet(number: number, told: Pairs): Pairs {
         const head = new Map(told.filter(([name]) => HEAD.includes(name)));
         const { layouts, skipped, thenBits, usual } = this.grammar;
         const body = told.filter(([name]) => !HEAD.includes(name)), layout = layouts[number] ?? skipped[number];
@@ -203,7 +123,7 @@ export class Telegrams {
         if (layout && !thenBits.includes(number) && writer.left[0])
             throw new Wrong(`packet ${number} has no ${writer.left[0][0]} there`);
         writer.written.push(...writer.left);
-        if (this.hasScale(number) || head.has("Q_SCALE"))
+        if (this.reader.hasScale(number) || head.has("Q_SCALE"))
             writer.written.unshift(["Q_SCALE", head.get("Q_SCALE") ?? usual["Q_SCALE"] ?? 1]);
         const length = writer.written.reduce((sum, [name]) => sum + this.width(name), HEAD_BITS);
         return [
@@ -213,7 +133,7 @@ export class Telegrams {
     }
 
     /** The telegram that a text tells. */
-    told(text: string): Told {
+    told(text: string): Telegram {
         const [first = "", ...rest] = text.split(";"), told = this.pairs(first);
         const header = new Map<string, number|bigint|null>(this.grammar.header);
         for (const [name, number] of told) {
@@ -231,7 +151,8 @@ export class Telegrams {
         return { header: [...header].map(([name, number]) => [name, number ?? 0]), packets };
     }
 
-    private bits(pairs: ToldPairs): string {
+    /** The bits of some variables. */
+    bits(pairs: Pairs): string {
         return pairs
             .map(([name, number]) => {
                 const width = this.width(name);
@@ -245,34 +166,35 @@ export class Telegrams {
     }
 
     /** Its bytes in hex: the end mark stands behind the packets, and zeros fill the last byte. */
-    digits({ header, packets }: Told): string {
-        const { endMark, mostBytes } = this.grammar;
-        let bits = [header, ...packets].map(pairs => this.bits(pairs)).join("") + endMark.toString(2).padStart(8, "0");
-        bits += "0".repeat((8 - bits.length % 8) % 8);
-        if (bits.length > 8 * mostBytes)
-            throw new Wrong(`a telegram has at most ${mostBytes} bytes, and this one has ${bits.length / 8}`);
-        return (bits.match(/.{8}/g) ?? [])
-            .map(byte => parseInt(byte, 2).toString(16).padStart(2, "0"))
-            .join("")
-            .toUpperCase();
+    digits({ header, packets }: Telegram): string {
+        const { endMark } = this.grammar;
+        const bits =
+            [header, ...packets].map(pairs => this.bits(pairs)).join("") + endMark.toString(2).padStart(8, "0");
+        return this.fits(digitsOf(bits));
     }
 
-    /** The fields of a telegram in hex that the unit doesn't refuse; a packet without a layout has its head alone. */
+    /** The digits, where a telegram may have so many. */
+    fits(digits: string): string {
+        const { mostBytes } = this.grammar, bytes = digits.length / 2;
+        if (bytes > mostBytes) throw new Wrong(`a telegram has at most ${mostBytes} bytes, and this one has ${bytes}`);
+        return digits;
+    }
+
+    /**
+     * The fields of a telegram in hex that the unit doesn't refuse; a packet whose layout isn't told has its head
+     * alone.
+     */
     read(digits: string): Telegram {
-        const all = (digits.match(/../g) ?? []).map(byte => parseInt(byte, 16).toString(2).padStart(8, "0")).join("");
-        const bits = new Bits(this.grammar, all), { header, endMark, layouts } = this.grammar, packets: Pairs[] = [];
-        const found: Pairs = header.map(([name]) => [name, bits.take(name)]);
-        for (let at = bits.at, number = bits.take("NID_PACKET"); number !== endMark; number = bits.take("NID_PACKET")) {
-            const direction = bits.take("Q_DIR"), length = bits.take("L_PACKET"), layout = layouts[String(number)];
-            const pairs: Pairs = [["NID_PACKET", number], ["Q_DIR", direction], ["L_PACKET", length]];
-            if (this.hasScale(number)) pairs.push(["Q_SCALE", bits.take("Q_SCALE")]);
-            if (layout) bits.read(layout, pairs);
-            packets.push(pairs);
-            at += length;
-            if (layout ? bits.at !== at : length < HEAD_BITS) throw new Wrong("a packet has another length");
-            bits.at = at;
-        }
-        return { header: found, packets };
+        const { header, packets, end } = this.reader.read(bitsOf(digits));
+        if (end === null) throw new Wrong("the bits end before the end mark");
+        return {
+            header: pairsOf(header),
+            packets: packets.map(one => {
+                const isTold = this.reader.isTold(one);
+                if (!isTold && this.reader.isKnown(one.number)) throw new Wrong("a packet has another length");
+                return pairsOf(isTold ? [...one.head, ...one.fields] : one.head);
+            })
+        };
     }
 
     /** A telegram as a text: what is usual, or follows from the others, isn't told. */

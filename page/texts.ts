@@ -197,29 +197,51 @@ export const EDIT = {
     signs: {good: "", warn: " ?", bad: " !"},
     group: (number: number, place: string): string => `Group ${number}, at ${place}`,
     balise: (number: number): string => `Balise ${number}, by its variables or in hex`,
+    variables: (number: number): string => `Balise ${number}, each variable by itself`,
     removeBalise: (number: number): string => `Remove balise ${number}`,
+    cantDrive: (place: string, balise: number, says: string): string => `At ${place}, balise ${balise}: ${says}`,
+    newTelegram: "NID_BG 9; 65: NID_TSR 1, D_TSR 200, L_TSR 100, Q_FRONT 1, V_TSR 8",
+};
+
+/** What the unit makes of a telegram. */
+export const JUDGED = {
     refused: (fault: number, name: string): string => `The unit refuses this telegram: ${fault} ${name}.`,
     skipped: (packets: number[]): string =>
         `The unit skips packet${packets.length > 1 ? "s" : ""} ${packets.join(", ")}.`,
+    infill: "It uses nothing behind packet 136.",
     obeyed: (packets: number): string => `The unit takes this telegram: ${packets} packet${packets === 1 ? "" : "s"}.`,
-    cantDrive: (place: string, balise: number, says: string): string => `At ${place}, balise ${balise}: ${says}`,
-    newTelegram: "NID_BG 9; 65: NID_TSR 1, D_TSR 200, L_TSR 100, Q_FRONT 1, V_TSR 8",
-    addPacket: "Add a packet…",
+};
+
+/** The variables of a telegram. */
+export const FORM = {
+    header: "Header",
+    heads: ["variable", "number", "is", "bits", "their digits"],
+    skipped: "The unit skips this packet.",
+    noName: "no name",
+    noLayout: "No layout is known of this packet: its bits stay together.",
+    headAlone: "a head alone",
+    tooShort: "Its bits end before its layout does.",
+    otherLength: (bits: number): string => `Its layout has ${bits} bits, and its L_PACKET says another number.`,
+    rest: (first: number, last: number): string => `Bits ${first} to ${last}, which no variable has: `,
+    noNumber: (text: string): string => `"${text}" is no number`,
+    bad: "the fault is here",
+    end: (bit: number): string => `The end mark is at bit ${bit}.`,
+    noEnd: "No end mark is found",
+    remove: (packet: number): string => `Remove packet ${packet}`,
+    add: "Add a packet…",
+    /** What a packet that the kernel uses begins with. */
     packets: [
-        [
-            "3: D_VALIDNV 0, NID_C 1, V_NVSHUNT 6, V_NVSTFF 8, V_NVONSIGHT 6, V_NVUNFIT 20, V_NVREL 8, " +
-                "D_NVROLL 2, V_NVALLOWOVTRP 0, V_NVSUPOVTRP 6, D_NVOVTRP 200, T_NVOVTRP 60, D_NVSTFF 32767",
-            "3: national values"
-        ],
-        ["5: D_LINK 500, NID_BG 10, Q_LINKORIENTATION 1, Q_LINKREACTION 1, Q_LOCACC 5", "5: linking"],
-        ["12: V_MAIN 24, L_ENDSECTION 1000", "12: authority"],
-        ["21: D_GRADIENT 0, Q_GDIR 1, G_A 0", "21: gradients"],
-        ["27: D_STATIC 0, V_STATIC 24, Q_FRONT 1", "27: static speeds"],
-        ["41: D_LEVELTR 500, M_LEVELTR 0, L_ACKLEVELTR 200", "41: level"],
-        ["65: NID_TSR 2, D_TSR 300, L_TSR 100, Q_FRONT 1, V_TSR 8", "65: temporary restriction"],
-        ["66: NID_TSR 2", "66: its revocation"],
-        ["80: D_MAMODE 500, M_MAMODE 0, V_MAMODE 6, L_MAMODE 200, L_ACKMAMODE 200", "80: mode area"],
-    ] as [string, string][],
+        "3: D_VALIDNV 0, NID_C 1, V_NVSHUNT 6, V_NVSTFF 8, V_NVONSIGHT 6, V_NVUNFIT 20, V_NVREL 8, D_NVROLL 2, " +
+            "V_NVALLOWOVTRP 0, V_NVSUPOVTRP 6, D_NVOVTRP 200, T_NVOVTRP 60, D_NVSTFF 32767",
+        "5: D_LINK 500, NID_BG 10, Q_LINKORIENTATION 1, Q_LINKREACTION 1, Q_LOCACC 5",
+        "12: V_MAIN 24, L_ENDSECTION 1000",
+        "21: D_GRADIENT 0, Q_GDIR 1, G_A 0",
+        "27: D_STATIC 0, V_STATIC 24, Q_FRONT 1",
+        "41: D_LEVELTR 500, M_LEVELTR 0, L_ACKLEVELTR 200",
+        "65: NID_TSR 2, D_TSR 300, L_TSR 100, Q_FRONT 1, V_TSR 8",
+        "66: NID_TSR 2",
+        "80: D_MAMODE 500, M_MAMODE 0, V_MAMODE 6, L_MAMODE 200, L_ACKMAMODE 200",
+    ],
 };
 
 /** The words of a test case (docs/TESTING_A_TRAIN.md), by the numbers of a scenario and of an output. */

@@ -3,7 +3,8 @@
 import {make} from "./dom";
 import {Scenario} from "./life";
 import {Decoded} from "./planning";
-import {Grammar, Telegrams, Wrong} from "./telegrams";
+import {Grammar, Wrong} from "./grammar";
+import {Telegrams} from "./telegrams";
 
 export interface Track {
     name: string;
@@ -30,8 +31,10 @@ function learn(digits: string): void {
     try {
         const { header, packets } = telegrams.read(digits);
         given.decoded[digits.toUpperCase()] = {
-            header: Object.fromEntries(header),
-            packets: packets.map(([[, packet] = ["", 0], ...fields]) => ({ packet, fields }))
+            header: Object.fromEntries(header.map(([name, number]) => [name, Number(number)])),
+            packets: packets.map(
+                ([[, packet] = ["", 0], ...fields]) =>
+                    ({ packet: Number(packet), fields: fields.map(([name, number]) => [name, Number(number)]) }))
         };
     } catch (error) {
         if (!(error instanceof Wrong)) throw error;

@@ -1,10 +1,10 @@
 // Whether an image is whole, by what the calls say of its slots and records: nothing is lost, and all of it follows one
 // another.
 import {END, Records} from "./calls";
-import {Facts, Slot} from "./layouts";
+import {Facts, POWER_UP, Slot} from "./layouts";
 import {Head} from "./messages";
 
-const POWER_UP = 1, MOST_LIVES = 0xffffffff;
+const MOST_LIVES = 0xffffffff;
 
 /** Of each block how many power-ups it tells, and whether a moment goes back within a life. */
 function told(records: Records): { powerUps: Map<number, number>; goesBack: boolean } {

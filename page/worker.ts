@@ -1,9 +1,11 @@
 // Reads an image beside the page, so that the page never waits: facts, records, slots, replays and causes, in this
 // order.
 import {AT_ONCE, Calls, END, Held, OK, Records} from "./calls";
-import {Block, BYTES, Replay, Slot, Why} from "./layouts";
-import {interventionsOf, livesOf} from "./lives";
+import {hexOf} from "./hex";
+import {Block, BYTES, Facts, Replay, Slot, Why} from "./layouts";
+import {Intervention, interventionsOf, livesOf, speedsOf} from "./lives";
 import {Head, Order, Report} from "./messages";
+import {isWhole} from "./whole";
 
 const tell = (report: Report, transfer: Transferable[] = []): void =>
     (postMessage as (message: Report, transfer: Transferable[]) => void)(report, transfer);
@@ -11,6 +13,14 @@ const EACH_MS = 50;
 const channel = new MessageChannel();
 let calls: Promise<Calls>|null = null;
 let image: { id: number; held: Held }|null = null;
+/** The image that was asked for last. */
+let newest = 0;
+
+interface Read {
+    records: Records;
+    status: number;
+    interventions: Intervention[]
+}
 
 /** Lets other orders in. */
 function pause(): Promise<void> {
@@ -33,7 +43,7 @@ async function pieces(
     return image?.id === id;
 }
 
-async function readRecords(calls: Calls, id: number, held: Held): Promise<Records|null> {
+async function readRecords(calls: Calls, id: number, held: Held): Promise<Read|null> {
     const journal = calls.journal(held), unreadable: number[] = [];
     let room = new Uint8Array(BYTES.record * 1024), count = 0, status = journal.status;
     const isRead = status !== OK || await pieces(id, "events", 0, () => {
@@ -56,12 +66,14 @@ async function readRecords(calls: Calls, id: number, held: Held): Promise<Record
     journal.drop();
     if (!isRead) return null;
     const bytes = room.slice(0, BYTES.record * count), records = new Records(bytes.slice());
-    tell({ kind: "records", id, status, bytes: bytes.buffer, unreadable }, [bytes.buffer]);
-    return records;
+    const lives = livesOf(records), speeds = speedsOf(records, lives), interventions = interventionsOf(records, lives);
+    tell({ kind: "records", id, status, bytes: bytes.buffer, unreadable, lives, speeds, interventions },
+        [bytes.buffer, speeds.buffer]);
+    return { records, status, interventions };
 }
 
-async function readSlots(calls: Calls, id: number, held: Held, whole: number, newest: number): Promise<boolean> {
-    const slots: Slot[] = [], heads: Head[] = [];
+async function readSlots(calls: Calls, id: number, held: Held, facts: Facts, read: Read): Promise<boolean> {
+    const { whole, newest } = facts, slots: Slot[] = [], heads: Head[] = [];
     if (!await pieces(id, "slots", whole, done => {
             if (done >= whole) return false;
             const { value } = calls.slot(held, newest, done);
@@ -76,7 +88,8 @@ async function readSlots(calls: Calls, id: number, held: Held, whole: number, ne
         }))
         return false;
     const block: Block|null = newest ? calls.block(held, newest).value : null;
-    tell({ kind: "slots", id, slots, newest: block, heads });
+    const all = isWhole(facts, slots, heads, read.records, read.status);
+    tell({ kind: "slots", id, slots, newest: block, heads, isWhole: all });
     return true;
 }
 
@@ -96,8 +109,7 @@ async function replay(calls: Calls, id: number, held: Held): Promise<boolean> {
     return isDone;
 }
 
-async function causes(calls: Calls, id: number, held: Held, records: Records): Promise<boolean> {
-    const list = interventionsOf(records, livesOf(records));
+async function causes(calls: Calls, id: number, held: Held, { records, interventions: list }: Read): Promise<boolean> {
     let found: [number, Why|null][] = [];
     const isDone = await pieces(id, "causes", list.length, done => {
         const one = list[done];
@@ -113,16 +125,20 @@ async function causes(calls: Calls, id: number, held: Held, records: Records): P
     return isDone;
 }
 
-async function read(calls: Calls, id: number, bytes: Uint8Array): Promise<void> {
+async function read(calls: Calls, id: number, file: Blob): Promise<void> {
+    const bytes = new Uint8Array(await file.arrayBuffer());
+    const digest = hexOf(new Uint8Array(await crypto.subtle.digest("SHA-256", bytes)));
+    if (newest !== id) return;
     if (image) calls.drop(image.held);
     const held = calls.hold(bytes);
     image = { id, held };
+    tell({ kind: "bytes", id, bytes: bytes.buffer, digest }, [bytes.buffer]);
     const { status, value } = calls.facts(held);
     tell({ kind: "facts", id, status, facts: value });
     if (value) {
-        const records = await readRecords(calls, id, held);
-        if (!records || !await readSlots(calls, id, held, value.whole, value.newest) ||
-            !await replay(calls, id, held) || !await causes(calls, id, held, records))
+        const found = await readRecords(calls, id, held);
+        if (!found || !await readSlots(calls, id, held, value, found) || !await replay(calls, id, held) ||
+            !await causes(calls, id, held, found))
             return;
     }
     tell({ kind: "done", id });
@@ -135,7 +151,7 @@ async function obey(order: Order): Promise<void> {
     }
     if (!calls) throw new Error("there is no module yet");
     const ready = await calls;
-    if (order.kind === "image") await read(ready, order.id, new Uint8Array(order.bytes));
+    if (order.kind === "image") await read(ready, order.id, order.file);
     else if (order.kind === "once" || image?.id === order.id) {
         const held = order.kind === "once" ? ready.hold(new Uint8Array(order.bytes)) : (image as { held: Held }).held;
         const { status, value } = ready.why(held, order.block, order.event);
@@ -146,6 +162,7 @@ async function obey(order: Order): Promise<void> {
 
 onmessage = (event: MessageEvent<Order>) => {
     const order = event.data;
+    if (order.kind === "image") newest = order.id;
     obey(order).catch(
         (error: unknown) => tell({ kind: "failed", id: order.kind === "module" ? 0 : order.id, says: String(error) }));
 };

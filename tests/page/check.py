@@ -1,10 +1,11 @@
 #!/usr/bin/python3 -IB
-"""The page of tools/page in headless Chromium, beside the programs `etcs` and `etcs_lab`.
+"""The page of tools/page in headless Chromium, beside the programs `etcs` and `etcs_lab` and the library for C.
 
-    tests/page/check.py PAGE [NAME..]    all checks of a page, or those of these names
+    tests/page/check.py PAGE [NAME..]    all checks of a page, or those of these names; `opens_long` runs by its name alone
 
-The last line counts what was compared.
+Where GAKNIFUR_BROWSER is `firefox`, in Firefox, but for what asks for Chromium's driver. The last line counts what was compared.
 """
+import os
 import sys
 import tempfile
 import traceback
@@ -12,23 +13,37 @@ from pathlib import Path
 
 HERE = Path(__file__).resolve().parent
 sys.path[:0] = [str(HERE), str(HERE.parents[1] / "python")]
+import apart  # noqa: E402
 import asking  # noqa: E402
 import days  # noqa: E402
 import desks  # noqa: E402
 import manners  # noqa: E402
 import own  # noqa: E402
+import quick  # noqa: E402
 from browsing import Browser  # noqa: E402
 
-CHECKS = {**desks.CHECKS, **own.CHECKS, **asking.CHECKS, **days.CHECKS, **manners.CHECKS}
+CHECKS = {**desks.CHECKS, **own.CHECKS, **apart.CHECKS, **asking.CHECKS, **days.CHECKS, **manners.CHECKS, **quick.CHECKS}
+ALL = CHECKS | quick.LONG
+CHROMIUM_ALONE = ("edited",)
+
+
+def opened() -> tuple[Browser, list[str]]:
+    """The browser, and the checks that run in it."""
+    if os.environ.get("GAKNIFUR_BROWSER") == "firefox":
+        from firefox import Firefox  # pylint: disable=import-outside-toplevel
+        return Firefox(), [name for name in CHECKS if name not in CHROMIUM_ALONE]
+    from chromium import Chromium  # pylint: disable=import-outside-toplevel
+    return Chromium(), list(CHECKS)
 
 
 def main() -> int:
     """Runs the checks, also behind one that failed."""
-    page, names = Path(sys.argv[1]).resolve(), sys.argv[2:] or list(CHECKS)
-    counted, failed = 0, 0
-    with Browser() as browser, tempfile.TemporaryDirectory(prefix="gaknifur-") as room:
+    page, counted, failed = Path(sys.argv[1]).resolve(), 0, 0
+    browser, names = opened()
+    names = sys.argv[2:] or names
+    with browser, tempfile.TemporaryDirectory(prefix="gaknifur-") as room:
         for name in names:
-            check, least = CHECKS[name]
+            check, least = ALL[name]
             folder = Path(room) / name
             folder.mkdir()
             try:

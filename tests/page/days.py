@@ -115,7 +115,7 @@ def random_marks(browser: Browser, _page: Path, folder: Path) -> int:
             marks = folder / dice.choice(("image.times", "a\u202e.times"))
             marks.write_bytes(of_marks(dice, journal, min(drift, 1_000)))
             set_drift(browser, drift)
-            told, error, said, faults = browser.driver.execute_async_script(TAKE, marks.name, base64.b64encode(marks.read_bytes()).decode())
+            told, error, said, faults = browser.run_later(TAKE, marks.name, base64.b64encode(marks.read_bytes()).decode())
             wanted, refusal = by_package(journal, marks, drift)
             assert (told, error) == (wanted, refusal), (number, marks.read_bytes(), told, error, wanted, refusal)
             assert faults == (wanted["faults"] if wanted else []) and (not wanted or wanted["says"] in said), (faults, said)

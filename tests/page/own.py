@@ -9,6 +9,7 @@ from typing import Any
 
 import yaml
 from browsing import Browser
+from chromium import Chromium
 from selenium.webdriver.common.action_chains import ActionChains
 from desks import EXAMPLES, START, TELEGRAMS, TOP, board, image_of, name_of, random_steps, saved
 from gaknifur import cases, program, telegrams
@@ -36,7 +37,7 @@ BOUNDS: list[tuple[list[Any], list[int]]] = [
 def open_scenario(browser: Browser, path: Path) -> None:
     """Opens a scenario, as a user does."""
     before = browser.run("document.getElementById('tab-drive').click(); return document.getElementById('track').value")
-    browser.driver.find_element("id", "scenario-file").send_keys(str(path))
+    browser.send("scenario-file", str(path))
     browser.until(f"return document.getElementById('drive-error').textContent !== '' || document.getElementById('track').value !== '{before}'")
 
 
@@ -209,7 +210,7 @@ def variables(browser: Browser, _page: Path, _folder: Path) -> int:
     return len(tried) + known
 
 
-def edited(browser: Browser, _page: Path, folder: Path) -> int:
+def edited(browser: Chromium, _page: Path, folder: Path) -> int:
     """A track is edited by mouse, keys and text, and driven: the train hears the telegram there, and the image is that of `etcs run`."""
     browser.run("window.gaknifur.drive.board(0)")
     browser.click("edit", "add-group")

@@ -1,0 +1,36 @@
+// Speed and limit of a life, over distance and over time. They are drawn once for a life, and then the cursor moves.
+import {Records} from "./calls";
+import {draw} from "./chart";
+import {at} from "./dom";
+import {Intervention, LifeRange} from "./lives";
+
+export class Graphs {
+    /** The life that is drawn, and what moves its cursors. */
+    private drawn: { life: LifeRange; moves: ((index: number) => void)[] }|null = null;
+
+    constructor(private readonly pick: (index: number) => void) {}
+
+    forget(): void { this.drawn = null; }
+
+    show(records: Records, speeds: Float64Array, life: LifeRange, interventions: Intervention[], index: number): void {
+        const { from, end } = life;
+        if (this.drawn?.life !== life) {
+            const places: number[] = [], moments: number[] = [], speed: number[] = [], limit: number[] = [];
+            for (let n = from; n < end; n++) {
+                places.push(records.front(n));
+                moments.push(records.moment(n));
+                speed.push(speeds[n] ?? 0);
+                limit.push(records.limit(n));
+            }
+            const marks = interventions.filter(one => one.first > from && one.first < end)
+                              .map(one => ({ index: one.first - from, brake: one.brake }));
+            const both = { speed, limit, cursor: index - from, marks, pick: (n: number): void => this.pick(from + n) };
+            const place = draw(at("place-chart") as unknown as SVGSVGElement,
+                {...both, x: places, unit: "m", per: 100, title: "Speed and limit over distance" });
+            const time = draw(at("time-chart") as unknown as SVGSVGElement,
+                {...both, x: moments, unit: "s", per: 1000, title: "Speed and limit over time" });
+            this.drawn = { life, moves: [place, time] };
+        }
+        for (const move of this.drawn.moves) move(index - from);
+    }
+}

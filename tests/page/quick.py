@@ -1,0 +1,75 @@
+"""How long an image takes to be told, and that the page stays usable meanwhile. A busy machine makes single runs slow, so the best of several counts."""
+import json
+import time
+from pathlib import Path
+from typing import Any
+
+from browsing import Browser
+from desks import TELEGRAMS, etcs
+
+EVENTS, RUNS, STEPS = 10_000, 5, 200
+OPENS_S, PAUSE_MS, FRAME_MS = 3.0, 250, 1000 / 60
+MOST_EVENTS, MOST_RUNS = 100_000, 3
+START: list[Any] = [{"driver": [1, "IC 704"]}, {"driver": [4, 1]}, {"driver": [3, 20000, 160000, 70, 0, 15]}, {"telegram": TELEGRAMS[0]}, {"driver": [6]}]
+WATCH = """
+const { ask } = window.gaknifur;
+window.seen = { pause: 0, progress: 0 };
+if (window.watch) return;
+const hear = ask.hear.bind(ask);
+ask.hear = report => { if (report.kind === 'progress' && report.done > 0) window.seen.progress++; hear(report); };
+let last = performance.now();
+window.watch = setInterval(() => { const now = performance.now(); window.seen.pause = Math.max(window.seen.pause, now - last); last = now; }, 4);
+"""
+STEP = """
+const { ask } = window.gaknifur, took = [], box = document.getElementById('answers'), from = arguments[0];
+for (let n = 0; n < arguments[1]; n++) { const begun = performance.now(); ask.choose(from + n); box.getBoundingClientRect(); took.push(performance.now() - begun); }
+return took.sort((one, other) => one - other);
+"""
+
+
+def long_image(folder: Path, events: int) -> Path:
+    """An image of so many events in four lives of a train that moves, brakes and stands."""
+    path, scenario = folder / "image", folder / "scenario.json"
+    etcs("format", str(path), str(events // 8 + 64))
+    for _ in range(4):
+        steps, moment = list(START), 0
+        while len(steps) < events // 4 - 1:
+            moment += 250
+            speed = 50_000 if len(steps) % 4_000 > 3_900 else 0 if len(steps) % 4_000 > 3_600 else 30_000
+            steps += [{"clock": moment}, {"drive": [speed * 250 // 36_000, speed]}]
+        scenario.write_text(json.dumps({"cold": 0, "groups": [], "steps": steps[:events // 4 - 1]}), encoding="utf-8")
+        etcs("run", str(scenario), str(path))
+    return path
+
+
+def measured(browser: Browser, folder: Path, events: int, runs: int) -> int:
+    """Opens an image several times, and goes through its events."""
+    path, found = long_image(folder, events), []
+    for _ in range(runs):
+        browser.run(WATCH)
+        begun = time.monotonic()
+        told = browser.ask(path, seconds=120)
+        found.append((time.monotonic() - begun, *browser.run("return [window.seen.pause, window.seen.progress]")))
+        assert told["count"] == events and told["isWhole"] and len(told["causes"]) == len(told["interventions"]) >= 4, told["count"]
+        assert all(life["verdict"] == 1 for life in told["lives"]) and len(told["lives"]) == 4
+    seconds, pause = min(one[0] for one in found), min(one[1] for one in found)
+    took = browser.run(STEP, events // 2, STEPS)
+    step = took[len(took) // 4]
+    print(f"page: {events} events in {seconds:.2f} s, the longest pause {pause:.0f} ms; a step of the scrubber {step:.1f} ms", flush=True)
+    assert seconds <= OPENS_S and pause <= PAUSE_MS and step <= FRAME_MS, (seconds, pause, step)
+    assert max(one[2] for one in found) >= 1, "no progress was told"
+    return runs + STEPS
+
+
+def opens(browser: Browser, _page: Path, folder: Path) -> int:
+    """10,000 events, in the time that ten times as many may take."""
+    return measured(browser, folder, EVENTS, RUNS)
+
+
+def opens_long(browser: Browser, _page: Path, folder: Path) -> int:
+    """100,000 events open in 3 s, and the page is told meanwhile how far it is."""
+    return measured(browser, folder, MOST_EVENTS, MOST_RUNS)
+
+
+CHECKS = {"opens": (opens, RUNS + STEPS)}
+LONG = {"opens_long": (opens_long, MOST_RUNS + STEPS)}

@@ -1,5 +1,5 @@
-"""The packets that a track sends and the kernel skips, and packet 3 as a track sends it: names, layouts, and the widths of
-further variables (docs/PACKETS.md). Written by `tools/packets` from crates/track_packets."""
+"""The packets that a track sends and the kernel skips, and packet 3 as a track sends it: names, layouts, the widths of
+further variables, and what single numbers mean (docs/PACKETS.md). Written by `tools/packets` from crates/track_packets."""
 
 NAMES: dict[int, str] = {
     0: "Virtual Balise Cover marker",
@@ -126,6 +126,77 @@ WIDTHS: dict[str, int] = {
 }
 """Of each variable that the kernel's packets don't have, how many bits it has."""
 
+MEANINGS: dict[str, dict[int, str]] = {
+    "D_CYCLOC": {32767: "without limit"},
+    "D_LEVELTR": {32767: "now"},
+    "D_NVSTFF": {32767: "without limit"},
+    "D_REVERSE": {32767: "without limit"},
+    "D_TEXTDISPLAY": {32767: "not limited by a place"},
+    "D_VALIDNV": {32767: "now"},
+    "G_A": {255: "the profile ends"},
+    "L_MAMODE": {32767: "without limit"},
+    "L_TEXTDISPLAY": {32767: "not limited by a place"},
+    "M_ADHESION": {0: "slippery rail", 1: "not slippery rail"},
+    "M_DUP": {0: "no duplicate", 1: "duplicate of the next balise", 2: "duplicate of the previous balise"},
+    "M_LEVELTEXTDISPLAY": {0: "level 0", 1: "level STM", 2: "level 1", 3: "level 2", 4: "level 3", 5: "not limited by the level"},
+    "M_LEVELTR": {0: "level 0", 1: "level STM", 2: "level 1", 3: "level 2", 4: "level 3"},
+    "M_LOC": {0: "now", 1: "at each group", 2: "at no group"},
+    "M_MAMODE": {0: "On Sight", 1: "Shunting"},
+    "M_MCOUNT": {254: "fits no message of the group", 255: "fits each message of the group"},
+    "M_MODETEXTDISPLAY": {0: "Full Supervision", 1: "On Sight", 2: "Staff Responsible", 15: "not limited by the mode"},
+    "M_NVCONTACT": {0: "train trip", 1: "service brake", 2: "no reaction"},
+    "M_NVDERUN": {0: "no", 1: "yes"},
+    "M_TRACKCOND": {0: "non stopping area", 1: "tunnel stopping area", 2: "sound horn", 3: "powerless section, lower pantograph", 4: "radio hole", 5: "air tightness", 6: "switch off regenerative brake", 7: "switch off eddy current brake", 8: "switch off magnetic shoe brake", 9: "powerless section, switch off main power switch"},
+    "M_VERSION": {16: "version 1.0"},
+    "NID_TSR": {255: "not revocable"},
+    "Q_ASPECT": {0: "stop", 1: "go on"},
+    "Q_DANGERPOINT": {0: "nothing follows", 1: "values follow"},
+    "Q_DIR": {0: "reverse", 1: "nominal", 2: "both directions"},
+    "Q_ENDTIMER": {0: "nothing follows", 1: "values follow"},
+    "Q_FRONT": {0: "delayed by the train's length", 1: "not delayed by the train's length"},
+    "Q_GDIR": {0: "downhill", 1: "uphill"},
+    "Q_LGTLOC": {0: "minimum safe rear end", 1: "maximum safe front end"},
+    "Q_LINK": {0: "unlinked", 1: "linked"},
+    "Q_LINKORIENTATION": {0: "passed in reverse direction", 1: "passed in nominal direction"},
+    "Q_LINKREACTION": {0: "train trip", 1: "service brake", 2: "no reaction"},
+    "Q_MEDIA": {0: "balise", 1: "loop"},
+    "Q_MPOSITION": {0: "counted against the group's direction", 1: "counted in the group's direction"},
+    "Q_NEWCOUNTRY": {0: "the same country or region", 1: "another country or region"},
+    "Q_NVDRIVER_ADHES": {0: "no", 1: "yes"},
+    "Q_NVEMRRLS": {0: "released at standstill", 1: "released within the limit"},
+    "Q_NVSRBKTRG": {0: "no", 1: "yes"},
+    "Q_OVERLAP": {0: "nothing follows", 1: "values follow"},
+    "Q_RBC": {0: "end the session", 1: "begin a session"},
+    "Q_RIU": {0: "end the session", 1: "begin a session"},
+    "Q_SCALE": {0: "10 cm", 1: "1 m", 2: "10 m"},
+    "Q_SECTIONTIMER": {0: "nothing follows", 1: "values follow"},
+    "Q_SLEEPSESSION": {0: "a sleeping unit ignores it", 1: "a sleeping unit carries it out"},
+    "Q_SRSTOP": {0: "stop", 1: "go on"},
+    "Q_SUITABILITY": {0: "loading gauge", 1: "axle load", 2: "traction system"},
+    "Q_TEXT": {0: "Level crossing not protected", 1: "Acknowledgement"},
+    "Q_TEXTCLASS": {0: "auxiliary", 1: "important"},
+    "Q_TEXTCONFIRM": {0: "not to be confirmed", 1: "to be confirmed", 2: "to be confirmed, else the service brake"},
+    "Q_TEXTDISPLAY": {0: "by one of the conditions", 1: "by all conditions"},
+    "Q_TRACKINIT": {0: "a profile follows", 1: "the initial state comes back"},
+    "Q_UPDOWN": {0: "down link", 1: "up link"},
+    "T_CYCLOC": {255: "without limit"},
+    "T_CYCRQST": {255: "without limit"},
+    "T_ENDTIMER": {1023: "without limit"},
+    "T_LOA": {1023: "without limit"},
+    "T_MAR": {255: "without limit"},
+    "T_NVCONTACT": {255: "without limit"},
+    "T_NVOVTRP": {255: "without limit"},
+    "T_OL": {1023: "without limit"},
+    "T_SECTIONTIMER": {1023: "without limit"},
+    "T_TEXTDISPLAY": {1023: "not limited by a time"},
+    "T_TIMEOUTRQST": {1023: "without limit"},
+    "V_MAMODE": {127: "the national value"},
+    "V_RELEASEDP": {126: "worked out on board", 127: "the national value"},
+    "V_RELEASEOL": {126: "worked out on board", 127: "the national value"},
+    "V_STATIC": {127: "the profile ends"},
+}
+"""What single numbers of a variable mean: those that are sure (docs/PACKETS.md)."""
+
 LAYOUTS: dict[int, str] = {
     3: "Q_SCALE D_VALIDNV (N_ITER NID_C) V_NVSHUNT V_NVSTFF V_NVONSIGHT V_NVUNFIT V_NVREL D_NVROLL Q_NVSRBKTRG Q_NVEMRRLS V_NVALLOWOVTRP V_NVSUPOVTRP D_NVOVTRP T_NVOVTRP D_NVPOTRP M_NVCONTACT T_NVCONTACT M_NVDERUN D_NVSTFF Q_NVDRIVER_ADHES",
     16: "Q_SCALE L_SECTION",
@@ -161,6 +232,9 @@ LAYOUTS: dict[int, str] = {
     254: "",
 }
 """What stands behind L_PACKET in a packet that is skipped, and in packet 3 as a track sends it."""
+
+NOT_OBEYED = (16, 39, 42, 44, 45, 46, 49, 51, 67, 68, 70, 71, 72, 76, 79, 90, 131, 132, 133, 134, 135, 136, 137, 138, 139, 141, 254)
+"""Packets that a balise may send in issue 2.3.0 and the kernel skips."""
 
 THEN_BITS = (44,)
 """Packets whose layout is only their beginning."""

@@ -38,5 +38,5 @@ rows test_blocks 741
 rows test_journal 1045
 rows test_onboard 34585
 rows test_kernel 660
-rows test_track 57
+rows test_track 60
 exit $status

@@ -6,7 +6,7 @@ from typing import Any
 
 import pandas as pd
 
-from . import causes, tables
+from . import causes, not_obeyed, tables
 from .reading import Journal, Json
 
 MOST_TRIPS = 12
@@ -93,6 +93,8 @@ class Brief:
     """The last trips, the newest first: where each was entered, and why."""
     more_trips: int
     newest: Newest | None
+    not_obeyed: str | None
+    """Which packets of issue 2.3.0 the telegrams had that the unit doesn't obey; None where they had none."""
 
     @property
     def rows(self) -> set[int]:
@@ -120,6 +122,7 @@ def brief(journal: Journal, table: pd.DataFrame, found: pd.DataFrame) -> Brief:
     intervention = braked.iloc[-1].to_dict() | {"row": braked["first_row"].iat[-1]} if len(braked) else None
     entered = tables.trips(table).index[::-1]
     of_life = table[table["life"] == last["life"]] if last else table
+    unobeyed = not_obeyed.summary(journal)
     trips = [trip_row(table, row) for row in entered[:MOST_TRIPS]]
     return Brief(faults(journal), last, int(of_life["event"].iat[0]) if len(of_life) else None, intervention, trips,
-                 len(entered) - len(trips), newest(journal))
+                 len(entered) - len(trips), newest(journal), unobeyed.text() if unobeyed.packets else None)

@@ -51,7 +51,9 @@ function Reader:take(name, tree)
     local bits = WIDTH[name]
     local range = self:range(bits)
     local value = range:bitfield(self.at % 8, bits)
-    tree:add(fields[name], range, value)
+    local meaning = MEANINGS[name] and MEANINGS[name][value]
+    local item = tree:add(fields[name], range, value)
+    if meaning then item:append_text(" (" .. meaning .. ")") end
     self.at = self.at + bits
     return value
 end
@@ -125,7 +127,7 @@ DissectorTable.get("wtap_encap"):add(wtap.USER0, balise)
 
 
 def text_of(name: str) -> str:
-    """A name in Lua."""
+    """A name or a text in Lua."""
     return f'"{name}"'
 
 
@@ -147,9 +149,12 @@ def part_of(part: Part) -> str:
 def lua() -> str:
     """The dissector."""
     widths = ", ".join(f"{name} = {width}" for name, width in sorted(WIDTH.items()) if name not in _track_packets.WIDTHS)
+    meanings = "\n".join(f"    {name} = {{{', '.join(f'[{number}] = {text_of(told)}' for number, told in numbers.items())}}},"
+                         for name, numbers in _track_packets.MEANINGS.items() if name not in _track_packets.WIDTHS)
     layouts = "\n".join(f"    [{number}] = {{{parts_of(layout)}}}," for number, layout in sorted(LAYOUTS.items()))
     return (f"{MADE}balise telegrams of ETCS (SUBSET-026, 7 and 8.4.2), by link type USER0 (147)\n"
             f"local WIDTH = {{{widths}}}\n"
+            f"local MEANINGS = {{\n{meanings}\n}}\n"
             f"local HEADER = {{{', '.join(map(text_of, HEADER))}}}\n"
             f"local LAYOUTS = {{\n{layouts}\n}}\n"
             f"local WITHOUT_SCALE = {{{', '.join(f'[{number}] = true' for number in WITHOUT_SCALE)}}}\n"

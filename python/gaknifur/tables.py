@@ -10,7 +10,8 @@ Columns of `frame`, in their order:
 - `speed_m_per_h`, `speed_kmh`, `over_limit_kmh`: the speed of the last reading, which holds until the next one of its
   stretch (0 from a power-up on), and by how much it is above the limit behind the event.
 - `word`, `now_ms`, `action` and the driver's entries; `refused`: whether the action can't have been accepted.
-- `nid_c`, `nid_bg`, `n_pig`, `n_total`, `m_dup`, `m_mcount`, `q_link`, `packets`, `fault`, `telegram`, `decoded`.
+- `nid_c`, `nid_bg`, `n_pig`, `n_total`, `m_dup`, `m_mcount`, `q_link`, `packets`, `fault`, `telegram`, `decoded`;
+  `not_obeyed`: the packets of issue 2.3.0 that it had and the unit doesn't obey (module `not_obeyed`).
 - `causes`: the causes of its brake, and the event since which each holds; `causes_not_known`: why they aren't known;
   `trip_cause`, `trip_cause_event`: while a trip is owed, why it was entered and by which event; `limit_cause`: the kind of
   what decides the limit; `held`: the causes as a dictionary; `trip`: the trip that is owed; `why`: the line of `etcs_lab
@@ -29,7 +30,7 @@ from typing import Any
 import numpy as np
 import pandas as pd
 
-from . import actions, causes, times
+from . import actions, causes, not_obeyed, times
 from .layout import SECTOR, SLOT_SECTORS
 from .reading import Journal, Json
 from .words import INDICATIONS
@@ -137,7 +138,7 @@ def frame(journal: Journal) -> pd.DataFrame:
     columns |= {name: numbers(some[name]) for name in NUMBERS}
     columns |= {name: some[name] for name in TEXTS}
     columns |= decoded_columns(some["decoded"])
-    columns |= {"decoded": some["decoded"], **cause_columns(journal)}
+    columns |= {"not_obeyed": not_obeyed.column(some["telegram"]), "decoded": some["decoded"], **cause_columns(journal)}
     by_marks = times.columns(journal)
     columns |= {"utc_by_marks": by_marks["utc_by_marks"], "utc_uncertainty_ms": numbers(by_marks["utc_uncertainty_ms"])}
     table = pd.DataFrame(columns)

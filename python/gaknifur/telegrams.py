@@ -10,7 +10,7 @@ for other variables that aren't told. A packet that the kernel skips has the lay
 layout has its head and any variables behind it.
 """
 import re
-from collections.abc import Sequence
+from collections.abc import Iterator, Sequence
 from dataclasses import dataclass, field
 
 from . import _track_packets
@@ -130,6 +130,17 @@ def read_layout(text: str) -> tuple[Part, ...]:
 
 SKIPPED = {number: read_layout(text) for number, text in _track_packets.LAYOUTS.items() if number not in LAYOUTS}
 """The layouts of packets that the kernel skips."""
+
+
+def packets_in(bits: str) -> Iterator[tuple[int, str]]:
+    """The packets of a telegram by their lengths alone, each with its bits."""
+    at = 50
+    while at + 23 <= len(bits) and (number := int(bits[at:at + 8], 2)) != 255:
+        length = int(bits[at + 10:at + 23], 2)
+        if length < 23:
+            return
+        yield number, bits[at:at + length]
+        at += length
 
 
 def first_of(element: tuple[Part, ...]) -> str:

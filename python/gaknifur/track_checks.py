@@ -13,7 +13,7 @@ from .drives import Drive
 from .messages import (NATIONAL_SPEED, NEAR_CM, NONE, ON_SIGHT, ONBOARD, SHUNTING, TRIP, Area, Known, Link, Message, National,
                        Packet, Restriction, Train, Walked, name_of, rounded_up, speed_of)
 from .reading import Json
-from .telegrams import WIDTH
+from .telegrams import WIDTH, packets_in
 from .words import kmh
 
 RESTRICTING = (3, 12, 27, 41, 65, 80)
@@ -531,17 +531,6 @@ def overlap_without_end(judged: Judged) -> Iterator[Finding]:
 
 
 # ---- packets, countries, trains
-
-def packets_in(bits: str) -> Iterator[tuple[int, str]]:
-    """The packets of a telegram by their lengths alone, each with its bits."""
-    at = 50
-    while at + 23 <= len(bits) and (number := int(bits[at:at + 8], 2)) != 255:
-        length = int(bits[at + 10:at + 23], 2)
-        if length < 23:
-            return
-        yield number, bits[at:at + length]
-        at += length
-
 
 INSTALLED = 176
 """The bits of a packet 3 of an installed track without its countries."""

@@ -4,9 +4,9 @@ telegrams.
 
     tests/oracle/dissector_rows.py [COUNT [SEED]]    2,000 telegrams, seed 2026
 
-Each variable of a telegram that can be decoded is shown, with its number, in its place. Of one that ends too early, or
+Each variable of a telegram that can be decoded is shown, with its number and what that means, in its place. Of one that ends too early, or
 whose L_PACKET is wrong, that is shown; what the decoder refuses for another cause (a number out of range) has its
-variables. Two altered layouts are told.
+variables. Two altered layouts and an altered meaning are told.
 """
 import random
 import subprocess
@@ -18,6 +18,7 @@ from pathlib import Path
 TOP = Path(__file__).resolve().parents[2]
 sys.path[:0] = [str(TOP / "python"), str(TOP / "tests/hostile"), str(TOP / "tests/plain")]
 import decoded  # noqa: E402
+import track_packets  # noqa: E402
 from gaknifur import dissector, telegrams  # noqa: E402
 from gaknifur.reading import Journal  # noqa: E402
 from random_inputs import headed, mutated  # noqa: E402
@@ -39,7 +40,9 @@ def told(data):
             found += [("PACKET", int(rest[0])), ("NID_PACKET", int(rest.pop(0)))]
         if word in ("telegram", "packet"):
             found += [(name, int(number)) for name, _, number in (one.partition("=") for one in rest if "=" in one)]
-    return [*found, ("NID_PACKET", 255)], None
+    found.append(("NID_PACKET", 255))
+    means = track_packets.MEANINGS
+    return [(name, number, f"({means[name][number]})" if number in means.get(name, ()) else "") for name, number in found], None
 
 
 def shown(program, path):
@@ -58,7 +61,8 @@ def shown(program, path):
             if kind == "etcs_balise" and name in ("truncated", "wrong_length"):
                 faults.add(field.get("name"))
             elif kind == "etcs_balise" and name != "skipped_bits":
-                names.append((name.upper(), int(field.get("show"))))
+                number, _, meaning = field.get("showname").partition(": ")[2].partition(" ")
+                names.append((name.upper(), int(number), meaning))
         found.append((names, faults))
     return found
 
@@ -87,7 +91,7 @@ def main(count=COUNT, seed=SEED):
         path.write_bytes(dissector.capture(Journal(path, {}, records))[0])
         program = dissector.lua()
         wrong, read, refused = compared(program, data, path)
-        planted = [("V_TSR = 7", "V_TSR = 8"), ('"NID_TSR", "D_TSR"', '"D_TSR", "NID_TSR"')]
+        planted = [("V_TSR = 7", "V_TSR = 8"), ('"NID_TSR", "D_TSR"', '"D_TSR", "NID_TSR"'), ('[1] = "nominal"', '[1] = "reverse"')]
         for was, is_now in planted:
             if was not in program or not compared(program.replace(was, is_now), data, path)[0]:
                 wrong.append(f"{is_now} for {was} isn't told")

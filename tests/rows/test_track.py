@@ -5,6 +5,7 @@
                          and what ends them; the bits may stand apart
     repeated COUNT       the same of so many packets 135, each of 23 bits, and an end mark
     packet BITS          the fields of the packet that these bits begin with; `-` behind them leaves their last byte out
+    units BITS           of each field of such a packet its name, its number and its unit
     missing AT LENGTH    a packet from that place on, of so many bits, in 8 bytes
     adapt BITS           what becomes of a telegram of group 2 with these packets behind its header: as it is, why it isn't written, or
                          how many bytes were, and what the plain decoder (../plain/decoded.py) tells of them
@@ -12,7 +13,7 @@
                          how many of these stay as they are then
     kind NUMBER          what is known of a packet
     random COUNT SEED    so many telegrams with packets of each layout, altered at times: how many have the packets, and the fields
-                         of each, that the plain program (../plain/track_packets.py) tells
+                         of each with their units, that the plain program (../plain/track_packets.py) tells
 
 What is asked and told, in numbers, stands in program/src/test_track.rt.txt."""
 import random
@@ -32,6 +33,7 @@ ENDS = ["end", "no end", "cut", "length", "many"]
 SENDERS, ISSUES = ["balise", "radio"], ["this issue", "a later issue"]
 BODIES = ["rows", "rows and bits", "bits", "kernel", "kernel or rows", "number alone"]
 SURENESS = ["sure", "fairly sure", "name alone"]
+UNITS = ["", "scale", "5 km/h", "s", "m", "per mille", "0.5 t", "character"]
 MOST_TOLD = 40
 HEADER = "90007F80200140"  # of group 2 in country 1
 
@@ -102,6 +104,17 @@ def packet(words):
     [told] = yield [[*of_bytes(2, data), number, plain.HEADER_BITS, length, 0]]
     fields, why, _ = fields_told(told)
     return lines_of(fields, why)
+
+
+def units_told(told):
+    return [UNITS[told.take()] for _ in range(len(told.numbers))]
+
+
+def units(words):
+    data = telegram_of(words)
+    place = [int("".join(words)[:8], 2), plain.HEADER_BITS, int("".join(words)[10:23], 2), 0]
+    fields, found = yield [[*of_bytes(2, data), *place], [*of_bytes(5, data), *place]]
+    return [f"{name} {number} {unit}".rstrip() for (name, _, _, number), unit in zip(fields_told(fields)[0], units_told(found))]
 
 
 def missing(words):
@@ -206,20 +219,24 @@ def compared(words):
     wanted = [plain.packets_in_order(data) for data in telegrams]
     places = [(data, place) for data, (packets, _) in zip(telegrams, wanted) for place in packets]
     told = yield [*(of_bytes(1, data) for data in telegrams),
-                  *([*of_bytes(2, data), number, at, length, 0] for data, (number, _, at, length) in places)]
+                  *([*of_bytes(2, data), number, at, length, 0] for data, (number, _, at, length) in places),
+                  *([*of_bytes(5, data), number, at, length, 0] for data, (number, _, at, length) in places)]
     alike = sum(listing_told(one) == (packets, end) for one, (packets, end) in zip(told, wanted))
-    of_packets, kinds, faults = 0, set(), 0
-    for one, (data, (number, _, at, length)) in zip(told[len(telegrams):], places):
+    of_packets, kinds, faults, alike_units = 0, set(), 0, 0
+    units_of_all = told[len(telegrams) + len(places):]
+    for one, counted, (data, (number, _, at, length)) in zip(told[len(telegrams):], units_of_all, places):
         fields, why = plain.fields_of(data, number, at, length)
+        alike_units += units_told(counted) == [plain.unit_of(name) for name, *_ in (fields or [])[:MOST_TOLD]]
         found, found_why, count = fields_told(one)
         of_packets += (found_why, count) == (why, len(fields or [])) and found == (fields and fields[:MOST_TOLD])
         kinds.add(number)
         faults += fields is None
     return [f"telegrams alike: {alike} of {len(telegrams)}", f"packets alike: {of_packets} of {len(places)}",
+            f"units alike: {alike_units} of {len(places)}",
             f"numbers: {len(kinds)}, with faults: {faults}"]
 
 
-ASKED = {"listing": listing, "repeated": repeated, "packet": packet, "missing": missing, "adapt": adapt, "adapted": adapted,
+ASKED = {"listing": listing, "repeated": repeated, "packet": packet, "units": units, "missing": missing, "adapt": adapt, "adapted": adapted,
          "kind": kind, "random": compared}
 
 

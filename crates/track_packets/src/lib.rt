@@ -12,6 +12,16 @@ macro_rules! ok {
     };
 }
 
+/// Width and unit of a variable, in a row.
+macro_rules! shape {
+    ($width:expr, $unit:ident) => {
+        Shape {
+            width: $width,
+            unit: Unit::$unit,
+        }
+    };
+}
+
 mod fault;
 mod fields;
 mod kernel;
@@ -21,6 +31,8 @@ mod listing;
 mod packet_bits;
 mod reading;
 mod row;
+mod shape;
+mod shared;
 mod variable;
 
 pub use fault::{FieldFault, FieldPlace};
@@ -30,4 +42,5 @@ pub use layouts::{HEAD, rows_of};
 pub use listing::{Listing, ListingEnd, MOST_LISTED, PacketPlace, packets_in_order};
 pub use reading::{Field, Fields, FieldsError};
 pub use row::{Role, Row, When};
-pub use variable::{Unit, Variable};
+pub use shape::Unit;
+pub use variable::Variable;

@@ -1,0 +1,88 @@
+//! The variables of the kernel's packets: width in bits and unit, a row each (SUBSET-026, 7.5.1). Their names are those of
+//! `bits`.
+ghost use Rattle.std.specs.Prelude.{◌≡◌, ◌≤◌};
+ghost use Rattle.track_packets.specs.Variables.{shared_shape_of};
+
+use crate::shape::{Shape, Unit};
+use bits::VariableName;
+
+/// Width and unit of a variable of the kernel's packets.
+pub(crate) fn shared_shape(name: VariableName) -> Shape
+    ensures value { result ≡ shared_shape_of name }
+    ensures bound { result.width ≤ 64 }
+{
+    match name {
+        VariableName::QUpdown => shape!(1, Number),
+        VariableName::MVersion => shape!(7, Number),
+        VariableName::QMedia => shape!(1, Number),
+        VariableName::NPig => shape!(3, Number),
+        VariableName::NTotal => shape!(3, Number),
+        VariableName::MDup => shape!(2, Number),
+        VariableName::MMcount => shape!(8, Number),
+        VariableName::NidC => shape!(10, Number),
+        VariableName::NidBg => shape!(14, Number),
+        VariableName::QLink => shape!(1, Number),
+        VariableName::NidPacket => shape!(8, Number),
+        VariableName::QDir => shape!(2, Number),
+        VariableName::LPacket => shape!(13, Number),
+        VariableName::QScale => shape!(2, Number),
+        VariableName::NIter => shape!(5, Number),
+        VariableName::DValidnv => shape!(15, ScaleSteps),
+        VariableName::VNvshunt => shape!(7, SpeedSteps),
+        VariableName::VNvstff => shape!(7, SpeedSteps),
+        VariableName::VNvonsight => shape!(7, SpeedSteps),
+        VariableName::VNvunfit => shape!(7, SpeedSteps),
+        VariableName::VNvrel => shape!(7, SpeedSteps),
+        VariableName::DNvroll => shape!(15, ScaleSteps),
+        VariableName::VNvallowovtrp => shape!(7, SpeedSteps),
+        VariableName::VNvsupovtrp => shape!(7, SpeedSteps),
+        VariableName::DNvovtrp => shape!(15, ScaleSteps),
+        VariableName::TNvovtrp => shape!(8, Seconds),
+        VariableName::DNvstff => shape!(15, ScaleSteps),
+        VariableName::DLink => shape!(15, ScaleSteps),
+        VariableName::QNewcountry => shape!(1, Number),
+        VariableName::QLinkorientation => shape!(1, Number),
+        VariableName::QLinkreaction => shape!(2, Number),
+        VariableName::QLocacc => shape!(6, Metres),
+        VariableName::VMain => shape!(7, SpeedSteps),
+        VariableName::VLoa => shape!(7, SpeedSteps),
+        VariableName::TLoa => shape!(10, Seconds),
+        VariableName::LSection => shape!(15, ScaleSteps),
+        VariableName::QSectiontimer => shape!(1, Number),
+        VariableName::TSectiontimer => shape!(10, Seconds),
+        VariableName::DSectiontimerstoploc => shape!(15, ScaleSteps),
+        VariableName::LEndsection => shape!(15, ScaleSteps),
+        VariableName::QEndtimer => shape!(1, Number),
+        VariableName::TEndtimer => shape!(10, Seconds),
+        VariableName::DEndtimerstartloc => shape!(15, ScaleSteps),
+        VariableName::QDangerpoint => shape!(1, Number),
+        VariableName::DDp => shape!(15, ScaleSteps),
+        VariableName::VReleasedp => shape!(7, SpeedSteps),
+        VariableName::QOverlap => shape!(1, Number),
+        VariableName::DStartol => shape!(15, ScaleSteps),
+        VariableName::TOl => shape!(10, Seconds),
+        VariableName::DOl => shape!(15, ScaleSteps),
+        VariableName::VReleaseol => shape!(7, SpeedSteps),
+        VariableName::DGradient => shape!(15, ScaleSteps),
+        VariableName::QGdir => shape!(1, Number),
+        VariableName::GA => shape!(8, PerMille),
+        VariableName::DStatic => shape!(15, ScaleSteps),
+        VariableName::VStatic => shape!(7, SpeedSteps),
+        VariableName::QFront => shape!(1, Number),
+        VariableName::NcDiff => shape!(4, Number),
+        VariableName::VDiff => shape!(7, SpeedSteps),
+        VariableName::DLeveltr => shape!(15, ScaleSteps),
+        VariableName::MLeveltr => shape!(3, Number),
+        VariableName::NidStm => shape!(8, Number),
+        VariableName::LAckleveltr => shape!(15, ScaleSteps),
+        VariableName::NidTsr => shape!(8, Number),
+        VariableName::DTsr => shape!(15, ScaleSteps),
+        VariableName::LTsr => shape!(15, ScaleSteps),
+        VariableName::VTsr => shape!(7, SpeedSteps),
+        VariableName::DMamode => shape!(15, ScaleSteps),
+        VariableName::MMamode => shape!(2, Number),
+        VariableName::VMamode => shape!(7, SpeedSteps),
+        VariableName::LMamode => shape!(15, ScaleSteps),
+        VariableName::LAckmamode => shape!(15, ScaleSteps),
+    }
+}

@@ -9,7 +9,8 @@ use Rattle.onboard.specs.Events.{Knows, IsAhead}
 use Rattle.relayed_unit.specs.Relayed.{is_unreleased}
 use Rattle.relayed_unit.specs.declared.moored.Moored.{Moored}
 use Rattle.speed_profile.specs.declared.told.CategorySpeeds.{CategorySpeeds}
-use Rattle.track_store.specs.Segments.{Segmented, profile_kept}
+use Rattle.track_store.specs.Segments.{Segmented}
+use Rattle.track_picture.specs.Stores.{segment_stores}
 use Rattle.unit_calls.specs.Requests.{Where}
 use Rattle.unit_calls.specs.Whys.{TellsLifeWhy, IsOfReleased}
 use Rattle.unit_calls.specs.declared.status.Status.{Status}
@@ -43,7 +44,7 @@ module _ {S : Type 0} (known : S → Knowledge (Segmented ℤ) (Segmented Catego
       → found ≡ Some s → event ≡ events - 1 → status ≡ a_status.Done → IfSome m (λ it. events ≡ it.unit.life.events)
       → IfSome m (λ it. (durable accepted : List Event) → IsAhead durable accepted it.unit.life
       → IfSome found (λ s. (durable ≡ accepted) × Knows (known s) accepted))
-      → ((life : Life) → StandsForLife profile_kept profile_kept (known s) life → TellsLifeWhy event life new)
+      → ((life : Life) → StandsForLife segment_stores (known s) life → TellsLifeWhy event life new)
       → IfSome m (λ it. (status ≡ a_status.Done) × IsOfReleased it new)
   of_released None found s events event new status is event_is done counted released tells = tt
   of_released (Some it) found s events event new status is event_is done counted released tells = (

@@ -4,7 +4,7 @@ ghost use Rattle.image_calls.specs.KeptItems.{flag_of};
 ghost use Rattle.kernel.specs.Causes.{is_among, marked};
 ghost use Rattle.kernel.specs.StandsFor.{StandsForLife};
 ghost use Rattle.mode_control.specs.Life.{Life};
-ghost use Rattle.track_store.specs.Segments.{profile_kept};
+ghost use Rattle.track_picture.specs.Stores.{segment_stores};
 ghost use Rattle.unit_calls.specs.Whys.{holds_in, target_of, releases, distance_to, target_distance, target_speed, waiting_number, time_left, why_with, TellsLifeWhy};
 
 use crate::outputs::{EtcsOutput, output_told};
@@ -235,7 +235,7 @@ fn why_with(told: &Told) -> EtcsUnitWhy
 
 /// What a state tells of its last event, which has this number.
 pub fn why_told(event: u64, state: &State) -> EtcsUnitWhy
-    ensures { (life : Life) → StandsForLife profile_kept profile_kept state.now life → TellsLifeWhy event life result }
+    ensures { (life : Life) → StandsForLife segment_stores state.now life → TellsLifeWhy event life result }
 {
     let output = state.output();
     let permitted = output.limit;

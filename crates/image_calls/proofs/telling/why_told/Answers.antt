@@ -3,14 +3,14 @@ use Rattle.events.specs.declared.output.Output.{Output}
 use Rattle.kernel.specs.Lives.{past_at}
 use Rattle.kernel.specs.StandsFor.{StandsAt}
 use Rattle.reasons.specs.LimitWords.{limit_told}
-use Rattle.track_store.specs.Segments.{profile_kept}
+use Rattle.track_picture.specs.Stores.{segment_stores}
 use Rattle.image_calls.specs.Whys.{why_with}
 use Rattle.image_calls.proofs.telling.why_told.Goals as goal
 
 pub returns : goal.returns
 returns c = λ story stands output.
     let life = (past_at story).life in
-    let knows = subst (λ k. StandsAt profile_kept profile_kept k (past_at story)) (sym c.state-state.ensures) stands.knows in
+    let knows = subst (λ k. StandsAt segment_stores k (past_at story)) (sym c.state-state.ensures) stands.knows in
     let cause = c.limit_cause-cause.result in
     let runs = c.runs.ensures story stands in
     let trip = c.trip.ensures story stands in

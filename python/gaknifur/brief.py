@@ -64,7 +64,7 @@ class Newest:
     """The block that was being written, none of whose outputs was released."""
 
 
-def newest(journal: Journal) -> Newest | None:
+def newest(journal: Journal, table: pd.DataFrame) -> Newest | None:
     """The newest block of a journal; None where it can't be read."""
     number = (journal.examination["journal"] or {}).get("newest_block")
     slot = next((slot for slot in journal.slots if slot["state"] == "block" and slot.get("block") == number), None)
@@ -73,8 +73,8 @@ def newest(journal: Journal) -> Newest | None:
     unwritten = (other for other in journal.slots if other["state"] == "unwritten")
     behind = next((other for other in unwritten if other.get("block") == number + 1), None)
     is_released = behind is not None and behind.get("life") == slot.get("life")
-    kinds = [record["kind"] for record in journal.records
-             if record["block"] == number and record.get("source", "journal") == "journal"]
+    told = table[table["block"] == number]
+    kinds = list(told["kind"] if "source" not in told else told["kind"][told["source"] == "journal"])
     return Newest(number, slot["first_event"], slot["last_event"], is_released, kinds == ["powerup"], behind)
 
 
@@ -122,4 +122,4 @@ def brief(journal: Journal, table: pd.DataFrame, found: pd.DataFrame) -> Brief:
     of_life = table[table["life"] == last["life"]] if last else table
     trips = [trip_row(table, row) for row in entered[:MOST_TRIPS]]
     return Brief(faults(journal), last, int(of_life["event"].iat[0]) if len(of_life) else None, intervention, trips,
-                 len(entered) - len(trips), newest(journal))
+                 len(entered) - len(trips), newest(journal, table))

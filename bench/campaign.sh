@@ -1,23 +1,40 @@
 #!/bin/bash
-# Wall time and processor time, in seconds, of random lives: by `lab campaign`, and of their five commands alone (format, run, events, examine,
-# replay) by GNU parallel and by xargs, by four processes and by one. Each way is counted twice, in turn, and each leaves all images.
+# How much of what the processors could do a campaign plays: wall time and processor time, in seconds, of the same scenarios
 #
-#     bench/campaign.sh [LIVES [SEED]]    600 lives of seed 7
+#     by a plain loop        N shells that play one scenario behind another with the programs that a job runs: a copy of an empty image,
+#                            `etcs run`, `etcs_lab events`, `etcs_lab check`. They judge nothing, and keep no table
+#     by `./lab campaign`    by N processes here, and by N workers of Dask, which are warm
+#     by xargs, GNU parallel a shell for each scenario, which formats the image, and examines and replays it one behind the other
 #
-# GNU parallel is left out where it isn't there (Debian's package parallel).
+# with N of 1, 2 and 4. Each is counted so often, in turn, and the least stands, beside its share of what the plain loop does in that time. Images
+# lie in memory (/dev/shm), where there is that, so that no disk is waited for.
+#
+#     bench/campaign.sh [SCENARIOS [SEED [TURNS]]]    2,000 random lives of seed 7, three turns
+#
+# The programs are the proved ones, or those that GAKNIFUR_ETCS and GAKNIFUR_ETCS_LAB name. What isn't there is left out: Dask (tools/python
+# --campaigns), GNU parallel (Debian's package parallel).
 self=$(readlink -f -- "$0" && echo .) || exit 1
 top=${self%/*/*}
-export ETCS=$top/crates/etcs/out/etcs ETCS_LAB=$top/crates/etcs_lab/out/etcs_lab
-"$top/etcs" --is-proved && "$top/etcs_lab" --is-proved || { echo "there are no proved programs: ./etcs --prove and ./etcs_lab --prove make them" 1>&2; exit 1; }
-lives=${1:-600} seed=${2:-7}
-room=$(mktemp -d) || exit 1
-trap 'rm -rf "$room"' EXIT
+if [ -z "$GAKNIFUR_ETCS" ] || [ -z "$GAKNIFUR_ETCS_LAB" ]; then
+    "$top/etcs" --is-proved && "$top/etcs_lab" --is-proved || { echo "there are no proved programs: ./etcs --prove and ./etcs_lab --prove make them" 1>&2; exit 1; }
+    GAKNIFUR_ETCS=$top/crates/etcs/out/etcs GAKNIFUR_ETCS_LAB=$top/crates/etcs_lab/out/etcs_lab
+fi
+export GAKNIFUR_ETCS GAKNIFUR_ETCS_LAB
+scenarios=${1:-2000} seed=${2:-7} turns=${3:-3}
+[ -w /dev/shm ] && [ -z "$TMPDIR" ] && memory=/dev/shm
+room=$(mktemp -d ${memory:+-p "$memory"}) || exit 1
+started=()
+finish() {
+    kill "${started[@]}" 2>/dev/null
+    rm -rf "$room"
+}
+trap finish EXIT
+trap 'exit 1' HUP INT TERM
 cd "$room" || exit 1
-status=0
+status=0 python=/usr/bin/python3
 
-# The scenarios of just these lives, each a file.
 mkdir scenarios
-/usr/bin/python3 -I -B - "$top/python" "$lives" "$seed" <<'P' || exit 1
+"$python" -I -B - "$top/python" "$scenarios" "$seed" <<'P' || exit 1
 import sys
 from pathlib import Path
 
@@ -25,45 +42,118 @@ sys.path.insert(0, sys.argv[1])
 from gaknifur.campaign import at_random
 
 for number, job in enumerate(at_random(int(sys.argv[2]), int(sys.argv[3]), 64)):
-    Path(f"scenarios/{number:07}").write_bytes(dict(job.files)["scenario.json"])
+    Path(f"scenarios/{number:07}.json").write_bytes(dict(job.files)["scenario.json"])
 P
+"$GAKNIFUR_ETCS" format empty 64 >/dev/null || exit 1
 
-# The five commands of a life. (A life may end as refused or stopped; it still has a journal.)
-cat >five <<'S'
+# (A life may end as refused or stopped; it still has a journal.)
+cat >behind_another <<'S'
 #!/bin/sh
-image=images/${1##*/}
-"$ETCS" format "$image" 64
-"$ETCS" run "$1" "$image"
-"$ETCS_LAB" events "$image"
-"$ETCS_LAB" examine --json "$image"
-"$ETCS_LAB" replay --json "$image"
+for one in "$@"; do
+    image=images/${one##*/}
+    cp empty "$image"
+    "$GAKNIFUR_ETCS" run "$one" "$image"
+    "$GAKNIFUR_ETCS_LAB" events "$image"
+    "$GAKNIFUR_ETCS_LAB" check --json "$image"
+done
 exit 0
 S
-chmod +x five
+cat >by_itself <<'S'
+#!/bin/sh
+image=images/${1##*/}
+"$GAKNIFUR_ETCS" format "$image" 64
+"$GAKNIFUR_ETCS" run "$1" "$image"
+"$GAKNIFUR_ETCS_LAB" events "$image"
+"$GAKNIFUR_ETCS_LAB" examine --json "$image"
+"$GAKNIFUR_ETCS_LAB" replay --json "$image"
+exit 0
+S
+chmod +x behind_another by_itself
 
-campaign() { "$top/lab" campaign out.db --random "$lives" --seed "$seed" --workers "$1"; }
-by_parallel() { find scenarios -type f | parallel --will-cite -j "$1" ./five; }
-by_xargs() { find scenarios -type f -print0 | xargs -0 -n 1 -P "$1" ./five; }
+plain_loop() { find scenarios -type f -print0 | xargs -0 -n 16 -P "$1" ./behind_another; }
+campaign() { "$top/lab" campaign scenarios out.db --workers "$1"; }
+by_dask() { "$top/lab" campaign scenarios out.db --scheduler "$(cat "address$1")"; }
+by_xargs() { find scenarios -type f -print0 | xargs -0 -n 1 -P "$1" ./by_itself; }
+by_parallel() { find scenarios -type f | parallel --will-cite -j "$1" ./by_itself; }
 
-# counted WHAT COMMAND..: a row; what is made has to be there for each life
-counted() {
-    rm -rf out.db images && mkdir images
-    TIMEFORMAT='%R %U %S'
-    { time "${@:2}" >printed 2>said; } 2>seconds
-    read -r wall user system <seconds
-    printf '%-44s wall %6.1f processor %6.1f\n' "$1" "$wall" "$(awk "BEGIN { print $user + $system }")"
-    case $2 in
-        campaign) grep -q "^$lives rows, $lives of them played now; 0 not sound$" printed ;;
-        *) [ "$(find images -type f | wc -l)" = "$lives" ] ;;
-    esac || { echo "$1: not all lives were played: $(tail -n 1 said)" 1>&2; status=1; }
+# The processor time that processes which run on have had so far, with their ended children.
+spent() {
+    local process all=0 ticks
+    for process in "${@}"; do
+        ticks=$(sed 's/.*) //' "/proc/$process/stat" | cut -d ' ' -f 12-15 | tr ' ' '+') && all=$((all + ticks))
+    done
+    echo "$all"
 }
 
-echo "$lives lives of seed $seed, on $(nproc) processors, beside a load of $(cut -d ' ' -f 1 /proc/loadavg)"
-for _ in 1 2; do
-    for processes in 4 1; do
-        counted "lab campaign, $processes at a time" campaign "$processes"
-        if parallel --version 2>/dev/null </dev/null | grep -q '^GNU parallel'; then counted "five commands by GNU parallel, $processes at a time" by_parallel "$processes"; fi
-        counted "five commands by xargs, $processes at a time" by_xargs "$processes"
+# A scheduler with so many workers, whose processes stand in dask$1, and its address in address$1.
+start_dask() {
+    local number
+    export PYTHONPATH=$top/python DASK_DISTRIBUTED__WORKER__PROFILE__ENABLED=False
+    "$python" -m distributed.cli.dask_scheduler --host 127.0.0.1 --port 0 --no-dashboard --no-show --scheduler-file "told$1" >/dev/null 2>&1 &
+    started+=($!) && echo $! >"dask$1"
+    for ((number = 0; number < 600; number++)); do [ -s "told$1" ] && break; sleep 0.1; done
+    for ((number = 0; number < $1; number++)); do
+        "$python" -m distributed.cli.dask_worker --scheduler-file "told$1" --nthreads 1 --no-nanny --no-dashboard --host 127.0.0.1 >/dev/null 2>&1 &
+        started+=($!) && echo $! >>"dask$1"
+    done
+    unset PYTHONPATH
+    sed -n 's/.*"address": "\(tcp[^"]*\)".*/\1/p' "told$1" | head -n 1 >"address$1"
+    "$python" -I - "$(cat "address$1")" "$1" <<'P'
+import sys
+from distributed import Client
+with Client(sys.argv[1]) as client:
+    client.wait_for_workers(int(sys.argv[2]), timeout=120)
+P
+}
+
+# counted WAY N: one count; what is made has to be there for each scenario
+counted() {
+    local processes=() before after made
+    rm -rf out.db images && mkdir images
+    [ "$1" != by_dask ] || read -ra processes <<<"$(tr '\n' ' ' <"dask$2")"
+    before=$(spent "${processes[@]}")
+    TIMEFORMAT='%R %U %S'
+    { time "$1" "$2" >printed 2>said; } 2>seconds
+    after=$(spent "${processes[@]}")
+    case $1 in
+        campaign | by_dask) made=$(sed -n 's/^\([0-9]*\) rows, \1 of them played now; 0 not sound$/\1/p' printed) ;;
+        *) made=$(find images -type f | wc -l) ;;
+    esac
+    [ "$made" = "$scenarios" ] || { echo "$1, $2: not all were played: $(tail -n 1 said)" 1>&2; status=1; }
+    echo "$1 $2 $(cat seconds) $(((after - before) * 1000 / $(getconf CLK_TCK)))" >>counts
+}
+
+ways=(plain_loop campaign)
+if "$python" -c 'import distributed' 2>/dev/null; then
+    ways+=(by_dask)
+    for processes in 1 2 4; do
+        start_dask $processes || { echo "the scheduler and its workers don't begin" 1>&2; exit 1; }
+        counted by_dask $processes # (each worker looks for the programs once, and Python is read from the disk)
+    done
+    rm -f counts
+fi
+ways+=(by_xargs)
+if parallel --version 2>/dev/null </dev/null | grep -q '^GNU parallel'; then ways+=(by_parallel); fi
+echo "$scenarios scenarios of seed $seed on $(nproc) processors, $(date -u +%F), beside a load of $(cut -d ' ' -f 1 /proc/loadavg), images in ${memory:-${TMPDIR:-/tmp}}"
+for ((turn = 0; turn < turns; turn++)); do
+    for processes in 1 2 4; do
+        for way in "${ways[@]}"; do counted "$way" $processes; done
     done
 done
+"$python" -I - "$scenarios" <<'P'
+import sys
+from pathlib import Path
+
+NAMES = {"plain_loop": "plain loop", "campaign": "lab campaign, processes here", "by_dask": "lab campaign, workers of Dask",
+         "by_xargs": "by xargs, a shell each", "by_parallel": "by GNU parallel, a shell each"}
+scenarios, found = int(sys.argv[1]), {}
+for line in Path("counts").read_text().splitlines():
+    way, processes, wall, user, system, others = line.split()
+    found.setdefault((int(processes), way), []).append((float(wall), float(user) + float(system) + int(others) / 1000))
+print(f"{'at a time':>9}  {'what':30}  {'wall':>6}  {'a second':>8}  {'of the loop':>11}  {'processor':>9}  {'most wall':>9}")
+for (processes, way), counts in sorted(found.items(), key=lambda one: (one[0][0], list(NAMES).index(one[0][1]))):
+    wall, processor = (min(one[at] for one in counts) for at in (0, 1))
+    loop = min(one[0] for one in found[processes, "plain_loop"])
+    print(f"{processes:9}  {NAMES[way]:30}  {wall:6.2f}  {scenarios / wall:8.0f}  {loop / wall:11.0%}  {processor:9.2f}  {max(one[0] for one in counts):9.2f}")
+P
 exit $status

@@ -64,7 +64,7 @@ class Newest:
     """The block that was being written, none of whose outputs was released."""
 
 
-def newest(journal: Journal) -> Newest | None:
+def newest(journal: Journal, table: pd.DataFrame) -> Newest | None:
     """The newest block of a journal; None where it can't be read."""
     number = (journal.examination["journal"] or {}).get("newest_block")
     slot = next((slot for slot in journal.slots if slot["state"] == "block" and slot.get("block") == number), None)
@@ -73,8 +73,8 @@ def newest(journal: Journal) -> Newest | None:
     unwritten = (other for other in journal.slots if other["state"] == "unwritten")
     behind = next((other for other in unwritten if other.get("block") == number + 1), None)
     is_released = behind is not None and behind.get("life") == slot.get("life")
-    kinds = [record["kind"] for record in journal.records
-             if record["block"] == number and record.get("source", "journal") == "journal"]
+    told = table[table["block"] == number]
+    kinds = list(told["kind"] if "source" not in told else told["kind"][told["source"] == "journal"])
     return Newest(number, slot["first_event"], slot["last_event"], is_released, kinds == ["powerup"], behind)
 
 
@@ -122,7 +122,7 @@ def brief(journal: Journal, table: pd.DataFrame, found: pd.DataFrame) -> Brief:
     intervention = braked.iloc[-1].to_dict() | {"row": braked["first_row"].iat[-1]} if len(braked) else None
     entered = tables.trips(table).index[::-1]
     of_life = table[table["life"] == last["life"]] if last else table
-    unobeyed = not_obeyed.summary(journal)
+    unobeyed = not_obeyed.summary(table["not_obeyed"])
     trips = [trip_row(table, row) for row in entered[:MOST_TRIPS]]
     return Brief(faults(journal), last, int(of_life["event"].iat[0]) if len(of_life) else None, intervention, trips,
-                 len(entered) - len(trips), newest(journal), unobeyed.text() if unobeyed.packets else None)
+                 len(entered) - len(trips), newest(journal, table), unobeyed.text() if unobeyed.packets else None)

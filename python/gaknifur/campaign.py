@@ -13,7 +13,7 @@ import socket
 import sqlite3
 import time
 from collections import Counter
-from collections.abc import Callable, Iterable, Iterator
+from collections.abc import Callable, Iterable, Iterator, Sequence
 from concurrent.futures import FIRST_COMPLETED, Future, ProcessPoolExecutor, wait
 from concurrent.futures.process import BrokenProcessPool
 from dataclasses import dataclass
@@ -120,7 +120,7 @@ def play_scenario(scenario: Path, image: Path, slots: int) -> Row:
     return row | told_of(journal.records)
 
 
-def told_of(records: list[Json]) -> Row:
+def told_of(records: Sequence[Json]) -> Row:
     """What the records come to."""
     if not records:
         return {"events": 0, "lives": 0}

@@ -6,7 +6,8 @@ one than before in its life, so between two lines the causes are those of the fi
 answers. So it counts only where the replay says that the journal tells the same; elsewhere the causes aren't known, and
 the reason is told.
 """
-from collections.abc import Iterable
+import bisect
+from collections.abc import Iterable, Iterator
 from dataclasses import dataclass
 
 from .reading import Journal, Json
@@ -53,19 +54,26 @@ def held(line: Json) -> dict[str, int]:
     return {cause: line[cause] for cause in CAUSES if line.get(cause) is not None}
 
 
-def reasons_of(journal: Journal) -> list[str | None]:
-    """Of each record why its causes aren't known; None where the replay agrees."""
-    agreed: dict[int, str | None] = {}
-    for line in journal.replay:
-        verdict = line.get("replay")
-        if verdict in ("agrees", "not_replayed"):
-            reason = None if verdict == "agrees" else REASONS.get(line["reason"], line["reason"])
-            agreed.update(dict.fromkeys(range(line["first_event"], line["last_event"] + 1), reason))
-        elif verdict == "record_differs":
-            agreed[line["event"]] = DIFFERS
-    without = journal.why_refusal or NO_REPLAY
-    return [OTHER_BLOCK if record.get("source", "journal") != "journal" else agreed.get(record["event"], without)
-            for record in journal.records]
+class Reasons:
+    """Of an event of the journal why its causes aren't known; None where the replay agrees."""
+
+    def __init__(self, journal: Journal) -> None:
+        self.without = journal.why_refusal or NO_REPLAY
+        runs: list[tuple[int, int, str | None]] = []
+        for line in journal.replay:
+            verdict = line.get("replay")
+            if verdict in ("agrees", "not_replayed"):
+                reason = None if verdict == "agrees" else REASONS.get(line["reason"], line["reason"])
+                runs.append((line["first_event"], line["last_event"], reason))
+            elif verdict == "record_differs":
+                runs.append((line["event"], line["event"], DIFFERS))
+        self.runs = sorted(runs, key=lambda run: run[0])
+        self.firsts = [run[0] for run in self.runs]
+
+    def of(self, event: int) -> str | None:
+        """That of an event."""
+        at = bisect.bisect_right(self.firsts, event) - 1
+        return self.runs[at][2] if at >= 0 and event <= self.runs[at][1] else self.without
 
 
 @dataclass
@@ -106,24 +114,33 @@ def trip_of(line: Json) -> Trip | None:
     return Trip(line["trip_cause"], line["trip_cause_event"])
 
 
-def known(journal: Journal) -> list[Known]:
-    """What is known of each record."""
-    told = {line["event"]: line for line in journal.why}
-    found: list[Known] = []
-    before = None
-    for record, reason in zip(journal.records, reasons_of(journal)):
-        one = Known(reason, told.get(record["event"]) if reason is None else None)
-        if one.line and one.line["brake"] != record["brake"]:
-            one.reason, one.line = DIFFERS, None
-        if one.reason is None:
-            latest = one.line or (before if record["kind"] != "powerup" else None)
-            if latest:
-                one.held, one.limit, one.trip = held(latest), latest.get(LIMIT_CAUSE), trip_of(latest)
-            before = latest
-        else:
-            before = None
-        found.append(one)
-    return found
+Row = tuple[int, str, str, str | None]
+"""Event, kind, brake and source of a record."""
+
+
+def rows_of(journal: Journal) -> Iterator[Row]:
+    """What of each record its causes are looked up by."""
+    return ((one["event"], one["kind"], one["brake"], one.get("source")) for one in journal.records)
+
+
+def known(journal: Journal, records: Iterable[Row]) -> Iterator[Known]:
+    """What is known of each record. All behind one line of `etcs_lab why` have the same causes, limit and trip."""
+    told, reasons = {line["event"]: line for line in journal.why}, Reasons(journal)
+    before, same = None, Known(None)
+    for event, kind, brake, source in records:
+        reason = OTHER_BLOCK if (source or "journal") != "journal" else reasons.of(event)
+        line = told.get(event) if reason is None else None
+        if line and line["brake"] != brake:
+            reason, line = DIFFERS, None
+        if reason is not None:
+            before, same = None, Known(None)
+            yield Known(reason)
+            continue
+        latest = line or (before if kind != "powerup" else None)
+        if line or latest is not before:
+            same = Known(None, None, held(latest), latest.get(LIMIT_CAUSE), trip_of(latest)) if latest else Known(None)
+        before = latest
+        yield Known(None, line, same.held, same.limit, same.trip) if line else same
 
 
 @dataclass
@@ -197,4 +214,4 @@ def rows(journal: Journal) -> list[Json]:
     """A row for each cause that holds behind an event of which causes are told, with its words."""
     return [{"block": record["block"], "event": record["event"], "life": record["life"], "brake": record["brake"], "cause": cause,
              "since_event": since, "says": CAUSES[cause][0], "ends": CAUSES[cause][1]}
-            for record, one in zip(journal.records, known(journal)) for cause, since in (one.held or {}).items()]
+            for record, one in zip(journal.records, known(journal, rows_of(journal))) for cause, since in (one.held or {}).items()]

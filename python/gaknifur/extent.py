@@ -50,6 +50,8 @@ class Extent:
 
     def take(self, table: pd.DataFrame) -> pd.DataFrame:
         """The records within; their rows keep their numbers."""
+        if self.is_all:
+            return table
         kept: Any = pd.Series(True, index=table.index)
         if self.life is not None:
             kept &= table["life"] == self.life

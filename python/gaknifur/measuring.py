@@ -11,6 +11,7 @@ from itertools import pairwise
 from . import measures
 from .causes import Known as Causes
 from .causes import known as causes_of
+from .causes import rows_of
 from .course import Event
 from .measures import ACKNOWLEDGED, ACTIONS, BOTH, IN_ANOTHER_MODE, ITEM, NOT_STANDING, SECOND, Action
 from .messages import ALWAYS, NOW, Known, Link, Message, Packet, Walk
@@ -432,7 +433,7 @@ def power_up_ways(cause: str, was: Json, now: Json) -> Iterator[str]:
 def measure(journal: Journal) -> Reached:
     """What the lives of a journal reach, each that is there from its power-up on."""
     reached, driver, kept = Reached(), Driver(), Known()
-    told = causes_of(journal)
+    told = list(causes_of(journal, rows_of(journal)))
     measure_causes(journal.records, told, reached)
     lives: dict[int, list[tuple[Json, Causes]]] = {}
     for record, one in zip(journal.records, told):

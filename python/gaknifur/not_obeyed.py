@@ -6,11 +6,10 @@ listed whatever its direction, and also behind a packet 136: whether a train of 
 here tells. Nor is a packet listed that the kernel knows and a mode, a direction or its group kept from being used.
 """
 from collections import Counter
-from collections.abc import Iterator
+from collections.abc import Iterable
 from dataclasses import dataclass
 
 from . import _track_packets
-from .reading import Journal, Json
 from .telegrams import packets_in
 
 NATIONAL_VALUES, OWN_LENGTH = 3, 7
@@ -32,7 +31,7 @@ def packets_of(digits: str) -> list[int]:
     return [number for number, told in packets_in(bits) if len(told) == int(told[10:23], 2) and is_not_obeyed(number, len(told))]
 
 
-def column(telegrams: list[str | None]) -> list[str | None]:
+def column(telegrams: Iterable[str | None]) -> list[str | None]:
     """Of each telegram the numbers of such packets; None where there is none, or no telegram."""
     return [" ".join(map(str, packets_of(digits))) or None if digits is not None else None for digits in telegrams]
 
@@ -52,16 +51,8 @@ class Summary:
                 if self.packets else "no telegram had a packet of issue 2.3.0 that this unit does not obey")
 
 
-def told_by(records: list[Json]) -> Iterator[set[int]]:
-    """Of each telegram that had such packets their numbers."""
-    for record in records:
-        found = set(packets_of(record["telegram"])) if record["kind"] == "telegram" else set()
-        if found:
-            yield found
-
-
-def summary(journal: Journal) -> Summary:
-    """What the telegrams of a journal had of such packets: those that most telegrams had come first."""
-    found = list(told_by(journal.records))
-    counts = Counter(number for numbers in found for number in numbers)
+def summary(told: Iterable[str | None]) -> Summary:
+    """What telegrams had of such packets, by their `column`: those that most telegrams had come first."""
+    found = [set(one.split()) for one in told if one]
+    counts = Counter(int(number) for numbers in found for number in numbers)
     return Summary(len(found), dict(sorted(counts.items(), key=lambda one: (-one[1], one[0]))))

@@ -54,7 +54,7 @@ def against(told: argparse.Namespace, progress: Progress) -> int:
     journal = read(told.image, progress=progress)
     if not journal.is_whole or not journal.records:
         raise Failed(f"{told.image}: the journal isn't whole, or is empty, so no other unit is asked", REFUSED)
-    asked = oracle.ask(told.command, journal.name, journal.records, within_s)
+    asked = oracle.ask(told.command, journal.name, list(journal.records), within_s)
     for line in oracle.lines(asked):
         sys.stdout.write(line_of(line.told) if told.json else line.text + "\n")
     sys.stdout.flush()

@@ -4,7 +4,7 @@ A journal is judged only where each life ended as told, each output that was rel
 is whole, and a replay by the kernel agrees with all of it.
 """
 import re
-from collections.abc import Callable
+from collections.abc import Callable, Sequence
 from dataclasses import dataclass
 from pathlib import Path
 
@@ -154,7 +154,7 @@ def check_image(journal: Journal) -> None:
         raise Missed("a replay in which nothing differs", str(journal.replay[-1]))
 
 
-def check_released(released: list[str], records: list[Json]) -> None:
+def check_released(released: list[str], records: Sequence[Json]) -> None:
     """Each output that was released is that of its record."""
     told = {record["event"]: record for record in records}
     for line in released:
@@ -171,7 +171,7 @@ def check_released(released: list[str], records: list[Json]) -> None:
             raise Missed(f"the output of its record: {wanted}", f"this output was released: {line}", record)
 
 
-def with_speeds(records: list[Json]) -> list[Json]:
+def with_speeds(records: Sequence[Json]) -> list[Json]:
     """The records with the speed that holds behind each: that of the life's last reading, 0 before the first one; unknown
     where the beginning of the life was written over."""
     found: list[Json] = []

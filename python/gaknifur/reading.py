@@ -4,10 +4,12 @@ import gc
 import hashlib
 import itertools
 import json
+import marshal
+import zlib
 from collections.abc import Callable, Iterator, Sequence
 from dataclasses import dataclass, field
 from pathlib import Path
-from typing import TYPE_CHECKING, Any
+from typing import TYPE_CHECKING, Any, overload
 
 from .program import DEVICE, NOT_WHOLE, REFUSED, WHOLE, Failed, Run
 from .shown import shown
@@ -20,12 +22,59 @@ Progress = Callable[[str, int, int], None]
 """What is told while it goes on: what is done, how much of it, and of how much (0 where that isn't known)."""
 
 
-AT_ONCE = 512
-"""How many lines are read at once."""
+AT_ONCE, PACK, MOST_UNPACKED = 512, 512, 1 << 15
+"""How many lines are read at once; how many records are packed together; and up to how many aren't packed: a multiple of that."""
 
 
 def silent(what: str, done: int, whole: int) -> None:
     """Tells nothing."""
+
+
+class Records(Sequence[Json]):
+    """Records in the order in which they were told. Of a long journal they are kept packed, by so many at once: a tenth of the
+    room, and a few microseconds for each one that is looked at. What is changed in one that was read is not kept."""
+
+    def __init__(self) -> None:
+        self.packs: list[bytes] = []
+        self.last: list[Json] = []
+        self.is_long = False
+        self.unpacked: tuple[int, list[Json]] = -1, []
+
+    def append(self, record: Json) -> None:
+        """Adds one."""
+        self.last.append(record)
+        if len(self.last) >= (PACK if self.is_long else MOST_UNPACKED):
+            self.is_long = True
+            for first in range(0, len(self.last), PACK):
+                self.packs.append(zlib.compress(marshal.dumps(self.last[first:first + PACK]), 1))
+            self.last = []
+
+    def pack(self, number: int) -> list[Json]:
+        """The records of a pack; of the last ones that aren't packed."""
+        if number >= len(self.packs):
+            return self.last
+        if self.unpacked[0] != number:
+            self.unpacked = number, marshal.loads(zlib.decompress(self.packs[number]))
+        return self.unpacked[1]
+
+    def __len__(self) -> int:
+        return PACK * len(self.packs) + len(self.last)
+
+    def __iter__(self) -> Iterator[Json]:
+        for number in range(len(self.packs)):
+            yield from self.pack(number)
+        yield from self.last
+
+    @overload
+    def __getitem__(self, at: int) -> Json: ...
+    @overload
+    def __getitem__(self, at: slice) -> list[Json]: ...
+    def __getitem__(self, at: int | slice) -> Json | list[Json]:
+        if isinstance(at, slice):
+            return [self[one] for one in range(len(self))[at]]
+        row = range(len(self))[at]
+        number = min(row // PACK, len(self.packs))
+        return self.pack(number)[row - PACK * number]
 
 
 @dataclass
@@ -34,7 +83,7 @@ class Journal:
 
     path: Path
     examination: Json
-    records: list[Json] = field(default_factory=list)
+    records: Sequence[Json] = ()
     unreadable: list[int] = field(default_factory=list)
     """Numbers of blocks of the journal that can't be read."""
     replay: list[Json] = field(default_factory=list)
@@ -196,7 +245,8 @@ def tell_events(journal: Journal, other_blocks: bool, strays: bool, progress: Pr
     extent = journal.examination["journal"] or {}
     last, first = extent.get("last_event"), extent.get("first_event")
     whole = 0 if last is None or first is None else last - first + 1
-    ended = False
+    ended, records = False, Records()
+    journal.records = records
 
     def step(told: Json) -> None:
         nonlocal ended
@@ -205,9 +255,9 @@ def tell_events(journal: Journal, other_blocks: bool, strays: bool, progress: Pr
         elif not other_blocks and told.pop("source", "journal") != "journal":
             return
         elif "event" in told:
-            journal.records.append(told)
-            if len(journal.records) % 1000 == 0:
-                progress("events", len(journal.records), whole)
+            records.append(told)
+            if len(records) % 1000 == 0:
+                progress("events", len(records), whole)
         elif "unreadable" in told:
             journal.unreadable.append(told["unreadable"]["block"])
         elif "end" in told:

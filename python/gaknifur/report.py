@@ -35,6 +35,16 @@ class Life:
                 "fastest_kmh": float(speed.max()) if len(speed) else None, "last_ms": int(table["time_ms"].max())}
 
 
+def lives_of(table: pd.DataFrame) -> list[Life]:
+    """The lives of a table, from the first one on. Where all records of each are beside one another, no column is copied."""
+    life = table["life"].to_numpy()
+    firsts = np.flatnonzero(np.diff(life, prepend=-1))
+    if len(firsts) != len(np.unique(life)):
+        return [Life(int(number), part) for number, part in table.groupby("life", sort=True)]
+    found = [Life(int(life[first]), table.iloc[first:last]) for first, last in zip(firsts, [*firsts[1:], len(table)])]
+    return sorted(found, key=lambda one: one.life)
+
+
 def groups_of(part: pd.DataFrame) -> list[tuple[int, str]]:
     """Where telegrams were read, and of which group."""
     heard = part[(part["kind"] == "telegram") & part["place_cm"].notna()]
@@ -221,7 +231,7 @@ def page(journal: Journal, extent: Extent = Extent(), progress: Progress = silen
     linked = {int(row) for row in chosen["first_row"]} | {top["row"] for top in (fastest, over) if top}
     linked |= led_to(told) | at_top.rows
     shown = in_order(listed(table, linked), is_newest_first)
-    lives = [Life(int(life), part) for life, part in table.groupby("life", sort=True)]
+    lives = lives_of(table)
     drawn = [life for life in lives if len(life.table) > 1][-MOST_LIVES:]
     if is_newest_first:
         lives, drawn = lives[::-1], drawn[::-1]

@@ -23,7 +23,8 @@ Columns of `strays`, the records of blocks in a wrong slot and of damaged ones: 
 stands in the image, and of those above what it tells by itself. Of a damaged block the life is missing, and the block where
 its head tells none.
 """
-from collections.abc import Callable, Sequence
+import itertools
+from collections.abc import Callable, Iterable, Sequence
 from operator import itemgetter
 from typing import Any
 
@@ -48,6 +49,8 @@ OF_KIND = {
                "maximum_m_per_h", "category", "deceleration_cm_per_s2", "reaction_ms")}
 """Those of one kind of event."""
 HEADER = ("NID_C", "NID_BG", "N_PIG", "N_TOTAL", "M_DUP", "M_MCOUNT", "Q_LINK")
+AT_ONCE = 8192
+"""How many records are taken at once."""
 SHOWS = tuple(f"shows_{name}" for name in INDICATIONS)
 
 
@@ -86,16 +89,19 @@ def decoded_columns(decoded: Sequence[Json | None]) -> dict[str, Any]:
     return columns
 
 
-def cause_columns(journal: Journal) -> dict[str, Any]:
+def cause_columns(journal: Journal, records: Iterable[causes.Row]) -> dict[str, Any]:
     """The causes of each record's brake, why they aren't known, the trip that is owed, what decides its limit, and the line that
     tells them."""
-    told = causes.known(journal)
-    trips = [one.trip for one in told]
-    return {"causes": [causes.text(one.held) for one in told], "causes_not_known": [one.reason for one in told],
+    found: dict[str, list[Any]] = {name: [] for name in ("causes_not_known", "limit_cause", "held", "trip", "why")}
+    for one in causes.known(journal, records):
+        for name, value in zip(found, (one.reason, one.limit, one.held, one.trip, one.line)):
+            found[name].append(value)
+    texts = {id(held): causes.text(held) for held in found["held"]}
+    trips = found["trip"]
+    return {"causes": [texts[id(held)] for held in found["held"]], "causes_not_known": found["causes_not_known"],
             "trip_cause": [trip.cause if trip else None for trip in trips],
             "trip_cause_event": numbers([trip.event if trip else None for trip in trips]),
-            "limit_cause": [one.limit for one in told], "held": [one.held for one in told], "trip": trips,
-            "why": [one.line for one in told]}
+            "limit_cause": found["limit_cause"], "held": found["held"], "trip": trips, "why": found["why"]}
 
 
 def by_kind(records: Sequence[Json]) -> dict[str, list[Any]]:
@@ -114,33 +120,74 @@ def shown_columns(indications: Sequence[Sequence[str]]) -> dict[str, Any]:
     return {f"shows_{name}": np.array([name in shown for shown in lists], bool)[which] for name in INDICATIONS}
 
 
-def frame(journal: Journal) -> pd.DataFrame:
-    """One row a record, in the order in which `etcs_lab events` tells them."""
-    records = journal.records
+class Texts:
+    """Makes columns of texts, or of other things, of which equal texts are one."""
+
+    def __init__(self) -> None:
+        self.known: dict[str, str] = {}
+
+    def column(self, values: Iterable[Any]) -> Any:
+        """A column."""
+        found = [self.known.setdefault(one, one) if isinstance(one, str) else one for one in values]
+        column = np.empty(len(found), object)
+        column[:] = found
+        return column
+
+
+def told_columns(records: Sequence[Json], texts: Texts) -> dict[str, Any]:
+    """The members of some records, as columns."""
     rows = list(map(itemgetter(*OF_ALL), records))
     told: dict[str, Any] = dict(zip(OF_ALL, zip(*rows) if rows else [()] * len(OF_ALL)))
-    source = [record.get("source") for record in records]
     some = by_kind(records)
-    columns: dict[str, Any] = {name: np.asarray(told[name], np.int64) for name in ("block", "event", "life")}
-    columns["stretch"] = stretches(columns["event"], columns["life"], source)
-    columns |= {"kind": told["kind"], "time_ms": np.asarray(told["time_ms"], np.int64), "mode": told["mode"]}
-    columns |= {"level": numbers(told["level"]), "brake": told["brake"]}
-    if any(source):
-        columns["source"] = source
+    columns: dict[str, Any] = {name: np.asarray(told[name], np.int64) for name in ("block", "event", "life", "time_ms")}
+    columns |= {name: texts.column(told[name]) for name in ("kind", "mode", "brake")}
+    columns["source"] = texts.column(record.get("source") for record in records)
     columns |= shown_columns(told["indications"])
-    columns |= {"place_cm": numbers(told["place_cm"]), "uncertainty_cm": numbers(told["uncertainty_cm"], np.uint64)}
-    columns |= {name: numbers(told[name]) for name in ("min_safe_front_cm", "max_safe_front_cm", "limit_m_per_h")}
-    columns["limit_kmh"] = columns["limit_m_per_h"].astype("Float64") / 1000
+    columns |= {name: numbers(told[name]) for name in ("level", "place_cm", "min_safe_front_cm", "max_safe_front_cm", "limit_m_per_h")}
+    columns |= {"uncertainty_cm": numbers(told["uncertainty_cm"], np.uint64)}
     columns |= {"movement_cm": numbers(some["movement_cm"]), "reading_m_per_h": numbers(some["speed_m_per_h"])}
-    columns["speed_m_per_h"] = held_speed(columns["kind"], columns["reading_m_per_h"], columns["stretch"])
-    columns["speed_kmh"] = columns["speed_m_per_h"].astype("Float64") / 1000
-    columns["over_limit_kmh"] = (columns["speed_m_per_h"] - columns["limit_m_per_h"]).astype("Float64") / 1000
     columns |= {name: numbers(some[name]) for name in NUMBERS}
-    columns |= {name: some[name] for name in TEXTS}
-    columns |= decoded_columns(some["decoded"])
-    columns |= {"not_obeyed": not_obeyed.column(some["telegram"]), "decoded": some["decoded"], **cause_columns(journal)}
+    columns |= {name: texts.column(some[name]) for name in (*TEXTS, "decoded")}
+    columns["not_obeyed"] = texts.column(not_obeyed.column(some["telegram"]))
+    heads = decoded_columns(some["decoded"])
+    return columns | {name: texts.column(one) if isinstance(one, list) else one for name, one in heads.items()}
+
+
+def joined(parts: Sequence[Any]) -> Any:
+    """Some pieces of a column, one behind another."""
+    if isinstance(parts[0], pd.arrays.IntegerArray):
+        return pd.arrays.IntegerArray(np.concatenate([one._data for one in parts]), np.concatenate([one._mask for one in parts]))
+    return np.concatenate(parts)
+
+
+def all_columns(records: Sequence[Json]) -> dict[str, Any]:
+    """The members of all records, as columns. They are taken by so many at once, so that a long journal never stands in memory as
+    objects."""
+    texts, left = Texts(), iter(records)
+    parts = [told_columns(some, texts) for some in iter(lambda: list(itertools.islice(left, AT_ONCE)), [])] or [told_columns([], texts)]
+    return {name: joined([one.pop(name) for one in parts]) for name in list(parts[0])}
+
+
+ORDER = ("block", "event", "life", "stretch", "kind", "time_ms", "mode", "level", "brake", "source", *SHOWS, "place_cm", "uncertainty_cm",
+         "min_safe_front_cm", "max_safe_front_cm", "limit_m_per_h", "limit_kmh", "movement_cm", "reading_m_per_h", "speed_m_per_h",
+         "speed_kmh", "over_limit_kmh", *NUMBERS, *TEXTS, *(name.lower() for name in HEADER), "packets", "fault", "not_obeyed", "decoded")
+"""The columns up to those of causes."""
+
+
+def frame(journal: Journal) -> pd.DataFrame:
+    """One row a record, in the order in which `etcs_lab events` tells them."""
+    told = all_columns(journal.records)
+    told["stretch"] = stretches(told["event"], told["life"], told["source"])
+    told["limit_kmh"] = told["limit_m_per_h"].astype("Float64") / 1000
+    told["speed_m_per_h"] = held_speed(told["kind"], told["reading_m_per_h"], told["stretch"])
+    told["speed_kmh"] = told["speed_m_per_h"].astype("Float64") / 1000
+    told["over_limit_kmh"] = (told["speed_m_per_h"] - told["limit_m_per_h"]).astype("Float64") / 1000
+    by_cause = cause_columns(journal, zip(told["event"].tolist(), told["kind"], told["brake"], told["source"]))
+    if not any(told["source"]):
+        del told["source"]
+    columns: dict[str, Any] = {name: told.pop(name) for name in ORDER if name in told}
     by_marks = times.columns(journal)
-    columns |= {"utc_by_marks": by_marks["utc_by_marks"], "utc_uncertainty_ms": numbers(by_marks["utc_uncertainty_ms"])}
+    columns |= by_cause | {"utc_by_marks": by_marks["utc_by_marks"], "utc_uncertainty_ms": numbers(by_marks["utc_uncertainty_ms"])}
     table = pd.DataFrame(columns)
     table.insert(table.columns.get_loc("action") + 1, "refused", actions.refused(table))
     return table

@@ -7,11 +7,11 @@ right, both are named, and of that life no time of day is told.
 """
 import csv
 import datetime
+import itertools
 import re
 from bisect import bisect_right
 from collections.abc import Iterable, Iterator
 from dataclasses import dataclass, field
-from itertools import accumulate
 from pathlib import Path
 from typing import Self
 
@@ -118,12 +118,12 @@ def read_marks(path: Path) -> tuple[list[Mark], str | None]:
 
 def greatest(numbers: Iterable[int]) -> list[int]:
     """Of each number the greatest one up to and with it."""
-    return list(accumulate(numbers, lambda one, other: max(one, other)))
+    return list(itertools.accumulate(numbers, lambda one, other: max(one, other)))
 
 
 def least(numbers: Iterable[int]) -> list[int]:
     """Of each number the least one up to and with it."""
-    return list(accumulate(numbers, lambda one, other: min(one, other)))
+    return list(itertools.accumulate(numbers, lambda one, other: min(one, other)))
 
 
 class Life:
@@ -224,7 +224,7 @@ class Times:
             return 0, None
         moment, behind = int(record["time_ms"]), 0
         if record["kind"] != "clock":
-            later = next((one for one in journal.records[at:] if one["life"] == record["life"] and one["time_ms"] > moment), None)
+            later = next((one for one in itertools.islice(journal.records, at, None) if one["life"] == record["life"] and one["time_ms"] > moment), None)
             if later is None:
                 self.left_out.append(f"{mark.text()}: no moment of its life follows, so nothing says how long behind its moment it came")
                 return 0, None
@@ -251,7 +251,7 @@ class Times:
 def columns(journal: Journal) -> Json:
     """Of each record the time of day by marks, and how far off it may be; None where it isn't known."""
     times = journal.times
-    told = [times.utc(one["life"], one["time_ms"]) if times else None for one in journal.records]
+    told = [times.utc(one["life"], one["time_ms"]) for one in journal.records] if times else [None] * len(journal.records)
     return {"utc_by_marks": [iso(one[0]) if one else None for one in told], "utc_uncertainty_ms": [one[1] if one else None for one in told]}
 
 

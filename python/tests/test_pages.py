@@ -249,6 +249,14 @@ class Parts(unittest.TestCase):
             with self.assertRaises(Failed, msg=text):
                 bound(text)
 
+    def test_lives(self) -> None:
+        rows: list[tuple[list[int], list[tuple[int, list[int]]]]] = [
+            ([1, 1, 2], [(1, [0, 1]), (2, [2])]), ([2, 2, 1], [(1, [2]), (2, [0, 1])]), ([1, 2, 1], [(1, [0, 2]), (2, [1])]), ([], [])]
+        for lives, told in rows:
+            table = tables.frame(journal(*(record(event, life=life) for event, life in enumerate(lives))))
+            found = report.lives_of(table)
+            self.assertEqual([(one.life, list(one.table["event"])) for one in found], told)
+
     def test_take(self) -> None:
         table = tables.frame(journal(*RUN))
         self.assertEqual(list(Extent(bound("1"), bound("3m")).take(table)["event"]), [1, 2, 3])

@@ -7,8 +7,9 @@ import unittest
 from pathlib import Path
 from unittest.mock import patch
 
+from gaknifur import reading
 from gaknifur.program import Failed, built, etcs
-from gaknifur.reading import Journal, read
+from gaknifur.reading import Journal, Records, read
 
 from .samples import journal, line, record
 
@@ -59,7 +60,7 @@ class Reading(unittest.TestCase):
         found = self.read()
         self.assertEqual(([one["event"] for one in found.records], found.unreadable), ([0], [4]))
         self.assertEqual([list(one)[-1] for one in found.replay], ["replay", "end"])
-        self.assertEqual((read(self.image).records, read(self.image).replay), (found.records, []))
+        self.assertEqual((list(read(self.image).records), read(self.image).replay), (list(found.records), []))
 
     def test_a_listing_that_was_cut_off(self) -> None:
         self.says("events", [{"image": {}}, record(0)])
@@ -106,6 +107,23 @@ class Reading(unittest.TestCase):
                            ('{"end": "done"}, {"end": "done"}\n', "no JSON"), ('[1\n2]\n', "no JSON")):
             self.program.with_name("etcs_lab.events").write_text(text)
             self.assertRaisesRegex(Failed, said, self.read)
+
+
+class Packed(unittest.TestCase):
+    """Records of a long journal."""
+
+    def test_are_those_that_were_added(self) -> None:
+        told = [record(number, identity=f"IC {number}", telegram=None if number % 2 else "90" * 104) for number in range(23)]
+        for count in (0, 1, 7, 8, 9, 11, 12, 23):
+            found = Records()
+            with patch.multiple(reading, PACK=4, MOST_UNPACKED=8):
+                for one in told[:count]:
+                    found.append(one)
+                self.assertEqual((len(found), bool(found), len(found.packs)), (count, count > 0, count // 4 if count >= 8 else 0))
+                self.assertEqual(list(found), told[:count])
+                self.assertEqual([found[at] for at in range(-count, count)], 2 * told[:count])
+                self.assertEqual((found[3:], found[-2:], found[::5]), (told[:count][3:], told[:count][-2:], told[:count:5]))
+                self.assertRaises(IndexError, lambda: found[count])
 
 
 class Unproved(unittest.TestCase):

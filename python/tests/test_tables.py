@@ -1,5 +1,6 @@
 """Tables of records."""
 import unittest
+from unittest.mock import patch
 
 import pandas as pd
 
@@ -51,6 +52,14 @@ class Columns(unittest.TestCase):
         self.assertEqual(list(table["packets"]), ["12", None])
         self.assertEqual(list(table["fault"]), [None, "Spare"])
         self.assertEqual(table["nid_bg"].iat[0], 2)
+
+    def test_a_long_journal_is_taken_in_pieces(self) -> None:
+        told = journal(record(0, "powerup"), reading(1, 30_000), record(2, "telegram", telegram="90", decoded=AUTHORITY),
+                       action(3, "enter_identity", identity="IC"), record(4, level=None, uncertainty_cm=2**64 - 1), record(5, source="replaced"))
+        whole = tables.frame(told)
+        for count in (1, 2, 5):
+            with patch.object(tables, "AT_ONCE", count):
+                pd.testing.assert_frame_equal(tables.frame(told), whole)
 
     def test_no_record(self) -> None:
         table = tables.frame(journal())

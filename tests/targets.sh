@@ -64,17 +64,6 @@ node $wide -e '' 2>/dev/null || wide=
 node $wide --no-warnings "$here/driver.mjs" "$wasm/lib/etcs.wasm" <"$made/script" >"$made/told.wasm64" || fails "the driver in WebAssembly ends with another status than 0"
 "$python" "$here/scripts.py" compare "$made/script" "$made"/told.{x86_64,x86_64_own_memory,aarch64,aarch64_own_memory,board,wasm64} || status=1
 
-# ---- the copies for machines without a C library
-
-for one in "gcc here" "$cross aarch64 -static"; do
-    read -r compiler name words <<<"$one"
-    # shellcheck disable=SC2086
-    "$compiler" -std=c99 -O2 "${strict[@]}" $words -fno-builtin -D{memcpy=own_memcpy,memmove=own_memmove,memset=own_memset,memcmp=own_memcmp} -I "$top/surroundings" \
-        "$here/bytes.c" "$top/surroundings/bytes.c" -o "$made/bytes.$name" || fails "bytes.c doesn't compile: $name"
-done
-"$made/bytes.here" || fails "copies on x86-64"
-qemu-aarch64 "$made/bytes.aarch64" || fails "copies on aarch64"
-
 # ---- the tests of the unit from C, on aarch64
 
 rows=0

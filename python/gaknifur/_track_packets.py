@@ -1,5 +1,5 @@
 """The packets that a track sends and the kernel skips, and packet 3 as a track sends it: names, layouts, and the widths of
-further variables (docs/PACKETS.md). Written by `tools/packets` from crates/track_packets."""
+further variables and the units of all (docs/PACKETS.md). Written by `tools/packets` from crates/track_packets."""
 
 NAMES: dict[int, str] = {
     0: "Virtual Balise Cover marker",

@@ -1,8 +1,11 @@
 #!/bin/bash
 # The page of tools/page in headless Chromium, on the programs that the gate leaves behind: its types; what is driven beside `etcs run`, also with
-# cuts of power; what is asked beside `etcs_lab`, also of altered images; hostile files and texts; that it connects to nobody; contrast and names.
+# cuts of power, and beside the library for C; what is asked beside `etcs_lab`, also of altered images; telegrams that are taken apart; hostile files
+# and texts; that it connects to nobody; contrast and names; how long an image takes.
 #
 #     tests/page.sh [ETCS_LAB ETCS [PAGE [NAME..]]]    on other programs, of a page that is there, these checks alone
+#
+# GAKNIFUR_ETCS_UNIT names a library for C that is there. GAKNIFUR_BROWSER=firefox runs the checks in Firefox, outside the gate.
 cd "$(dirname "$(readlink -f -- "$0")")/.." || exit 1
 lab=${1:-crates/etcs_lab/out/etcs_lab} etcs=${2:-crates/etcs/out/etcs}
 lab=$(realpath "$lab") && etcs=$(realpath "$etcs") || exit 1
@@ -12,6 +15,10 @@ done
 export PYTHONDONTWRITEBYTECODE=1 GAKNIFUR_ETCS_LAB=$lab GAKNIFUR_ETCS=$etcs
 folder=$(mktemp -d) || exit 1
 trap 'rm -rf "$folder"' EXIT
+if [ -z "$GAKNIFUR_ETCS_UNIT" ]; then
+    tools/library "$folder/prefix" >"$folder/said" 2>&1 || { cat "$folder/said"; echo "page: the library isn't built"; exit 1; }
+    export GAKNIFUR_ETCS_UNIT=$folder/prefix/lib/libetcs_unit.so
+fi
 page=${3:-}
 if [ -z "$page" ]; then
     page=$folder/gaknifur.html

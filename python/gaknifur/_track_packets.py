@@ -1,5 +1,5 @@
 """The packets that a track sends and the kernel skips, and packet 3 as a track sends it: names, layouts, the widths of
-further variables, and what single numbers mean (docs/PACKETS.md). Written by `tools/packets` from crates/track_packets."""
+further variables, the units of all, and what single numbers mean (docs/PACKETS.md). Written by `tools/packets` from crates/track_packets."""
 
 NAMES: dict[int, str] = {
     0: "Virtual Balise Cover marker",

@@ -82,5 +82,6 @@ class Browser:
 
     def image(self) -> bytes:
         """The image of the desk."""
-        return base64.b64decode(self.run("const b = window.gaknifur.drive.image(); let s = ''; for (let n = 0; n < b.length; n += 32768)"
-                                         " s += String.fromCharCode(...b.subarray(n, n + 32768)); return btoa(s)"))
+        told = self.run_later("const done = arguments[0], reader = new FileReader(); reader.onload = () => done(reader.result);"
+                              " reader.readAsDataURL(new Blob([window.gaknifur.drive.image()]))")
+        return base64.b64decode(told.partition(",")[2])

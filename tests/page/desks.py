@@ -7,13 +7,13 @@ from pathlib import Path
 from typing import Any
 
 from browsing import Browser
-from gaknifur import driving, program
+from gaknifur import driving, program, unit
 from gaknifur.drives import Train
 
 SLOTS = 2048
 TOP = Path(__file__).resolve().parents[2]
 EXAMPLES = ("full_supervision", "trip", "on_sight", "staff_responsible", "power_cut", "linking_fault")
-LIVES = 300
+LIVES, CUT_LIVES = 300, 300
 TRACKS_TRIED = 40
 TELEGRAMS = ("90007F802001432024A6007FE007D002B00D900010000DC03A400018801FE0", "90007F802001506023A0E04B0064427F80",
              "90007F802001432024A6007FE0025802B00D900010000DC03A400018801FE0", "90007F802001FFC0", "00", "90007F80")
@@ -157,6 +157,119 @@ def random_lives(browser: Browser, _page: Path, folder: Path) -> int:
     return count
 
 
+WITH_CUTS = """
+const { calls } = window.gaknifur, { Life, formatted, openAt } = window.gaknifur.parts, [slots, lives] = arguments;
+const medium = calls.hold(formatted(calls, slots)), found = [];
+for (const { cold, steps, cut } of lives) {
+    const life = new Life(calls, medium, cold);
+    for (const step of steps) life.accept(step);
+    if (!cut) life.cut();
+    else {
+        const list = life.prepare(), index = Math.min(cut.request, list.length - 1);
+        life.cutWithin(list, index, cut.left.slice(0, list[openAt(list, index)].request.sectors));
+    }
+    found.push(life.outputs.map(o => [o.event, o.mode, o.level, o.brake, o.limit, o.indications]));
+}
+const bytes = calls.bytesOf(medium);
+calls.drop(medium);
+return [btoa(String.fromCharCode(...bytes)), found];
+"""
+
+
+class Lost(Exception):
+    """Power is lost."""
+
+
+class Cut(unit.MemoryMedium):
+    """A medium that loses power within a request: of the write that is open then each sector is left as it is told."""
+
+    left: list[str] | None = None
+    request = 0
+    open: tuple[int, bytes, bytes] = (0, b"", b"")
+
+    def lose(self) -> None:
+        """The last request, where it is the one."""
+        if self.left is None:
+            return
+        if self.request == 0:
+            sector, old, new = self.open
+            for number, left in enumerate(self.left[:len(new) // 512]):
+                foreign = bytes(((sector + number) * 31 + n * 17 + 0x5a) & 0xff for n in range(512))
+                data = {"old": old, "new": new}.get(left, b"")[512 * number:512 * (number + 1)] or foreign
+                super().write(sector + number, data)
+            raise Lost
+        self.request -= 1
+
+    def write(self, sector: int, data: bytes) -> None:
+        self.open = sector, bytes(self.data[512 * sector:512 * sector + len(data)]), data
+        self.lose()
+        super().write(sector, data)
+
+    def sync(self) -> None:
+        self.lose()
+
+
+def act(one: unit.Unit, step: dict[str, Any]) -> None:
+    """Hands the unit of the library for C what a step of a scenario tells."""
+    (word, value), = step.items()
+    if word == "telegram":
+        one.telegram(bytes.fromhex(value))
+    elif word == "drive":
+        one.odometer(*value)
+    elif word == "clock":
+        one.clock(value)
+    elif value[0] == 1:
+        one.identity(value[1])
+    elif value[0] == 2:
+        one.running_number(value[1])
+    elif value[0] == 3:
+        one.train_data(unit.TrainData(*value[1:]))
+    else:
+        codes = {4: (unit.Action.CHOOSE_LEVEL_0, unit.Action.CHOOSE_LEVEL_1), 5: driving.CONFIRMS, 10: driving.ACKNOWLEDGES}
+        one.action(codes[value[0]][value[1]] if len(value) > 1 else driving.ALONE[value[0]])
+
+
+def by_library(slots: int, lives: list[dict[str, Any]]) -> tuple[bytes, list[Any]]:
+    """The image and the outputs of lives that end by a cut, by the library for C."""
+    medium, found = Cut(unit.MemoryMedium.formatted(slots).read()), []
+    for life in lives:
+        one, pending, outputs = unit.Unit(medium, unit.Cold(life["cold"])), 0, []
+        one.open()
+        for step in life["steps"]:
+            if "flush" in step or pending == 8:
+                outputs += one.flush()
+                pending = 0
+            if "flush" not in step:
+                act(one, step)
+                pending += 1
+        if life["cut"]:
+            medium.left, medium.request = life["cut"]["left"], life["cut"]["request"]
+            try:
+                one.flush()
+            except Lost:
+                pass
+            medium.left = None
+        one.close()
+        found.append([[o.event, o.mode, o.level, o.brake, o.limit_m_per_h, o.indications] for o in outputs])
+    return medium.read(), found
+
+
+def beside_c(browser: Browser, _page: Path, _folder: Path) -> int:
+    """Random lives that end by a cut, between two writes or within one, leave the bytes and released the outputs of the library for C."""
+    dice, count, torn = random.Random(689), 0, 0
+    while count < CUT_LIVES:
+        cuts = [{"request": dice.randrange(4), "left": dice.choices(("old", "new", "foreign"), k=8)} if dice.random() < 0.6 else None for _ in range(5)]
+        lives = [{"cold": dice.randrange(3), "steps": random_steps(dice) + [{"driver": [2, 7]}], "cut": cut} for cut in cuts]
+        slots = dice.choice((2, 3, 7, 16))
+        text, found = browser.run(WITH_CUTS, slots, lives)
+        wanted, outputs = by_library(slots, lives)
+        assert base64.b64decode(text) == wanted and found == outputs, (count, slots, lives)
+        count += len(lives)
+        torn += sum(life["cut"] is not None for life in lives)
+    assert torn > CUT_LIVES / 2
+    return count
+
+
 TRACKS = """
 const { calls } = window.gaknifur, { Course, balisesOf, formatted } = window.gaknifur.parts, [scenario] = arguments;
 const medium = calls.hold(formatted(calls, 64));
@@ -273,5 +386,5 @@ def offers(browser: Browser, _page: Path, _folder: Path) -> int:
 
 
 CHECKS = {"stories": (stories, 6), "by_buttons": (by_buttons, 7), "by_time": (by_time, 1),
-          "tracks": (tracks, TRACKS_TRIED), "random_lives": (random_lives, LIVES),
+          "beside_c": (beside_c, CUT_LIVES), "tracks": (tracks, TRACKS_TRIED), "random_lives": (random_lives, LIVES),
           "torn": (torn, 48), "motion": (motion, 1200), "offers": (offers, 6)}

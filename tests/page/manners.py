@@ -57,6 +57,8 @@ return [...document.querySelectorAll('button, input, select, textarea, svg[role]
 }).map(one => one.outerHTML.slice(0, 120));
 """
 
+REFUSED = "NID_BG 9; 12: V_MAIN 125, L_ENDSECTION 300; 5: D_LINK 500, NID_BG 10, Q_LINKORIENTATION 1, Q_LINKREACTION 1, Q_LOCACC 5; 44: NID_XUSER 3"
+
 
 class Listener:
     """A server that counts who connects."""
@@ -167,14 +169,17 @@ def markup(browser: Browser, _page: Path, folder: Path) -> int:
 
 
 def looks(browser: Browser, page: Path, folder: Path) -> int:
-    """Contrast by WCAG AA in light and dark, names of all that is used, and a window of 390 pixels for an image."""
+    """Contrast by WCAG AA in light and dark, names of all that is used, and a window of 390 pixels for an image and a telegram."""
     path = folder / "image"
     path.write_bytes(image(folder, [example("power_cut"), example("power_cut", "restart.json"), example("trip")], 6))
     count = 0
-    for tab in ("drive", "ask"):
+    for tab in ("drive", "ask", "telegram"):
         browser.click(f"tab-{tab}", *((*START, "edit") if tab == "drive" else ()))
         if tab == "ask":
             browser.ask(path)
+        if tab == "telegram":
+            browser.run("const t = document.getElementById('telegram-words'); t.value = arguments[0]; t.dispatchEvent(new Event('input'))", REFUSED)
+            assert browser.run("return document.querySelectorAll('#telegram-form [aria-invalid]').length") == 1
         for _ in range(2):
             number, bad = browser.run(CONTRAST)
             assert not bad and number > 40, (tab, number, bad)
@@ -188,8 +193,10 @@ def looks(browser: Browser, page: Path, folder: Path) -> int:
         browser.driver.execute_cdp_cmd("Emulation.setDeviceMetricsOverride", {"width": 390, "height": 800, "deviceScaleFactor": 1, "mobile": False})
         browser.open(page)
         browser.ask(path)
-        wide = browser.run("return [document.documentElement.scrollWidth, innerWidth]")
-        assert wide[0] <= 390 == wide[1], wide
+        for tab in ("telegram", "ask"):
+            browser.click(f"tab-{tab}")
+            wide = browser.run("return [document.documentElement.scrollWidth, innerWidth]")
+            assert wide[0] <= 390 == wide[1], (tab, wide)
         assert browser.run("const b = document.getElementById('scrub').getBoundingClientRect(); return b.width > 100 && b.right <= 390")
     finally:
         browser.driver.execute_cdp_cmd("Emulation.clearDeviceMetricsOverride", {})

@@ -55,6 +55,12 @@ class Told(unittest.TestCase):
         self.assertEqual(list(table["causes"]), ["not_revalidated since 0", "", None, None, None])
         self.assertEqual(list(table["causes_not_known"]), [None, None, DIFFERS, *[REASONS["behind_difference"]] * 2])
 
+    def test_behind_a_record_that_differs(self) -> None:
+        table = tables.frame(replayed({"replay": "agrees", "first_event": 0, "last_event": 1}, {"replay": "record_differs", "event": 2},
+                                      {"replay": "agrees", "first_event": 3, "last_event": 4}))
+        self.assertEqual(list(table["causes"]), ["not_revalidated since 0", "", None, None, ""])
+        self.assertEqual(list(table["causes_not_known"]), [None, None, DIFFERS, None, None])
+
     def test_of_another_block(self) -> None:
         told = replayed({"replay": "agrees", "first_event": 0, "last_event": 4})
         told.records[2]["source"] = "replaced"

@@ -1,3 +1,4 @@
 pub mod Adapting
+pub mod Calls
 pub mod Finding
 pub mod Keeping

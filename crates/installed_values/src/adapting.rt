@@ -1,10 +1,11 @@
 //! A telegram whose packet 3 is as a track sends it is written with this project's packet 3.
-ghost use Rattle.std.specs.Prelude.{◌≡◌, ◌+◌, ◌*◌, ◌<◌, ◌≤◌, ◌++◌, Ok, drop, length};
+ghost use Rattle.std.specs.Prelude.{◌≡◌, ◌+◌, ◌*◌, ◌<◌, ◌≤◌, ◌++◌, ℕ, IfSome, Ok, drop, length};
 ghost use Rattle.bits.specs.Bits.{bits_of};
 ghost use Rattle.installed_values.specs.Adapting.{Adapts, Rewrites, Tells, adapted_bits, countries_at, found_in, front, has_end};
 ghost use Rattle.installed_values.specs.Keeping.{kept};
 ghost use Rattle.installed_values.specs.declared.adapting.Adaptation.{Adaptation};
 ghost use Rattle.track_packets.specs.Layouts.{rows_of as rows_told};
+ghost use Rattle.track_packets.specs.declared.listing.PacketPlace.{PacketPlace as a_place};
 
 use crate::finding::{Found, find_installed};
 use crate::keeping::keep_rows;
@@ -122,7 +123,8 @@ fn write(
     requires length { place.length ≡ 176 + 10 * countries }
     requires there { place.start + place.length ≤ length bits.now }
     requires room { length bits.now ≤ 8 * TELEGRAM_BYTES }
-    ensures { Rewrites (adapted_bits countries place bits.now) out.old out.new result }
+    ensures written { Rewrites (adapted_bits countries place bits.now) out.old out.new result }
+    ensures fits { result ≤ 104 }
 {
     let mut reader = bits.fork();
     let mut writer: BitWriter<TELEGRAM_BYTES> = BitWriter::new();
@@ -139,7 +141,8 @@ fn rewrite(
     out: &mut [u8; TELEGRAM_BYTES],
 ) -> Option<usize>
     requires { length bits.now ≤ 8 * TELEGRAM_BYTES }
-    ensures { Adapts place bits.now result out.old out.new }
+    ensures adapted { Adapts place bits.now result out.old out.new }
+    ensures fits { IfSome result (λ n. n ≤ 104) }
 {
     let whole = u64::from(place.start) + u64::from(place.length);
     if place.length < 176 {
@@ -164,6 +167,7 @@ fn rewrite(
 pub fn adapt(bytes: &[u8], out: &mut [u8; TELEGRAM_BYTES]) -> Result<Adaptation, AdaptError>
     ensures long { 104 < length bytes.now → (result ≡ Ok Adaptation.AsItIs) × (out.new ≡ out.old) }
     ensures told { length bytes.now ≤ 104 → Tells (found_in bytes.now) (bits_of bytes.now) result out.old out.new }
+    ensures fits { (n : ℕ) (place : a_place) → result ≡ Ok (Adaptation.Written n place) → n ≤ 104 }
 {
     if bytes.len() > TELEGRAM_BYTES {
         return Ok(Adaptation::AsItIs);

@@ -2,10 +2,12 @@
 #![tactic(auto)]
 
 mod adapting;
+mod calls;
 mod finding;
 mod keeping;
 mod moving;
 
 pub use adapting::{AdaptError, Adaptation, adapt};
+pub use calls::{EtcsAdapted, adapt_call};
 pub use finding::is_installed;
 pub use keeping::has_place;

@@ -1,12 +1,12 @@
-use Rattle.std.proofs.Common.{◌≡◌, ◌+◌, ◌*◌, Bool, List, ◌++◌, drop, subst, ap, ◌∙◌, arith, append_assoc}
+use Rattle.std.proofs.Common.{◌≡◌, ◌+◌, ◌*◌, Bool, List, ◌++◌, length, length-append, drop, subst, ap, ◌∙◌, arith, append_assoc}
 use Rattle.std.proofs.lemmas.List.{drop-drop}
 use Rattle.track_packets.specs.Layouts.{rows_of}
 use Rattle.installed_values.specs.Adapting.{Rewrites, adapted_bits, front}
 use Rattle.installed_values.specs.Keeping.{kept}
 use Rattle.installed_values.proofs.adapting.write.Goals as goal
 
-pub returns : goal.returns
-returns c =
+pub returns-clause-written : goal.returns-clause-written
+returns-clause-written c =
     let place = c.args.place in
     let n = c.args.countries in
     let bits = c.fork-reader.result in
@@ -23,3 +23,9 @@ returns c =
     ∙ ap (λ all. adapted_bits n place all) c.fork-reader.ensures in
     subst (λ (w : List Bool). Rewrites w c.args.out.now c.copy_to.new.out c.copy_to.result) same
     (record { count = c.copy_to.ensures.len; written = c.copy_to.ensures.bits; rest = c.copy_to.ensures.rest })
+
+pub returns-clause-fits : goal.returns-clause-fits
+returns-clause-fits c =
+    let whole : length c.write_rest.new.writer ≡ length c.keep_all.new.writer + length c.keep_all.new.reader =
+    ap length c.write_rest.ensures ∙ length-append c.keep_all.new.writer c.keep_all.new.reader in
+    omega (arith, whole, c.keep_all.ensures.room, c.copy_to.ensures.len)

@@ -1,0 +1,111 @@
+//! The telegram that a unit is to be handed, as C asks for it (`include/etcs_unit.h`).
+ghost use Rattle.std.specs.Prelude.{◌≡◌, ◌<◌, ◌≤◌, ℕ, Ok, drop, length, take};
+ghost use Rattle.bits.specs.Bits.{bits_of};
+ghost use Rattle.installed_values.specs.Adapting.{Tells, found_in};
+ghost use Rattle.installed_values.specs.Calls.{Answers, TellsC, told_of};
+ghost use Rattle.installed_values.specs.declared.adapting.Adaptation.{Adaptation};
+ghost use Rattle.track_packets.specs.declared.listing.PacketPlace.{PacketPlace as a_place};
+
+use crate::adapting::{AdaptError, Adaptation, adapt};
+use packets::TELEGRAM_BYTES;
+use track_packets::PacketPlace;
+
+/// The call did what it was asked.
+const DONE: u32 = 0;
+
+/// The buffer is too small.
+const NO_ROOM: u32 = 252;
+
+/// What came of a telegram, as C is told it.
+#[repr(C)]
+#[derive(Clone, Copy)]
+pub struct EtcsAdapted {
+    /// 0 the telegram is to be handed on as it is; 1 what was written is to be handed on; 2 it has several packets 3 as a
+    /// track sends them, 3 one of another length: nothing was written, and a unit refuses the telegram.
+    pub outcome: u32,
+    /// How many bytes were written.
+    pub len: u32,
+    /// The place of the first bit of the packet 3 that is meant in the telegram that was sent, from 0.
+    pub start: u32,
+    /// Its L_PACKET.
+    pub bits: u32,
+}
+
+/// An outcome with a packet.
+fn of_packet(outcome: u32, len: u32, place: PacketPlace) -> EtcsAdapted
+    ensures { result ≡ record { outcome = outcome; len = len; start = place.start; bits = place.length } }
+{
+    EtcsAdapted {
+        outcome,
+        len,
+        start: place.start,
+        bits: place.length,
+    }
+}
+
+/// What C is told of an answer.
+fn told_to_c(answer: Result<Adaptation, AdaptError>) -> EtcsAdapted
+    requires { (n : ℕ) (place : a_place) → answer ≡ Ok (Adaptation.Written n place) → n ≤ 104 }
+    ensures { result ≡ told_of answer }
+{
+    match answer {
+        Ok(Adaptation::AsItIs) => EtcsAdapted {
+            outcome: 0,
+            len: 0,
+            start: 0,
+            bits: 0,
+        },
+        Ok(Adaptation::Written(count, place)) => of_packet(1, count as u32, place),
+        Err(AdaptError::Several(place)) => of_packet(2, 0, place),
+        Err(AdaptError::WrongLength(place)) => of_packet(3, 0, place),
+    }
+}
+
+/// Copies so many bytes over the first ones of `out`.
+fn copy_front(from: &[u8; TELEGRAM_BYTES], count: usize, out: &mut [u8])
+    requires few { count ≤ 104 }
+    requires room { 104 ≤ length out.old }
+    ensures front { take count out.new ≡ take count from.now }
+    ensures rest { drop count out.new ≡ drop count out.old }
+{
+    out[..count].copy_from_slice(&from[..count]);
+}
+
+/// As `adapt`, into a buffer that has room for a telegram.
+fn adapt_into(bytes: &[u8], out: &mut [u8]) -> Result<Adaptation, AdaptError>
+    requires { 104 ≤ length out.old }
+    ensures long { 104 < length bytes.now → (result ≡ Ok Adaptation.AsItIs) × (out.new ≡ out.old) }
+    ensures told { length bytes.now ≤ 104 → Tells (found_in bytes.now) (bits_of bytes.now) result out.old out.new }
+    ensures fits { (n : ℕ) (place : a_place) → result ≡ Ok (Adaptation.Written n place) → n ≤ 104 }
+{
+    let mut written = [0; TELEGRAM_BYTES];
+    match adapt(bytes, &mut written) {
+        Ok(Adaptation::Written(count, place)) => {
+            copy_front(&written, count, out);
+            Ok(Adaptation::Written(count, place))
+        }
+        Ok(Adaptation::AsItIs) => Ok(Adaptation::AsItIs),
+        Err(error) => Err(error),
+    }
+}
+
+/// As `adapt_into`, told to C.
+fn adapt_told(bytes: &[u8], out: &mut [u8]) -> EtcsAdapted
+    requires { 104 ≤ length out.old }
+    ensures { Answers bytes.now out.old out.new result }
+{
+    let answer = adapt_into(bytes, out);
+    told_to_c(answer)
+}
+
+/// Writes the telegram that a unit is to be handed in place of one with a packet 3 as a track sends it, and tells what came
+/// of it (`adapt`): 0, or 252 where `out` has room for fewer than 104 bytes; then nothing is written and told.
+pub fn adapt_call(bytes: &[u8], out: &mut [u8], told: &mut EtcsAdapted) -> u32
+    ensures { TellsC bytes.now out.old out.new told.old told.new result }
+{
+    if out.len() < TELEGRAM_BYTES {
+        return NO_ROOM;
+    }
+    *told = adapt_told(bytes, out);
+    DONE
+}

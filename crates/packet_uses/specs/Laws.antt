@@ -1,0 +1,28 @@
+-- What is told as used is what the kernel uses (this project's profile): `is_used` and `before_infill` are the definitions
+-- by which it uses packets.
+use Rattle.std.specs.Prelude.{◌≡◌, ℕ, false, List, [], ◌∷◌, length, filter, Option, if◌then◌else◌}
+use Rattle.balise_groups.specs.Telling.{before_infill}
+use Rattle.mode_table.specs.declared.mode.Mode.{Mode}
+use Rattle.packets.specs.declared.packet.Packet.{Packet}
+use Rattle.track_picture.specs.Sentences.{is_used}
+use Rattle.vars.specs.declared.linking.LinkOrientation.{LinkOrientation}
+use Rattle.packet_uses.specs.Calls.{is_unused}
+use Rattle.packet_uses.specs.Telling.{told_from}
+use Rattle.packet_uses.specs.declared.telling.ToldPacket.{ToldPacket}
+
+-- a packet before others, but where it isn't used
+abbrev pub if_used : ToldPacket → Packet → List Packet → List Packet
+if_used told p ps = if is_unused told then ps else p ∷ ps
+
+-- the packets that are told as used
+abbrev pub used_among : List Packet → List ToldPacket → List Packet
+used_among [] told = []
+used_among (p ∷ ps) [] = []
+used_among (p ∷ ps) (told ∷ more) = if_used told p (used_among ps more)
+
+-- Each packet is told once, and those that are told as used are those that are used.
+abbrev pub ToldAsUsedIsUsed : Type 0
+ToldAsUsedIsUsed =
+    (mode : Mode) (direction : Option LinkOrientation) (start : ℕ) (packets : List Packet)
+    → (length (told_from mode direction false start packets) ≡ length packets)
+    × (used_among packets (told_from mode direction false start packets) ≡ filter (is_used mode direction) (before_infill packets))

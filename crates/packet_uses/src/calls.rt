@@ -1,0 +1,165 @@
+//! What C asks of a telegram's packets (`include/etcs_unit.h`).
+ghost use Rattle.std.specs.Prelude.{◌≡◌};
+ghost use Rattle.std.specs.List.{slice_get};
+ghost use Rattle.packet_uses.specs.Calls.{TellsFor, TellsIn, TellsOne, TellsUnused, direction_by, fate_number, is_unused as is_unused_told, told_of, unused_among, wide_mode_by};
+
+use crate::fate::Fate;
+use crate::telling::{MOST_TOLD, ToldPacket, told_packets};
+use arrayvec::ArrayVec;
+use mode_table::Mode;
+use vars::LinkOrientation;
+
+/// The call did what it was asked.
+const DONE: u32 = 0;
+
+/// The list ends before the index.
+const END: u32 = 38;
+
+/// A number is outside its limits.
+const OUT_OF_RANGE: u32 = 255;
+
+/// A packet that isn't used, as C is told it.
+#[repr(C)]
+#[derive(Clone, Copy)]
+pub struct EtcsPacket {
+    /// The place of its first bit in the telegram, from 0.
+    pub start: u64,
+    /// Its length in bits.
+    pub bits: u64,
+    /// NID_PACKET.
+    pub number: u32,
+    /// Why it isn't used, a number of `Fate`.
+    pub why: u32,
+}
+
+/// Whether a packet isn't used.
+fn is_unused(packet: &ToldPacket) -> bool
+    ensures { result ≡ is_unused_told packet.now }
+{
+    match packet.fate {
+        Fate::Used => false,
+        Fate::NotKnown | Fate::Infill | Fate::NotInMode | Fate::OtherDirection | Fate::Refused =>
+            true,
+    }
+}
+
+/// The packet of this index among those that aren't used.
+fn nth_unused(packets: &[ToldPacket], index: u32) -> Option<ToldPacket>
+    ensures { result ≡ slice_get (unused_among packets.now) index }
+{
+    let Some((packet, others)) = packets.split_first() else {
+        return None;
+    };
+    if !is_unused(packet) {
+        return nth_unused(others, index);
+    }
+    if index == 0 {
+        return Some(*packet);
+    }
+    nth_unused(others, index - 1)
+}
+
+/// The mode of a number of 32 bits.
+fn mode_of(number: u32) -> Option<Mode>
+    ensures { result ≡ wide_mode_by number }
+{
+    if number < 256 {
+        Mode::of_number(number as u8)
+    } else {
+        None
+    }
+}
+
+/// The direction of a number: 0 reverse, 1 nominal, 2 not known.
+fn direction_of(number: u32) -> Option<Option<LinkOrientation>>
+    ensures { result ≡ direction_by number }
+{
+    match number {
+        0 => Some(Some(LinkOrientation::Reverse)),
+        1 => Some(Some(LinkOrientation::Nominal)),
+        2 => Some(None),
+        _ => None,
+    }
+}
+
+/// The number of what becomes of a packet, its discriminant.
+fn number_of(fate: Fate) -> u32
+    ensures { result ≡ fate_number fate }
+{
+    fate as u32
+}
+
+/// A packet as C is told it.
+fn told_to_c(packet: ToldPacket) -> EtcsPacket
+    ensures { result ≡ told_of packet }
+{
+    EtcsPacket {
+        start: packet.start,
+        bits: packet.length,
+        number: u32::from(packet.number),
+        why: number_of(packet.fate),
+    }
+}
+
+/// Tells the packet of this index among those that aren't used.
+fn tell_one(packets: &ArrayVec<ToldPacket, MOST_TOLD>, index: u32, told: &mut EtcsPacket) -> u32
+    ensures { TellsOne (slice_get (unused_among packets.now.items) index) told.old told.new result }
+{
+    match nth_unused(packets.as_slice(), index) {
+        Some(packet) => {
+            *told = told_to_c(packet);
+            DONE
+        }
+        None => END,
+    }
+}
+
+/// Tells it of a telegram, in a mode and a direction.
+fn tell_in(
+    bytes: &[u8],
+    mode: Mode,
+    direction: Option<LinkOrientation>,
+    index: u32,
+    told: &mut EtcsPacket,
+) -> u32
+    ensures { TellsIn bytes.now mode direction index told.old told.new result }
+{
+    let packets = told_packets(bytes, mode, direction);
+    tell_one(&packets, index, told)
+}
+
+/// Tells it where there is such a mode and such a direction.
+fn tell_for(
+    bytes: &[u8],
+    mode: Option<Mode>,
+    direction: Option<Option<LinkOrientation>>,
+    index: u32,
+    told: &mut EtcsPacket,
+) -> u32
+    ensures { TellsFor bytes.now mode direction index told.old told.new result }
+{
+    match mode {
+        Some(mode) => match direction {
+            Some(direction) => tell_in(bytes, mode, direction, index, told),
+            None => OUT_OF_RANGE,
+        },
+        None => OUT_OF_RANGE,
+    }
+}
+
+/// Tells the packet of this index, from 0 on, among those of a telegram that a unit doesn't use in a mode (M_MODE), where
+/// its group is accepted and passed in this direction (0 reverse, 1 nominal, 2 not known): 0, or 38 where the list ends
+/// before it, or 255 where no mode or direction has the number; then nothing is told.
+pub fn unused_call(
+    bytes: &[u8],
+    mode: u32,
+    direction: u32,
+    index: u32,
+    told: &mut EtcsPacket,
+) -> u32
+    ensures { TellsUnused bytes.now mode direction index told.old told.new result }
+{
+    let mode = mode_of(mode);
+    let direction = direction_of(direction);
+    tell_for(bytes, mode, direction, index, told)
+}

@@ -1,0 +1,12 @@
+//! What the unit does with each packet of a telegram: whether it uses it in a mode and a direction, and why not.
+#![tactic(auto)]
+
+mod calls;
+mod fate;
+mod laws;
+mod telling;
+
+pub use calls::{EtcsPacket, unused_call};
+pub use fate::{Fate, fate_of};
+pub use laws::told_as_used_is_used;
+pub use telling::{MOST_TOLD, ToldPacket, told_packets};

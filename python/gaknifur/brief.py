@@ -121,8 +121,8 @@ def brief(journal: Journal, table: pd.DataFrame, found: pd.DataFrame) -> Brief:
     braked = found[found["kind"] != "powerup"]
     intervention = braked.iloc[-1].to_dict() | {"row": braked["first_row"].iat[-1]} if len(braked) else None
     entered = tables.trips(table).index[::-1]
-    of_life = table[table["life"] == last["life"]] if last else table
+    of_life = table["event"][table["life"] == last["life"]] if last else table["event"]
     unobeyed = not_obeyed.summary(table["not_obeyed"])
     trips = [trip_row(table, row) for row in entered[:MOST_TRIPS]]
-    return Brief(faults(journal), last, int(of_life["event"].iat[0]) if len(of_life) else None, intervention, trips,
+    return Brief(faults(journal), last, int(of_life.iat[0]) if len(of_life) else None, intervention, trips,
                  len(entered) - len(trips), newest(journal, table), unobeyed.text() if unobeyed.packets else None)

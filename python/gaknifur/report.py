@@ -104,9 +104,8 @@ def farthest(found: pd.DataFrame) -> pd.DataFrame:
 def windows(table: pd.DataFrame, found: pd.DataFrame) -> Iterator[str]:
     """A picture around the beginning of each of some interventions."""
     stretch = table["stretch"].to_numpy()
-    place = {row: at for at, row in enumerate(table.index)}
     for _, one in found.iterrows():
-        at = place[one["first_row"]]
+        at = int(table.index.get_indexer([one["first_row"]])[0])
         part = table.iloc[max(at - AROUND, 0):at + AROUND + 1]
         part = part[part["stretch"] == stretch[at]]
         where = "" if one["place_cm"] is pd.NA else f" at {one['place_cm'] / 100:,.1f} m"
@@ -224,7 +223,8 @@ def page(journal: Journal, extent: Extent = Extent(), progress: Progress = silen
     at_top = brief.brief(journal, records, tables.interventions(records))
     table = extent.take(records)
     found, usual = interventions(table, is_newest_first)
-    fastest, over = top_of(table[table["kind"] == "odometer"], "speed_kmh"), top_of(table, "over_limit_kmh")
+    readings = table[["event", "speed_kmh"]][table["kind"] == "odometer"]
+    fastest, over = top_of(readings, "speed_kmh"), top_of(table, "over_limit_kmh")
     told = found.head(MOST_TOLD)
     chosen = in_order(farthest(found), is_newest_first) if len(table) > SHORT else found.head(0)
     told = told.assign(limit_text=[limit_text(table, row) for row in told["first_row"]])

@@ -188,7 +188,7 @@ def frame(journal: Journal) -> pd.DataFrame:
     columns: dict[str, Any] = {name: told.pop(name) for name in ORDER if name in told}
     by_marks = times.columns(journal)
     columns |= by_cause | {"utc_by_marks": by_marks["utc_by_marks"], "utc_uncertainty_ms": numbers(by_marks["utc_uncertainty_ms"])}
-    table = pd.DataFrame(columns)
+    table = pd.DataFrame(columns, copy=False)  # (each column was made for it)
     table.insert(table.columns.get_loc("action") + 1, "refused", actions.refused(table))
     return table
 

@@ -54,6 +54,16 @@ class Room(unittest.TestCase):
         return done.returncode, done.stdout, done.stderr
 
 
+class Beginning(unittest.TestCase):
+    """What is loaded where a command begins."""
+
+    def test_is_nothing_that_takes_long(self) -> None:
+        asked = "import sys; sys.path.insert(0, sys.argv[1]); import gaknifur.__main__; print(*sorted(sys.modules))"
+        done = subprocess.run([sys.executable, "-I", "-B", "-c", asked, TOP / "python"], capture_output=True, text=True, check=True)
+        found = {name.partition(".")[0] for name in done.stdout.split()}
+        self.assertEqual(found & {"pandas", "numpy", "matplotlib", "jinja2", "openpyxl", "hypothesis", "pytest", "distributed"}, set())
+
+
 class Folders(Room):
     """The current folder."""
 

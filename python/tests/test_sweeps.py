@@ -30,6 +30,17 @@ expected: [{note: slow, at: {mark: there}, expect: {speed_kmh: {most: 20}}}]
 """
 
 
+DRIVE = """\
+parts: {ready: [start]}
+steps: [use: ready]
+drive:
+  train: {acceleration: 0.5 m/s2, service: 0.7 m/s2, reaction: 0.5 s, build_up: 9 s}
+  driver: {heeds: nothing}
+  time_step: 500 ms
+  lasts: 10 s
+"""
+
+
 def played(case: Case, keep: object = None, why: bool = False) -> Played:
     """The records of a life that moved as its last step says; one of 30 km/h over 20 m doesn't end as told."""
     scenario = case.lives[0].scenario
@@ -79,6 +90,19 @@ class Sweeps(unittest.TestCase):
                                          "first": Decimal(5), "brake": "service"})
         self.assertEqual([one.missed for one in told], [(), (), ("slow",), (), (), ()])
         self.assertEqual(told[5].fault, "expected: one end found: another")
+
+    def test_of_a_train(self) -> None:
+        self.path.write_text(DRIVE, encoding="utf-8")
+        sweep = sweeps.of_train(self.path, "build_up", ["0 s", "1.5 s"], "- {name: end_m, at: end, value: train_place_m}")
+        self.assertEqual((sweep.name, sweep.points()), ("a", [{"build_up": "0 s"}, {"build_up": "1.5 s"}]))
+        for point, build_up in zip(sweep.points(), (0, 1500)):
+            case, outcomes, _ = sweeps.at_point(sweep, point)
+            drive, scenario = case.lives[0].drive, case.lives[0].scenario
+            assert drive is not None and scenario is not None
+            self.assertEqual((drive.train.build_up_ms, drive.train.reaction_ms, scenario.steps), (build_up, 500, [{"driver": [6]}]))
+            self.assertEqual([one.name for one in outcomes], ["end_m"])
+        with self.assertRaisesRegex(Failed, "a.yaml:4:.*: a time is wanted here"):
+            sweeps.at_point(sweep, {"build_up": "2 m"})
 
     def test_tables(self) -> None:
         sweep, told = self.told()

@@ -154,7 +154,7 @@ def faults(room, whole):
 
 def main():
     os.environ |= {"GAKNIFUR_ETCS": str(Path(sys.argv[1]).resolve()), "GAKNIFUR_ETCS_LAB": str(Path(sys.argv[2]).resolve())}
-    lives = int(sys.argv[3]) if len(sys.argv) > 3 else 300
+    lives = int(sys.argv[3]) if len(sys.argv) > 3 else 1000
     with tempfile.TemporaryDirectory(prefix="campaign-") as folder:
         room = Path(folder)
         whole = room / "whole.db"

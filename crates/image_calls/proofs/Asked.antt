@@ -6,7 +6,7 @@ use Rattle.blocks.specs.declared.records.BlockRecord.{BlockRecord}
 use Rattle.events.specs.declared.input.Event.{Event}
 use Rattle.events.specs.declared.input.Event.TheVariants.{PowerUp, Input}
 use Rattle.events.specs.declared.kept.Kept.{Kept}
-use Rattle.lives.specs.Steps.{Step, whole_valid_at, known_before, step_by, record_step, record_steps, follows_on, block_steps, slot_steps, behind, block_at, steps_from, steps_of, before_number, steps_since, number_of_life}
+use Rattle.lives.specs.Steps.{Step, whole_valid_at, known_before, step_by, record_step, record_steps, follows_on, slot_steps, behind, block_at, steps_from, steps_of, before_number, steps_since, number_of_life}
 use Rattle.lives.specs.declared.visit.Unknown.{Unknown}
 use Rattle.lives.specs.declared.visit.Unknown.TheVariants.{BeforeOldest, Gap, WithinBlock}
 use Rattle.lives.proofs.Places.{some_at, at_some, at_number}
@@ -123,9 +123,9 @@ module _ (number event : ℕ) where
         let it = earlier m n (suc k) next (life_behind (slot_steps k before (block_at slots valids k)) at) (omega (arith, low)) in (
           it.0,
           ap (λ (i : ℕ). life_behind (up_to is (steps_from slots valids i k before)) at) size
-          ∙ other_slot k before (block_at slots valids k) (steps_from slots valids (m + n) (suc k) next) at other
-          ∙ it.1
-          ∙ ap (λ (i : ℕ). life_behind (up_to is (steps_from slots valids n i (after_numbers m (suc k) next))) it.0) place,
+              ∙ other_slot k before (block_at slots valids k) (steps_from slots valids (m + n) (suc k) next) at other
+              ∙ it.1
+              ∙ ap (λ (i : ℕ). life_behind (up_to is (steps_from slots valids n i (after_numbers m (suc k) next))) it.0) place,
         )
 
     -- ---- from a block on that begins a life
@@ -167,8 +167,8 @@ module _ (number event : ℕ) where
         let head : Result Kept Unknown = before_number slots valids 1 from in
         let later : nat_lt 1 from ≡ true = grind (arith, some) in
         let after : after_numbers (suc m) 1 (Err BeforeOldest) ≡ head =
-            after_some m 1 (Err BeforeOldest) ∙ ap (λ (i : ℕ). behind (block_at slots valids i)) prior
-            ∙ sym (ap (λ (b : Bool). if b then behind (block_at slots valids (from - 1)) else Err BeforeOldest) later) in
+        after_some m 1 (Err BeforeOldest) ∙ ap (λ (i : ℕ). behind (block_at slots valids i)) prior
+        ∙ sym (ap (λ (b : Bool). if b then behind (block_at slots valids (from - 1)) else Err BeforeOldest) later) in
         let it = earlier (suc m) (suc n) 1 (Err BeforeOldest) None low in
         let anyhow = fresh_slot from head (block_at slots valids from) (steps_from slots valids n (suc from) (behind (block_at slots valids from))) it.0 begins (of_before slots valids from (nat_lt 1 from)) in
         ap (λ (i : ℕ). life_behind (up_to is (steps_from slots valids i from head)) None) left

@@ -1,16 +1,13 @@
 -- A walk up to an event, step after step.
-use Rattle.std.proofs.Common.{◌≡◌, ℕ, Bool, true, false, if◌then◌else◌, List, [], ◌∷◌, Option, Some, None, refl, sym, ap, subst}
+use Rattle.std.proofs.Common.{◌≡◌, ℕ, Bool, true, false, if◌then◌else◌, List, [], ◌∷◌, Option, Some, None, refl, sym, subst}
 use Rattle.events.specs.declared.input.Event.{Event}
-use Rattle.events.specs.declared.input.Event.TheVariants.{PowerUp}
-use Rattle.events.specs.declared.kept.Kept.{Kept}
 use Rattle.kernel.specs.Lives.{Story, onward}
 use Rattle.kernel.specs.Output.{output_at}
 use Rattle.lives.specs.Steps.{Step}
 use Rattle.lives.specs.Walks.{WalksOn, Walked}
-use Rattle.mode_table.specs.declared.statuses.Cold.{Cold}
 use Rattle.reasons.specs.Told.{Reasons}
 use Rattle.image_calls.specs.Asking.{Asks}
-use Rattle.image_calls.specs.Lived.{Lived, one_more, is_asked, up_to, life_after, life_behind, IsLeft, story_behind, Stands}
+use Rattle.image_calls.specs.Lived.{Lived, one_more, is_asked, up_to, life_after, life_behind, story_behind, Stands}
 use Rattle.image_calls.specs.declared.asking.Asked.{Asked}
 use Rattle.image_calls.specs.declared.running.Known.{Known}
 

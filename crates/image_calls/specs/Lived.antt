@@ -1,12 +1,11 @@
 -- What is known of the life of an event, behind the steps that an image tells up to it (`lives`; this project's
 -- profile). Blocks are numbered from 1, events from 0; events of a life have the newest first.
-use Rattle.std.specs.Prelude.{◌≡◌, ℕ, ◌==◌, Bool, true, false, if◌then◌else◌, List, [], ◌∷◌, Option, Some, None, Result, Ok, Err}
+use Rattle.std.specs.Prelude.{◌≡◌, ℕ, ◌==◌, Bool, false, if◌then◌else◌, List, [], ◌∷◌, Option, Some, None, Result, Ok, Err}
 use Rattle.blocks.specs.declared.block.Block.{Block}
 use Rattle.blocks.specs.declared.records.BlockRecord.{BlockRecord}
 use Rattle.events.specs.declared.input.Event.{Event}
 use Rattle.events.specs.declared.input.Event.TheVariants.{PowerUp, Input}
 use Rattle.events.specs.declared.kept.Kept.{Kept}
-use Rattle.events.specs.declared.output.Output.{Output}
 use Rattle.kernel.specs.Lives.{Story, onward, past_at, left_by}
 use Rattle.kernel.specs.Output.{output_at}
 use Rattle.lives.specs.Steps.{Step, whole_valid_at, steps_of}

@@ -79,12 +79,7 @@ impl Visit<()> for Asked {
         Ok(())
     }
 
-    fn goes_on(
-        &mut self,
-        alloc: Global,
-        seen: &Seen<'_>,
-        _out: &mut (),
-    ) -> Result<(), LateError> {
+    fn goes_on(&mut self, alloc: Global, seen: &Seen<'_>, _out: &mut ()) -> Result<(), LateError> {
         let is_met = self.is_of(seen);
         follow(alloc, &mut self.known, &seen.entry.event)?;
         self.is_met = is_met;

@@ -1,4 +1,4 @@
-use Rattle.std.proofs.Common.{Option, Some, None, sym, subst}
+use Rattle.std.proofs.Common.{Option, Some, sym, subst}
 use Rattle.image_calls.specs.Lived.{one_more, Stands}
 use Rattle.image_calls.specs.declared.running.Known.{Known}
 use Rattle.image_calls.proofs.Asks.{none_follows, some_follows}

@@ -205,6 +205,33 @@ class Acknowledgement(enum.IntEnum):
     OWED = 2
 
 
+class Adaptation(enum.IntEnum):
+    """What came of a telegram that may be of an installed track (etcs_telegram_adapt)."""
+
+    NONE = 0
+    WRITTEN = 1
+    SEVERAL = 2
+    WRONG_LENGTH = 3
+
+
+class Direction(enum.IntEnum):
+    """The direction in which a group is passed."""
+
+    REVERSE = 0
+    NOMINAL = 1
+    NOT_KNOWN = 2
+
+
+class UnusedReason(enum.IntEnum):
+    """Why a unit doesn't use a packet of a telegram."""
+
+    NOT_KNOWN = 1
+    INFILL = 2
+    IN_MODE = 3
+    OTHER_DIRECTION = 4
+    REFUSED = 5
+
+
 class SlotState(enum.IntEnum):
     """What a slot holds (docs/FORMAT.md)."""
 
@@ -324,6 +351,14 @@ class etcs_unit_why_told(Structure):
                 ("level_0", c_uint8), ("reserved", c_uint8 * 6)]
 
 
+class etcs_adapted(Structure):
+    _fields_ = [("outcome", c_uint32), ("len", c_uint32), ("start", c_uint32), ("bits", c_uint32)]
+
+
+class etcs_packet_unused(Structure):
+    _fields_ = [("start", c_uint64), ("bits", c_uint64), ("number", c_uint32), ("why", c_uint32)]
+
+
 class etcs_image(Structure):
     _fields_ = [("sectors", c_uint64), ("slots", c_uint64), ("whole", c_uint64), ("newest", c_uint64)]
 
@@ -401,6 +436,8 @@ CALLS: dict[str, tuple[object, ...]] = {
     "etcs_unit_why_": (POINTER(etcs_unit), POINTER(etcs_unit_why_told)),
     "etcs_unit_close_": (POINTER(etcs_unit),),
     "etcs_unit_format_request_": (c_uint32, c_uint32, POINTER(etcs_unit_request_told), c_char_p, c_size_t),
+    "etcs_telegram_adapt_": (c_char_p, c_size_t, c_char_p, c_size_t, POINTER(etcs_adapted)),
+    "etcs_telegram_unused_": (c_char_p, c_size_t, c_uint32, c_uint32, c_uint32, POINTER(etcs_packet_unused)),
     "etcs_abi": (),
     "etcs_image_facts_": (c_char_p, c_size_t, c_uint32, POINTER(etcs_image)),
     "etcs_image_slot_": (c_char_p, c_size_t, c_uint32, c_uint64, c_uint64, POINTER(etcs_slot)),

@@ -20,16 +20,19 @@ import errno
 import fcntl
 import functools
 import os
+import re
 from collections.abc import Callable, Iterator
 from dataclasses import dataclass
 from pathlib import Path
 from types import TracebackType
 from typing import Protocol, Self
 
-from . import _header
-from ._header import (ABI, OUTPUTS, REQUEST_BYTES, SECTOR, VERSION_BYTES, Acknowledgement, Action, Brake, BrakeCause, Cold,
-                      Indication, Kind, Level, LimitCause, Mode, RequestKind, SlotState, Status)
+from . import _header, _track_packets
+from ._header import (ABI, OUTPUTS, REQUEST_BYTES, SECTOR, TELEGRAM_BYTES, VERSION_BYTES, Acknowledgement, Action, Adaptation,
+                      Brake, BrakeCause, Cold, Direction, Indication, Kind, Level, LimitCause, Mode, RequestKind, SlotState, Status,
+                      UnusedReason)
 from .program import TOP
+from .telegrams import WIDTH
 
 __all__ = ["ABI", "OUTPUTS", "REQUEST_BYTES", "SECTOR", "VERSION_BYTES", "Acknowledgement", "Action", "Brake", "BrakeCause",
            "Cold", "Facts", "FileMedium", "Indication", "Kind", "Level", "LimitCause", "Medium", "MemoryMedium", "Mode",
@@ -380,6 +383,71 @@ def decode(digits: str) -> tuple[int, int]:
     """The fault of a telegram, 0 where it has none, and how many packets it has."""
     data = bytes.fromhex(digits)
     return _called("etcs_decode", data, len(data)), _called("etcs_packet_count", data, len(data))
+
+
+# ---- telegrams of installed tracks
+
+@dataclass(frozen=True)
+class Adapted:
+    """What came of a telegram that may be of an installed track (docs/PACKETS.md)."""
+
+    outcome: Adaptation
+    telegram: bytes
+    """What a unit is to be handed: what was written, or the telegram as it is."""
+    start: int | None
+    """The place of the first bit of the packet 3 that is meant in the telegram that was sent, where there is one."""
+    bits: int | None
+    """Its L_PACKET."""
+    dropped: dict[str, int]
+    """Its values that a unit has no place for, by the names of their variables; none where nothing was written."""
+
+
+def _dropped(telegram: bytes, start: int) -> dict[str, int]:
+    """The values of a track's packet 3 there that this project's packet 3 has no place for."""
+    bits = f"{int.from_bytes(telegram, 'big'):0{8 * len(telegram)}b}"
+    values: dict[str, int] = {}
+    at = start + 23
+    for name in re.findall("[A-Z_]+", _track_packets.LAYOUTS[3]):
+        for _ in range(values["N_ITER"] if name == "NID_C" else 1):
+            values[name] = int(bits[at:at + WIDTH[name]], 2)
+            at += WIDTH[name]
+    return {name: number for name, number in values.items() if name in _track_packets.WIDTHS}
+
+
+def adapt(telegram: bytes) -> Adapted:
+    """What a unit is to be handed in place of a telegram that may be of an installed track: its packet 3 becomes one that a
+    unit reads, and all other bits stay. The journal then holds what was written, and not what the track sent."""
+    room, told = ctypes.create_string_buffer(TELEGRAM_BYTES), _header.etcs_adapted()
+    _told(_called("etcs_telegram_adapt_", telegram, len(telegram), room, TELEGRAM_BYTES, ctypes.byref(told)))
+    outcome = Adaptation(told.outcome)
+    if outcome == Adaptation.NONE:
+        return Adapted(outcome, telegram, None, None, {})
+    if outcome != Adaptation.WRITTEN:
+        return Adapted(outcome, telegram, told.start, told.bits, {})
+    return Adapted(outcome, room.raw[:told.len], told.start, told.bits, _dropped(telegram, told.start))
+
+
+@dataclass(frozen=True)
+class UnusedPacket:
+    """A packet of a telegram that a unit doesn't use."""
+
+    number: int
+    start: int
+    """The place of its first bit in the telegram, from 0."""
+    bits: int
+    """Its L_PACKET."""
+    why: UnusedReason
+
+
+def unused(telegram: bytes, mode: Mode, direction: Direction = Direction.NOT_KNOWN) -> Iterator[UnusedPacket]:
+    """The packets of a telegram that a unit doesn't use in a mode, where its group is accepted and passed in this
+    direction, in their order."""
+    told, index = _header.etcs_packet_unused(), 0
+    while (status := _called("etcs_telegram_unused_", telegram, len(telegram), mode, direction, index, ctypes.byref(told))) == Status.OK:
+        yield UnusedPacket(told.number, told.start, told.bits, UnusedReason(told.why))
+        index += 1
+    if status != Status.END:
+        raise Refused(status)
 
 
 # ---- reading

@@ -16,7 +16,7 @@ from unittest import mock
 import gaknifur
 from gaknifur import lives
 from gaknifur import unit as units
-from gaknifur._header import Fault, RequestKind, Source, StatusKind
+from gaknifur._header import Adaptation, Direction, Fault, RequestKind, Source, StatusKind, UnusedReason
 from gaknifur.lives import BrakeCause, Datum, KeptField, LimitCause, RecordField, TripCause, Verdict
 from gaknifur.unit import (Acknowledgement, Action, Brake, Cold, FileMedium, Indication, Kind, Level, MemoryMedium, Mode, Output, Record,
                            Refused, SlotState, Status, TrainData, Unit, UnitWhy, Waiting)
@@ -33,7 +33,7 @@ class Names(unittest.TestCase):
     def test_enums(self) -> None:
         enums: list[type[enum.IntEnum | enum.IntFlag]] = [
             Fault, Status, StatusKind, Source, Cold, Action, Mode, Level, Brake, Indication, RequestKind, BrakeCause, LimitCause,
-            Acknowledgement, SlotState, Kind, Datum, Verdict, RecordField, KeptField, TripCause]
+            Acknowledgement, Adaptation, Direction, UnusedReason, SlotState, Kind, Datum, Verdict, RecordField, KeptField, TripCause]
         text = "".join((INCLUDE / name).read_text() for name in ("etcs.h", "etcs_unit.h", "etcs_image.h"))
         bodies = re.findall(r"^enum \w+ \{(.*?)\};", text, re.DOTALL | re.MULTILINE)
         for one, body in zip(enums, bodies, strict=True):
@@ -127,6 +127,30 @@ class Calls(unittest.TestCase):
                              (MemoryMedium.formatted(4).data[:-512], Status.OPEN_DAMAGED)):
             with self.refused(status):
                 Unit(MemoryMedium(bytes(data))).open()
+
+    def test_a_telegram_of_an_installed_track(self) -> None:
+        """The bits are by hand (SUBSET-026, 7.4.2 and 8.4.2), and so is what is wanted."""
+        def telegram(packet: str) -> bytes:
+            bits = "1001000000000000011111111" "0000000001" "00000000000010" "1" + packet + "11111111"
+            return int(bits + "0" * (-len(bits) % 8), 2).to_bytes((len(bits) + 7) // 8, "big")
+
+        speeds = "01" "111111111111111" "00001" "0000000111" "0000110" "0001000" "0000110" "0010100" "0001000" "000000000000010"
+        override = "0000000" "0000110" "000000011001000" "00111100"
+        track = telegram("00000011" "10" "0000010111010" + speeds + "1" "0" + override + "000000011001000" "01" "11111111" "1" + "1" * 15 + "0")
+        own = telegram("00000011" "10" "0000010011101" + speeds + override + "1" * 15)
+        dropped = {"Q_NVSRBKTRG": 1, "Q_NVEMRRLS": 0, "D_NVPOTRP": 200, "M_NVCONTACT": 1, "T_NVCONTACT": 255, "M_NVDERUN": 1, "Q_NVDRIVER_ADHES": 0}
+        # The 4 bits that fill the last of the 31 bytes that were sent stay: 219 bits are 28 bytes.
+        self.assertEqual(units.adapt(track), units.Adapted(Adaptation.WRITTEN, own + b"\0", 50, 186, dropped))
+        self.assertEqual(units.adapt(own), units.Adapted(Adaptation.NONE, own, None, None, {}))
+
+    def test_packets_that_are_not_used(self) -> None:
+        """137, which no unit knows, 66 for the other direction, and what no mode but System Failure leaves out (by hand)."""
+        bits = "1001000000000000011111111" "0000000001" "00000000000010" "1" "10001001" "10" "0000000011000" "0" "01000010" "00" "0000000011111" "00000001"
+        telegram = int(bits + "1" * 8 + "0" * 7, 2).to_bytes(15, "big")
+        stop, revocation = units.UnusedPacket(137, 50, 24, UnusedReason.NOT_KNOWN), units.UnusedPacket(66, 74, 31, UnusedReason.OTHER_DIRECTION)
+        self.assertEqual(list(units.unused(telegram, Mode.SHUNTING, Direction.REVERSE)), [stop])
+        self.assertEqual(list(units.unused(telegram, Mode.SHUNTING, Direction.NOMINAL)), [stop, revocation])
+        self.assertEqual([one.why for one in units.unused(telegram, Mode.SYSTEM_FAILURE)], [UnusedReason.NOT_KNOWN, UnusedReason.IN_MODE])
 
     def test_formats(self) -> None:
         for slots in (0, 1, 1_048_577):

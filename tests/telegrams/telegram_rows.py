@@ -14,7 +14,7 @@ from concurrent.futures import ThreadPoolExecutor
 from pathlib import Path
 
 TOP = Path(__file__).resolve().parents[2]
-sys.path[:0] = [str(TOP / "tests" / part) for part in ("", "plain", "events", "hostile")]
+sys.path[:0] = [str(TOP / "tests" / part) for part in ("", "plain", "events", "hostile", "rows")]
 
 import jsonschema
 
@@ -25,8 +25,19 @@ import told
 from compared import Compared, loaded, run, status_of_full
 from named import WIDTH
 from random_inputs import headed, mutated
+from test_track import telegram as installed
+from track_packets import adapted, data_of
 
 RANDOM, SEED = 10_000, 2026
+INSTALLED = 400
+HEADER, END = "1 0010000 0 000 000 00 11111111 0000000001 00000000000010 1", "11111111"
+SPEEDS = "01 111111111111111 00001 0000000111 0000110 0001000 0000110 0010100 0001000 000000000000010"
+OVERRIDE = "0000000 0000110 000000011001000 00111100"
+OF_TRACK = f"00000011 10 0000010111010 {SPEEDS} 1 0 {OVERRIDE} 000000011001000 01 11111111 1 111111111111111 0"
+OF_UNIT = f"00000011 10 0000010011101 {SPEEDS} {OVERRIDE} 111111111111111"
+"""A packet 3 for one country, by hand: as a track of issue 2.3.0 sends it, and as a unit reads it."""
+SAID = {"several": "etcs_lab: HEX: has more than one packet 3 as a track of issue 2.3.0 sends it\n",
+        "length": "etcs_lab: HEX: has a packet 3 whose length isn't 176 + 10 N_ITER bits\n"}
 LEAST = {"telegrams": 2_500, "refused": 2_500}
 
 
@@ -105,6 +116,35 @@ def compare_words(program, room, compared):
         compared.same(f"a full device {words}", status_of_full(program, words), 1)
 
 
+def bits(*parts):
+    return data_of("".join(parts).replace(" ", "")).hex().upper()
+
+
+def compare_installed(program, compared):
+    """What a unit is to be handed: rows by hand, and random telegrams beside the plain program."""
+    def answer(digits):
+        return run(program, ["telegram", "--installed", digits])
+
+    track, unit = bits(HEADER, OF_TRACK, END), bits(HEADER, OF_UNIT, END)
+    # (the 4 bits that fill the last of the 31 bytes that were sent stay: 219 bits are 28 bytes)
+    compared.same("of a track", answer(track), (unit + "00\n", "", 0))
+    compared.same("of a unit", answer(unit), (unit + "\n", "", 0))
+    compared.same("two of a track", answer(bits(HEADER, OF_TRACK, OF_TRACK, END)), ("", SAID["several"], 1))
+    compared.same("no digits", answer("9"), ("", "etcs_lab: HEX: isn't hexadecimal digits, two for each byte\n", 1))
+    for words in (["telegram", "--installed"], ["telegram", "--installed", track, track], ["telegram", "--installed", "--schema", track]):
+        printed, said, status = run(program, words)
+        compared.same(f"words {words}", (printed, said.count("\n"), status), ("", 1, 2))
+    compared.same("a full device", status_of_full(program, ["telegram", "--installed", track]), 1)
+    numbers, written = random.Random(SEED), 0
+    for _ in range(INSTALLED):
+        data = installed(numbers, [3])
+        outcome, _, *new = adapted(data)
+        written += outcome == "written"
+        wanted = ("", SAID[outcome], 1) if outcome in SAID else ((new[0] if new else data).hex().upper() + "\n", "", 0)
+        compared.same(f"adapted {data.hex()}", answer(data.hex()), wanted)
+    compared.unless(written >= INSTALLED // 2, f"only {written} telegrams were adapted")
+
+
 def names_in(schema):
     """The greatest number of each name, as the schema has it."""
     header = {name: value.get("maximum", value.get("const")) for name, value in schema["properties"]["header"]["properties"].items()}
@@ -137,6 +177,7 @@ def main(program):
         carried, refused = compare_telegrams(program, room, compared)
         compare_faults(program, room, compared)
         compare_words(program, room, compared)
+        compare_installed(program, compared)
         compare_schema(program, compared)
     print(f"telegrams in JSON: {carried} told and written again, {refused} refused, {compared.count} comparisons, {compared.differ} differ")
     return 0 if compared.differ == 0 and carried >= LEAST["telegrams"] and refused >= LEAST["refused"] else 1

@@ -14,7 +14,7 @@ sys.path[:0] = [str(TOP / "tests")]
 from compared import Compared  # noqa: E402
 
 NULL_POINTER, WITHOUT_POINTER = 253, ("etcs_abi", "etcs_status_text", "etcs_status_kind", "etcs_decode", "etcs_packet_count")
-SECTOR, SLOTS, LEAST = 512, 4, 26
+SECTOR, SLOTS, LEAST = 512, 4, 28
 
 
 def life(library, same):

@@ -21,6 +21,8 @@ carries, how one is written, and what is wrong in a scenario.
   etcs_lab telegram FILE             writes the digits of the telegram that a file tells in that JSON; - is standard
                                      input; packet, bits and each L_PACKET may be left out, no name comes twice
   etcs_lab telegram --schema         prints the JSON Schema of a telegram
+  etcs_lab telegram --installed HEX  writes the digits of what a unit is to be handed in place of this telegram: where it
+                                     has a packet 3 as a track of issue 2.3.0 sends it, with one that a unit reads
   etcs_lab lint [--json] SCENARIO    tells each fault of a scenario at its place with what is wanted there, the first
                                      being that of etcs run; names that come twice in one object; and of a scenario
                                      with no fault, telegrams that are refused, packets that are skipped, balises that

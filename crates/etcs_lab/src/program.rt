@@ -8,7 +8,7 @@ use crate::listed::events_told;
 use crate::played::played;
 use crate::replayed::replayed;
 use crate::status::{Status, text_told, usage};
-use crate::telegrams::{decode_told, telegram_told};
+use crate::telegrams::{adapted_told, decode_told, telegram_told};
 use crate::why::why_told;
 use crate::words::{Asked, understood};
 use std::fs::File;
@@ -31,6 +31,7 @@ pub(crate) fn answer<R: Files<File = File> + Input + AllocGlobal + Eprint, W: Wr
         Some(Asked::Check(image, form)) => checked(rt, image, form, out),
         Some(Asked::Why(image, only, form)) => why_told(rt, image, only, form, out),
         Some(Asked::Telegram(file)) => telegram_told(rt, file, out),
+        Some(Asked::Adapt(digits)) => adapted_told(rt, digits, out),
         Some(Asked::Schema) => text_told(rt, SCHEMA, "--schema", out),
         Some(Asked::Decode(digits, is_json)) => decode_told(rt, digits, is_json, out),
         Some(Asked::Lint(scenario, is_json)) => linted(rt, scenario, is_json, out),

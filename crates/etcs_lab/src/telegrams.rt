@@ -1,8 +1,10 @@
 //! The commands `telegram` and `decode`.
 
-use crate::status::{Status, no_memory, unread_for, unwritten};
+use crate::status::{Status, fail, no_memory, unread_for, unwritten};
 use decoding::decode_text;
 use hex::FromHexError;
+use installed_values::{AdaptError, Adaptation, adapt};
+use packets::TELEGRAM_BYTES;
 use std::alloc::Global;
 use std::fs::File;
 use std::io::{Read, Write};
@@ -57,6 +59,50 @@ pub(crate) fn telegram_told<R: Files<File = File> + Input + AllocGlobal + Eprint
     match write_hex(bytes.as_slice(), out) {
         Ok(()) => Status::Whole,
         Err(_) => unwritten(rt, path),
+    }
+}
+
+// What is said of a telegram that isn't adapted.
+fn not_adapted(error: AdaptError) -> &'static str {
+    match error {
+        AdaptError::Several(_) => "has more than one packet 3 as a track of issue 2.3.0 sends it",
+        AdaptError::WrongLength(_) => "has a packet 3 whose length isn't 176 + 10 N_ITER bits",
+    }
+}
+
+// Writes the digits of what a unit is to be handed in place of a telegram.
+fn write_adapted<R: AllocGlobal + Eprint, W: Write>(
+    rt: &R,
+    telegram: &[u8],
+    out: &mut W,
+) -> Status {
+    let mut written = [0; TELEGRAM_BYTES];
+    let done = match adapt(telegram, &mut written) {
+        Ok(Adaptation::Written(count, _)) => write_hex(&written[..count], out),
+        Ok(Adaptation::AsItIs) => write_hex(telegram, out),
+        Err(error) => return fail(rt, not_adapted(error), "HEX", Status::Refused),
+    };
+    match done {
+        Ok(()) => Status::Whole,
+        Err(_) => unwritten(rt, "HEX"),
+    }
+}
+
+/// Writes the digits of what a unit is to be handed in place of the telegram of an installed track, and answers the status.
+pub(crate) fn adapted_told<R: AllocGlobal + Eprint, W: Write>(
+    rt: &R,
+    digits: &str,
+    out: &mut W,
+) -> Status {
+    match hex::decode(rt.alloc(), digits) {
+        Ok(bytes) => write_adapted(rt, bytes.as_slice(), out),
+        Err(FromHexError::OutOfMemory) => no_memory(rt, "HEX"),
+        Err(_) => fail(
+            rt,
+            "isn't hexadecimal digits, two for each byte",
+            "HEX",
+            Status::Refused,
+        ),
     }
 }
 

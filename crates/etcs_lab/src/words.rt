@@ -23,6 +23,8 @@ pub(crate) enum Asked<'a> {
     Why(Named<'a>, Option<u64>, Form),
     /// The telegram that a file tells.
     Telegram(&'a str),
+    /// What a unit is to be handed in place of a telegram of an installed track, by its digits.
+    Adapt(&'a str),
     /// The schema of a telegram.
     Schema,
     /// To decode digits, in lines or as JSON.
@@ -68,6 +70,15 @@ fn image_command<'a>(name: &str, words: &'a [String], slots: Option<u32>) -> Opt
     }
 }
 
+// What `telegram` and the words behind it ask for, where `--installed` is among them.
+fn installed_command<'a>(words: &'a [String]) -> Option<Asked<'a>> {
+    let told = told_apart(words, "--installed")?;
+    match (told.first, told.second) {
+        (Some(digits), None) if told.has_option => Some(Asked::Adapt(digits)),
+        _ => None,
+    }
+}
+
 // What another command and the words behind its name ask for.
 fn other_command<'a>(name: &str, words: &'a [String]) -> Option<Asked<'a>> {
     let told = told_apart(words, option_of(name))?;
@@ -90,7 +101,10 @@ fn command<'a>(name: &str, words: &'a [String], slots: Option<u32>) -> Option<As
     if slots.is_some() {
         return None;
     }
-    other_command(name, words)
+    match other_command(name, words) {
+        None if name == "telegram" => installed_command(words),
+        asked => asked,
+    }
 }
 
 /// What the words behind the program's name ask for, beside this number of slots; None where they are none of the

@@ -1,6 +1,7 @@
-//! What C programs call: each function is the one of `unit_calls` or `image_calls` of the same name with `_call`, which
-//! has the contract. `include/etcs_unit.h` and `etcs_image.h` declare them.
+//! What C programs call: each function is the one of `unit_calls`, `image_calls`, `installed_values` or `packet_uses` of the
+//! same name with `_call`, which has the contract. `include/etcs_unit.h` and `etcs_image.h` declare them.
 #![tactic(auto)]
 
 mod image;
+mod telegrams;
 mod unit;

@@ -1,0 +1,25 @@
+//! The calls of `include/etcs_unit.h` on telegrams alone.
+use installed_values::{EtcsAdapted, adapt_call};
+use packet_uses::{EtcsPacket, unused_call};
+
+/// Writes a telegram that a unit is to be handed in place of one of an installed track.
+#[unsafe(no_mangle)]
+pub extern "C" fn etcs_telegram_adapt_(
+    bytes: &[u8],
+    out: &mut [u8],
+    told: &mut EtcsAdapted,
+) -> u32 {
+    adapt_call(bytes, out, told)
+}
+
+/// Tells a packet of a telegram that a unit doesn't use, from 0 on.
+#[unsafe(no_mangle)]
+pub extern "C" fn etcs_telegram_unused_(
+    bytes: &[u8],
+    mode: u32,
+    direction: u32,
+    index: u32,
+    told: &mut EtcsPacket,
+) -> u32 {
+    unused_call(bytes, mode, direction, index, told)
+}

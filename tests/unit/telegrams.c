@@ -1,0 +1,141 @@
+/* Telegrams of installed tracks through the calls of etcs_unit.h: what they become, and which of their packets a unit doesn't use. The bits
+ * are by hand, as SUBSET-026, 7.4.2 and 8.4.2 lays them out, and so is what is wanted. */
+#include <stdio.h>
+#include <string.h>
+
+#include "etcs_unit.h"
+
+#define HEADER "1 0010000 0 000 000 00 11111111 0000000001 00000000000010 1 "
+#define END "11111111"
+#define STOP_IN_SR "10001001 10 0000000011000 0 "
+#define REVOCATION_REVERSE "01000010 00 0000000011111 00000001 "
+#define RESTRICTION_NOMINAL "01000001 01 0000001000111 01 00000111 000000001100100 000000000110010 0 0000100 "
+#define INFILL "10001000 10 0000000100110 0 00000000000101 "
+/* Packet 3 for one country, as a track sends it and as a unit reads it; of the former also one of two bits more. */
+#define SPEEDS "01 111111111111111 00001 0000000111 0000110 0001000 0000110 0010100 0001000 000000000000010 "
+#define OVERRIDE "0000000 0000110 000000011001000 00111100 "
+#define BEHIND SPEEDS "1 0 " OVERRIDE "000000011001000 01 11111111 1 111111111111111 0 "
+#define INSTALLED "00000011 10 0000010111010 " BEHIND
+#define LONGER "00000011 10 0000010111100 " BEHIND "00 "
+#define OWN "00000011 10 0000010011101 " SPEEDS OVERRIDE "111111111111111 "
+
+static int failures;
+
+static void is(const char *what, uint64_t found, uint64_t wanted) {
+    if (found != wanted) {
+        printf("%s: %llu, wanted %llu\n", what, (unsigned long long)found, (unsigned long long)wanted);
+        failures++;
+    }
+}
+
+/* The bytes of some bits, the last one padded with zeros. */
+static size_t packed(const char *bits, uint8_t *bytes) {
+    size_t count = 0;
+    memset(bytes, 0, 2 * ETCS_TELEGRAM_BYTES);
+    for (; *bits != 0; bits++) {
+        if (*bits == ' ')
+            continue;
+        if (*bits == '1')
+            bytes[count / 8] = (uint8_t)(bytes[count / 8] | (0x80u >> (count % 8)));
+        count++;
+    }
+    return (count + 7) / 8;
+}
+
+static void adapts(const char *what, const char *bits, uint32_t outcome, uint32_t start, uint32_t length, const char *written) {
+    uint8_t bytes[2 * ETCS_TELEGRAM_BYTES], wanted[2 * ETCS_TELEGRAM_BYTES], out[2 * ETCS_TELEGRAM_BYTES];
+    etcs_adapted told = {99, 99, 99, 99};
+    size_t len = packed(bits, bytes), wanted_len = packed(written, wanted);
+    memset(out, 0x55, sizeof out);
+    memset(wanted + wanted_len, 0x55, sizeof wanted - wanted_len);
+    is(what, etcs_telegram_adapt(bytes, len, out, ETCS_TELEGRAM_BYTES, &told), ETCS_UNIT_OK);
+    is(what, told.outcome, outcome);
+    is(what, told.start, start);
+    is(what, told.bits, length);
+    is(what, told.len, wanted_len);
+    is(what, (uint64_t)(memcmp(out, wanted, sizeof out) != 0), 0);
+    memset(out, 0x55, sizeof out);
+    is(what, etcs_telegram_adapt(bytes, len, out, ETCS_TELEGRAM_BYTES - 1, &told), ETCS_UNIT_NO_ROOM);
+    is(what, (uint64_t)out[0], 0x55);
+    is(what, told.start, start);
+}
+
+static void adaptations(void) {
+    uint8_t bytes[2 * ETCS_TELEGRAM_BYTES], out[ETCS_TELEGRAM_BYTES];
+    etcs_adapted told;
+    size_t len = packed(HEADER STOP_IN_SR INSTALLED REVOCATION_REVERSE END, bytes);
+    /* (the bits that fill the last byte that was sent stay: 5 of 304, and below 7 of 408) */
+    adapts("a track's packet 3", HEADER STOP_IN_SR INSTALLED REVOCATION_REVERSE END, ETCS_ADAPTATION_WRITTEN, 74, 186,
+           HEADER STOP_IN_SR OWN REVOCATION_REVERSE END "00000");
+    adapts("a unit's packet 3", HEADER STOP_IN_SR OWN REVOCATION_REVERSE END, ETCS_ADAPTATION_NONE, 0, 0, "");
+    adapts("no packet 3", HEADER STOP_IN_SR END, ETCS_ADAPTATION_NONE, 0, 0, "");
+    adapts("no end mark", HEADER INSTALLED, ETCS_ADAPTATION_NONE, 0, 0, "");
+    adapts("no byte", "", ETCS_ADAPTATION_NONE, 0, 0, "");
+    adapts("both kinds", HEADER OWN INSTALLED END, ETCS_ADAPTATION_WRITTEN, 207, 186, HEADER OWN OWN END "0000000");
+    adapts("two of a track", HEADER INSTALLED INSTALLED END, ETCS_ADAPTATION_SEVERAL, 236, 186, "");
+    adapts("another length", HEADER LONGER END, ETCS_ADAPTATION_WRONG_LENGTH, 50, 188, "");
+    is("as the track sends it", (uint64_t)(etcs_decode(bytes, len) != ETCS_OK), 1);
+    is("adapted", etcs_telegram_adapt(bytes, len, out, sizeof out, &told), ETCS_UNIT_OK);
+    is("as a unit reads it", etcs_decode(out, told.len), ETCS_OK);
+    is("its packets", etcs_packet_count(out, told.len), 3);
+    is("too long a telegram", etcs_telegram_adapt(bytes, ETCS_TELEGRAM_BYTES + 1, out, sizeof out, &told), ETCS_UNIT_OK);
+    is("too long a telegram", told.outcome, ETCS_ADAPTATION_NONE);
+}
+
+static void unused(const char *bits, uint32_t mode, uint32_t direction, const etcs_packet_unused *wanted, uint32_t count) {
+    uint8_t bytes[2 * ETCS_TELEGRAM_BYTES];
+    char what[80];
+    size_t len = packed(bits, bytes);
+    for (uint32_t index = 0; index <= count; index++) {
+        etcs_packet_unused told = {9999, 9999, 9999, 9999};
+        (void)snprintf(what, sizeof what, "mode %u direction %u packet %u", (unsigned)mode, (unsigned)direction, (unsigned)index);
+        is(what, etcs_telegram_unused(bytes, len, mode, direction, index, &told), index < count ? ETCS_UNIT_OK : ETCS_UNIT_END);
+        is(what, told.start, index < count ? wanted[index].start : 9999);
+        is(what, told.bits, index < count ? wanted[index].bits : 9999);
+        is(what, told.number, index < count ? wanted[index].number : 9999);
+        is(what, told.why, index < count ? wanted[index].why : 9999);
+    }
+}
+
+static void uses(void) {
+    static const char bits[] = HEADER RESTRICTION_NOMINAL REVOCATION_REVERSE STOP_IN_SR INFILL RESTRICTION_NOMINAL END;
+    const etcs_packet_unused restriction = {50, 71, 65, ETCS_UNUSED_OTHER_DIRECTION}, revocation = {121, 31, 66, ETCS_UNUSED_OTHER_DIRECTION};
+    const etcs_packet_unused stop = {152, 24, 137, ETCS_UNUSED_NOT_KNOWN}, infill = {176, 38, 136, ETCS_UNUSED_INFILL};
+    const etcs_packet_unused behind = {214, 71, 65, ETCS_UNUSED_INFILL};
+    const etcs_packet_unused failed[] = {{50, 71, 65, ETCS_UNUSED_IN_MODE}, {121, 31, 66, ETCS_UNUSED_IN_MODE}, stop, infill, behind};
+    const etcs_packet_unused nominal[] = {revocation, stop, infill, behind}, reverse[] = {restriction, stop, infill, behind};
+    const etcs_packet_unused not_known[] = {restriction, revocation, stop, infill, behind};
+    const etcs_packet_unused refused[] = {{50, 24, 137, ETCS_UNUSED_REFUSED}, {74, 186, 3, ETCS_UNUSED_REFUSED}, {260, 31, 66, ETCS_UNUSED_REFUSED}};
+    const etcs_packet_unused in_post_trip[] = {{50, 38, 136, ETCS_UNUSED_INFILL}};
+    uint8_t byte = 0x90;
+    etcs_packet_unused told;
+    unused(bits, ETCS_FULL_SUPERVISION, ETCS_DIRECTION_NOMINAL, nominal, 4);
+    unused(bits, ETCS_SHUNTING, ETCS_DIRECTION_REVERSE, reverse, 4);
+    unused(bits, ETCS_UNFITTED, ETCS_DIRECTION_NOT_KNOWN, not_known, 5);
+    unused(bits, ETCS_SYSTEM_FAILURE, ETCS_DIRECTION_NOMINAL, failed, 5);
+    unused(HEADER STOP_IN_SR INSTALLED REVOCATION_REVERSE END, ETCS_FULL_SUPERVISION, ETCS_DIRECTION_NOMINAL, refused, 3);
+    unused(HEADER INFILL END, ETCS_POST_TRIP, ETCS_DIRECTION_NOMINAL, in_post_trip, 1);
+    unused(HEADER END, ETCS_FULL_SUPERVISION, ETCS_DIRECTION_NOMINAL, refused, 0);
+    is("a mode that isn't there", etcs_telegram_unused(&byte, 1, 5, ETCS_DIRECTION_NOMINAL, 0, &told), ETCS_UNIT_OUT_OF_RANGE);
+    is("a mode of more than a byte", etcs_telegram_unused(&byte, 1, 256, ETCS_DIRECTION_NOMINAL, 0, &told), ETCS_UNIT_OUT_OF_RANGE);
+    is("a direction that isn't there", etcs_telegram_unused(&byte, 1, ETCS_SHUNTING, 3, 0, &told), ETCS_UNIT_OUT_OF_RANGE);
+}
+
+static void nulls(void) {
+    uint8_t byte = 0, out[ETCS_TELEGRAM_BYTES];
+    etcs_adapted adapted;
+    etcs_packet_unused packet;
+    is("no telegram", etcs_telegram_adapt(NULL, 0, out, sizeof out, &adapted), ETCS_UNIT_NULL_POINTER);
+    is("no buffer", etcs_telegram_adapt(&byte, 1, NULL, sizeof out, &adapted), ETCS_UNIT_NULL_POINTER);
+    is("nowhere to tell", etcs_telegram_adapt(&byte, 1, out, sizeof out, NULL), ETCS_UNIT_NULL_POINTER);
+    is("no telegram with packets", etcs_telegram_unused(NULL, 0, 0, 0, 0, &packet), ETCS_UNIT_NULL_POINTER);
+    is("nowhere to tell a packet", etcs_telegram_unused(&byte, 1, 0, 0, 0, NULL), ETCS_UNIT_NULL_POINTER);
+}
+
+int main(void) {
+    adaptations();
+    uses();
+    nulls();
+    printf("telegrams: %d failures\n", failures);
+    return failures != 0;
+}

@@ -1,5 +1,5 @@
 pub mod Judging
-pub mod NumberSteps
+pub mod Numbers
 pub mod Opened
 pub mod Refusals
 pub mod SlotSteps

@@ -1,6 +1,5 @@
 -- The line of the first sector (this project's profile).
 use Rattle.std.specs.Prelude.{ℕ, ◌-◌, ◌*◌, ◌/◌, ◌==◌, ◌&&◌, ◌++◌, nat_le, Bool, true, false, List, [], ◌∷◌, codes, decimal, Option, Some, None}
-use Rattle.examination.specs.declared.faults.Fault.{Fault}
 use Rattle.examination.specs.declared.first_sector.FirstSector.{FirstSector}
 use Rattle.examination.specs.declared.first_sector.FirstSector.TheVariants.{Readable, Unreadable, Missing}
 use Rattle.examination.specs.declared.survey.Survey.{Survey}

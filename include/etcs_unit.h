@@ -343,40 +343,44 @@ typedef struct {
     uint8_t reserved[6];                /**< zeros */
 } etcs_unit_why_told;
 
-/* What came of a telegram that may be of an installed track (etcs_telegram_adapt). */
+/** What came of a telegram that may be of an installed track (etcs_telegram_adapt). */
 enum etcs_adaptation {
-    ETCS_ADAPTATION_NONE = 0,        /* it has no packet 3 as a track of issue 2.3.0 sends it: hand it on as it is */
-    ETCS_ADAPTATION_WRITTEN = 1,     /* hand on what was written */
-    ETCS_ADAPTATION_SEVERAL = 2,     /* it has more than one: nothing was written, and a unit refuses the telegram */
-    ETCS_ADAPTATION_WRONG_LENGTH = 3 /* its length isn't 176 + 10 N_ITER: nothing was written, and a unit refuses the telegram */
+    ETCS_ADAPTATION_NONE = 0,        /**< it has no packet 3 as a track of issue 2.3.0 sends it: hand it on as it is */
+    ETCS_ADAPTATION_WRITTEN = 1,     /**< hand on what was written */
+    ETCS_ADAPTATION_SEVERAL = 2,     /**< it has more than one: nothing was written, and a unit refuses the telegram */
+    ETCS_ADAPTATION_WRONG_LENGTH = 3 /**< its length isn't 176 + 10 N_ITER: nothing was written, and a unit refuses the telegram */
 };
 
-/* What came of a telegram. What isn't there is 0. */
+/** What came of a telegram. What isn't there is 0. */
 typedef struct {
-    uint32_t outcome; /* enum etcs_adaptation */
-    uint32_t len;     /* how many bytes were written */
-    uint32_t start;   /* the place of the first bit of the packet 3 that is meant in the telegram that was sent, from 0 */
-    uint32_t bits;    /* its L_PACKET */
+    uint32_t outcome; /**< enum etcs_adaptation */
+    uint32_t len;     /**< how many bytes were written */
+    uint32_t start;   /**< the place of the first bit of the packet 3 that is meant in the telegram that was sent, from 0 */
+    uint32_t bits;    /**< its L_PACKET */
 } etcs_adapted;
 
-/* The direction in which a group is passed. */
-enum etcs_direction { ETCS_DIRECTION_REVERSE = 0, ETCS_DIRECTION_NOMINAL = 1, ETCS_DIRECTION_NOT_KNOWN = 2 };
-
-/* Why a unit doesn't use a packet of a telegram. */
-enum etcs_unused_reason {
-    ETCS_UNUSED_NOT_KNOWN = 1,       /* the kernel doesn't know its number (docs/PACKETS.md) */
-    ETCS_UNUSED_INFILL = 2,          /* it is a packet 136, or stands behind one */
-    ETCS_UNUSED_IN_MODE = 3,         /* the mode doesn't use its number */
-    ETCS_UNUSED_OTHER_DIRECTION = 4, /* it isn't valid in the direction in which the group is passed */
-    ETCS_UNUSED_REFUSED = 5          /* the telegram is refused as a whole (etcs_decode tells why) */
+/** The direction in which a group is passed. */
+enum etcs_direction {
+    ETCS_DIRECTION_REVERSE = 0,  /**< against the order of its balises */
+    ETCS_DIRECTION_NOMINAL = 1,  /**< in the order of its balises */
+    ETCS_DIRECTION_NOT_KNOWN = 2 /**< a single balise that nobody announced, say */
 };
 
-/* A packet that a unit doesn't use. */
+/** Why a unit doesn't use a packet of a telegram. */
+enum etcs_unused_reason {
+    ETCS_UNUSED_NOT_KNOWN = 1,       /**< the kernel doesn't know its number (docs/PACKETS.md) */
+    ETCS_UNUSED_INFILL = 2,          /**< it is a packet 136, or stands behind one */
+    ETCS_UNUSED_IN_MODE = 3,         /**< the mode doesn't use its number */
+    ETCS_UNUSED_OTHER_DIRECTION = 4, /**< it isn't valid in the direction in which the group is passed */
+    ETCS_UNUSED_REFUSED = 5          /**< the telegram is refused as a whole (etcs_decode tells why) */
+};
+
+/** A packet that a unit doesn't use. */
 typedef struct {
-    uint64_t start;  /* the place of its first bit in the telegram, from 0 */
-    uint64_t bits;   /* its L_PACKET */
-    uint32_t number; /* NID_PACKET */
-    uint32_t why;    /* enum etcs_unused_reason */
+    uint64_t start;  /**< the place of its first bit in the telegram, from 0 */
+    uint64_t bits;   /**< its L_PACKET */
+    uint32_t number; /**< NID_PACKET */
+    uint32_t why;    /**< enum etcs_unused_reason */
 } etcs_packet_unused;
 
 ETCS_UNIT_ASSERT((sizeof(void *) == 8u) && (sizeof(size_t) == 8u));
@@ -615,7 +619,7 @@ static inline uint32_t etcs_unit_format_request(uint32_t slots, uint32_t index, 
 
 /* ---- telegrams of installed tracks: these calls need no unit, take no memory but some of the stack, and keep nothing */
 
-/* Makes of a telegram with a packet 3 as a track of issue 2.3.0 sends it one that a unit reads, before it is handed to
+/** Makes of a telegram with a packet 3 as a track of issue 2.3.0 sends it one that a unit reads, before it is handed to
  * etcs_unit_telegram: Q_NVSRBKTRG, Q_NVEMRRLS, D_NVPOTRP, M_NVCONTACT, T_NVCONTACT, M_NVDERUN and Q_NVDRIVER_ADHES of that
  * packet are left out, its L_PACKET is 29 less, and all other bits stay (docs/PACKETS.md). `told` says what came of it, and
  * where the packet stands in the telegram that was sent; that one is what the track said, and the journal holds the other:
@@ -624,7 +628,7 @@ static inline uint32_t etcs_telegram_adapt(const uint8_t *bytes, size_t len, uin
     return ((bytes != NULL) && (out != NULL) && (told != NULL)) ? etcs_telegram_adapt_(bytes, len, out, room, told) : (uint32_t)ETCS_UNIT_NULL_POINTER;
 }
 
-/* Tells the packets of a telegram that a unit doesn't use, from 0 on in their order, and why: in this mode (enum etcs_mode),
+/** Tells the packets of a telegram that a unit doesn't use, from 0 on in their order, and why: in this mode (enum etcs_mode),
  * where the telegram's group is accepted, and passed in this direction (enum etcs_direction). So a maker may act on what a
  * track sends and the unit doesn't obey, as a packet 132, 135 or 137, by the bits of the telegram. The packets that aren't
  * told are those that the unit uses. Answers OK, END behind the last one, or OUT_OF_RANGE where no mode or direction has the

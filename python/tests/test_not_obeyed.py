@@ -72,13 +72,14 @@ class Told(unittest.TestCase):
 
     def test_a_summary_counts_telegrams(self) -> None:
         told = journal(telegram(0, STOP_IN_SR, STOP_IN_SR, STOP_SHUNTING), telegram(1, REVOCATION), telegram(2, STOP_IN_SR))
-        self.assertEqual(not_obeyed.summary(told).text(), "2 telegrams had packets of issue 2.3.0 that this unit does not obey: "
-                         "137 Stop if in Staff Responsible (2), 135 Stop Shunting on desk opening (1)")
         table = tables.frame(told)
-        self.assertEqual(brief.brief(told, table, tables.interventions(table)).not_obeyed, not_obeyed.summary(told).text())
+        summary = not_obeyed.summary(table["not_obeyed"])
+        self.assertEqual(summary.text(), "2 telegrams had packets of issue 2.3.0 that this unit does not obey: "
+                         "137 Stop if in Staff Responsible (2), 135 Stop Shunting on desk opening (1)")
+        self.assertEqual(brief.brief(told, table, tables.interventions(table)).not_obeyed, summary.text())
 
     def test_none(self) -> None:
         told = journal(telegram(0, REVOCATION))
         table = tables.frame(told)
         self.assertIsNone(brief.brief(told, table, tables.interventions(table)).not_obeyed)
-        self.assertEqual(not_obeyed.summary(told).text(), "no telegram had a packet of issue 2.3.0 that this unit does not obey")
+        self.assertEqual(not_obeyed.summary(table["not_obeyed"]).text(), "no telegram had a packet of issue 2.3.0 that this unit does not obey")

@@ -186,7 +186,7 @@ typedef struct {
     int64_t front_cm;        /* where the front was thought to be, from where its life began; 0 in format 1 */
     uint64_t uncertainty_cm; /* how far that may have been wrong to either side; 0 in format 1 */
     uint32_t limit_m_per_h;  /* 0 in format 1 */
-    uint32_t life;           /* how many power-ups there were up to and with its block */
+    uint32_t life;           /* the number of its life: how many power-ups there were up to and with it */
     uint8_t format;          /* of its block, 1 to 3 */
     uint8_t kind;            /* enum etcs_kind */
     uint8_t mode;            /* enum etcs_mode */
@@ -320,7 +320,7 @@ static inline uint32_t etcs_image_replay(const uint8_t *image, size_t size, etcs
 }
 
 /* Why the event of this number in the block of this number was answered so: its life is run through the kernel again, from
- * its power-up up to the event. etcs_journal_next tells both numbers of each record. It takes memory. Answers OK,
+ * its power-up up to the event, also from a power-up within a block where the life before it in the block can be run. etcs_journal_next tells both numbers of each record. It takes memory. Answers OK,
  * OTHER_ABI, IMAGE_NOT_FORMATTED, NO_SUCH_BLOCK, NO_SUCH_RECORD where the block has no such event, NOT_REPLAYED where what
  * was kept before the life isn't known (etcs_image_replay tells why), or NO_MEMORY. */
 static inline uint32_t etcs_image_why(const uint8_t *image, size_t size, uint64_t number, uint64_t event, etcs_why *why) {

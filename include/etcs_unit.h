@@ -79,7 +79,7 @@ extern "C" {
 #endif
 
 /* The number of this interface: counted up with each change that a caller can see. */
-#define ETCS_UNIT_ABI 2
+#define ETCS_UNIT_ABI 3
 
 /* The bytes of the version, at most. */
 #define ETCS_VERSION_BYTES 32

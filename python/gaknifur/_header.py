@@ -3,7 +3,7 @@ import enum
 from ctypes import POINTER, Structure, c_char_p, c_int64, c_size_t, c_uint8, c_uint16, c_uint32, c_uint64, c_void_p
 
 TELEGRAM_BYTES = 104
-ABI = 2
+ABI = 3
 VERSION_BYTES = 32
 SECTOR = 512
 OUTPUTS = 8

@@ -6,7 +6,7 @@
             obey(output)
 
 `$GAKNIFUR_ETCS_UNIT` names the library; without it the one that is installed beside this package is taken, or else the
-system's loader looks for `libetcs_unit.so.2`. A unit opens no file: its journal lies on a `Medium`, here a file
+system's loader looks for `libetcs_unit.so.3`. A unit opens no file: its journal lies on a `Medium`, here a file
 (`FileMedium`) or sectors in memory (`MemoryMedium`), or a class of the user's own.
 
 `journal(path)` iterates over the records that a file holds, and `records`, `facts` and `slots` read bytes. The module

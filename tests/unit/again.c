@@ -3,6 +3,7 @@
  *
  *     again IMAGE replay       a line of each life of the journal, and of each block that can't be read
  *     again IMAGE why [STEP]   a line of each STEPth record of the journal, of each without a number
+ *     again IMAGE records      a line of each record of the journal, with the number of its life
  */
 #include <stdio.h>
 #include <stdlib.h>
@@ -201,6 +202,19 @@ static uint32_t whys(const uint8_t *image, size_t size, unsigned step) {
     return ETCS_UNIT_OK;
 }
 
+static uint32_t records(const uint8_t *image, size_t size) {
+    etcs_journal journal;
+    etcs_record record;
+    uint32_t answer = etcs_journal_open(image, size, &journal);
+    while (answer == ETCS_UNIT_OK && (answer = etcs_journal_next(image, size, &journal, &record)) != ETCS_UNIT_END) {
+        if (answer == ETCS_UNIT_OK)
+            printf("{\"block\":%llu,\"event\":%llu,\"life\":%u}\n", wide(record.block), wide(record.event), (unsigned)record.life);
+        else if (answer == ETCS_UNIT_IMAGE_DAMAGED)
+            answer = ETCS_UNIT_OK;
+    }
+    return answer == ETCS_UNIT_END ? ETCS_UNIT_OK : answer;
+}
+
 int main(int count, char **words) {
     uint8_t *image;
     long size;
@@ -214,6 +228,8 @@ int main(int count, char **words) {
         return 3;
     if (strcmp(words[2], "replay") == 0)
         answer = replayed(image, (size_t)size);
+    else if (strcmp(words[2], "records") == 0)
+        answer = records(image, (size_t)size);
     else
         answer = whys(image, (size_t)size, count > 3 ? (unsigned)atoi(words[3]) : 1);
     if (answer != ETCS_UNIT_OK)

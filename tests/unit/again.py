@@ -1,6 +1,6 @@
 #!/usr/bin/env python3
 """Lives of images that C programs run again by the calls of etcs_image.h, beside what the plain programs say of the same images, and beside what
-`etcs_lab replay --json` and `etcs_lab why --json` print: of the examples, of random lives, of all formats, of damaged journals, and of ones with
+`etcs_lab replay --json`, `etcs_lab why --json` and `etcs_lab events` print: of the examples, of random lives, of all formats, of damaged journals, and of ones with
 an altered byte.
 
     tests/unit/again.py LAB REFUSE PROGRAM..     the program etcs_lab, tests/hostile/refuse.c as a library, and again.c built in several ways
@@ -121,7 +121,7 @@ class Tried(Compared):
     def __init__(self, lab, refuse, programs, folder):
         super().__init__()
         self.lab, self.refuse, self.programs, self.image = lab, refuse, programs, Path(folder) / "image"
-        self.images = self.whys = self.of_lab = self.refused = 0
+        self.images = self.whys = self.of_lab = self.refused = self.within = 0
         self.met = Counter()
 
     def lives(self, name, data):
@@ -171,6 +171,17 @@ class Tried(Compared):
                 self.tell(f"{name}, event {event}, beside etcs_lab: {lines}")
             self.of_lab += 1
 
+    def records(self, name):
+        """The life of each record, beside `etcs_lab events`."""
+        _, told = printed(self.programs[0], self.image, "records")
+        if any("refused" in line for line in told):
+            return
+        _, lines = printed(self.lab, "events", self.image)
+        wanted = [{key: line[key] for key in ("block", "event", "life")} for line in lines if "event" in line]
+        self.within += any(one["life"] != other["life"] for one, other in zip(wanted, wanted[1:]) if one["block"] == other["block"])
+        if told != wanted:
+            self.tell(f"{name}, lives of records beside etcs_lab: {told}\n--- wanted\n{wanted}")
+
     def memory(self, name, data, words):
         """Each request for memory is refused in turn: then one event, or the rest, is told as refused, and all else as ever."""
         self.image.write_bytes(data)
@@ -193,6 +204,8 @@ class Tried(Compared):
             self.image.write_bytes(data)
             self.lives(name, data)
             self.reasons(name, data)
+            if self.images % OF_LAB == 0 or "within blocks" in name:
+                self.records(name)
             self.images += 1
         for name, data in examples():
             for words in (("replay",), ("why", "3")):
@@ -206,6 +219,8 @@ class Tried(Compared):
         for verdict in (*VERDICTS, "refused NOT_REPLAYED"):
             if not self.met[verdict]:
                 self.tell(f"no image has the verdict {verdict}")
+        if not self.within:
+            self.tell("no block has records of several lives")
         if self.images < LEAST or self.whys < LEAST_WHYS:
             self.tell(f"too few: {LEAST} images and {LEAST_WHYS} events are wanted")
         return 1 if self.differ else 0

@@ -1,3 +1,5 @@
+pub mod Asked
+pub mod Asks
 pub mod Checked
 pub mod Counting
 pub mod Places

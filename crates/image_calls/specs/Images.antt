@@ -24,6 +24,10 @@ OfRing (Some ring) old new answer So = So ring
 abbrev pub Holds : List ℕ → Ring → ℕ → Block → Type 0
 Holds bytes ring number block = IsBlockAt ring.slots (whole_valid_at ring.slots ring.whole (image_of bytes)) number block
 
+-- it holds some
+abbrev pub HoldsSome : List ℕ → Ring → ℕ → Type 0
+HoldsSome bytes ring number = (block : Block) × Holds bytes ring number block
+
 -- it holds none
 abbrev pub HoldsNone : List ℕ → Ring → ℕ → Type 0
 HoldsNone bytes ring number = IsLost ring.slots (whole_valid_at ring.slots ring.whole (image_of bytes)) number

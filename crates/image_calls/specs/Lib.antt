@@ -1,4 +1,5 @@
 pub mod Answers
+pub mod Asking
 pub mod Beginnings
 pub mod BlockHeads
 pub mod Checks
@@ -8,6 +9,7 @@ pub mod Images
 pub mod Journals
 pub mod KeptItems
 pub mod Links
+pub mod Lived
 pub mod NationalItems
 pub mod Numbers
 pub mod Records

@@ -1,9 +1,8 @@
 -- Why an event was answered so, as C is told it (this project's profile). Events are numbered from 0, blocks from 1;
--- speeds are metres per hour, distances and places centimetres; lists of blocks have the newest first.
-use Rattle.std.specs.Prelude.{◌≡◌, ◌⊎◌, ℕ, ◌+◌, ◌-◌, ◌^◌, min, nat_lt, if◌then◌else◌, List, [], ◌∷◌, length, take, Option, Some, None, is_some}
+-- speeds are metres per hour, distances and places centimetres.
+use Rattle.std.specs.Prelude.{◌≡◌, ◌⊎◌, ℕ, ◌-◌, ◌^◌, min, nat_lt, if◌then◌else◌, List, [], ◌∷◌, length, Option, Some, None, is_some}
 use Rattle.blocks.specs.Codes.{brake_number}
 use Rattle.blocks.specs.declared.block.Block.{Block}
-use Rattle.events.specs.declared.kept.Kept.{Kept}
 use Rattle.events.specs.declared.output.Output.{Output}
 use Rattle.examination.specs.Lost.{first_event_of}
 use Rattle.kernel.specs.Brake.{rolled_backward}
@@ -13,26 +12,21 @@ use Rattle.limit_causes.specs.Causes.{IsLimitCause}
 use Rattle.limit_causes.specs.declared.cause.LimitCause.{LimitCause}
 use Rattle.mode_control.specs.History.{tracks}
 use Rattle.mode_control.specs.Sentences.{values_of}
-use Rattle.mode_table.specs.declared.statuses.Cold.{Cold}
 use Rattle.reasons.specs.LimitWords.{limit_told}
 use Rattle.reasons.specs.Runs.{runs_of}
-use Rattle.reasons.specs.Told.{Reasoned}
 use Rattle.reasons.specs.Trips.{trip_of}
 use Rattle.reasons.specs.declared.limit_words.LimitTold.{LimitTold}
 use Rattle.reasons.specs.declared.runs.Runs.{Runs}
 use Rattle.reasons.specs.declared.trips.TripTold.{TripTold}
-use Rattle.replaying.specs.Following.{behind}
 use Rattle.track_picture.specs.History.{speed_of}
 use Rattle.image_calls.specs.Answers.{Refuses}
-use Rattle.image_calls.specs.Images.{ring_in, Holds, OfRing, OfBlock}
+use Rattle.image_calls.specs.Images.{ring_in, OfRing, OfBlock}
 use Rattle.image_calls.specs.declared.answer.Answer.{Answer}
 use Rattle.image_calls.specs.declared.answer.Answer.TheVariants as an_answer
 use Rattle.image_calls.specs.declared.images.Ring.{Ring}
-use Rattle.image_calls.specs.Beginnings.{IsKeptBefore, IsUnknownBefore}
-use Rattle.image_calls.specs.Links.{first_word, Begins}
 use Rattle.image_calls.specs.KeptItems.{or_zero, flag_of}
 use Rattle.image_calls.specs.WhyNumbers.{place_or_zero, since_of, holds_of, trip_cause_told, trip_event_told, limit_number}
-use Rattle.image_calls.specs.Runs.{AreHeld, IsLeft, behind_all, RanTo}
+use Rattle.image_calls.specs.Lived.{Lived, life_up_to, story_behind, IsLeft}
 use Rattle.image_calls.specs.declared.telling.EtcsWhy.{EtcsWhy}
 
 -- as C sees it
@@ -75,54 +69,24 @@ place_in b event =
     if nat_lt event (first_event_of b) then None
     else if nat_lt (event - first_event_of b) (length b.records.items) then Some (event - first_event_of b) else None
 
--- The life of the block of this number begins behind no power-up, or what was kept before it isn't known.
-pub record IsUnknown (bytes : List ℕ) (ring : Ring) (number : ℕ) : Type 0 where
-  pub first : ℕ
-  pub begins : Begins bytes ring first number
-  pub begin : Block
-  pub begun : Holds bytes ring first begin
-  pub why : (first_word begin.records.items ≡ None) ⊎ IsUnknownBefore bytes ring first (first_event_of begin)
+-- Why an event of the block was answered so is told: the life up to it is known, and it is said of any story behind
+-- which the same is kept as before its power-up, and then its events.
+pub record Explained (bytes : List ℕ) (ring : Ring) (number event : ℕ) (told : EtcsWhy) : Type 0 where
+  pub life : Lived
+  pub life_is : life_up_to bytes ring number event ≡ Some life
+  pub so : (story : Story) → IsLeft life.word life.kept story → TellsWhy event (story_behind life.events story) told
 
--- The life of the block of this number, run from its power-up on up to the record at this place, stands so.
-pub record IsKnown (bytes : List ℕ) (ring : Ring) (number index : ℕ) (life : Reasoned) (output : Output) : Type 0 where
-  pub first : ℕ
-  pub begins : Begins bytes ring first number
-  pub begin : Block
-  pub begun : Holds bytes ring first begin
-  pub kept : Kept
-  pub kept_is : IsKeptBefore bytes ring first (first_event_of begin) kept
-  pub ran : RanTo bytes ring first number index begin kept life output
-
--- Why the record at this place of the block was answered so is told: said of any story behind which the same is kept as
--- before the life's power-up, and then the events of the life's blocks up to the record.
-pub record Explained (bytes : List ℕ) (ring : Ring) (number index event : ℕ) (told : EtcsWhy) : Type 0 where
-  pub first : ℕ
-  pub begins : Begins bytes ring first number
-  pub begin : Block
-  pub begun : Holds bytes ring first begin
-  pub kept : Kept
-  pub kept_is : IsKeptBefore bytes ring first (first_event_of begin) kept
-  pub its : Block
-  pub held : Holds bytes ring number its
-  pub before : List Block
-  pub are_held : AreHeld bytes ring (number - 1) before
-  pub counted : first + length before ≡ number
-  pub word : Cold
-  pub word_is : first_word begin.records.items ≡ Some word
-  pub so : (story : Story) → IsLeft word kept story
-      → TellsWhy event (behind (take (index + 1) its.records.items) (behind_all before story)) told
-
--- it is told, or the life can't be run again, or memory was refused
-abbrev pub Explains : List ℕ → Ring → ℕ → ℕ → ℕ → EtcsWhy → EtcsWhy → Answer → Type 0
-Explains bytes ring number index event old new answer =
-    ((answer ≡ an_answer.Done) × Explained bytes ring number index event new)
-    ⊎ ((IsUnknown bytes ring number × Refuses an_answer.NotReplayed old new answer)
+-- it is told, or the life isn't known, or memory was refused
+abbrev pub Explains : List ℕ → Ring → ℕ → ℕ → EtcsWhy → EtcsWhy → Answer → Type 0
+Explains bytes ring number event old new answer =
+    ((answer ≡ an_answer.Done) × Explained bytes ring number event new)
+    ⊎ (((life_up_to bytes ring number event ≡ None) × Refuses an_answer.NotReplayed old new answer)
     ⊎ Refuses an_answer.NoMemory old new answer)
 
 -- of an event that the block has
 abbrev pub OfPlace : List ℕ → Ring → ℕ → Option ℕ → ℕ → EtcsWhy → EtcsWhy → Answer → Type 0
 OfPlace bytes ring number None event old new answer = Refuses an_answer.NoSuchRecord old new answer
-OfPlace bytes ring number (Some index) event old new answer = Explains bytes ring number index event old new answer
+OfPlace bytes ring number (Some index) event old new answer = Explains bytes ring number event old new answer
 
 -- of this event of the block of this number
 abbrev pub AsksWhy : List ℕ → ℕ → ℕ → EtcsWhy → EtcsWhy → Answer → Type 0

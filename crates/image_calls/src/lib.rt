@@ -6,6 +6,7 @@
 #![tactic(auto)]
 
 mod answer;
+mod asking;
 mod beginnings;
 mod block_heads;
 mod checking;
@@ -34,7 +35,7 @@ pub use facts::{EtcsImage, facts_call};
 pub use images::{Ring, held_in, ring_in, slot_in};
 pub use journals::{EtcsJournal, journal_call, next_call};
 pub use kept_items::{EtcsKept, EtcsTrain, kept_told};
-pub use links::{beginning_of, end_of, first_word, goes_on, read};
+pub use links::{end_of, first_word, goes_on, read};
 pub use national_items::EtcsNational;
 pub use records::{EtcsRecord, record_call, record_told};
 pub use replays::replay_call;

@@ -10,7 +10,7 @@ use crate::checking::Difference;
 use crate::images::{Ring, slot_in};
 use crate::kept_items::{EtcsKept, EtcsTrain, kept_told};
 use crate::national_items::EtcsNational;
-use crate::records::{EtcsRecord, record_told};
+use crate::records::{EtcsRecord, life_at, record_told};
 use blocks::{Block, BlockRecord};
 use examination::SlotState;
 use replaying::{KeptField, RecordField};
@@ -212,18 +212,19 @@ pub(crate) fn verdict_told(span: Span, verdict: u32) -> EtcsReplay
 fn record_differs(
     span: Span,
     block: &Block,
+    life: u32,
     field: RecordField,
     told: &BlockRecord,
     answer: &BlockRecord,
 ) -> EtcsReplay
-    ensures { result ≡ record_differs span block.now field told.now answer.now }
+    ensures { result ≡ record_differs span block.now life field told.now answer.now }
 {
     let mut all = verdict_told(span, 2);
     all.block = block.number;
     all.event = told.number;
     all.field = record_field_number(field);
-    all.journal = record_told(block, told);
-    all.kernel = record_told(block, answer);
+    all.journal = record_told(block, life, told);
+    all.kernel = record_told(block, life, answer);
     all
 }
 
@@ -238,6 +239,7 @@ pub(crate) fn difference_told(span: Span, block: &Block, what: &Difference) -> E
             record_differs(
                 span,
                 block,
+                life_at(block, found.index),
                 found.field,
                 &records[found.index],
                 &found.answer,

@@ -1,0 +1,71 @@
+-- A walk up to an event, step after step.
+use Rattle.std.proofs.Common.{◌≡◌, ℕ, Bool, true, false, if◌then◌else◌, List, [], ◌∷◌, Option, Some, None, refl, sym, subst}
+use Rattle.events.specs.declared.input.Event.{Event}
+use Rattle.kernel.specs.Lives.{Story, onward}
+use Rattle.kernel.specs.Output.{output_at}
+use Rattle.lives.specs.Steps.{Step}
+use Rattle.lives.specs.Walks.{WalksOn, Walked}
+use Rattle.reasons.specs.Told.{Reasons}
+use Rattle.image_calls.specs.Asking.{Asks}
+use Rattle.image_calls.specs.Lived.{Lived, one_more, is_asked, up_to, life_after, life_behind, story_behind, Stands}
+use Rattle.image_calls.specs.declared.asking.Asked.{Asked}
+use Rattle.image_calls.specs.declared.running.Known.{Known}
+
+-- ---- one event more
+
+pub none_follows : (event : Event) (at : Option Lived) → Stands at None → Stands (one_more event at) None
+none_follows event None stands = tt
+none_follows event (Some life) stands = absurd stands
+
+pub some_follows : (event : Event) (old new : Known) (at : Option Lived)
+    → ((story : Story) → Reasons story old.life → Reasons (onward story event) new.life × (new.output ≡ output_at (onward story event)))
+    → Stands at (Some old) → Stands (one_more event at) (Some new)
+some_follows event old new None follows stands = absurd stands
+some_follows event old new (Some life) follows stands = λ story left. follows (story_behind life.events story) (stands story left).0
+
+-- ---- whether a life is known
+
+pub unknown_stands : (at : Option Lived) → Stands at None → at ≡ None
+unknown_stands None stands = refl
+unknown_stands (Some life) stands = absurd stands
+
+pub known_stands : (at : Option Lived) (known : Known) → Stands at (Some known) → (life : Lived) × (at ≡ Some life) × Stands (Some life) (Some known)
+known_stands None known stands = absurd stands
+known_stands (Some life) known stands = (life, refl, stands)
+
+-- ---- steps
+
+abbrev pub met : Asked → Bool
+met = λ asked. asked.is_met
+
+abbrev pub Told : {O : Type 0} → Step → Asked → O → Asked → O → Type 0
+Told = λ step old out new after. Asks step old new
+
+module _ {O : Type 0} where
+  -- who has met the event is told nothing
+  met_ends : (steps : List Step) (old new : Asked) (out after : O) → old.is_met ≡ true → Walked Told met steps old out new after → new ≡ old
+  met_ends [] old new out after so on = on.0
+  met_ends (step ∷ steps) old new out after so on =
+      (subst (λ (b : Bool). WalksOn b ((new ≡ old) × (after ≡ out)) ((one : Asked) × (mid : O) × Asks step old one × Walked Told met steps one mid new after)) so on).0
+
+  told_if : (step : Step) (steps : List Step) (old one new : Asked) (mid after : O) (at : Option Lived) (b : Bool) → is_asked old.block old.event step ≡ b → one.is_met ≡ b
+      → Stands (life_after step at) one.known → Walked Told met steps one mid new after
+      → (one.is_met ≡ false → Stands (life_behind (up_to (is_asked old.block old.event) steps) (life_after step at)) new.known)
+      → Stands (life_behind (if b then step ∷ [] else step ∷ up_to (is_asked old.block old.event) steps) at) new.known
+  told_if step steps old one new mid after at true asked is stands on rest =
+      subst (λ (a : Asked). Stands (life_after step at) a.known) (sym (met_ends steps one new mid after is on)) stands
+  told_if step steps old one new mid after at false asked is stands on rest = rest is
+
+  -- the life that was run again stands behind the steps up to the one that was asked for
+  pub asked_told : (steps : List Step) (old new : Asked) (out after : O) (at : Option Lived) → Walked Told met steps old out new after → old.is_met ≡ false → Stands at old.known
+      → Stands (life_behind (up_to (is_asked old.block old.event) steps) at) new.known
+  asked_told [] old new out after at on so stands = subst (λ (a : Asked). Stands at a.known) (sym on.0) stands
+  asked_told (step ∷ steps) old new out after at on so stands =
+      let it = subst (λ (b : Bool). WalksOn b ((new ≡ old) × (after ≡ out)) ((one : Asked) × (mid : O) × Asks step old one × Walked Told met steps one mid new after)) so on in
+      let asks = it.2 in
+      let next : Stands (life_after step at) it.0.known = asks.stands at stands in
+      let is : it.0.is_met ≡ is_asked old.block old.event step = asks.met_is so in
+      told_if step steps old it.0 new it.1 after at (is_asked old.block old.event step) refl is next it.3
+      (λ off. subst (λ (n : ℕ). Stands (life_behind (up_to (is_asked n old.event) steps) (life_after step at)) new.known) asks.block_is
+      (subst (λ (e : ℕ). Stands (life_behind (up_to (is_asked it.0.block e) steps) (life_after step at)) new.known) asks.event_is
+      (asked_told steps it.0 new it.1 after (life_after step at) it.3 off next)))

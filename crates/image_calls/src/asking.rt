@@ -1,0 +1,92 @@
+//! A walk up to an event, whose life is run again.
+ghost use Rattle.std.specs.Prelude.{◌≡◌, None, false};
+ghost use Rattle.image_calls.specs.Asking.{Asks};
+ghost use Rattle.image_calls.specs.Lived.{is_record};
+
+use crate::running::{Known, begin, follow};
+use blocks::Block;
+use events::Kept;
+use lives::{LateError, Seen, Unknown, Visit};
+use std::alloc::Global;
+
+/// A walk up to an event of a block.
+#[derive(Drop)]
+pub(crate) struct Asked {
+    /// The number of the block.
+    pub(crate) block: u64,
+    /// The number of the event.
+    pub(crate) event: u64,
+    /// The life behind the last record that was seen, if it is known.
+    pub(crate) known: Option<Known>,
+    /// Whether that is the record of the event.
+    pub(crate) is_met: bool,
+}
+
+impl Asked {
+    /// Before the first step.
+    pub(crate) fn of(block: u64, event: u64) -> Asked
+        ensures { result ≡ record { block = block; event = event; known = None; is_met = false } }
+    {
+        Asked {
+            block,
+            event,
+            known: None,
+            is_met: false,
+        }
+    }
+
+    // Whether a record is that of the event.
+    fn is_of(&self, seen: &Seen<'_>) -> bool
+        ensures { result ≡ is_record self.now.block self.now.event seen.now.block.now seen.now.entry.now }
+    {
+        if seen.block.number == self.block {
+            seen.entry.number == self.event
+        } else {
+            false
+        }
+    }
+}
+
+impl Visit<()> for Asked {
+    ghost IsTold = { λ step old _ new _. Asks step old new };
+
+    ghost enough = { λ asked. asked.is_met };
+
+    fn has_enough(&self) -> bool {
+        self.is_met
+    }
+
+    fn unreadable(&mut self, _number: u64, _out: &mut ()) -> Result<(), LateError> {
+        self.known = None;
+        Ok(())
+    }
+
+    fn missing(&mut self, _out: &mut ()) -> Result<(), LateError> {
+        self.known = None;
+        Ok(())
+    }
+
+    fn begins(
+        &mut self,
+        alloc: Global,
+        before: &Result<Kept, Unknown>,
+        seen: &Seen<'_>,
+        _out: &mut (),
+    ) -> Result<(), LateError> {
+        let is_met = self.is_of(seen);
+        begin(alloc, &mut self.known, before, &seen.entry.event)?;
+        self.is_met = is_met;
+        Ok(())
+    }
+
+    fn goes_on(&mut self, alloc: Global, seen: &Seen<'_>, _out: &mut ()) -> Result<(), LateError> {
+        let is_met = self.is_of(seen);
+        follow(alloc, &mut self.known, &seen.entry.event)?;
+        self.is_met = is_met;
+        Ok(())
+    }
+
+    fn head(&mut self, _block: &Block, _out: &mut ()) -> Result<(), LateError> {
+        Ok(())
+    }
+}

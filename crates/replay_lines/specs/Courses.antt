@@ -1,8 +1,6 @@
 -- The course of a replay: how the life is judged that it is in, and which of its events no line tells yet (this
 -- project's profile). Events are numbered from 0.
 use Rattle.std.specs.Prelude.{ℕ, Bool, true, false, List, [], Option, Some, None}
-use Rattle.lives.specs.declared.visit.Unknown.{Unknown}
-use Rattle.lives.specs.declared.visit.Unknown.TheVariants as an_unknown
 use Rattle.pieces.specs.declared.piece.Form.{Form}
 use Rattle.record_objects.specs.LeftOut.{left_out_text}
 use Rattle.record_objects.specs.declared.left_out.Reason.{Reason}
@@ -58,11 +56,6 @@ judged_so c judged = record c { judged = judged }
 -- with one event more of this life, which no line tells yet
 abbrev pub left_open : ℕ → ℕ → Course → Course
 left_open life event c = record c { stretch = Some (extended c.stretch life event) }
-
-abbrev pub reason_of : Unknown → Reason
-reason_of an_unknown.BeforeOldest = a_reason.BeforeOldest
-reason_of an_unknown.Gap = a_reason.Gap
-reason_of an_unknown.WithinBlock = a_reason.WithinBlock
 
 -- what it came to: nothing differs, and nothing is lost, or something does or is
 abbrev pub outcome_of : Bool → Outcome

@@ -11,12 +11,12 @@ use Rattle.events.specs.declared.kept.Kept.{Kept}
 use Rattle.kernel.specs.Lives.{Story, onward, number_at}
 use Rattle.lives.specs.declared.visit.Unknown.{Unknown}
 use Rattle.lives.specs.declared.visit.Unknown.TheVariants as an_unknown
+use Rattle.record_objects.specs.LeftOut.{reason_of}
 use Rattle.replaying.specs.Comparing.{DiffersIn, KeptDiffersIn}
 use Rattle.replaying.specs.Following.{answer_to, head_behind, IsBehind}
 use Rattle.replaying.specs.ReplayState.{ReplayState, StandsBehind}
 use Rattle.replaying.specs.declared.following.Found.{Found}
 use Rattle.replaying.specs.declared.heads.HeadFound.{HeadFound}
-use Rattle.replay_lines.specs.Courses.{reason_of}
 use Rattle.replay_lines.specs.declared.course.Judged.{Judged}
 use Rattle.replay_lines.specs.declared.course.Judged.TheVariants.{Agrees, Not}
 

@@ -23,7 +23,7 @@ use Rattle.reasons.specs.Runs.{runs_of}
 use Rattle.reasons.specs.Told.{Reasoned, Reasons}
 use Rattle.reasons.specs.Trips.{trip_of}
 use Rattle.reasons.specs.declared.runs.Runs.{Runs}
-use Rattle.record_objects.specs.LeftOut.{left_out_text, lost_block_text}
+use Rattle.record_objects.specs.LeftOut.{reason_of, left_out_text, lost_block_text}
 use Rattle.record_objects.specs.declared.left_out.Reason.{Reason}
 use Rattle.record_objects.specs.declared.left_out.Reason.TheVariants as a_reason
 use Rattle.record_objects.specs.declared.left_out.Stretch.{Stretch}
@@ -131,11 +131,6 @@ all_told c = record c { left = None; shown = None }
 -- behind blocks or events that are missing
 abbrev pub behind_gap : Course → Course
 behind_gap c = record c { left = None; shown = None; life = None; reason = a_reason.Gap; is_whole = false }
-
-abbrev pub reason_of : Unknown → Reason
-reason_of an_unknown.BeforeOldest = a_reason.BeforeOldest
-reason_of an_unknown.Gap = a_reason.Gap
-reason_of an_unknown.WithinBlock = a_reason.WithinBlock
 
 abbrev pub not_known : Unknown → Course → Course
 not_known unknown c = record c { life = None; reason = reason_of unknown }

@@ -16,6 +16,8 @@ import {modeName} from "./shown";
 import {offerApart} from "./telegram";
 import {DAY, SAY, SLOTS, STATUSES, WORDS} from "./texts";
 
+const LINK_MS = 100;
+
 export class Ask {
     id = 0;
     private name = "";
@@ -43,6 +45,7 @@ export class Ask {
     isDone = false;
     private isWhole = false;
     private asking = 0;
+    private linking = 0;
     private readonly dial = new Dial(at("ask-dial"));
     private readonly graphs = new Graphs(n => this.choose(n));
     private readonly day = new Day(() => this.showDay());
@@ -289,7 +292,10 @@ export class Ask {
         const event = records.event(this.index);
         at<HTMLInputElement>("scrub").value = String(this.index);
         at<HTMLInputElement>("event-number").value = String(event);
-        if (location.hash !== `#event=${event}`) history.replaceState(null, "", `#event=${event}`);
+        // (a browser takes few links in a short time, so the link waits until the scrubber stands)
+        clearTimeout(this.linking);
+        this.linking =
+            setTimeout(() => history.replaceState(null, "", `#event=${event}`), LINK_MS) as unknown as number;
         this.showEvent();
         this.showWhy();
         this.showBytes();

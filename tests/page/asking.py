@@ -195,6 +195,7 @@ def case(browser: Browser, page: Path, folder: Path) -> int:
     assert shown == "0000000000000018"
     telegram = browser.run("window.gaknifur.ask.chooseEvent(17); return document.getElementById('fields').textContent")
     assert "3 packets" in telegram and "1,584, 31 B" in telegram, telegram
+    browser.until("return location.hash === '#event=17'")
     assert "1 × unreadable" in browser.text("ring-legend") and "1 × unwritten" in browser.text("ring-legend")
     browser.run("document.querySelectorAll('#ring .slot')[4].dispatchEvent(new MouseEvent('click', {bubbles: true}))")
     assert "byte 14,352, in record 3" in browser.text("slot-said")

@@ -26,7 +26,8 @@ Promise.all([fetch(url + 'fetch').then(() => true, () => false), image, socket, 
 LEAVES = """
 const url = arguments[0], done = arguments[1];
 const frame = document.createElement('iframe'); frame.src = url + 'frame'; document.body.append(frame);
-const form = document.createElement('form'); form.action = url + 'form'; form.target = '_blank'; document.body.append(form); form.submit();
+const form = document.createElement('form'); form.action = url + 'form'; form.target = '_blank'; document.body.append(form);
+try { form.submit(); } catch { }
 setTimeout(() => done(true), 1200);
 """
 FORBIDDEN = re.compile(r"\b(fetch|XMLHttpRequest|WebSocket|EventSource|sendBeacon|importScripts|eval|innerHTML|outerHTML|insertAdjacentHTML|document\.write|localStorage"

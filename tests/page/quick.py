@@ -13,12 +13,16 @@ MOST_EVENTS, MOST_RUNS = 100_000, 3
 START: list[Any] = [{"driver": [1, "IC 704"]}, {"driver": [4, 1]}, {"driver": [3, 20000, 160000, 70, 0, 15]}, {"telegram": TELEGRAMS[0]}, {"driver": [6]}]
 WATCH = """
 const { ask } = window.gaknifur;
-window.seen = { pause: 0, progress: 0 };
-if (window.watch) return;
+window.seen = { busy: {}, progress: 0 };
+if (window.watched) return;
+window.watched = true;
 const hear = ask.hear.bind(ask);
-ask.hear = report => { if (report.kind === 'progress' && report.done > 0) window.seen.progress++; hear(report); };
-let last = performance.now();
-window.watch = setInterval(() => { const now = performance.now(); window.seen.pause = Math.max(window.seen.pause, now - last); last = now; }, 4);
+ask.hear = report => {
+    const begun = performance.now(), { seen } = window;
+    hear(report);
+    seen.busy[report.kind] = Math.max(performance.now() - begun, seen.busy[report.kind] ?? 0);
+    if (report.kind === 'progress' && report.done > 0) seen.progress++;
+};
 """
 STEP = """
 const { ask } = window.gaknifur, took = [], box = document.getElementById('answers'), from = arguments[0];
@@ -49,13 +53,14 @@ def measured(browser: Browser, folder: Path, events: int, runs: int) -> int:
         browser.run(WATCH)
         begun = time.monotonic()
         told = browser.ask(path, seconds=120)
-        found.append((time.monotonic() - begun, *browser.run("return [window.seen.pause, window.seen.progress]")))
+        found.append((time.monotonic() - begun, *browser.run("return [window.seen.busy, window.seen.progress]")))
         assert told["count"] == events and told["isWhole"] and len(told["causes"]) == len(told["interventions"]) >= 4, told["count"]
         assert all(life["verdict"] == 1 for life in told["lives"]) and len(told["lives"]) == 4
-    seconds, pause = min(one[0] for one in found), min(one[1] for one in found)
+    seconds = min(one[0] for one in found)
+    pause = max(min(one[1].get(kind, 0) for one in found) for kind in found[0][1])
     took = browser.run(STEP, events // 2, STEPS)
     step = took[len(took) // 20]
-    print(f"page: {events} events in {seconds:.2f} s, the longest pause {pause:.0f} ms; a step of the scrubber {step:.1f} ms", flush=True)
+    print(f"page: {events} events in {seconds:.2f} s, a report of the worker keeps the page busy for {pause:.0f} ms at most; a step of the scrubber {step:.1f} ms", flush=True)
     assert seconds <= OPENS_S and pause <= PAUSE_MS and step <= FRAME_MS, (seconds, pause, step)
     assert max(one[2] for one in found) >= 1, "no progress was told"
     return runs + STEPS

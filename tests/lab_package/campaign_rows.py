@@ -32,11 +32,11 @@ def lab(*words, **named):
     return subprocess.run([TOP / "lab", *map(str, words)], stdin=subprocess.DEVNULL, capture_output=True, text=True, **named)
 
 
-def rows(path):
+def rows(path, counted="count(*)"):
     """How many rows a table has, by its own connection."""
     try:
         with sqlite3.connect(f"file:{path}?mode=ro", uri=True) as connection:
-            return connection.execute("SELECT count(*) FROM result").fetchone()[0]
+            return connection.execute(f"SELECT {counted} FROM result").fetchone()[0]
     except sqlite3.Error:
         return 0
 
@@ -66,7 +66,7 @@ def by_two_workers(room, lives):
         out = room / "dask.db"
         playing = subprocess.Popen([TOP / "lab", "campaign", str(out), "--random", str(lives), "--seed", "7", "--scheduler", address],
                                    stdin=subprocess.DEVNULL, stdout=subprocess.PIPE, stderr=subprocess.PIPE, text=True)
-        until(lambda: rows(out) >= 5 or playing.poll() is not None, "rows of both workers")
+        until(lambda: rows(out, "count(DISTINCT worker)") >= 2 or playing.poll() is not None, "rows of both workers")
         unless(playing.poll() is None, "the campaign ended before a worker could be killed; take more lives")
         workers[0].send_signal(signal.SIGKILL)
         printed, said = playing.communicate(timeout=20 * WAIT)

@@ -27,9 +27,9 @@ case $word in
 esac
 exit $status
 """
-ALTERED = [("replay", "nothing_differs", "differs_or_lost", "a replay in which nothing differs"),
-           ("replay", '"replay":"agrees"', '"replay":"record_differs"', "a replay that agrees with the journal"),
-           ("examine", '"whole":true', '"whole":false', "a whole image"),
+ALTERED = [("check", "nothing_differs", "differs_or_lost", "a replay in which nothing differs"),
+           ("check", '"replay":"agrees"', '"replay":"record_differs"', "a replay that agrees with the journal"),
+           ("check", '"whole":true', '"whole":false', "a whole image"),
            ("events", '"limit_m_per_h":40000', '"limit_m_per_h":41000', "the output of its record"),
            ("events", '"mode":"SR"', '"mode":"FS"', "the output of its record")]
 

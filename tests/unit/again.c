@@ -212,7 +212,7 @@ static uint32_t records(const uint8_t *image, size_t size) {
         else if (answer == ETCS_UNIT_IMAGE_DAMAGED)
             answer = ETCS_UNIT_OK;
     }
-    return answer == ETCS_UNIT_END ? ETCS_UNIT_OK : answer;
+    return answer == (uint32_t)ETCS_UNIT_END ? (uint32_t)ETCS_UNIT_OK : answer;
 }
 
 int main(int count, char **words) {

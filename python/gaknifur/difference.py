@@ -17,8 +17,8 @@ from .shown import shown
 
 VERDICTS = {
     "same": "both hold the same journal",
-    "continues": "B continues A: what both hold is the same, and B goes on behind it",
-    "older": "B is older than A: what both hold is the same, and A goes on behind it. Where B was read later, an older image was put back",
+    "continues": "B continues A: what both hold is the same, and B goes on after it",
+    "older": "B is older than A: what both hold is the same, and A goes on after it. Where B was read later, an older image was put back",
     "fork": "both went on from the same block in different ways, or the blocks from there on were altered",
     "altered": "a block differs before one that doesn't: it was altered in A or in B",
     "other": "no block that both hold is the same: they are of different units, or of different lives of one behind an older image",

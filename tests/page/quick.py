@@ -46,8 +46,8 @@ def long_image(folder: Path, events: int) -> Path:
     return path
 
 
-def measured(browser: Browser, folder: Path, events: int, runs: int) -> int:
-    """Opens an image several times, and goes through its events."""
+def measured(browser: Browser, folder: Path, events: int, runs: int, is_long: bool = False) -> int:
+    """Opens an image several times, and goes through its events. One that is long tells meanwhile how far it is."""
     path, found = long_image(folder, events), []
     for _ in range(runs):
         browser.run(WATCH)
@@ -62,7 +62,7 @@ def measured(browser: Browser, folder: Path, events: int, runs: int) -> int:
     step = took[len(took) // 20]
     print(f"page: {events} events in {seconds:.2f} s, a report of the worker keeps the page busy for {pause:.0f} ms at most; a step of the scrubber {step:.1f} ms", flush=True)
     assert seconds <= OPENS_S and pause <= PAUSE_MS and step <= FRAME_MS, (seconds, pause, step)
-    assert max(one[2] for one in found) >= 1, "no progress was told"
+    assert not is_long or max(one[2] for one in found) >= 1, "no progress was told"
     return runs + STEPS
 
 
@@ -73,7 +73,7 @@ def opens(browser: Browser, _page: Path, folder: Path) -> int:
 
 def opens_long(browser: Browser, _page: Path, folder: Path) -> int:
     """100,000 events open in 3 s, and the page is told meanwhile how far it is."""
-    return measured(browser, folder, MOST_EVENTS, MOST_RUNS)
+    return measured(browser, folder, MOST_EVENTS, MOST_RUNS, is_long=True)
 
 
 CHECKS = {"opens": (opens, RUNS + STEPS)}

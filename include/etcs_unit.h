@@ -80,7 +80,7 @@ extern "C" {
 #endif
 
 /** The number of this interface: counted up with each change that a caller can see. */
-#define ETCS_UNIT_ABI 3
+#define ETCS_UNIT_ABI 4
 
 /** The bytes of the version, at most. */
 #define ETCS_VERSION_BYTES 32
@@ -325,6 +325,8 @@ typedef struct {
     uint64_t on_sight_ms;               /**< how long an acknowledgement that is owed may be owed yet until the service brake comes; 0 where it has come */
     uint64_t shunting_ms;               /**< the same of shunting */
     uint64_t level_0_ms;                /**< the same of level 0 */
+    uint64_t override_ms;               /**< what is left of the time of an override (T_NVOVTRP); 0 where that has no end */
+    uint64_t override_cm;               /**< what is left of its distance (D_NVOVTRP): it ends with the first of both */
     uint32_t service_brake_m_per_h;     /**< above this speed the service brake comes [V_SBI]: the limit and 5 km/h */
     uint32_t emergency_brake_m_per_h;   /**< above this one the emergency brake comes [V_EBI]: the limit and 10 km/h */
     uint32_t speed_m_per_h;             /**< of the last reading [V_TRAIN] */
@@ -340,7 +342,9 @@ typedef struct {
     uint8_t on_sight;                   /**< whether the driver is waited for to acknowledge on sight: enum etcs_acknowledgement */
     uint8_t shunting;                   /**< the same of shunting */
     uint8_t level_0;                    /**< the same of level 0 */
-    uint8_t reserved[6];                /**< zeros */
+    uint8_t has_override;               /**< 1 where the trip is overridden */
+    uint8_t override_ends;              /**< 1 where the override ends by time too */
+    uint8_t reserved[4];                /**< zeros */
 } etcs_unit_why_told;
 
 /** What came of a telegram that may be of an installed track (etcs_telegram_adapt). */
@@ -392,10 +396,11 @@ ETCS_UNIT_ASSERT(sizeof(etcs_train_data) == 20u && offsetof(etcs_train_data, len
 ETCS_UNIT_ASSERT(sizeof(etcs_unit_state_told) == 80u && offsetof(etcs_unit_state_told, requests) == 16u && offsetof(etcs_unit_state_told, has_failed) == 40u
                  && offsetof(etcs_unit_state_told, pending) == 48u && offsetof(etcs_unit_state_told, moment_ms) == 56u
                  && offsetof(etcs_unit_state_told, front_cm) == 64u && offsetof(etcs_unit_state_told, uncertainty_cm) == 72u);
-ETCS_UNIT_ASSERT(sizeof(etcs_unit_why_told) == 128u && offsetof(etcs_unit_why_told, backward_cm) == 16u && offsetof(etcs_unit_why_told, on_sight_ms) == 56u
-                 && offsetof(etcs_unit_why_told, service_brake_m_per_h) == 80u && offsetof(etcs_unit_why_told, holds) == 104u
-                 && offsetof(etcs_unit_why_told, limit_cause) == 114u && offsetof(etcs_unit_why_told, level_0) == 121u
-                 && offsetof(etcs_unit_why_told, reserved) == 122u);
+ETCS_UNIT_ASSERT(sizeof(etcs_unit_why_told) == 144u && offsetof(etcs_unit_why_told, backward_cm) == 16u && offsetof(etcs_unit_why_told, on_sight_ms) == 56u
+                 && offsetof(etcs_unit_why_told, override_ms) == 80u && offsetof(etcs_unit_why_told, service_brake_m_per_h) == 96u
+                 && offsetof(etcs_unit_why_told, holds) == 120u && offsetof(etcs_unit_why_told, limit_cause) == 130u
+                 && offsetof(etcs_unit_why_told, level_0) == 137u && offsetof(etcs_unit_why_told, has_override) == 138u
+                 && offsetof(etcs_unit_why_told, reserved) == 140u);
 ETCS_UNIT_ASSERT(sizeof(etcs_adapted) == 16u && offsetof(etcs_adapted, len) == 4u && offsetof(etcs_adapted, start) == 8u && offsetof(etcs_adapted, bits) == 12u);
 ETCS_UNIT_ASSERT(sizeof(etcs_packet_unused) == 24u && offsetof(etcs_packet_unused, bits) == 8u && offsetof(etcs_packet_unused, number) == 16u
                  && offsetof(etcs_packet_unused, why) == 20u);

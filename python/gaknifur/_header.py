@@ -3,7 +3,7 @@ import enum
 from ctypes import POINTER, Structure, c_char_p, c_int64, c_size_t, c_uint8, c_uint16, c_uint32, c_uint64, c_void_p
 
 TELEGRAM_BYTES = 104
-ABI = 3
+ABI = 4
 VERSION_BYTES = 32
 SECTOR = 512
 OUTPUTS = 8
@@ -344,11 +344,12 @@ class etcs_unit_why_told(Structure):
     _fields_ = [("output", etcs_unit_output), ("backward_cm", c_uint64), ("allowed_backward_cm", c_uint64),
                 ("limit_cause_cm", c_int64), ("restriction", c_uint64), ("target_distance_cm", c_uint64),
                 ("on_sight_ms", c_uint64), ("shunting_ms", c_uint64), ("level_0_ms", c_uint64),
-                ("service_brake_m_per_h", c_uint32), ("emergency_brake_m_per_h", c_uint32), ("speed_m_per_h", c_uint32),
-                ("limit_cause_m_per_h", c_uint32), ("target_m_per_h", c_uint32), ("release_m_per_h", c_uint32),
-                ("holds", c_uint8 * 10), ("limit_cause", c_uint8), ("has_place", c_uint8), ("has_restriction", c_uint8),
-                ("has_target", c_uint8), ("has_release", c_uint8), ("on_sight", c_uint8), ("shunting", c_uint8),
-                ("level_0", c_uint8), ("reserved", c_uint8 * 6)]
+                ("override_ms", c_uint64), ("override_cm", c_uint64), ("service_brake_m_per_h", c_uint32),
+                ("emergency_brake_m_per_h", c_uint32), ("speed_m_per_h", c_uint32), ("limit_cause_m_per_h", c_uint32),
+                ("target_m_per_h", c_uint32), ("release_m_per_h", c_uint32), ("holds", c_uint8 * 10),
+                ("limit_cause", c_uint8), ("has_place", c_uint8), ("has_restriction", c_uint8), ("has_target", c_uint8),
+                ("has_release", c_uint8), ("on_sight", c_uint8), ("shunting", c_uint8), ("level_0", c_uint8),
+                ("has_override", c_uint8), ("override_ends", c_uint8), ("reserved", c_uint8 * 4)]
 
 
 class etcs_adapted(Structure):

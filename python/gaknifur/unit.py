@@ -36,8 +36,8 @@ from .telegrams import WIDTH
 
 __all__ = ["ABI", "OUTPUTS", "REQUEST_BYTES", "SECTOR", "VERSION_BYTES", "Acknowledgement", "Action", "Brake", "BrakeCause",
            "Cold", "Facts", "FileMedium", "Indication", "Kind", "Level", "LimitCause", "Medium", "MemoryMedium", "Mode",
-           "Output", "Record", "Refused", "Slot", "SlotState", "State", "Status", "Target", "TrainData", "Unit", "UnitWhy",
-           "Waiting", "decode", "facts", "first_request", "format_medium", "journal", "library", "records", "slots",
+           "Output", "OverrideLeft", "Record", "Refused", "Slot", "SlotState", "State", "Status", "Target", "TrainData", "Unit",
+           "UnitWhy", "Waiting", "decode", "facts", "first_request", "format_medium", "journal", "library", "records", "slots",
            "version"]
 
 @dataclass(frozen=True, slots=True)
@@ -98,6 +98,14 @@ class Waiting:
 
 
 @dataclass(frozen=True, slots=True)
+class OverrideLeft:
+    """What is left of an override of the trip, which ends with the first of both. The time is None where it has no end."""
+
+    time_ms: int | None
+    distance_cm: int
+
+
+@dataclass(frozen=True, slots=True)
 class UnitWhy:
     """Why the newest released output is what it is, and what a display shows of it. The limit of the output is the permitted
     speed; above the two further speeds the service brake and the emergency brake come. Of what decides the limit there are
@@ -120,6 +128,7 @@ class UnitWhy:
     on_sight: Waiting
     shunting: Waiting
     level_0: Waiting
+    override: OverrideLeft | None = None
 
 
 @dataclass(frozen=True, slots=True)
@@ -343,7 +352,8 @@ def _unit_why(told: _header.etcs_unit_why_told) -> UnitWhy:
         LimitCause(told.limit_cause), told.limit_cause_m_per_h, told.limit_cause_cm if told.has_place else None,
         told.restriction if told.has_restriction else None,
         Target(told.target_m_per_h, told.target_distance_cm) if told.has_target else None,
-        told.release_m_per_h if told.has_release else None, waiting("on_sight"), waiting("shunting"), waiting("level_0"))
+        told.release_m_per_h if told.has_release else None, waiting("on_sight"), waiting("shunting"), waiting("level_0"),
+        OverrideLeft(told.override_ms if told.override_ends else None, told.override_cm) if told.has_override else None)
 
 
 def _carry_out(medium: Medium, request: _header.etcs_unit_request_told, room: ctypes.Array[ctypes.c_char]) -> None:

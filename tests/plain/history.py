@@ -112,9 +112,9 @@ class History:
         return identity and level and ("choose-shunting" in words
                                        or any(one < other for one in given for other in started))
 
-    def is_overridden(self):
-        """Since the last accepted Override: until its time or its distance is reached, by the values in force as it was
-        accepted."""
+    def override_left(self):
+        """What is left of the time (None: it has no end) and of the distance of the last accepted Override, by the values in
+        force as it was accepted; None where one of both is over, or there is none."""
         since = None
         for entry in self.entries:
             if entry.accepted and entry.accepted[0] == "override":
@@ -122,10 +122,16 @@ class History:
             if entry.entered and fate("override", entry.entered) == "D":
                 since = None
         if since is None:
-            return False
+            return None
         time = since.values.override_time
-        return ((time is None or self.moment() - since.moment < time)
-                and self.sums.path - since.path < since.values.override_distance)
+        time_left = None if time is None else time - (self.moment() - since.moment)
+        distance_left = since.values.override_distance - (self.sums.path - since.path)
+        is_over = (time_left is not None and time_left <= 0) or distance_left <= 0
+        return None if is_over else (time_left, distance_left)
+
+    def is_overridden(self):
+        """Neither the time nor the distance of the last accepted Override is over."""
+        return self.override_left() is not None
 
     def is_too_far(self):
         """The path since Staff Responsible was entered is above D_NVSTFF."""

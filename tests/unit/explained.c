@@ -38,7 +38,7 @@ static void tell(const etcs_unit_why_told *why) {
     waiting("on_sight", why->on_sight, why->on_sight_ms);
     waiting("shunting", why->shunting, why->shunting_ms);
     waiting("level_0", why->level_0, why->level_0_ms);
-    printf("}\n");
+    printf(",\"override\":[%u,%u,%llu,%llu]}\n", (unsigned)why->has_override, (unsigned)why->override_ends, wide(why->override_ms), wide(why->override_cm));
 }
 
 /* The same of the medium's bytes: the causes that hold, what decides the limit, and the numbers that both tell. */

@@ -31,8 +31,9 @@ ACKNOWLEDGED = ("trip", "on-sight", "shunting", "level-0")
 ALONE = {"start": 7, "choose-shunting": 8, "leave-shunting": 9, "override": 10, "close-desk": 15}
 MARGIN, FARTHER, OWED_MS = 5_000, 10_000, 5_000  # m/h above the limit at most, and how long an acknowledgement may be owed (by hand)
 RELEASES = ("release_speed", "national_release_speed")
-# What is to be met: each state of an acknowledgement, a time of it that is over, a target, a release speed.
-MET = ("asked", "owed", "over", "target", "release", "place", "number", "power-up")
+# What is to be met: each state of an acknowledgement, a time of it that is over, a target, a release speed, an override with and without a
+# time.
+MET = ("asked", "owed", "over", "target", "release", "place", "number", "power-up", "overridden", "overridden-without-end")
 
 
 def line_of(word, value):
@@ -55,6 +56,15 @@ def waiting(life, kind):
     return ["asked" if told.state == "asked" else "none", 0]
 
 
+def overriding(life):
+    """Whether the trip is overridden, whether that ends by time, and what is left of time and distance."""
+    left = life.override_left()
+    if left is None:
+        return [0, 0, 0, 0]
+    time, distance = left
+    return [1, int(time is not None), time or 0, distance]
+
+
 def wanted_of(life, reasons, number):
     """What is to be told behind the newest event of a life, which has this number."""
     answer, told = life.now.output, reasons.members(number)
@@ -69,7 +79,7 @@ def wanted_of(life, reasons, number):
         "limit_cause": LimitCause[kind.upper()], "limit_cause_speed": told["limit_cause_speed_m_per_h"],
         "place": [0, 0] if place is None else [1, place], "number": [0, 0] if nid is None else [1, nid], "target": target,
         "release": [1, answer.limit] if releases else [0, 0], "service": answer.limit + MARGIN, "emergency": answer.limit + FARTHER,
-        **{name: waiting(life, kind) for name, kind in KINDS.items()},
+        **{name: waiting(life, kind) for name, kind in KINDS.items()}, "override": overriding(life),
     }
 
 
@@ -79,6 +89,8 @@ def met_in(told):
         state, left = told[name]
         yield "over" if state == "owed" and left == 0 else state
     yield from (name for name in ("target", "release", "place", "number") if told[name][0])
+    if told["override"][0]:
+        yield "overridden" if told["override"][1] else "overridden-without-end"
     if told["event"] == 0:
         yield "power-up"
 

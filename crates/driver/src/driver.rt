@@ -1,6 +1,6 @@
 //! The driver's data, as accepted actions, levels from the track and modes change them.
-ghost use Rattle.std.specs.Prelude.{◌≡◌, List, ◌∷◌, []};
-ghost use Rattle.driver.specs.Overriding.{is_active};
+ghost use Rattle.std.specs.Prelude.{◌≡◌, List, ◌∷◌, [], is_some};
+ghost use Rattle.driver.specs.Overriding.{is_active, override_left};
 ghost use Rattle.driver.specs.Revalidating.{is_whole};
 ghost use Rattle.driver.specs.Entries.{DriverEntry};
 ghost use Rattle.driver.specs.Known.{known, kept_by};
@@ -11,8 +11,8 @@ mod accepting;
 
 use crate::revalidation::Revalidation;
 use crate::{
-    Acknowledged, Action, Confirmed, Datum, DriverIdentity, Kept, Occasion, RunningNumber,
-    TrainData,
+    Acknowledged, Action, Confirmed, Datum, DriverIdentity, Kept, Occasion, OverrideLeft,
+    RunningNumber, TrainData,
 };
 use mode_table::{Fate, Item, Mode, TrainLevel, status_on};
 use std::marker::Model;
@@ -167,6 +167,21 @@ impl Driver {
         match &self.overridden {
             None => false,
             Some(occasion) => occasion.is_overridden(moment, path),
+        }
+    }
+
+    /// What is left of an override at a moment of the life, and at its path in centimetres: None exactly where the trip
+    /// isn't overridden (SUBSET-026, 5.8).
+    pub fn override_left(&self, moment: Ms, path: Length) -> Option<OverrideLeft>
+        ensures left { result ≡ override_left self.now.overridden moment path }
+        ensures exact { is_some result ≡ is_active self.now.overridden moment path }
+    {
+        match &self.overridden {
+            None => None,
+            Some(occasion) if occasion.is_overridden(moment, path) => {
+                Some(occasion.left(moment, path))
+            }
+            Some(_) => None,
         }
     }
 

@@ -11,6 +11,7 @@ mod identity;
 mod kept;
 mod laws;
 mod occasion;
+mod override_left;
 mod revalidation;
 mod running_number;
 mod train_data;
@@ -27,5 +28,6 @@ pub use laws::{
     values_are_the_last_given,
 };
 pub use occasion::Occasion;
+pub use override_left::OverrideLeft;
 pub use running_number::RunningNumber;
 pub use train_data::TrainData;

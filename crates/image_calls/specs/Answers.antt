@@ -19,7 +19,7 @@ answer_number an_answer.OutOfRange = 255
 
 -- the number of the interface
 abbrev pub this_abi : ℕ
-this_abi = 3
+this_abi = 4
 
 -- the number is that of an answer of which this holds
 abbrev pub IsAnswered : ℕ → (Answer → Type 0) → Type 0

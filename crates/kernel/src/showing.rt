@@ -1,13 +1,15 @@
 //! What a display is told beside the output.
-ghost use Rattle.std.specs.Prelude.{◌≡◌};
+ghost use Rattle.std.specs.Prelude.{◌≡◌, is_some};
 ghost use Rattle.kernel.specs.Showing.{waiting, acknowledgements_of, service_speed, emergency_speed};
 ghost use Rattle.kernel.specs.StandsFor.{StandsForLife};
+ghost use Rattle.mode_control.specs.Conditions.{is_overridden, left_of_override};
 ghost use Rattle.mode_control.specs.Life.{Life};
 ghost use Rattle.mode_control.specs.Sentences.{span_of};
 
 use crate::state::StateOver;
 use crate::window::{EMERGENCY_MARGIN, SERVICE_MARGIN};
 use areas::Acknowledgement;
+use driver::OverrideLeft;
 use track_picture::ProfileStores;
 use units::{Cm, Ms};
 
@@ -62,6 +64,14 @@ impl<T: ProfileStores> StateOver<T> {
             shunting: waits_at(now, self.supervision.shunting()),
             level_0: waits_at(now, self.supervision.level_0()),
         }
+    }
+
+    /// What is left of an override after the last event: None exactly where the trip isn't overridden (SUBSET-026, 5.8).
+    pub fn override_left(&self) -> Option<OverrideLeft>
+        ensures left { (life : Life) → StandsForLife T.stores self.now life → result ≡ left_of_override life }
+        ensures exact { (life : Life) → StandsForLife T.stores self.now life → is_some result ≡ is_overridden life }
+    {
+        self.supervision.override_left()
     }
 
     /// The speed above which the service brake comes after the last event, in metres per hour: the limit and 5 km/h

@@ -11,7 +11,8 @@ use Rattle.driver.specs.declared.action.Action.TheVariants.{Start, ChooseShuntin
 use Rattle.driver.specs.declared.action.Acknowledged.TheVariants as kind
 use Rattle.driver.specs.declared.datum.Datum.{Datum}
 use Rattle.driver.specs.declared.datum.Datum.TheVariants.{Valid}
-use Rattle.driver.specs.Overriding.{is_active}
+use Rattle.driver.specs.declared.override_left.OverrideLeft.{OverrideLeft}
+use Rattle.driver.specs.Overriding.{is_active, override_left}
 use Rattle.mode_table.specs.declared.conditions.Conditions.{Conditions}
 use Rattle.mode_table.specs.declared.level.TrainLevel.{TrainLevel}
 use Rattle.mode_table.specs.declared.level.TrainLevel.TheVariants.{Level0, Level1}
@@ -57,6 +58,11 @@ is_full life train = option_map_or (is_full_to life train.max_front) (end_of (au
 abbrev pub is_overridden : Life → Bool
 is_overridden life =
     is_active (driver_of life).overridden (moment_of (tracks life.entries)) (place_of (tracks life.entries)).sums.path
+
+-- what is left of an override
+abbrev pub left_of_override : Life → Option OverrideLeft
+left_of_override life =
+    override_left (driver_of life).overridden (moment_of (tracks life.entries)) (place_of (tracks life.entries)).sums.path
 
 abbrev pub is_beyond : ℤ → End → Bool
 is_beyond min_front end = int_lt end.place min_front && end.speed == 0

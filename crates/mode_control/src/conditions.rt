@@ -1,8 +1,8 @@
 //! What the rows of the mode table ask for.
-ghost use Rattle.std.specs.Prelude.{◌≡◌, Bool, false};
+ghost use Rattle.std.specs.Prelude.{◌≡◌, Bool, false, is_some};
 ghost use Rattle.mode_table.specs.declared.conditions.Conditions.{Conditions as Asked};
 ghost use Rattle.mode_table.specs.Rows.{next_mode};
-ghost use Rattle.mode_control.specs.Conditions.{is_level_0, is_level_1, is_full_to, is_full, is_overridden, is_beyond, is_beyond_end, trips, is_beyond_staff_distance, is_start, is_shunting_choice, is_leaving, is_override, is_desk_closing, is_trip_acknowledging, conditions};
+ghost use Rattle.mode_control.specs.Conditions.{is_level_0, is_level_1, is_full_to, is_full, is_overridden, left_of_override, is_beyond, is_beyond_end, trips, is_beyond_staff_distance, is_start, is_shunting_choice, is_leaving, is_override, is_desk_closing, is_trip_acknowledging, conditions};
 ghost use Rattle.mode_control.specs.History.{mode_of};
 ghost use Rattle.mode_control.specs.Life.{Life};
 ghost use Rattle.mode_control.specs.StandsFor.{StandsForLife};
@@ -10,7 +10,7 @@ ghost use Rattle.mode_control.specs.StandsFor.{StandsForLife};
 use crate::knowing::is_known;
 use crate::state::SupervisionOver;
 use authority::End;
-use driver::{Acknowledged, Action, Datum};
+use driver::{Acknowledged, Action, Datum, OverrideLeft};
 use mode_table::{Conditions, Mode, TrainLevel, next_mode};
 use track_picture::ProfileStores;
 use units::{Cm, Stretch};
@@ -109,6 +109,15 @@ impl<T: ProfileStores> SupervisionOver<T> {
     {
         let path = self.track.place().sums().path();
         self.parts.driver.is_overridden(self.track.moment(), path)
+    }
+
+    /// What is left of an override: None exactly where the trip isn't overridden (SUBSET-026, 5.8).
+    pub fn override_left(&self) -> Option<OverrideLeft>
+        ensures left { (life : Life) → StandsForLife T.stores self.now life → result ≡ left_of_override life }
+        ensures exact { (life : Life) → StandsForLife T.stores self.now life → is_some result ≡ is_overridden life }
+    {
+        let path = self.track.place().sums().path();
+        self.parts.driver.override_left(self.track.moment(), path)
     }
 
     /// Whether the minimum safe front is above the end of authority while no speed is allowed there.

@@ -1,11 +1,11 @@
 //! Whether a packet is used, or why not.
 ghost use Rattle.std.specs.Prelude.{◌≡◌};
 ghost use Rattle.packet_uses.specs.Fates.{fate_told};
-ghost use Rattle.track_picture.specs.Sentences.{is_valid as is_valid_told, valid_in as valid_in_told};
 
 use mode_table::{Mode, uses};
 use packets::Packet;
-use vars::{LinkOrientation, ValidityDirection};
+use track_picture::{is_valid, valid_in};
+use vars::LinkOrientation;
 
 /// NID_PACKET of infill: neither it nor what follows it is used.
 pub(crate) const INFILL: u8 = 136;
@@ -30,36 +30,6 @@ pub enum Fate {
 impl Default for Fate {
     fn default() -> Fate {
         Fate::NotKnown
-    }
-}
-
-/// Whether a packet counts that is valid in this direction.
-fn is_valid(valid: ValidityDirection, direction: Option<LinkOrientation>) -> bool
-    ensures { result ≡ is_valid_told valid direction }
-{
-    match (valid, direction) {
-        (ValidityDirection::Both, _) => true,
-        (ValidityDirection::Nominal, Some(LinkOrientation::Nominal)) => true,
-        (ValidityDirection::Reverse, Some(LinkOrientation::Reverse)) => true,
-        _ => false,
-    }
-}
-
-/// The direction in which a packet is valid; None of one that isn't known.
-fn valid_in(packet: &Packet<'_>) -> Option<ValidityDirection>
-    ensures { result ≡ valid_in_told packet.now }
-{
-    match packet {
-        Packet::NationalValues(packet) => Some(packet.direction),
-        Packet::Linking(packet) => Some(packet.direction),
-        Packet::MovementAuthority(packet) => Some(packet.direction),
-        Packet::Gradients(packet) => Some(packet.direction),
-        Packet::StaticSpeeds(packet) => Some(packet.direction),
-        Packet::LevelTransition(packet) => Some(packet.direction),
-        Packet::SpeedRestriction(packet) => Some(packet.direction),
-        Packet::RestrictionRevocation(packet) => Some(packet.direction),
-        Packet::ModeProfile(packet) => Some(packet.direction),
-        Packet::Other(_) => None,
     }
 }
 

@@ -27,3 +27,4 @@ pub use happened::Happened;
 pub use laws::telegrams_are_carried;
 pub use state::{Trackside, TracksideOver};
 pub use stores::{Facts, ProfileStores, Segments};
+pub use using::{is_valid, valid_in};

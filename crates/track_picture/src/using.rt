@@ -45,9 +45,10 @@ pub struct Use {
     pub direction: Option<LinkOrientation>,
 }
 
-// Whether a packet counts that is valid in this direction.
-fn is_valid(valid: ValidityDirection, direction: &Option<LinkOrientation>) -> bool
-    ensures { result ≡ is_valid valid direction.now }
+/// Whether a packet that is valid in this direction counts (Q_DIR), of a group that is passed in that one; None where that
+/// isn't known.
+pub fn is_valid(valid: ValidityDirection, direction: Option<LinkOrientation>) -> bool
+    ensures { result ≡ is_valid valid direction }
 {
     match (valid, direction) {
         (ValidityDirection::Both, _) => true,
@@ -57,8 +58,8 @@ fn is_valid(valid: ValidityDirection, direction: &Option<LinkOrientation>) -> bo
     }
 }
 
-// The direction in which a packet is valid; None of one that isn't known.
-fn valid_in(packet: &Packet<'_>) -> Option<ValidityDirection>
+/// The direction in which a packet is valid; None of one that isn't known.
+pub fn valid_in(packet: &Packet<'_>) -> Option<ValidityDirection>
     ensures { result ≡ valid_in packet.now }
 {
     match packet {
@@ -82,7 +83,7 @@ fn is_used(packet: &Packet<'_>, used: &Use) -> bool
     let Some(valid) = valid_in(packet) else {
         return false;
     };
-    uses(used.mode, packet.number().number() as u8) && is_valid(valid, &used.direction)
+    uses(used.mode, packet.number().number() as u8) && is_valid(valid, used.direction)
 }
 
 // Whether a packet is for the second walk.

@@ -4,6 +4,7 @@
 use Rattle.std.specs.Prelude.{◌≡◌, ℕ, ◌-◌, ◌^◌, min, ℤ, int_lt, ◌-ℤ◌, Bool, true, false, if◌then◌else◌, List, [], ◌∷◌, length, Option, Some, None, is_some, IfSome}
 use Rattle.std.specs.Int.RustNames.{unsigned_abs}
 use Rattle.braking.specs.declared.target.Target.{Target}
+use Rattle.driver.specs.declared.override_left.OverrideLeft.{OverrideLeft}
 use Rattle.events.specs.declared.input.Event.{Event}
 use Rattle.image_calls.specs.KeptItems.{or_zero, flag_of}
 use Rattle.image_calls.specs.WhyNumbers.{place_or_zero, limit_number}
@@ -22,6 +23,7 @@ use Rattle.limit_causes.specs.declared.cause.LimitCause.{LimitCause}
 use Rattle.limit_causes.specs.declared.cause.LimitCause.TheVariants as a_limit
 use Rattle.limit_causes.specs.declared.cause.SpeedCause.{SpeedCause}
 use Rattle.limit_causes.specs.declared.cause.SpeedCause.TheVariants as a_speed
+use Rattle.mode_control.specs.Conditions.{left_of_override}
 use Rattle.mode_control.specs.History.{tracks}
 use Rattle.mode_control.specs.Life.{Life}
 use Rattle.mode_control.specs.Sentences.{values_of, span_of}
@@ -98,6 +100,20 @@ time_left waits.Nothing = 0
 time_left waits.Asked = 0
 time_left (waits.Owed left) = left
 
+-- ---- what is left of an override: of its time, 0 where that has no end; of its distance; and whether its time ends
+
+abbrev pub override_time : Option OverrideLeft → ℕ
+override_time None = 0
+override_time (Some left) = or_zero left.time
+
+abbrev pub override_distance : Option OverrideLeft → ℕ
+override_distance None = 0
+override_distance (Some left) = left.distance
+
+abbrev pub override_ends : Option OverrideLeft → Bool
+override_ends None = false
+override_ends (Some left) = is_some left.time
+
 -- ---- as C sees it
 
 abbrev pub why_with : Told → EtcsUnitWhy
@@ -111,6 +127,8 @@ why_with t = record {
   on_sight_left = time_left t.waiting.on_sight;
   shunting_left = time_left t.waiting.shunting;
   level_0_left = time_left t.waiting.level_0;
+  override_time = override_time t.overriding;
+  override_distance = override_distance t.overriding;
   service_speed = t.service_speed;
   emergency_speed = t.emergency_speed;
   speed = t.speed;
@@ -126,7 +144,9 @@ why_with t = record {
   on_sight = waiting_number t.waiting.on_sight;
   shunting = waiting_number t.waiting.shunting;
   level_0 = waiting_number t.waiting.level_0;
-  reserved = 0 ∷ 0 ∷ 0 ∷ 0 ∷ 0 ∷ 0 ∷ [];
+  has_override = flag_of (is_some t.overriding);
+  override_ends = flag_of (override_ends t.overriding);
+  reserved = 0 ∷ 0 ∷ 0 ∷ 0 ∷ [];
 }
 
 -- what is known behind the event of this number that led to a life, where this decides the limit
@@ -140,6 +160,7 @@ told_in event life decides = record {
   releases = releases decides;
   front = (span_of life).max_front;
   waiting = acknowledgements_of life;
+  overriding = left_of_override life;
   service_speed = service_speed life;
   emergency_speed = emergency_speed life;
   speed = speed_of (tracks life.entries);

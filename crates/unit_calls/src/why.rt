@@ -5,10 +5,11 @@ ghost use Rattle.kernel.specs.Causes.{is_among, marked};
 ghost use Rattle.kernel.specs.StandsFor.{StandsForLife};
 ghost use Rattle.mode_control.specs.Life.{Life};
 ghost use Rattle.track_picture.specs.Stores.{segment_stores};
-ghost use Rattle.unit_calls.specs.Whys.{holds_in, target_of, releases, distance_to, target_distance, target_speed, waiting_number, time_left, why_with, TellsLifeWhy};
+ghost use Rattle.unit_calls.specs.Whys.{holds_in, target_of, releases, distance_to, target_distance, target_speed, waiting_number, time_left, override_time, override_distance, override_ends, why_with, TellsLifeWhy};
 
 use crate::outputs::{EtcsOutput, output_told};
 use braking::Target;
+use driver::OverrideLeft;
 use image_calls::{flag, limit_number, or_zero, place_or_zero};
 use kernel::{Acknowledgements, BrakeCause, BrakeCauses, State, Waiting};
 use limit_causes::{LimitCause, SpeedCause};
@@ -38,6 +39,10 @@ pub struct EtcsUnitWhy {
     pub shunting_left: u64,
     /// That of level 0.
     pub level_0_left: u64,
+    /// What is left of the time of an override.
+    pub override_time: u64,
+    /// What is left of its distance.
+    pub override_distance: u64,
     /// The speed above which the service brake comes.
     pub service_speed: u32,
     /// The speed above which the emergency brake comes.
@@ -68,8 +73,12 @@ pub struct EtcsUnitWhy {
     pub shunting: u8,
     /// That of level 0.
     pub level_0: u8,
+    /// 1 where the trip is overridden.
+    pub has_override: u8,
+    /// 1 where its time has an end.
+    pub override_ends: u8,
     /// 0.
-    pub reserved: [u8; 6],
+    pub reserved: [u8; 4],
 }
 
 /// What is known of it.
@@ -91,6 +100,8 @@ pub struct Told {
     pub front: Cm,
     /// The acknowledgements.
     pub waiting: Acknowledgements,
+    /// What is left of an override.
+    pub overriding: Option<OverrideLeft>,
     /// The speed above which the service brake comes.
     pub service_speed: u32,
     /// The speed above which the emergency brake comes.
@@ -200,6 +211,40 @@ fn time_left(waiting: Waiting) -> u64
     }
 }
 
+// What is left of the time of an override; 0 where it has no end.
+fn override_time(left: Option<OverrideLeft>) -> u64
+    ensures { result ≡ override_time left }
+{
+    match left {
+        Some(
+            OverrideLeft {
+                time: Some(time),
+                ..
+            },
+        ) => time,
+        Some(OverrideLeft { time: None, .. }) | None => 0,
+    }
+}
+
+fn override_distance(left: Option<OverrideLeft>) -> u64
+    ensures { result ≡ override_distance left }
+{
+    match left {
+        Some(left) => left.distance,
+        None => 0,
+    }
+}
+
+// Whether an override ends by time.
+fn override_ends(left: Option<OverrideLeft>) -> bool
+    ensures { result ≡ override_ends left }
+{
+    match left {
+        Some(left) => left.time.is_some(),
+        None => false,
+    }
+}
+
 // All of it as C sees it.
 fn why_with(told: &Told) -> EtcsUnitWhy
     ensures { result ≡ why_with told.now }
@@ -214,6 +259,8 @@ fn why_with(told: &Told) -> EtcsUnitWhy
         on_sight_left: time_left(told.waiting.on_sight),
         shunting_left: time_left(told.waiting.shunting),
         level_0_left: time_left(told.waiting.level_0),
+        override_time: override_time(told.overriding),
+        override_distance: override_distance(told.overriding),
         service_speed: told.service_speed,
         emergency_speed: told.emergency_speed,
         speed: told.speed.get(),
@@ -229,7 +276,9 @@ fn why_with(told: &Told) -> EtcsUnitWhy
         on_sight: waiting_number(told.waiting.on_sight),
         shunting: waiting_number(told.waiting.shunting),
         level_0: waiting_number(told.waiting.level_0),
-        reserved: [0; 6],
+        has_override: flag(told.overriding),
+        override_ends: u8::from(override_ends(told.overriding)),
+        reserved: [0; 4],
     }
 }
 
@@ -251,6 +300,7 @@ pub fn why_told(event: u64, state: &State) -> EtcsUnitWhy
         releases: releases(&decides),
         front: state.max_front(),
         waiting: state.acknowledgements(),
+        overriding: state.override_left(),
         service_speed: state.service_speed(),
         emergency_speed: state.emergency_speed(),
         speed: state.speed(),

@@ -1,5 +1,7 @@
 //! A walk up to an event, whose life is run again.
-ghost use Rattle.std.specs.Prelude.{◌≡◌, None, false};
+ghost use Rattle.std.specs.Prelude.{◌≡◌, None, false, IsOk, OnOk, IfErr};
+ghost use Rattle.lives.specs.Steps.Step.{Unreadable, Missing, Begins, GoesOn, Head};
+ghost use Rattle.lives.specs.declared.errors.LateError.TheVariants.{NoMemory};
 ghost use Rattle.image_calls.specs.Asking.{Asks};
 ghost use Rattle.image_calls.specs.Lived.{is_record};
 
@@ -56,12 +58,19 @@ impl Visit<()> for Asked {
         self.is_met
     }
 
-    fn unreadable(&mut self, _number: u64, _out: &mut ()) -> Result<(), LateError> {
+    // No step writes, and only one that runs an event takes memory.
+    fn unreadable(&mut self, number: u64, _out: &mut ()) -> Result<(), LateError>
+        ensures told { OnOk result (Asks (Unreadable number) self.old self.new) }
+        ensures ends { IsOk result }
+    {
         self.known = None;
         Ok(())
     }
 
-    fn missing(&mut self, _out: &mut ()) -> Result<(), LateError> {
+    fn missing(&mut self, _out: &mut ()) -> Result<(), LateError>
+        ensures told { OnOk result (Asks Missing self.old self.new) }
+        ensures ends { IsOk result }
+    {
         self.known = None;
         Ok(())
     }
@@ -72,21 +81,36 @@ impl Visit<()> for Asked {
         before: &Result<Kept, Unknown>,
         seen: &Seen<'_>,
         _out: &mut (),
-    ) -> Result<(), LateError> {
+    ) -> Result<(), LateError>
+        ensures told { OnOk result (Asks (Begins seen.now.block.now seen.now.life before.now seen.now.entry.now)
+            self.old self.new) }
+        ensures refused { IfErr result (λ error. error ≡ NoMemory) }
+    {
         let is_met = self.is_of(seen);
-        begin(alloc, &mut self.known, before, &seen.entry.event)?;
+        let Ok(()) = begin(alloc, &mut self.known, before, &seen.entry.event) else {
+            return Err(LateError::NoMemory);
+        };
         self.is_met = is_met;
         Ok(())
     }
 
-    fn goes_on(&mut self, alloc: Global, seen: &Seen<'_>, _out: &mut ()) -> Result<(), LateError> {
+    fn goes_on(&mut self, alloc: Global, seen: &Seen<'_>, _out: &mut ()) -> Result<(), LateError>
+        ensures told { OnOk result (Asks (GoesOn seen.now.block.now seen.now.life seen.now.entry.now)
+            self.old self.new) }
+        ensures refused { IfErr result (λ error. error ≡ NoMemory) }
+    {
         let is_met = self.is_of(seen);
-        follow(alloc, &mut self.known, &seen.entry.event)?;
+        let Ok(()) = follow(alloc, &mut self.known, &seen.entry.event) else {
+            return Err(LateError::NoMemory);
+        };
         self.is_met = is_met;
         Ok(())
     }
 
-    fn head(&mut self, _block: &Block, _out: &mut ()) -> Result<(), LateError> {
+    fn head(&mut self, block: &Block, _out: &mut ()) -> Result<(), LateError>
+        ensures told { OnOk result (Asks (Head block.now) self.old self.new) }
+        ensures ends { IsOk result }
+    {
         Ok(())
     }
 }

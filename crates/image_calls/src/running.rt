@@ -3,7 +3,7 @@ ghost use Rattle.std.specs.Prelude.{◌≡◌, Option, OnOk};
 ghost use Rattle.image_calls.specs.Lived.{Lived, one_more, powered_up, begun, Stands};
 
 use events::{Event, Kept, Output};
-use lives::{LateError, Unknown};
+use lives::Unknown;
 use reasons::Reasoning;
 use std::alloc::Global;
 use units::NoMemory;
@@ -22,19 +22,15 @@ pub(crate) fn follow(
     alloc: Global,
     known: &mut Option<Known>,
     event: &Event,
-) -> Result<(), LateError>
+) -> Result<(), NoMemory>
     ensures { OnOk result ((at : Option Lived) → Stands at known.old → Stands (one_more event.now at) known.new) }
 {
     let Some(it) = known else {
         return Ok(());
     };
-    match it.life.follow(alloc, event) {
-        Ok(output) => {
-            it.output = output;
-            Ok(())
-        }
-        Err(NoMemory) => Err(LateError::NoMemory),
-    }
+    let output = it.life.follow(alloc, event)?;
+    it.output = output;
+    Ok(())
 }
 
 // Runs the power-up of a life, behind what was kept before it.
@@ -43,7 +39,7 @@ fn power_up(
     known: &mut Option<Known>,
     kept: &Kept,
     event: &Event,
-) -> Result<(), LateError>
+) -> Result<(), NoMemory>
     ensures { OnOk result ((at : Option Lived) → Stands at known.old
         → Stands (powered_up event.now kept.now at) known.new) }
 {
@@ -63,7 +59,7 @@ pub(crate) fn begin(
     known: &mut Option<Known>,
     before: &Result<Kept, Unknown>,
     event: &Event,
-) -> Result<(), LateError>
+) -> Result<(), NoMemory>
     ensures { OnOk result ((at : Option Lived) → Stands at known.old
         → Stands (begun before.now event.now at) known.new) }
 {

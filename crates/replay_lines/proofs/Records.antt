@@ -3,10 +3,10 @@ use Rattle.std.proofs.Common.{◌≡◌, ℕ, List, Option, subst}
 use Rattle.blocks.specs.declared.block.Block.{Block}
 use Rattle.blocks.specs.declared.records.BlockRecord.{BlockRecord}
 use Rattle.replaying.specs.declared.following.Found.{Found}
+use Rattle.replaying.specs.declared.judging.Judged.{Judged}
 use Rattle.replay_lines.specs.Courses.{judged_so}
 use Rattle.replay_lines.specs.Steps.{TellsFound, AddsRecord}
 use Rattle.replay_lines.specs.declared.course.Course.{Course}
-use Rattle.replay_lines.specs.declared.course.Judged.{Judged}
 
 pub adds_record : (IsSo : Judged → Option Found → Type 0) (b : Block) (life : ℕ) (r : BlockRecord) (c one next : Course) (found : Option Found) (old new : Option (List ℕ))
     → one ≡ judged_so c one.judged → IsSo one.judged found → TellsFound b life r found one next old new → AddsRecord IsSo b life r c next old new

@@ -1,15 +1,15 @@
 -- The course of a replay: how the life is judged that it is in, and which of its events no line tells yet (this
 -- project's profile). Events are numbered from 0.
 use Rattle.std.specs.Prelude.{ℕ, Bool, true, false, List, [], Option, Some, None}
+use Rattle.lives.specs.declared.visit.Unknown.TheVariants.{BeforeOldest, Gap}
 use Rattle.pieces.specs.declared.piece.Form.{Form}
-use Rattle.record_objects.specs.LeftOut.{left_out_text}
-use Rattle.record_objects.specs.declared.left_out.Reason.{Reason}
+use Rattle.record_objects.specs.LeftOut.{reason_of, left_out_text}
 use Rattle.record_objects.specs.declared.left_out.Reason.TheVariants as a_reason
 use Rattle.record_objects.specs.declared.left_out.Stretch.{Stretch}
+use Rattle.replaying.specs.declared.judging.Judged.{Judged}
+use Rattle.replaying.specs.declared.judging.Judged.TheVariants.{Agrees, Unknown, BehindDifference}
 use Rattle.replay_lines.specs.Lines.{agrees_text}
 use Rattle.replay_lines.specs.declared.course.Course.{Course}
-use Rattle.replay_lines.specs.declared.course.Judged.{Judged}
-use Rattle.replay_lines.specs.declared.course.Judged.TheVariants.{Agrees, Not}
 use Rattle.replay_lines.specs.declared.walk.Outcome.{Outcome}
 use Rattle.replay_lines.specs.declared.walk.Outcome.TheVariants.{Whole, Differs}
 
@@ -23,7 +23,8 @@ extended (Some s) life event = record { life = s.life; first = s.first; last = e
 -- their line: they agree, or why they can't be replayed
 abbrev pub judged_text : Form → Judged → Stretch → List ℕ
 judged_text form (Agrees replay) s = agrees_text form s
-judged_text form (Not reason) s = left_out_text form s reason
+judged_text form (Unknown why) s = left_out_text form s (reason_of why)
+judged_text form BehindDifference s = left_out_text form s a_reason.BehindDifference
 
 abbrev pub stretch_text : Form → Judged → Option Stretch → List ℕ
 stretch_text form judged None = []
@@ -36,7 +37,7 @@ open_text form c = stretch_text form c.judged c.stretch
 
 -- before the oldest block
 abbrev pub begun : Form → Course
-begun form = record { form = form; judged = Not a_reason.BeforeOldest; stretch = None; is_whole = true }
+begun form = record { form = form; judged = Unknown BeforeOldest; stretch = None; is_whole = true }
 
 -- all events are told
 abbrev pub all_told : Course → Course
@@ -44,11 +45,11 @@ all_told c = record c { stretch = None }
 
 -- after blocks or events that are missing
 abbrev pub behind_gap : Course → Course
-behind_gap c = record c { stretch = None; judged = Not a_reason.Gap; is_whole = false }
+behind_gap c = record c { stretch = None; judged = Unknown Gap; is_whole = false }
 
 -- after a record that differs
 abbrev pub behind_difference : Course → Course
-behind_difference c = record c { stretch = None; judged = Not a_reason.BehindDifference; is_whole = false }
+behind_difference c = record c { stretch = None; judged = BehindDifference; is_whole = false }
 
 abbrev pub judged_so : Course → Judged → Course
 judged_so c judged = record c { judged = judged }

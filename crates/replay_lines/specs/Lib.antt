@@ -1,6 +1,5 @@
 pub mod Answers
 pub mod Courses
-pub mod Judgements
 pub mod KeptObject
 pub mod Lines
 pub mod Steps

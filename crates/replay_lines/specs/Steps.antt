@@ -6,13 +6,13 @@ use Rattle.blocks.specs.declared.block.Block.{Block}
 use Rattle.blocks.specs.declared.records.BlockRecord.{BlockRecord}
 use Rattle.lives.specs.Steps.{Step}
 use Rattle.record_objects.specs.LeftOut.{lost_block_text}
+use Rattle.replaying.specs.Judgements.{GoesOn, Begins, IsHeadFound}
 use Rattle.replaying.specs.declared.following.Found.{Found}
 use Rattle.replaying.specs.declared.heads.HeadFound.{HeadFound}
+use Rattle.replaying.specs.declared.judging.Judged.{Judged}
 use Rattle.replay_lines.specs.Courses.{open_text, all_told, behind_gap, behind_difference, judged_so, left_open}
-use Rattle.replay_lines.specs.Judgements.{GoesOn, Begins, IsHeadFound}
 use Rattle.replay_lines.specs.Lines.{record_text, head_text}
 use Rattle.replay_lines.specs.declared.course.Course.{Course}
-use Rattle.replay_lines.specs.declared.course.Judged.{Judged}
 
 -- ---- a record of this life
 

@@ -1,27 +1,16 @@
 //! The step of a replay over the head of a block.
 ghost use Rattle.std.specs.Prelude.{◌≡◌, OnOk};
 ghost use Rattle.std.specs.Io.KnownBytes.{Appends};
-ghost use Rattle.replay_lines.specs.Judgements.{IsHeadFound};
 ghost use Rattle.replay_lines.specs.Steps.{behind_found, head_found_text, AddsHead};
 
-use crate::course::{Course, Judged, finish};
+use crate::course::{Course, finish};
 use crate::lines::write_head;
 use crate::reports::HeadReport;
 use blocks::Block;
 use lives::LateError;
 use pieces::write_pieces;
-use replaying::{HeadFound, compare_head};
+use replaying::HeadFound;
 use std::io::Write;
-
-// What differs in the head of a block, of a life that is replayed up to it.
-fn head_found(judged: &Judged, block: &Block) -> Option<HeadFound>
-    ensures { IsHeadFound judged.now block.now result }
-{
-    match judged {
-        Judged::Agrees(replay) => compare_head(replay, block),
-        Judged::Not(_) => None,
-    }
-}
 
 // Tells what is left, and a head that differs, if it does.
 fn tell_found<W: Write>(
@@ -60,6 +49,6 @@ pub(crate) fn tell_head<W: Write>(
 ) -> Result<(), LateError>
     ensures { OnOk result (AddsHead block.now course.old course.new (W.contents out.old) (W.contents out.new)) }
 {
-    let found = head_found(&course.judged, block);
+    let found = course.judged.head(block);
     tell_found(course, block, &found, out)
 }

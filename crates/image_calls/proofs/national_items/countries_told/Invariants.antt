@@ -1,4 +1,4 @@
-use Rattle.std.proofs.Common.{◌≡◌, ℕ, ◌++◌, take, drop, replicate}
+use Rattle.std.proofs.Common.{◌≡◌, ◌++◌, take, drop, replicate}
 use Rattle.image_calls.proofs.national_items.countries_told.Given as goal
 
 abbrev pub invariant-loop-i : goal.invariant-loop-i

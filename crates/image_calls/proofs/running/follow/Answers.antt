@@ -7,6 +7,6 @@ use Rattle.image_calls.proofs.running.follow.Goals as goal
 pub returns-in_default : goal.returns-in_default
 returns-in_default c = λ at. subst (λ (known : Option Known). Stands at known → Stands (one_more c.args.event.now at) known) (sym c.in_default.is) (none_follows c.args.event.now at)
 
-pub returns-in-Ok : goal.returns-in-Ok
-returns-in-Ok c = λ at. subst (λ (known : Option Known). Stands at known → Stands (one_more c.args.event.now at) (Some (record { life = c.follow.new.self; output = c.in-Ok.output }))) (sym c.in-Some.is)
-    (some_follows c.args.event.now _ (record { life = c.follow.new.self; output = c.in-Ok.output }) at (λ story stands. (c.in-Ok.ensures.stands story stands, c.in-Ok.ensures.output story stands)))
+pub returns : goal.returns
+returns c = λ at. subst (λ (known : Option Known). Stands at known → Stands (one_more c.args.event.now at) (Some (record { life = c.follow.new.self; output = c.in_ok-output.output }))) (sym c.in-Some.is)
+    (some_follows c.args.event.now _ (record { life = c.follow.new.self; output = c.in_ok-output.output }) at (λ story stands. (c.in_ok-output.ensures.stands story stands, c.in_ok-output.ensures.output story stands)))

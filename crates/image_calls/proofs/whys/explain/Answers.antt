@@ -1,4 +1,4 @@
-use Rattle.std.proofs.Common.{Option, Some, inl, inr, refl, subst}
+use Rattle.std.proofs.Common.{Option, inl, inr, refl, subst}
 use Rattle.image_calls.specs.Lived.{Lived, life_up_to, Stands}
 use Rattle.image_calls.specs.declared.running.Known.{Known}
 use Rattle.image_calls.proofs.Asks.{unknown_stands, known_stands}

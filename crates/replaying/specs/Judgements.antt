@@ -1,6 +1,6 @@
--- How records and heads of blocks are judged, in the words of `replaying` (this project's profile). What is said of
--- every story behind which a head is kept is never said of nothing: there is one for each head (law
--- `each_head_is_led` of `replaying`).
+-- How the records of a life and the heads of its blocks are judged, one after another (this project's profile). What is
+-- said of every story behind which a head is kept is never said of nothing: there is one for each head (law
+-- `each_head_is_led`).
 use Rattle.std.specs.Prelude.{◌≡◌, ◌+◌, ◌^◌, ◌<◌, Option, None, Result, Ok, Err, MatchOption}
 use Rattle.blocks.specs.declared.block.Block.{Block}
 use Rattle.blocks.specs.declared.format.Format.{Format}
@@ -11,14 +11,13 @@ use Rattle.events.specs.declared.kept.Kept.{Kept}
 use Rattle.kernel.specs.Lives.{Story, onward, number_at}
 use Rattle.lives.specs.declared.visit.Unknown.{Unknown}
 use Rattle.lives.specs.declared.visit.Unknown.TheVariants as an_unknown
-use Rattle.record_objects.specs.LeftOut.{reason_of}
 use Rattle.replaying.specs.Comparing.{DiffersIn, KeptDiffersIn}
 use Rattle.replaying.specs.Following.{answer_to, head_behind, IsBehind}
 use Rattle.replaying.specs.ReplayState.{ReplayState, StandsBehind}
 use Rattle.replaying.specs.declared.following.Found.{Found}
 use Rattle.replaying.specs.declared.heads.HeadFound.{HeadFound}
-use Rattle.replay_lines.specs.declared.course.Judged.{Judged}
-use Rattle.replay_lines.specs.declared.course.Judged.TheVariants.{Agrees, Not}
+use Rattle.replaying.specs.declared.judging.Judged.{Judged}
+use Rattle.replaying.specs.declared.judging.Judged.TheVariants as is
 
 -- ---- records
 
@@ -30,14 +29,16 @@ IsVerdict format at r replay found = MatchOption found
 
 -- .. behind any such story
 abbrev pub IsRun : (Story → Type 0) → Format → BlockRecord → Judged → Option Found → Type 0
-IsRun IsBefore format r (Agrees replay) found =
+IsRun IsBefore format r (is.Agrees replay) found =
     (at : Story) → IsBefore at → number_at at + 1 < 2 ^ 64 → IsVerdict format at r replay found
-IsRun IsBefore format r (Not reason) found = ⊥
+IsRun IsBefore format r (is.Unknown why) found = ⊥
+IsRun IsBefore format r is.BehindDifference found = ⊥
 
 -- a life goes on: its event is run, where the life is replayed so far
 abbrev pub GoesOn : Format → BlockRecord → Judged → Judged → Option Found → Type 0
-GoesOn format r (Agrees old) judged found = IsRun (λ at. StandsBehind at old) format r judged found
-GoesOn format r (Not reason) judged found = (judged ≡ Not reason) × (found ≡ None)
+GoesOn format r (is.Agrees old) judged found = IsRun (λ at. StandsBehind at old) format r judged found
+GoesOn format r (is.Unknown why) judged found = (judged ≡ is.Unknown why) × (found ≡ None)
+GoesOn format r is.BehindDifference judged found = (judged ≡ is.BehindDifference) × (found ≡ None)
 
 -- a power-up, behind any story behind which this is kept
 abbrev pub PowersUp : Event → Format → Kept → BlockRecord → Judged → Judged → Option Found → Type 0
@@ -46,13 +47,14 @@ PowersUp (Input input) format kept r old judged found = GoesOn format r old judg
 
 -- within a block a life goes on from what the kernel keeps of the one before, where that is replayed
 abbrev pub within_block : Judged → Judged
-within_block (Agrees replay) = Agrees replay
-within_block (Not reason) = Not (reason_of an_unknown.WithinBlock)
+within_block (is.Agrees replay) = is.Agrees replay
+within_block (is.Unknown why) = is.Unknown an_unknown.WithinBlock
+within_block is.BehindDifference = is.Unknown an_unknown.WithinBlock
 
 -- before a power-up, where no head tells what was kept
 abbrev pub unknown_behind : Unknown → Judged → Judged
-unknown_behind an_unknown.BeforeOldest judged = Not (reason_of an_unknown.BeforeOldest)
-unknown_behind an_unknown.Gap judged = Not (reason_of an_unknown.Gap)
+unknown_behind an_unknown.BeforeOldest judged = is.Unknown an_unknown.BeforeOldest
+unknown_behind an_unknown.Gap judged = is.Unknown an_unknown.Gap
 unknown_behind an_unknown.WithinBlock judged = within_block judged
 
 -- the power-up of a life, behind what was kept before it, or where nobody knows that
@@ -65,6 +67,7 @@ Begins (Err unknown) format r old judged found = GoesOn format r (unknown_behind
 -- a head tells what the kernel keeps behind the story of the replay, or it differs so; of a life that isn't replayed
 -- nothing is found
 abbrev pub IsHeadFound : Judged → Block → Option HeadFound → Type 0
-IsHeadFound (Agrees replay) b found = (at : Story) → StandsBehind at replay →
+IsHeadFound (is.Agrees replay) b found = (at : Story) → StandsBehind at replay →
     MatchOption found (b.kept ≡ head_behind b.format at) (λ it. (it.kept ≡ head_behind b.format at) × KeptDiffersIn it.field b.kept it.kept)
-IsHeadFound (Not reason) b found = found ≡ None
+IsHeadFound (is.Unknown why) b found = found ≡ None
+IsHeadFound is.BehindDifference b found = found ≡ None

@@ -18,10 +18,10 @@ use Rattle.installed_values.proofs.Walks.{shorter, IsShorter}
 
 -- ---- how long it is
 
-abbrev where_kept : Bool → ℕ → ℕ
+abbrev pub where_kept : Bool → ℕ → ℕ
 where_kept b n = if b then n else 0
 
-abbrev kept_bits : ℕ → List Row → ℕ
+abbrev pub kept_bits : ℕ → List Row → ℕ
 kept_bits countries [] = 0
 kept_bits countries (row ∷ rows) = where_kept (has_place row.variable) (bits_of_row countries row) + kept_bits countries rows
 
@@ -32,7 +32,7 @@ length-taken : (b : Bool) (n : ℕ) (bits : List Bool) → n ≤ length bits →
 length-taken true n bits le = length-take-le n bits le
 length-taken false n bits le = refl
 
-length-kept : (countries : ℕ) (rows : List Row) (bits : List Bool) → total_bits countries rows ≤ length bits → length (kept countries rows bits) ≡ kept_bits countries rows
+pub length-kept : (countries : ℕ) (rows : List Row) (bits : List Bool) → total_bits countries rows ≤ length bits → length (kept countries rows bits) ≡ kept_bits countries rows
 length-kept countries [] bits le = refl
 length-kept countries (row ∷ rows) bits le =
     let n = bits_of_row countries row in
@@ -42,7 +42,7 @@ length-kept countries (row ∷ rows) bits le =
     ∙ ap (λ k. k + length (kept countries rows (drop n bits))) (length-taken (has_place row.variable) n bits here)
     ∙ ap (λ k. where_kept (has_place row.variable) n + k) (length-kept countries rows (drop n bits) behind)
 
-kept_is : (countries : ℕ) → kept_bits countries (rows_of 3) ≡ 124 + 10 * countries
+pub kept_is : (countries : ℕ) → kept_bits countries (rows_of 3) ≡ 124 + 10 * countries
 kept_is countries = omega arith
 
 -- ---- its head
@@ -51,10 +51,10 @@ kept_is countries = omega arith
 abbrev q_dir_at : List Bool → ℕ
 q_dir_at bits = number (take 2 (drop 8 bits))
 
-abbrev own_head : List Bool → ℕ → List Bool
+abbrev pub own_head : List Bool → ℕ → List Bool
 own_head bits len = take 10 bits ++ number_bits 13 len
 
-length-own_head : (bits : List Bool) (len : ℕ) → 10 ≤ length bits → length (own_head bits len) ≡ 23
+pub length-own_head : (bits : List Bool) (len : ℕ) → 10 ≤ length bits → length (own_head bits len) ≡ 23
 length-own_head bits len le = omega (arith, length-append (take 10 bits) (number_bits 13 len), length-take-le 10 bits le, length-number_bits 13 len)
 
 number_stays : (bits : List Bool) (len : ℕ) → 10 ≤ length bits → number_at (own_head bits len) ≡ number_at bits
@@ -63,7 +63,7 @@ number_stays bits len le =
     ap number (take-append-le 8 (take 10 bits) (number_bits 13 len) ten ∙ take-take 8 10 bits (omega arith))
 
 -- Q_DIR and L_PACKET as one number
-head_is : (bits : List Bool) (len : ℕ) → 10 ≤ length bits → len < 8192 → head_at (own_head bits len) ≡ q_dir_at bits * 8192 + len
+pub head_is : (bits : List Bool) (len : ℕ) → 10 ≤ length bits → len < 8192 → head_at (own_head bits len) ≡ q_dir_at bits * 8192 + len
 head_is bits len le small =
     let nb = number_bits 13 len in
     let d = take 2 (drop 8 bits) in

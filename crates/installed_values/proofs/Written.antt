@@ -76,9 +76,11 @@ pub record IsFor (p : PacketPlace) (bytes written : List ℕ) (y pad : List Bool
   pub layout : p.start + p.length ≤ length (bits_of bytes)
   pub from : 50 ≤ p.start
   pub shorter : IsShorter p y
+  pub len : p.length ≡ 176 + 10 * countries_at (drop p.start (bits_of bytes))
+  pub own : y ≡ own_packet (countries_at (drop p.start (bits_of bytes))) (p.length - 29) (drop p.start (bits_of bytes))
   pub bits : bits_of written ≡ swapped p.start p.length y pad (bits_of bytes)
 
-few_countries : (bits : List Bool) → 45 ≤ length bits → countries_at bits ≤ 31
+pub few_countries : (bits : List Bool) → 45 ≤ length bits → countries_at bits ≤ 31
 few_countries bits le =
     let five : length (take 5 (drop 40 bits)) ≡ 5 = length-take-le 5 (drop 40 bits) (omega (arith, length-drop 40 bits)) in
     let small : number (take 5 (drop 40 bits)) < 32 = subst (λ (k : ℕ). number (take 5 (drop 40 bits)) < 2 ^ k) five (number-lt (take 5 (drop 40 bits))) in
@@ -115,6 +117,8 @@ was_written bytes old new n p tells =
         has = h;
         layout = within;
         from = from;
+        len = len;
+        own = refl;
         shorter = is_shorter p countries here (few_countries here (omega arith)) len long place so;
         bits = rewrites.written
             ∙ pieces (take p.start bits) (take 10 here) (number_bits 13 (p.length - 29)) (kept countries (rows_of 3) (drop 23 here)) (drop p.length here) (drop (p.start + p.length) bits) pad

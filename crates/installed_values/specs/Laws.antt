@@ -4,7 +4,7 @@ use Rattle.std.specs.Prelude.{ℕ, List, take, Ok}
 use Rattle.bits.specs.Bits.{bits_of}
 use Rattle.track_packets.specs.declared.listing.PacketPlace.{PacketPlace}
 use Rattle.installed_values.specs.Adapting.{Tells, found_in}
-use Rattle.installed_values.specs.Staying.{OthersStay, IsLeftAsItIs, FaultsStay}
+use Rattle.installed_values.specs.Staying.{OthersStay, IsLeftAsItIs, FaultsStay, ValuesStay}
 use Rattle.installed_values.specs.declared.adapting.Adaptation.TheVariants.{Written}
 
 -- so it is of each packet 3, the telegram that it stands in, and what was written
@@ -16,6 +16,10 @@ OfEachWritten P =
 -- All but the packet 3 is as it was.
 abbrev pub OthersStayAsTheyWere : Type 0
 OthersStayAsTheyWere = OfEachWritten OthersStay
+
+-- The packet 3 has the values that this project has a place for.
+abbrev pub ValuesAreKept : Type 0
+ValuesAreKept = OfEachWritten (λ installed bytes written. ValuesStay installed (bits_of bytes) (bits_of written))
 
 -- What was written isn't adapted again.
 abbrev pub TwiceIsOnce : Type 0

@@ -1,8 +1,8 @@
 -- What stays where a telegram is written with this project's packet 3 (this project's profile). Places and lengths are
 -- bits.
-use Rattle.std.specs.Prelude.{◌≡◌, ◌⊎◌, ℕ, ◌-◌, ◌==◌, nat_lt, Bool, List, [], ◌∷◌, ◌++◌, map, take, drop, Some, Result, Ok, if◌then◌else◌}
-use Rattle.std.specs.List.{All, AllZip}
-use Rattle.bits.specs.Bits.{bits_of}
+use Rattle.std.specs.Prelude.{◌≡◌, ◌⊎◌, ℕ, ◌+◌, ◌-◌, ◌==◌, nat_lt, Bool, List, [], ◌∷◌, ◌++◌, map, take, drop, Some, Result, Ok, if◌then◌else◌}
+use Rattle.std.specs.List.{All, AllZip, filter}
+use Rattle.bits.specs.Bits.{bits_of, number}
 use Rattle.bits.specs.Layout.{Begins, Refuses}
 use Rattle.packets.specs.Packets.{packet, length_of}
 use Rattle.packets.specs.declared.packet.Packet.{Packet}
@@ -10,10 +10,14 @@ use Rattle.telegram.specs.Telegrams.{header, header_bits, next_packet, Carries, 
 use Rattle.telegram.specs.declared.fault.TelegramFault.{TelegramFault}
 use Rattle.telegram.specs.declared.header.Header.{Header}
 use Rattle.telegram.specs.declared.message.Telegram.{Telegram}
+use Rattle.track_packets.specs.Layouts.{rows_of}
 use Rattle.track_packets.specs.Listing.{listing_of}
 use Rattle.track_packets.specs.declared.listing.ListingEnd.TheVariants.{EndMark}
 use Rattle.track_packets.specs.declared.listing.PacketPlace.{PacketPlace}
-use Rattle.installed_values.specs.Adapting.{Tells, found_in}
+use Rattle.track_packets.specs.declared.row.Row.{Row}
+use Rattle.track_packets.specs.declared.variable.Variable.{Variable}
+use Rattle.installed_values.specs.Adapting.{Tells, countries_at, found_in}
+use Rattle.installed_values.specs.Keeping.{bits_of_row, has_place, total_bits}
 use Rattle.installed_values.specs.declared.adapting.AdaptError.{AdaptError}
 use Rattle.installed_values.specs.declared.adapting.Adaptation.{Adaptation}
 use Rattle.installed_values.specs.declared.adapting.Adaptation.TheVariants.{AsItIs}
@@ -67,3 +71,19 @@ pub record FaultsStay (installed : PacketPlace) (bytes written : List ℕ) : Typ
   pub header : (e : TelegramFault) → Refuses header e (bits_of bytes) → Refuses header e (bits_of written)
   pub front : (e : TelegramFault) → RefusesFront e (take installed.start (bits_of bytes)) → RefusesTelegram e (bits_of bytes) × RefusesTelegram e (bits_of written)
   pub others : (t : Telegram) → Carries written t → OthersAreThere installed bytes t
+
+-- the bits of each row, with its variable; those of the countries of a list in one
+abbrev pub values_by : ℕ → List Row → List Bool → List (Variable × List Bool)
+values_by countries [] bits = []
+values_by countries (row ∷ rows) bits = (row.variable, take (bits_of_row countries row) bits) ∷ values_by countries rows (drop (bits_of_row countries row) bits)
+
+-- The packet 3 has its number and its direction still, an L_PACKET that is 29 less, as many countries, and of each variable
+-- that this project has a place for the bits that it had, in the order of the track; and no other bits.
+pub record ValuesStay (installed : PacketPlace) (old new : List Bool) : Type 0 where
+  pub head : take 10 (drop installed.start new) ≡ take 10 (drop installed.start old)
+  pub length : number (take 13 (drop 10 (drop installed.start new))) ≡ installed.length - 29
+  pub countries : countries_at (drop installed.start new) ≡ countries_at (drop installed.start old)
+  pub values :
+      values_by (countries_at (drop installed.start old)) (filter (λ row. has_place row.variable) (rows_of 3)) (drop 23 (drop installed.start new))
+      ≡ filter (λ value. has_place value.0) (values_by (countries_at (drop installed.start old)) (rows_of 3) (drop 23 (drop installed.start old)))
+  pub all : total_bits (countries_at (drop installed.start old)) (filter (λ row. has_place row.variable) (rows_of 3)) + 23 ≡ installed.length - 29

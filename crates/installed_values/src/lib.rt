@@ -12,4 +12,4 @@ pub use adapting::{AdaptError, Adaptation, adapt};
 pub use calls::{EtcsAdapted, adapt_call};
 pub use finding::is_installed;
 pub use keeping::has_place;
-pub use laws::{other_faults_stay, others_stay_as_they_were, twice_is_once};
+pub use laws::{other_faults_stay, others_stay_as_they_were, twice_is_once, values_are_kept};

@@ -2,3 +2,5 @@ pub mod Adapting
 pub mod Calls
 pub mod Finding
 pub mod Keeping
+pub mod Laws
+pub mod Staying

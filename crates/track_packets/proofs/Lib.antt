@@ -1,3 +1,4 @@
 pub mod Bounded
 pub mod Listings
 pub mod Rows
+pub mod Steps

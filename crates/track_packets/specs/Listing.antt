@@ -1,6 +1,6 @@
 -- The packets of a telegram one after another, by L_PACKET alone (SUBSET-026, 7.3 and 8.4.2). Places and lengths are
 -- bits; places are counted from the first bit of the telegram.
-use Rattle.std.specs.Prelude.{ℕ, zero, suc, ◌+◌, ◌/◌, ◌%◌, ◌<◌, ◌≤◌, ◌==◌, nat_lt, Bool, List, [], ◌∷◌, ◌++◌, length, take, drop, Option, Some, None, Result, Ok, Err, if◌then◌else◌}
+use Rattle.std.specs.Prelude.{ℕ, zero, suc, ◌+◌, ◌/◌, ◌%◌, ◌<◌, ◌≤◌, ◌==◌, nat_lt, Bool, List, [], ◌∷◌, length, take, drop, Option, Some, None, Result, Ok, Err, if◌then◌else◌}
 use Rattle.bits.specs.Bits.{number, bits_of}
 use Rattle.vars.specs.Values.{direction_of}
 use Rattle.vars.specs.declared.packet_head.ValidityDirection.{ValidityDirection}
@@ -50,18 +50,23 @@ IsWhole bits (steps.End e) = Unit {0}
 
 -- ---- one after another
 
-abbrev pub ended : List PacketPlace → ListingEnd → Listing
-ended packets e = record { packets = record { items = packets }; end = e }
+-- no packet, and what ends the list
+abbrev pub ended : ListingEnd → Listing
+ended e = record { packets = record { items = [] }; end = e }
 
-abbrev pub gone_on : Step → List PacketPlace → (PacketPlace → Listing) → Listing
-gone_on (steps.End e) before f = ended before e
-gone_on (steps.Packet p) before f = f p
+-- a packet in front of those behind it
+abbrev pub in_front : PacketPlace → Listing → Listing
+in_front p behind = record { packets = record { items = p ∷ behind.packets.items }; end = behind.end }
 
--- at most so many more packets behind those before
-unfoldable pub listed : ℕ → List PacketPlace → ℕ → List Bool → Listing
-listed zero before at bits = ended before (TooMany at)
-listed (suc n) before at bits = gone_on (step_at at bits) before (λ p. listed n (before ++ p ∷ []) (at + p.length) (drop p.length bits))
+abbrev pub gone_on : Step → (PacketPlace → Listing) → Listing
+gone_on (steps.End e) behind = ended e
+gone_on (steps.Packet p) behind = in_front p (behind p)
+
+-- at most so many packets, the first of them here
+unfoldable pub listed : ℕ → ℕ → List Bool → Listing
+listed zero at bits = ended (TooMany at)
+listed (suc n) at bits = gone_on (step_at at bits) (λ p. listed n (at + p.length) (drop p.length bits))
 
 -- The packets of a telegram behind its header of 50 bits, at most 34 of them.
 abbrev pub listing_of : List ℕ → Listing
-listing_of bytes = if nat_lt (length (bits_of bytes)) 50 then ended [] (CutOff 0) else listed 34 [] 50 (drop 50 (bits_of bytes))
+listing_of bytes = if nat_lt (length (bits_of bytes)) 50 then ended (CutOff 0) else listed 34 50 (drop 50 (bits_of bytes))

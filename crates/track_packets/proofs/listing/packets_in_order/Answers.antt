@@ -1,4 +1,4 @@
-use Rattle.std.proofs.Common.{◌≤◌, length, drop, [], refl, ap, subst, ◌∙◌, arith}
+use Rattle.std.proofs.Common.{◌≤◌, length, drop, refl, ap, subst, ◌∙◌, arith}
 use Rattle.track_packets.specs.Listing.{listed}
 use Rattle.track_packets.proofs.Listings.{listed_step, listed_ends, listed_full, listing_is}
 use Rattle.track_packets.proofs.listing.packets_in_order.Goals as goal
@@ -6,8 +6,8 @@ use Rattle.track_packets.proofs.listing.packets_in_order.Goals as goal
 pub returns-in-End : goal.returns-in-End
 returns-in-End c =
     listed_ends 34 c.loop.counter c.loop.packets.items c.loop.at c.loop.reader c.in-End.end _ c.loop-test.true c.in-End.ensures.value c.loop.invariant.so_far
-    ∙ ap (λ bits. listed 34 [] 50 bits) c.in-Some.ensures.rest
-    ∙ ap (λ bits. listed 34 [] 50 (drop 50 bits)) c.new-reader.ensures
+    ∙ ap (λ bits. listed 34 50 bits) c.in-Some.ensures.rest
+    ∙ ap (λ bits. listed 34 50 (drop 50 bits)) c.new-reader.ensures
     ∙ listing_is c.args.bytes.now (subst (λ bits. 50 ≤ length bits) c.new-reader.ensures (c.in-Some.ensures.found.0 refl))
 
 pub loop-preserved : goal.loop-preserved
@@ -21,6 +21,6 @@ loop-preserved c = record {
 pub returns : goal.returns
 returns c =
     listed_full 34 c.loop.counter c.loop.packets.items c.loop.at c.loop.reader _ c.loop-test.false c.loop.invariant.so_far
-    ∙ ap (λ bits. listed 34 [] 50 bits) c.in-Some.ensures.rest
-    ∙ ap (λ bits. listed 34 [] 50 (drop 50 bits)) c.new-reader.ensures
+    ∙ ap (λ bits. listed 34 50 bits) c.in-Some.ensures.rest
+    ∙ ap (λ bits. listed 34 50 (drop 50 bits)) c.new-reader.ensures
     ∙ listing_is c.args.bytes.now (subst (λ bits. 50 ≤ length bits) c.new-reader.ensures (c.in-Some.ensures.found.0 refl))

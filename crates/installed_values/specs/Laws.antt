@@ -1,0 +1,30 @@
+-- Laws of `adapt` (this project's profile). Each is of all telegrams that have a packet 3 as a track sends it, and of the
+-- bytes that were written for them.
+use Rattle.std.specs.Prelude.{ℕ, List, take, Ok}
+use Rattle.bits.specs.Bits.{bits_of}
+use Rattle.track_packets.specs.declared.listing.PacketPlace.{PacketPlace}
+use Rattle.installed_values.specs.Adapting.{Tells, found_in}
+use Rattle.installed_values.specs.Staying.{OthersStay, IsLeftAsItIs, FaultsStay, ValuesStay}
+use Rattle.installed_values.specs.declared.adapting.Adaptation.TheVariants.{Written}
+
+-- so it is of each packet 3, the telegram that it stands in, and what was written
+abbrev pub OfEachWritten : (PacketPlace → List ℕ → List ℕ → Type 0) → Type 0
+OfEachWritten P =
+    (bytes old new : List ℕ) (n : ℕ) (installed : PacketPlace)
+    → Tells (found_in bytes) (bits_of bytes) (Ok (Written n installed)) old new → P installed bytes (take n new)
+
+-- All but the packet 3 is as it was.
+abbrev pub OthersStayAsTheyWere : Type 0
+OthersStayAsTheyWere = OfEachWritten OthersStay
+
+-- The packet 3 has the values that this project has a place for.
+abbrev pub ValuesAreKept : Type 0
+ValuesAreKept = OfEachWritten (λ installed bytes written. ValuesStay installed (bits_of bytes) (bits_of written))
+
+-- What was written isn't adapted again.
+abbrev pub TwiceIsOnce : Type 0
+TwiceIsOnce = OfEachWritten (λ installed bytes written. IsLeftAsItIs written)
+
+-- A telegram with another fault than its packet 3 is refused still.
+abbrev pub OtherFaultsStay : Type 0
+OtherFaultsStay = OfEachWritten FaultsStay

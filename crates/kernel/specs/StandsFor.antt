@@ -1,12 +1,14 @@
 -- What the kernel knows represents a life, and so a past or a list of events (this project's profile). Distances are centimetres,
 -- speeds metres per hour.
-use Rattle.std.specs.Prelude.{◌≡◌, ℕ, ◌-◌, ◌^◌, min, Option, Some, None, List, ◌∷◌}
+use Rattle.std.specs.Prelude.{◌≡◌, ℕ, ◌-◌, ◌^◌, min, Option, Some, None, List, [], ◌∷◌}
 use Rattle.driver.specs.declared.datum.Datum.{Datum}
 use Rattle.events.specs.declared.input.Event.{Event}
 use Rattle.events.specs.declared.input.Input.{Input}
 use Rattle.events.specs.declared.input.Input.TheVariants.{Telegram, Odometer, Clock, Driver}
 use Rattle.events.specs.declared.input.Reading.{Reading}
 use Rattle.events.specs.Kept.{PositionFrom}
+use Rattle.events.specs.declared.kept.Kept.{Kept}
+use Rattle.mode_table.specs.declared.statuses.Cold.{Cold}
 use Rattle.speed_supervision.specs.Limit.{limit}
 use Rattle.track_picture.specs.History.{speed_of}
 use Rattle.mode_control.specs.Entry.{SupervisionEntry}
@@ -18,7 +20,7 @@ use Rattle.kernel.specs.declared.counts.Counts.{Counts}
 use Rattle.kernel.specs.declared.sight.Sight.{Sight}
 use Rattle.kernel.specs.declared.window.Window.{Window}
 use Rattle.kernel.specs.Brake.{stands, train_stood, was_within_limit, is_above_limit_by, asked_for_service, backward_at, rolled_backward, has_begun}
-use Rattle.kernel.specs.Lives.{Past, kept_of, counts_of, life_of}
+use Rattle.kernel.specs.Lives.{Past, kept_of, counts_of, counts_in, life_of}
 use Rattle.kernel.specs.Position.{position_at_power_up}
 
 -- what the brakes remember, of the rows of their table that begin at one event and end at another; the movement
@@ -73,6 +75,11 @@ pub record Knowledge (G S : Type 0) : Type 0 where
 pub record StandsForLife {G S : Type 0} (stores : Stores G S) (known : Knowledge G S) (life : Life) : Type 0 where
   pub parts_are : known.parts ≡ parts_of life
   pub supervision_is : mode_control.StandsForLife stores known.supervision life
+
+-- before its power-up nothing is known of a life but what was kept; it isn't counted yet
+pub record WaitsFor {G S : Type 0} (stores : Stores G S) (known : Knowledge G S) (kept : Kept) (cold : Cold) : Type 0 where
+  pub life_is : StandsForLife stores known (record { kept = kept; cold = cold; entries = [] })
+  pub counts_are : known.counts ≡ counts_in kept
 
 -- .. a past
 pub record StandsAt {G S : Type 0} (stores : Stores G S) (known : Knowledge G S) (past : Past) : Type 0 where

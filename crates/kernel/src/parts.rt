@@ -1,9 +1,12 @@
 //! What the kernel holds beside supervision and counts: the window of the brakes, the limit, the kept position.
-ghost use Rattle.std.specs.Prelude.{◌≡◌};
+ghost use Rattle.std.specs.Prelude.{◌≡◌, []};
+ghost use Rattle.kernel.specs.StandsFor.{parts_of};
+ghost use Rattle.mode_control.specs.Sentences.{begun_life};
 
 use crate::window::Window;
 use driver::Datum;
-use events::Position;
+use events::{Kept, Position};
+use mode_table::{Cold, Item, power_up_status};
 use std::marker::Model;
 use units::Mph;
 
@@ -34,6 +37,22 @@ impl Model for Parts {
       limit = k.limit;
       position = k.position;
     } };
+}
+
+impl Parts {
+    /// As a life begins with what was kept.
+    // It stands out of line, so that the state around it is laid into its place at once.
+    #[inline(never)]
+    pub fn new(kept: &Kept, cold: Cold) -> Self
+        ensures before { result ≡ parts_of (record { kept = kept.now; cold = cold; entries = [] }) }
+        ensures begun { result ≡ parts_of (begun_life kept.now cold) }
+    {
+        Parts {
+            window: Window::new(),
+            limit: no_speed(),
+            position: kept.position.met_by(power_up_status(Item::Position, cold)),
+        }
+    }
 }
 
 /// The speed of a train at standstill, 0 m/h.

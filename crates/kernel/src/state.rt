@@ -1,18 +1,22 @@
 //! The state of the kernel: before the first event, as a life begins, and copied (this project's profile).
-ghost use Rattle.std.specs.Prelude.{◌≡◌, [], IsOk, IfOk};
+ghost use Rattle.std.specs.Prelude.{◌≡◌, [], ◌∷◌, List, IsOk, IfOk};
+ghost use Rattle.events.specs.declared.input.Event.{Event};
 ghost use Rattle.events.specs.declared.input.Event.TheVariants.{PowerUp};
-ghost use Rattle.kernel.specs.Lives.{counted};
+ghost use Rattle.events.specs.declared.kept.Kept.{Kept as KeptItems};
+ghost use Rattle.mode_table.specs.declared.statuses.Cold.{Cold as ColdWord};
+ghost use Rattle.kernel.specs.Lives.{counted, left_by, kept_by};
+ghost use Rattle.kernel.specs.Output.{output_after};
 ghost use Rattle.kernel.specs.Quiet.{HasNoTrack};
-ghost use Rattle.kernel.specs.StandsFor.{StandsForLife, StandsFor};
+ghost use Rattle.kernel.specs.StandsFor.{StandsForLife, StandsFor, WaitsFor};
 ghost use Rattle.mode_control.specs.Sentences.{begun_life};
 
 use crate::counts::Counts;
 use crate::parts::{Parts, no_speed};
 use crate::window::Window;
 use driver::Datum;
-use events::Kept;
+use events::{Kept, Output};
 use mode_control::SupervisionOver;
-use mode_table::{Cold, Item, power_up_status};
+use mode_table::Cold;
 use std::alloc::Global;
 use std::marker::Model;
 use track_picture::{ProfileStores, Segments};
@@ -54,25 +58,57 @@ impl<T: ProfileStores> StateOver<T> {
         }
     }
 
+    /// What is known of a life of which only what was kept is known. `begin_life` powers it up, where it lies then.
+    /// Takes no memory.
+    // It is laid into its place at once, where a caller gives it one.
+    #[inline(always)]
+    pub fn before_power_up(alloc: Global, kept: Kept, cold: Cold) -> Self
+        ensures waits { WaitsFor T.stores result kept cold }
+        ensures track { HasNoTrack T.stores result }
+    {
+        StateOver {
+            parts: Parts::new(&kept, cold),
+            counts: Counts {
+                events: kept.events,
+                lives: kept.lives,
+            },
+            supervision: SupervisionOver::new(alloc, kept, cold),
+        }
+    }
+
+    // The life begins, and is counted.
+    fn set_out(&mut self)
+        ensures life { (kept : KeptItems) (cold : ColdWord) → WaitsFor T.stores self.old kept cold
+            → StandsForLife T.stores self.new (begun_life kept cold) }
+        ensures counts { (cold : ColdWord) → self.new.counts ≡ counted self.old.counts (PowerUp cold) }
+        ensures track { HasNoTrack T.stores self.old → HasNoTrack T.stores self.new }
+    {
+        self.supervision.set_out();
+        self.counts = self.counts.powered_up();
+    }
+
     /// A life begins with what was kept, and is counted. Takes no memory.
     pub(crate) fn begin(alloc: Global, kept: Kept, cold: Cold) -> Self
         ensures life { StandsForLife T.stores result (begun_life kept cold) }
         ensures counts { result.counts ≡ counted (record { events = kept.events; lives = kept.lives }) (PowerUp cold) }
         ensures track { HasNoTrack T.stores result }
     {
-        StateOver {
-            parts: Parts {
-                window: Window::new(),
-                limit: no_speed(),
-                position: kept.position.met_by(power_up_status(Item::Position, cold)),
-            },
-            counts: Counts {
-                events: kept.events,
-                lives: kept.lives,
-            }
-            .powered_up(),
-            supervision: SupervisionOver::power_up(alloc, kept, cold),
-        }
+        let mut begun = StateOver::before_power_up(alloc, kept, cold);
+        begun.set_out();
+        begun
+    }
+
+    /// The life begins of which only what was kept is known (`before_power_up`), as `power_up` begins it: what is
+    /// answered. Takes no memory.
+    pub fn begin_life(&mut self) -> Output
+        ensures stands { (kept : KeptItems) (cold : ColdWord) (events : List Event) → WaitsFor T.stores self.old kept cold
+            → left_by cold kept ≡ left_by cold (kept_by events) → StandsFor T.stores self.new (PowerUp cold ∷ events) }
+        ensures output { (kept : KeptItems) (cold : ColdWord) (events : List Event) → WaitsFor T.stores self.old kept cold
+            → left_by cold kept ≡ left_by cold (kept_by events) → result ≡ output_after (PowerUp cold ∷ events) }
+        ensures track { HasNoTrack T.stores self.old → HasNoTrack T.stores self.new }
+    {
+        self.set_out();
+        self.output()
     }
 
     /// An equal value; NoMemory where memory is refused. None is taken where no restriction and no profile is kept, nor

@@ -92,6 +92,8 @@ fn length_by(train: &Datum<TrainData>) -> Length
 
 impl Parts {
     /// What is known as a life begins with what was kept.
+    // It stands out of line, so that the state around it is laid into its place at once.
+    #[inline(never)]
     pub fn new(kept: &Kept, cold: Cold) -> Self
         ensures { result ≡ parts_of (record { kept = kept.now; cold = cold; entries = [] }) }
     {

@@ -1,5 +1,7 @@
 //! The supervision of a train: as a life begins, copied, and what it tells.
-ghost use Rattle.std.specs.Prelude.{◌≡◌, [], IsOk, IfOk};
+ghost use Rattle.std.specs.Prelude.{◌≡◌, ◌≤◌, [], IsOk, IfOk};
+ghost use Rattle.events.specs.declared.kept.Kept.{Kept as KeptItems};
+ghost use Rattle.mode_table.specs.declared.statuses.Cold.{Cold as ColdWord};
 ghost use Rattle.mode_control.specs.Life.{Life, length_by};
 ghost use Rattle.mode_control.specs.Sentences.{begun_life, span_of};
 ghost use Rattle.mode_control.specs.StandsFor.{StandsForLife};
@@ -51,10 +53,20 @@ impl<T: ProfileStores> SupervisionOver<T> {
         ensures stands { StandsForLife T.stores result (begun_life kept cold) }
         ensures size { size_in T.stores result.track ≡ 0 }
     {
-        let parts = Parts::new(&kept, cold);
-        let mut track = TracksideOver::new(alloc, kept.national);
-        track.forget(parts.length());
-        SupervisionOver { parts, track }
+        let mut begun = SupervisionOver::new(alloc, kept, cold);
+        begun.set_out();
+        begun
+    }
+
+    /// The life begins of which only what was kept is known (`new`): the track is forgotten that lies too far behind the
+    /// train. Takes no memory.
+    pub fn set_out(&mut self)
+        ensures stands { (kept : KeptItems) (cold : ColdWord)
+            → StandsForLife T.stores self.old (record { kept = kept; cold = cold; entries = [] })
+            → StandsForLife T.stores self.new (begun_life kept cold) }
+        ensures size { size_in T.stores self.new.track ≤ size_in T.stores self.old.track }
+    {
+        self.track.forget(self.parts.length());
     }
 
     /// Where the train is: from the minimum safe rear to the maximum safe front.

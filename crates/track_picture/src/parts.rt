@@ -1,5 +1,10 @@
 //! What is known of train and track that takes no memory: place, groups, links, authority, areas and others.
 ghost use Rattle.std.specs.Prelude.{◌≡◌, []};
+ghost use Rattle.areas.specs.Areas.{stored};
+ghost use Rattle.authority.specs.Known.{known as known_authority};
+ghost use Rattle.balise_groups.specs.Groups.{known as known_groups};
+ghost use Rattle.linking.specs.Linking.{known as known_links};
+ghost use Rattle.national.specs.InForce.{known as known_values};
 ghost use Rattle.track_picture.specs.Columns.{columns_of};
 
 use crate::happened::Happened;
@@ -63,6 +68,43 @@ impl Model for Parts {
     } };
 }
 
+// The parts that are large, as a life begins. Each stands out of line: so it is made in its place, and the compiler
+// takes none of them apart, whose pieces it would lay on the stack.
+#[inline(never)]
+fn no_groups() -> Assembler
+    ensures { result ≡ known_groups [] }
+{
+    Assembler::new()
+}
+
+#[inline(never)]
+fn no_links() -> Links
+    ensures { result ≡ known_links [] }
+{
+    Links::new()
+}
+
+#[inline(never)]
+fn values_kept(kept: CountryValues) -> National
+    ensures { result ≡ known_values kept [] }
+{
+    National::kept(kept)
+}
+
+#[inline(never)]
+fn no_authority() -> Authority
+    ensures { result ≡ known_authority [] }
+{
+    Authority::new()
+}
+
+#[inline(never)]
+fn no_areas() -> Areas
+    ensures { result ≡ stored [] }
+{
+    Areas::new()
+}
+
 impl Parts {
     /// What is known as a life begins.
     pub fn new(kept: CountryValues) -> Self
@@ -72,12 +114,12 @@ impl Parts {
             place: Place::new(),
             group: None,
             speed: Mph::new(0).unwrap(),
-            groups: Assembler::new(),
-            links: Links::new(),
-            national: National::kept(kept),
+            groups: no_groups(),
+            links: no_links(),
+            national: values_kept(kept),
             moment: Ms::new(0).unwrap(),
-            authority: Authority::new(),
-            areas: Areas::new(),
+            authority: no_authority(),
+            areas: no_areas(),
             level: AnnouncedLevel::new(),
             happened: Happened::NOTHING,
             stopped: false,

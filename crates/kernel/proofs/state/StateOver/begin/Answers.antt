@@ -1,17 +1,13 @@
 use Rattle.std.proofs.Common.{ap, ◌∙◌}
-use Rattle.driver.specs.Data.{met_by}
-use Rattle.mode_table.specs.declared.statuses.Fate.{Fate}
+use Rattle.events.specs.declared.input.Event.TheVariants as event
+use Rattle.kernel.specs.declared.counts.Counts.{Counts}
+use Rattle.kernel.specs.Lives.{counted}
 use Rattle.kernel.proofs.state.StateOver.begin.Goals as goal
 
 pub returns-clause-life : goal.returns-clause-life
-returns-clause-life g c =
-    let window = c.new.ensures.begun c.args.kept c.args.cold in
-    let limit = c.no_speed.ensures in
-    let position = c.met_by.ensures ∙ ap (λ (f : Fate). met_by f c.args.kept.position) c.power_up_status.ensures in
-    record {
-      parts_are = λ i. record { window = window i; limit = limit i; position = position i };
-      supervision_is = c.power_up.ensures.stands;
-    }
+returns-clause-life g c = c.set_out.ensures.life c.args.kept c.args.cold c.before_power_up-begun.ensures.waits
 
 pub returns-clause-counts : goal.returns-clause-counts
-returns-clause-counts g c = c.powered_up.ensures c.args.cold
+returns-clause-counts g c =
+    c.set_out.ensures.counts c.args.cold
+    ∙ ap (λ (n : Counts). counted n (event.PowerUp c.args.cold)) c.before_power_up-begun.ensures.waits.counts_are

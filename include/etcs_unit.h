@@ -363,6 +363,24 @@ typedef struct {
     uint32_t bits;    /**< its L_PACKET */
 } etcs_adapted;
 
+/** The variables of a packet 3 as a track of issue 2.3.0 sends it that a unit has no place for, in the order of the packet. */
+enum etcs_dropped_variable {
+    ETCS_DROPPED_Q_NVSRBKTRG = 0,     /**< Q_NVSRBKTRG */
+    ETCS_DROPPED_Q_NVEMRRLS = 1,      /**< Q_NVEMRRLS */
+    ETCS_DROPPED_D_NVPOTRP = 2,       /**< D_NVPOTRP, in steps of the packet's Q_SCALE */
+    ETCS_DROPPED_M_NVCONTACT = 3,     /**< M_NVCONTACT */
+    ETCS_DROPPED_T_NVCONTACT = 4,     /**< T_NVCONTACT, in s */
+    ETCS_DROPPED_M_NVDERUN = 5,       /**< M_NVDERUN */
+    ETCS_DROPPED_Q_NVDRIVER_ADHES = 6 /**< Q_NVDRIVER_ADHES */
+};
+
+/** A value that etcs_telegram_adapt leaves out. */
+typedef struct {
+    uint64_t number;   /**< the number that its bits spell */
+    uint32_t variable; /**< enum etcs_dropped_variable */
+    uint32_t bits;     /**< how many bits it has */
+} etcs_value_dropped;
+
 /** The direction in which a group is passed. */
 enum etcs_direction {
     ETCS_DIRECTION_REVERSE = 0,  /**< against the order of its balises */
@@ -402,6 +420,7 @@ ETCS_UNIT_ASSERT(sizeof(etcs_unit_why_told) == 144u && offsetof(etcs_unit_why_to
                  && offsetof(etcs_unit_why_told, level_0) == 137u && offsetof(etcs_unit_why_told, has_override) == 138u
                  && offsetof(etcs_unit_why_told, reserved) == 140u);
 ETCS_UNIT_ASSERT(sizeof(etcs_adapted) == 16u && offsetof(etcs_adapted, len) == 4u && offsetof(etcs_adapted, start) == 8u && offsetof(etcs_adapted, bits) == 12u);
+ETCS_UNIT_ASSERT(sizeof(etcs_value_dropped) == 16u && offsetof(etcs_value_dropped, variable) == 8u && offsetof(etcs_value_dropped, bits) == 12u);
 ETCS_UNIT_ASSERT(sizeof(etcs_packet_unused) == 24u && offsetof(etcs_packet_unused, bits) == 8u && offsetof(etcs_packet_unused, number) == 16u
                  && offsetof(etcs_packet_unused, why) == 20u);
 
@@ -426,6 +445,7 @@ uint32_t etcs_unit_why_(etcs_unit *unit, etcs_unit_why_told *why);
 uint32_t etcs_unit_close_(etcs_unit *unit);
 uint32_t etcs_unit_format_request_(uint32_t slots, uint32_t index, etcs_unit_request_told *request, uint8_t *bytes, size_t room);
 uint32_t etcs_telegram_adapt_(const uint8_t *bytes, size_t len, uint8_t *out, size_t room, etcs_adapted *told);
+uint32_t etcs_telegram_dropped_(const uint8_t *bytes, size_t len, uint32_t index, etcs_value_dropped *told);
 uint32_t etcs_telegram_unused_(const uint8_t *bytes, size_t len, uint32_t mode, uint32_t direction, uint32_t index, etcs_packet_unused *told);
 
 /* ---- the calls */
@@ -631,6 +651,30 @@ static inline uint32_t etcs_unit_format_request(uint32_t slots, uint32_t index, 
  * keep it outside. Answers OK, or NO_ROOM where `room` is below ETCS_TELEGRAM_BYTES; then nothing is written. */
 static inline uint32_t etcs_telegram_adapt(const uint8_t *bytes, size_t len, uint8_t *out, size_t room, etcs_adapted *told) {
     return ((bytes != NULL) && (out != NULL) && (told != NULL)) ? etcs_telegram_adapt_(bytes, len, out, room, told) : (uint32_t)ETCS_UNIT_NULL_POINTER;
+}
+
+/** Tells the values that etcs_telegram_adapt leaves out of a telegram, from 0 on in the order of its packet 3: `bytes` is what
+ * the track sent. Answers OK, or END behind the last one, and where etcs_telegram_adapt writes nothing; then nothing is
+ * written. */
+static inline uint32_t etcs_telegram_dropped(const uint8_t *bytes, size_t len, uint32_t index, etcs_value_dropped *told) {
+    return ((bytes != NULL) && (told != NULL)) ? etcs_telegram_dropped_(bytes, len, index, told) : (uint32_t)ETCS_UNIT_NULL_POINTER;
+}
+
+/** The name of a variable, as SUBSET-026 has it; "unknown" for a number that enum etcs_dropped_variable doesn't have. The
+ * text is the program's own, and never ends. */
+static inline const char *etcs_dropped_text(uint32_t variable) {
+    const char *text = "unknown";
+    switch (variable) {
+    case (uint32_t)ETCS_DROPPED_Q_NVSRBKTRG: text = "Q_NVSRBKTRG"; break;
+    case (uint32_t)ETCS_DROPPED_Q_NVEMRRLS: text = "Q_NVEMRRLS"; break;
+    case (uint32_t)ETCS_DROPPED_D_NVPOTRP: text = "D_NVPOTRP"; break;
+    case (uint32_t)ETCS_DROPPED_M_NVCONTACT: text = "M_NVCONTACT"; break;
+    case (uint32_t)ETCS_DROPPED_T_NVCONTACT: text = "T_NVCONTACT"; break;
+    case (uint32_t)ETCS_DROPPED_M_NVDERUN: text = "M_NVDERUN"; break;
+    case (uint32_t)ETCS_DROPPED_Q_NVDRIVER_ADHES: text = "Q_NVDRIVER_ADHES"; break;
+    default: break;
+    }
+    return text;
 }
 
 /** Tells the packets of a telegram that a unit doesn't use, from 0 on in their order, and why: in this mode (enum etcs_mode),

@@ -20,19 +20,17 @@ import errno
 import fcntl
 import functools
 import os
-import re
 from collections.abc import Callable, Iterator
 from dataclasses import dataclass
 from pathlib import Path
 from types import TracebackType
 from typing import Protocol, Self
 
-from . import _header, _track_packets
+from . import _header
 from ._header import (ABI, OUTPUTS, REQUEST_BYTES, SECTOR, TELEGRAM_BYTES, VERSION_BYTES, Acknowledgement, Action, Adaptation,
-                      Brake, BrakeCause, Cold, Direction, Indication, Kind, Level, LimitCause, Mode, RequestKind, SlotState, Status,
-                      UnusedReason)
+                      Brake, BrakeCause, Cold, Direction, DroppedVariable, Indication, Kind, Level, LimitCause, Mode, RequestKind, SlotState,
+                      Status, UnusedReason)
 from .program import TOP
-from .telegrams import WIDTH
 
 __all__ = ["ABI", "OUTPUTS", "REQUEST_BYTES", "SECTOR", "VERSION_BYTES", "Acknowledgement", "Action", "Brake", "BrakeCause",
            "Cold", "Facts", "FileMedium", "Indication", "Kind", "Level", "LimitCause", "Medium", "MemoryMedium", "Mode",
@@ -412,16 +410,14 @@ class Adapted:
     """Its values that a unit has no place for, by the names of their variables; none where nothing was written."""
 
 
-def _dropped(telegram: bytes, start: int) -> dict[str, int]:
-    """The values of a track's packet 3 there that this project's packet 3 has no place for."""
-    bits = f"{int.from_bytes(telegram, 'big'):0{8 * len(telegram)}b}"
-    values: dict[str, int] = {}
-    at = start + 23
-    for name in re.findall("[A-Z_]+", _track_packets.LAYOUTS[3]):
-        for _ in range(values["N_ITER"] if name == "NID_C" else 1):
-            values[name] = int(bits[at:at + WIDTH[name]], 2)
-            at += WIDTH[name]
-    return {name: number for name, number in values.items() if name in _track_packets.WIDTHS}
+def _dropped(telegram: bytes) -> dict[str, int]:
+    """The values of a track's packet 3 that are left out of a telegram."""
+    told, values = _header.etcs_value_dropped(), dict[str, int]()
+    while (status := _called("etcs_telegram_dropped_", telegram, len(telegram), len(values), ctypes.byref(told))) == Status.OK:
+        values[DroppedVariable(told.variable).name] = told.number
+    if status != Status.END:
+        raise Refused(status)
+    return values
 
 
 def adapt(telegram: bytes) -> Adapted:
@@ -434,7 +430,7 @@ def adapt(telegram: bytes) -> Adapted:
         return Adapted(outcome, telegram, None, None, {})
     if outcome != Adaptation.WRITTEN:
         return Adapted(outcome, telegram, told.start, told.bits, {})
-    return Adapted(outcome, room.raw[:told.len], told.start, told.bits, _dropped(telegram, told.start))
+    return Adapted(outcome, room.raw[:told.len], told.start, told.bits, _dropped(telegram))
 
 
 @dataclass(frozen=True)

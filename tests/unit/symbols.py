@@ -13,8 +13,8 @@ sys.path[:0] = [str(TOP / "tests")]
 
 from compared import Compared  # noqa: E402
 
-NULL_POINTER, WITHOUT_POINTER = 253, ("etcs_abi", "etcs_status_text", "etcs_status_kind", "etcs_decode", "etcs_packet_count")
-SECTOR, SLOTS, LEAST = 512, 4, 28
+NULL_POINTER, WITHOUT_POINTER = 253, ("etcs_abi", "etcs_status_text", "etcs_status_kind", "etcs_dropped_text", "etcs_decode", "etcs_packet_count")
+SECTOR, SLOTS, LEAST = 512, 4, 29
 
 
 def life(library, same):

@@ -1,5 +1,5 @@
-/* Telegrams of installed tracks through the calls of etcs_unit.h: what they become, and which of their packets a unit doesn't use. The bits
- * are by hand, as SUBSET-026, 7.4.2 and 8.4.2 lays them out, and so is what is wanted. */
+/* Telegrams of installed tracks through the calls of etcs_unit.h: what they become, which of their values are left out, and which of their packets
+ * a unit doesn't use. The bits are by hand, as SUBSET-026, 7.4.2 and 8.4.2 lays them out, and so is what is wanted. */
 #include <stdio.h>
 #include <string.h>
 
@@ -17,6 +17,7 @@
 #define BEHIND SPEEDS "1 0 " OVERRIDE "000000011001000 01 11111111 1 111111111111111 0 "
 #define INSTALLED "00000011 10 0000010111010 " BEHIND
 #define LONGER "00000011 10 0000010111100 " BEHIND "00 "
+#define OF_NO_COUNTRY "00000011 01 0000010110000 10 000000000001010 00000 0000110 0001000 0000110 0010100 0001000 000000000000010 0 1 " OVERRIDE "111111111111110 10 00000101 0 000000001100100 1 "
 #define OWN "00000011 10 0000010011101 " SPEEDS OVERRIDE "111111111111111 "
 
 static int failures;
@@ -82,6 +83,43 @@ static void adaptations(void) {
     is("too long a telegram", told.outcome, ETCS_ADAPTATION_NONE);
 }
 
+/* The values of a telegram that are left out: those of the seven variables, in the order of the packet, or none. */
+static void drops(const char *what, const char *bits, const uint64_t *wanted) {
+    static const uint32_t widths[] = {1, 1, 15, 2, 8, 1, 1};
+    uint8_t bytes[2 * ETCS_TELEGRAM_BYTES];
+    size_t len = packed(bits, bytes);
+    uint32_t count = wanted != NULL ? 7 : 0;
+    for (uint32_t index = 0; index <= count + 1; index++) {
+        etcs_value_dropped told = {9999, 9999, 9999};
+        is(what, etcs_telegram_dropped(bytes, len, index, &told), index < count ? ETCS_UNIT_OK : ETCS_UNIT_END);
+        is(what, told.number, index < count ? wanted[index] : 9999);
+        is(what, told.variable, index < count ? index : 9999);
+        is(what, told.bits, index < count ? widths[index] : 9999);
+    }
+}
+
+static void dropped(void) {
+    static const char *const names[] = {"Q_NVSRBKTRG", "Q_NVEMRRLS", "D_NVPOTRP", "M_NVCONTACT", "T_NVCONTACT", "M_NVDERUN", "Q_NVDRIVER_ADHES", "unknown"};
+    static const uint64_t of_one_country[] = {1, 0, 200, 1, 255, 1, 0}, of_no_country[] = {0, 1, 32766, 2, 5, 0, 1};
+    uint8_t bytes[2 * ETCS_TELEGRAM_BYTES];
+    etcs_value_dropped told = {9999, 9999, 9999};
+    size_t len = packed(HEADER INSTALLED END, bytes);
+    drops("a track's packet 3", HEADER STOP_IN_SR INSTALLED REVOCATION_REVERSE END, of_one_country);
+    drops("behind a unit's", HEADER OWN INSTALLED END, of_one_country);
+    drops("for no further country", HEADER OF_NO_COUNTRY END, of_no_country);
+    drops("a unit's packet 3", HEADER STOP_IN_SR OWN REVOCATION_REVERSE END, NULL);
+    drops("no packet 3", HEADER STOP_IN_SR END, NULL);
+    drops("no end mark", HEADER INSTALLED, NULL);
+    drops("no byte", "", NULL);
+    drops("two of a track", HEADER INSTALLED INSTALLED END, NULL);
+    drops("another length", HEADER LONGER END, NULL);
+    is("the last index of all", etcs_telegram_dropped(bytes, len, UINT32_MAX, &told), ETCS_UNIT_END);
+    is("too long a telegram", etcs_telegram_dropped(bytes, ETCS_TELEGRAM_BYTES + 1, 0, &told), ETCS_UNIT_END);
+    is("nothing told", told.number, 9999);
+    for (uint32_t variable = 0; variable < 8; variable++)
+        is(names[variable], (uint64_t)strcmp(etcs_dropped_text(variable), names[variable]), 0);
+}
+
 static void unused(const char *bits, uint32_t mode, uint32_t direction, const etcs_packet_unused *wanted, uint32_t count) {
     uint8_t bytes[2 * ETCS_TELEGRAM_BYTES];
     char what[80];
@@ -124,16 +162,20 @@ static void uses(void) {
 static void nulls(void) {
     uint8_t byte = 0, out[ETCS_TELEGRAM_BYTES];
     etcs_adapted adapted;
+    etcs_value_dropped value;
     etcs_packet_unused packet;
     is("no telegram", etcs_telegram_adapt(NULL, 0, out, sizeof out, &adapted), ETCS_UNIT_NULL_POINTER);
     is("no buffer", etcs_telegram_adapt(&byte, 1, NULL, sizeof out, &adapted), ETCS_UNIT_NULL_POINTER);
     is("nowhere to tell", etcs_telegram_adapt(&byte, 1, out, sizeof out, NULL), ETCS_UNIT_NULL_POINTER);
+    is("no telegram with values", etcs_telegram_dropped(NULL, 0, 0, &value), ETCS_UNIT_NULL_POINTER);
+    is("nowhere to tell a value", etcs_telegram_dropped(&byte, 1, 0, NULL), ETCS_UNIT_NULL_POINTER);
     is("no telegram with packets", etcs_telegram_unused(NULL, 0, 0, 0, 0, &packet), ETCS_UNIT_NULL_POINTER);
     is("nowhere to tell a packet", etcs_telegram_unused(&byte, 1, 0, 0, 0, NULL), ETCS_UNIT_NULL_POINTER);
 }
 
 int main(void) {
     adaptations();
+    dropped();
     uses();
     nulls();
     printf("telegrams: %d failures\n", failures);

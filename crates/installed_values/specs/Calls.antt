@@ -1,12 +1,18 @@
 -- What C is told of an adaptation (this project's profile). Places and lengths are bits.
-use Rattle.std.specs.Prelude.{◌≡◌, ℕ, ◌<◌, ◌≤◌, nat_lt, Bool, true, false, List, length, Result, Ok, Err}
+use Rattle.std.specs.Prelude.{◌≡◌, ℕ, ◌<◌, ◌≤◌, nat_lt, Bool, true, false, List, length, Option, Some, None, Result, Ok, Err}
 use Rattle.bits.specs.Bits.{bits_of}
+use Rattle.track_packets.specs.Variables.{width_of}
+use Rattle.track_packets.specs.declared.variable.Variable.{Variable}
+use Rattle.track_packets.specs.declared.variable.Variable.TheVariants as variables
 use Rattle.installed_values.specs.Adapting.{Tells, found_in}
+use Rattle.installed_values.specs.Dropping.{TellsDropped}
 use Rattle.installed_values.specs.declared.adapting.AdaptError.{AdaptError}
 use Rattle.installed_values.specs.declared.adapting.AdaptError.TheVariants as errors
 use Rattle.installed_values.specs.declared.adapting.Adaptation.{Adaptation}
 use Rattle.installed_values.specs.declared.adapting.Adaptation.TheVariants.{AsItIs, Written}
 use Rattle.installed_values.specs.declared.calls.EtcsAdapted.{EtcsAdapted}
+use Rattle.installed_values.specs.declared.calls.EtcsDropped.{EtcsDropped}
+use Rattle.installed_values.specs.declared.dropping.Dropped.{Dropped}
 
 -- what is told of an answer
 abbrev pub told_of : Result Adaptation AdaptError → EtcsAdapted
@@ -30,3 +36,31 @@ Where false So Else = Else
 abbrev pub TellsC : List ℕ → List ℕ → List ℕ → EtcsAdapted → EtcsAdapted → ℕ → Type 0
 TellsC bytes old new before told status =
     Where (nat_lt (length old) 104) ((status ≡ 252) × (new ≡ old) × (told ≡ before)) ((status ≡ 0) × Answers bytes old new told)
+
+-- ---- a value that is left out
+
+-- in the order of the packet
+abbrev pub number_of : Variable → ℕ
+number_of variables.QNvsrbktrg = 0
+number_of variables.QNvemrrls = 1
+number_of variables.DNvpotrp = 2
+number_of variables.MNvcontact = 3
+number_of variables.TNvcontact = 4
+number_of variables.MNvderun = 5
+number_of variables.QNvdriverAdhes = 6
+number_of _ = 7
+
+abbrev pub value_told : Dropped → EtcsDropped
+value_told value = record { number = value.number; variable = number_of value.variable; bits = width_of value.variable }
+
+-- what C is told of a value, or that there is none
+abbrev pub IsToldC : Option Dropped → EtcsDropped → EtcsDropped → ℕ → Type 0
+IsToldC (Some value) before told status = (status ≡ 0) × (told ≡ value_told value)
+IsToldC None before told status = (status ≡ 38) × (told ≡ before)
+
+-- what `dropped_of` answers of the bytes, and what C is told of it
+pub record TellsValue (bytes : List ℕ) (index : ℕ) (before told : EtcsDropped) (status : ℕ) : Type 0 where
+  pub answer : Option Dropped
+  pub is_told : IsToldC answer before told status
+  pub long : 104 < length bytes → answer ≡ None
+  pub dropped : length bytes ≤ 104 → TellsDropped (found_in bytes) (bits_of bytes) index answer

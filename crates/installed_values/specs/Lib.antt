@@ -1,5 +1,6 @@
 pub mod Adapting
 pub mod Calls
+pub mod Dropping
 pub mod Finding
 pub mod Keeping
 pub mod Laws

@@ -1,7 +1,7 @@
 //! A telegram whose packet 3 is as a track sends it is written with this project's packet 3.
-ghost use Rattle.std.specs.Prelude.{◌≡◌, ◌+◌, ◌*◌, ◌<◌, ◌≤◌, ◌++◌, ℕ, IfSome, Ok, drop, length};
+ghost use Rattle.std.specs.Prelude.{◌≡◌, ◌+◌, ◌*◌, ◌<◌, ◌≤◌, ◌++◌, ℕ, IfNone, IfSome, Ok, drop, length};
 ghost use Rattle.bits.specs.Bits.{bits_of};
-ghost use Rattle.installed_values.specs.Adapting.{Adapts, Rewrites, Tells, adapted_bits, countries_at, found_in, front, has_end};
+ghost use Rattle.installed_values.specs.Adapting.{Adapts, HasLayout, Rewrites, Tells, adapted_bits, countries_at, found_in, front, has_end};
 ghost use Rattle.installed_values.specs.Keeping.{kept};
 ghost use Rattle.installed_values.specs.declared.adapting.Adaptation.{Adaptation};
 ghost use Rattle.track_packets.specs.Layouts.{rows_of as rows_told};
@@ -43,7 +43,7 @@ fn is_ended(end: ListingEnd) -> bool
 }
 
 /// The packets 3 of a telegram that are as a track sends them, where it has an end mark.
-fn found_of(bytes: &[u8]) -> Found
+pub(crate) fn found_of(bytes: &[u8]) -> Found
     ensures { result ≡ found_in bytes.now }
 {
     let listing = packets_in_order(bytes);
@@ -134,15 +134,10 @@ fn write(
     writer.copy_to(out)
 }
 
-/// Writes a telegram with the packet 3 there in this project's order, where its length is that of its layout.
-fn rewrite(
-    bits: &BitReader<'_>,
-    place: PacketPlace,
-    out: &mut [u8; TELEGRAM_BYTES],
-) -> Option<usize>
-    requires { length bits.now ≤ 8 * TELEGRAM_BYTES }
-    ensures adapted { Adapts place bits.now result out.old out.new }
-    ensures fits { IfSome result (λ n. n ≤ 104) }
+/// N_ITER of the packet 3 there, where its length is that of its layout.
+pub(crate) fn countries_of(bits: &BitReader<'_>, place: PacketPlace) -> Option<u32>
+    ensures found { IfSome result (λ n. HasLayout place bits.now × (n ≡ countries_at (drop place.start bits.now)) × (n ≤ 31)) }
+    ensures none { IfNone result (HasLayout place bits.now → ⊥) }
 {
     let whole = u64::from(place.start) + u64::from(place.length);
     if place.length < 176 {
@@ -157,7 +152,23 @@ fn rewrite(
     if place.length != 176 + 10 * countries {
         return None;
     }
-    Some(write(bits, place, countries, out))
+    Some(countries)
+}
+
+/// Writes a telegram with the packet 3 there in this project's order, where its length is that of its layout.
+fn rewrite(
+    bits: &BitReader<'_>,
+    place: PacketPlace,
+    out: &mut [u8; TELEGRAM_BYTES],
+) -> Option<usize>
+    requires { length bits.now ≤ 8 * TELEGRAM_BYTES }
+    ensures adapted { Adapts place bits.now result out.old out.new }
+    ensures fits { IfSome result (λ n. n ≤ 104) }
+{
+    match countries_of(bits, place) {
+        Some(countries) => Some(write(bits, place, countries, out)),
+        None => None,
+    }
 }
 
 /// Writes a telegram that has a packet 3 as a track of issue 2.3.0 sends it with this project's packet 3: its variables in

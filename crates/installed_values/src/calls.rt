@@ -2,16 +2,20 @@
 ghost use Rattle.std.specs.Prelude.{◌≡◌, ◌<◌, ◌≤◌, ℕ, Ok, drop, length, take};
 ghost use Rattle.bits.specs.Bits.{bits_of};
 ghost use Rattle.installed_values.specs.Adapting.{Tells, found_in};
-ghost use Rattle.installed_values.specs.Calls.{Answers, TellsC, told_of};
+ghost use Rattle.installed_values.specs.Calls.{Answers, TellsC, TellsValue, number_of, told_of, value_told};
 ghost use Rattle.installed_values.specs.declared.adapting.Adaptation.{Adaptation};
 ghost use Rattle.track_packets.specs.declared.listing.PacketPlace.{PacketPlace as a_place};
 
 use crate::adapting::{AdaptError, Adaptation, adapt};
+use crate::dropping::{Dropped, dropped_of};
 use packets::TELEGRAM_BYTES;
-use track_packets::PacketPlace;
+use track_packets::{PacketPlace, Variable};
 
 /// The call did what it was asked.
 const DONE: u32 = 0;
+
+/// The list ends before the index.
+const END: u32 = 38;
 
 /// The buffer is too small.
 const NO_ROOM: u32 = 252;
@@ -28,6 +32,19 @@ pub struct EtcsAdapted {
     /// The place of the first bit of the packet 3 that is meant in the telegram that was sent, from 0.
     pub start: u32,
     /// Its L_PACKET.
+    pub bits: u32,
+}
+
+/// A value that is left out, as C is told it.
+#[repr(C)]
+#[derive(Clone, Copy)]
+pub struct EtcsDropped {
+    /// The number of its bits.
+    pub number: u64,
+    /// Its variable, in the order of the packet: 0 Q_NVSRBKTRG, 1 Q_NVEMRRLS, 2 D_NVPOTRP, 3 M_NVCONTACT, 4 T_NVCONTACT,
+    /// 5 M_NVDERUN, 6 Q_NVDRIVER_ADHES.
+    pub variable: u32,
+    /// How many bits it has.
     pub bits: u32,
 }
 
@@ -108,4 +125,45 @@ pub fn adapt_call(bytes: &[u8], out: &mut [u8], told: &mut EtcsAdapted) -> u32
     }
     *told = adapt_told(bytes, out);
     DONE
+}
+
+/// The number of a variable that is left out; 7 for all others, which are never told.
+fn variable_number(variable: Variable) -> u32
+    ensures { result ≡ number_of variable }
+{
+    match variable {
+        Variable::QNvsrbktrg => 0,
+        Variable::QNvemrrls => 1,
+        Variable::DNvpotrp => 2,
+        Variable::MNvcontact => 3,
+        Variable::TNvcontact => 4,
+        Variable::MNvderun => 5,
+        Variable::QNvdriverAdhes => 6,
+        _ => 7,
+    }
+}
+
+/// A value as C is told it.
+fn value_to_c(value: Dropped) -> EtcsDropped
+    ensures { result ≡ value_told value }
+{
+    EtcsDropped {
+        number: value.number,
+        variable: variable_number(value.variable),
+        bits: value.variable.width(),
+    }
+}
+
+/// Tells the value of this index, from 0 on, among those that `adapt` leaves out of a telegram, in the order of the packet 3:
+/// 0, or 38 where there are no more, or where `adapt` writes nothing; then nothing is told.
+pub fn dropped_call(bytes: &[u8], index: u32, told: &mut EtcsDropped) -> u32
+    ensures { TellsValue bytes.now index told.old told.new result }
+{
+    match dropped_of(bytes, index) {
+        Some(value) => {
+            *told = value_to_c(value);
+            DONE
+        }
+        None => END,
+    }
 }

@@ -17,7 +17,7 @@ pub fn has_place(variable: Variable) -> bool
 }
 
 /// The bits of a row, which comes once, or in the list of so many countries.
-fn row_bits(row: &Row, countries: u32) -> u32
+pub(crate) fn row_bits(row: &Row, countries: u32) -> u32
     requires { countries ≤ 31 }
     ensures { result ≡ bits_of_row countries row.now }
 {

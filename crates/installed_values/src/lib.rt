@@ -3,13 +3,15 @@
 
 mod adapting;
 mod calls;
+mod dropping;
 mod finding;
 mod keeping;
 mod laws;
 mod moving;
 
 pub use adapting::{AdaptError, Adaptation, adapt};
-pub use calls::{EtcsAdapted, adapt_call};
+pub use calls::{EtcsAdapted, EtcsDropped, adapt_call, dropped_call};
+pub use dropping::{Dropped, dropped_of};
 pub use finding::is_installed;
 pub use keeping::has_place;
 pub use laws::{other_faults_stay, others_stay_as_they_were, twice_is_once, values_are_kept};

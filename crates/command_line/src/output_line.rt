@@ -1,32 +1,23 @@
 //! The line of an output.
-ghost use Rattle.std.specs.Prelude.{◌≡◌, ◌++◌, OnOk};
+ghost use Rattle.std.specs.Prelude.{OnOk};
 ghost use Rattle.std.specs.Io.KnownBytes.{Appends};
 ghost use Rattle.command_line.specs.OutputLine.{front_of, back_of, line_of};
 
 use crate::output_words::{brake_word, level_word, mode_word};
+use crate::telling::write_texts;
 use events::Output;
 use itoa::Buffer;
 use std::io;
 use std::io::Write;
-
-// A name and its value. By bytes: a line by `write!` takes three times as long.
-#[inline(always)]
-fn write_field<W: Write>(name: &[u8], value: &str, out: &mut W) -> io::Result<()>
-    ensures { OnOk result (Appends (W.contents out.old) (W.contents out.new) (name.now ++ value.now)) }
-{
-    out.write_all(name)?;
-    out.write_all(value.as_bytes())?;
-    Ok(())
-}
 
 // The number, the mode and the level.
 #[tactic(auto, unfolding(crate::specs::OutputLine::front_of))]
 fn write_front<W: Write>(number: u64, output: &Output, out: &mut W) -> io::Result<()>
     ensures { OnOk result (Appends (W.contents out.old) (W.contents out.new) (front_of number output.now)) }
 {
-    write_field(b"event ", Buffer::new().format(number), out)?;
-    write_field(b" mode ", mode_word(output.mode), out)?;
-    write_field(b" level ", level_word(output.level), out)?;
+    write_texts("event ", Buffer::new().format(number), out)?;
+    write_texts(" mode ", mode_word(output.mode), out)?;
+    write_texts(" level ", level_word(output.level), out)?;
     Ok(())
 }
 
@@ -37,9 +28,9 @@ fn write_back<W: Write>(output: &Output, out: &mut W) -> io::Result<()>
 {
     let limit = output.limit.get();
     let shown = output.indications.number();
-    write_field(b" brake ", brake_word(output.brake), out)?;
-    write_field(b" limit ", Buffer::new().format(limit), out)?;
-    write_field(b" ind ", Buffer::new().format(shown), out)?;
+    write_texts(" brake ", brake_word(output.brake), out)?;
+    write_texts(" limit ", Buffer::new().format(limit), out)?;
+    write_texts(" ind ", Buffer::new().format(shown), out)?;
     out.write_all(b"\n")?;
     Ok(())
 }

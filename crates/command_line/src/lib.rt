@@ -14,4 +14,4 @@ pub use output_line::write_line;
 pub use output_words::{brake_word, level_word, mode_word};
 pub use status::Status;
 pub use taking::take_standard_streams;
-pub use telling::tell;
+pub use telling::{tell, write_texts};

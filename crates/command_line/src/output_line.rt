@@ -4,7 +4,9 @@ ghost use Rattle.std.specs.Io.KnownBytes.{Appends};
 ghost use Rattle.command_line.specs.OutputLine.{front_of, back_of, line_of};
 
 use crate::output_words::{brake_word, level_word, mode_word};
+use crate::telling::write_texts;
 use events::Output;
+use itoa::Buffer;
 use std::io;
 use std::io::Write;
 
@@ -13,9 +15,10 @@ use std::io::Write;
 fn write_front<W: Write>(number: u64, output: &Output, out: &mut W) -> io::Result<()>
     ensures { OnOk result (Appends (W.contents out.old) (W.contents out.new) (front_of number output.now)) }
 {
-    let mode = mode_word(output.mode);
-    let level = level_word(output.level);
-    write!(out, "event {number} mode {mode} level {level}")
+    write_texts("event ", Buffer::new().format(number), out)?;
+    write_texts(" mode ", mode_word(output.mode), out)?;
+    write_texts(" level ", level_word(output.level), out)?;
+    Ok(())
 }
 
 // The brake, the limit and the indications.
@@ -23,10 +26,13 @@ fn write_front<W: Write>(number: u64, output: &Output, out: &mut W) -> io::Resul
 fn write_back<W: Write>(output: &Output, out: &mut W) -> io::Result<()>
     ensures { OnOk result (Appends (W.contents out.old) (W.contents out.new) (back_of output.now)) }
 {
-    let brake = brake_word(output.brake);
     let limit = output.limit.get();
     let shown = output.indications.number();
-    writeln!(out, " brake {brake} limit {limit} ind {shown}")
+    write_texts(" brake ", brake_word(output.brake), out)?;
+    write_texts(" limit ", Buffer::new().format(limit), out)?;
+    write_texts(" ind ", Buffer::new().format(shown), out)?;
+    out.write_all(b"\n")?;
+    Ok(())
 }
 
 /// Writes the line of an event's output (this project's profile): `event N mode M level L brake B limit V ind I`. N

@@ -6,8 +6,9 @@
 #     by `./lab campaign`    by N processes here, and by N workers of Dask, which are warm
 #     by xargs, GNU parallel a shell for each scenario, which formats the image, and examines and replays it one behind the other
 #
-# with N of 1, 2 and 4. Each is counted so often, in turn, and the least stands, beside its share of what the plain loop does in that time. Images
-# lie in memory (/dev/shm), where there is that, so that no disk is waited for.
+# with N of 1, 2 and 4. Each is counted so often, in turn, and the least stands, beside its share of what the plain loop does in that time, and in
+# that processor time, which tells more where the machine has other work. Images lie in memory (/dev/shm), where there is that, so that no disk is
+# waited for.
 #
 #     bench/campaign.sh [SCENARIOS [SEED [TURNS]]]    2,000 random lives of seed 7, three turns
 #
@@ -150,10 +151,11 @@ scenarios, found = int(sys.argv[1]), {}
 for line in Path("counts").read_text().splitlines():
     way, processes, wall, user, system, others = line.split()
     found.setdefault((int(processes), way), []).append((float(wall), float(user) + float(system) + int(others) / 1000))
-print(f"{'at a time':>9}  {'what':30}  {'wall':>6}  {'a second':>8}  {'of the loop':>11}  {'processor':>9}  {'most wall':>9}")
+print(f"{'at a time':>9}  {'what':30}  {'wall':>6}  {'a second':>8}  {'of the loop':>11}  {'processor':>9}  {'of the loop':>11}  {'most wall':>9}")
 for (processes, way), counts in sorted(found.items(), key=lambda one: (one[0][0], list(NAMES).index(one[0][1]))):
     wall, processor = (min(one[at] for one in counts) for at in (0, 1))
-    loop = min(one[0] for one in found[processes, "plain_loop"])
-    print(f"{processes:9}  {NAMES[way]:30}  {wall:6.2f}  {scenarios / wall:8.0f}  {loop / wall:11.0%}  {processor:9.2f}  {max(one[0] for one in counts):9.2f}")
+    loop, of_loop = (min(one[at] for one in found[processes, "plain_loop"]) for at in (0, 1))
+    print(f"{processes:9}  {NAMES[way]:30}  {wall:6.2f}  {scenarios / wall:8.0f}  {loop / wall:11.0%}  {processor:9.2f}  {of_loop / processor:11.0%}  "
+          f"{max(one[0] for one in counts):9.2f}")
 P
 exit $status

@@ -9,14 +9,22 @@ image nothing is read here but the gates and numbers of its blocks (`layout`), w
     events[events["brake"] == "emergency"]
 """
 from pathlib import Path
-from typing import TYPE_CHECKING
-
-from .lives import replay, why
+from typing import TYPE_CHECKING, Any
 
 if TYPE_CHECKING:
     import pandas as pd
 
+    from .lives import replay, why
+
 __all__ = ["brake_causes", "journal", "replay", "why"]
+
+
+def __getattr__(name: str) -> Any:
+    """`replay` and `why`, which load the library's calls where they are first asked for: the words of ./lab needn't wait for them."""
+    if name in ("replay", "why"):
+        from . import lives
+        return getattr(lives, name)
+    raise AttributeError(f"module {__name__!r} has no attribute {name!r}")
 
 
 def journal(path: str | Path, other_blocks: bool = False) -> "pd.DataFrame":

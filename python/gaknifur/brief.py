@@ -73,8 +73,8 @@ def newest(journal: Journal, table: pd.DataFrame) -> Newest | None:
     unwritten = (other for other in journal.slots if other["state"] == "unwritten")
     behind = next((other for other in unwritten if other.get("block") == number + 1), None)
     is_released = behind is not None and behind.get("life") == slot.get("life")
-    told = table[table["block"] == number]
-    kinds = list(told["kind"] if "source" not in told else told["kind"][told["source"] == "journal"])
+    is_told = table["block"] == number
+    kinds = list(table["kind"][is_told if "source" not in table else is_told & (table["source"] == "journal")])
     return Newest(number, slot["first_event"], slot["last_event"], is_released, kinds == ["powerup"], behind)
 
 
@@ -120,7 +120,7 @@ def brief(journal: Journal, table: pd.DataFrame, found: pd.DataFrame) -> Brief:
         last = {name: table[name].at[row] for name in LAST} | {"row": row}
     braked = found[found["kind"] != "powerup"]
     intervention = braked.iloc[-1].to_dict() | {"row": braked["first_row"].iat[-1]} if len(braked) else None
-    entered = tables.trips(table).index[::-1]
+    entered = tables.trips(table)[::-1]
     of_life = table["event"][table["life"] == last["life"]] if last else table["event"]
     unobeyed = not_obeyed.summary(table["not_obeyed"])
     trips = [trip_row(table, row) for row in entered[:MOST_TRIPS]]

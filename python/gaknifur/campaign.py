@@ -5,22 +5,24 @@ A job whose worker is lost is played again, and what is in the table already isn
 goes on where it was. A row tells the same whoever plays it, but for `seconds` and `worker`.
 """
 import csv
+import gc
 import hashlib
 import io
 import os
 import random
 import socket
 import sqlite3
+import tempfile
 import time
 from collections import Counter
-from collections.abc import Callable, Iterable, Iterator, Sequence
+from collections.abc import Callable, Iterable, Iterator
 from concurrent.futures import FIRST_COMPLETED, Future, ProcessPoolExecutor, wait
 from concurrent.futures.process import BrokenProcessPool
 from dataclasses import dataclass
 from pathlib import Path
 from typing import Any
 
-from . import cases, files, mode_rows, playing, program, random_lives
+from . import case_files, files, program, sound
 from .program import DEVICE, REFUSED, Failed
 from .reading import Json, digest, read
 from .shown import shown
@@ -36,6 +38,7 @@ BATCH_SECONDS, MOST_AT_ONCE, SHARES, AHEAD = 0.25, 64, 2, 2
 """How long scenarios take that are handed out at once, and how many these are at the most; into how many parts for each player what
 is left is cut at the least; and how many parts each player has, with the one that it plays."""
 COMMIT_SECONDS = 0.25
+INSERT = f"INSERT OR REPLACE INTO result ({', '.join(COLUMNS)}) VALUES ({', '.join('?' * len(COLUMNS))})"
 SCHEMA = """
 CREATE TABLE campaign (name TEXT PRIMARY KEY, value TEXT NOT NULL) STRICT;
 CREATE TABLE result (
@@ -67,18 +70,21 @@ class Job:
 
 def of_folder(folder: Path, slots: int) -> Iterator[Job]:
     """A job for each case file and each scenario below a folder, but for those that a case names."""
-    case_files, scenarios = cases.below(folder)
-    for path in case_files:
-        files = cases.files_of(path)
-        root = Path(os.path.commonpath([one.parent for one in files]))
+    of_cases, scenarios = case_files.below(folder)
+    if of_cases:
+        from . import playing  # noqa: F401 (what plays them is loaded once, before there are processes that play)
+    for path in of_cases:
+        found = case_files.files_of(path)
+        root = Path(os.path.commonpath([one.parent for one in found]))
         yield Job(shown(path.relative_to(folder).as_posix()), "case",
-                  tuple((one.relative_to(root).as_posix(), one.read_bytes()) for one in files), slots)
+                  tuple((one.relative_to(root).as_posix(), one.read_bytes()) for one in found), slots)
     for path in scenarios:
         yield Job(shown(path.relative_to(folder).as_posix()), "scenario", (("scenario.json", path.read_bytes()),), slots)
 
 
 def at_random(count: int, seed: int, slots: int) -> Iterator[Job]:
     """Random lives: the same ones for the same seed."""
+    from . import random_lives
     for number in range(count):
         yield Job(f"random/{seed}/{number:07}", "scenario",
                   (("scenario.json", random_lives.scenario(random.Random(f"{seed}/{number}"))),), slots)
@@ -86,55 +92,68 @@ def at_random(count: int, seed: int, slots: int) -> Iterator[Job]:
 
 # ---- a job
 
-def play(job: Job) -> Row:
-    """Plays a job, and answers its row. Whatever goes wrong is told in the row."""
+def play(job: Job, room: Path) -> Row:
+    """Plays a job in a folder, in which another one may have been played, and answers its row. Whatever goes wrong is told there."""
     begun = time.perf_counter()
-    row: Row = {**dict.fromkeys(COLUMNS), "name": job.name, "job_sha256": job.sha256, "kind": job.kind, "ended": "carried out", "sound": 0}
+    row = row_without(job, "carried out")
     try:
-        with program.room(job.slots) as room:
-            for name, data in job.files:
-                path = Path(room) / name
-                path.parent.mkdir(parents=True, exist_ok=True)
-                path.write_bytes(data)
-            first = Path(room) / job.files[0][0]
-            row |= play_case(first) if job.kind == "case" else play_scenario(first, Path(room) / "image", job.slots)
+        row |= play_case(job, room) if job.kind == "case" else play_scenario(job, room)
     except Failed as failed:
         row |= {"ended": f"failed: {failed}", "sound": 0}
     except Exception as error:  # a row tells of it, and the campaign goes on
         row |= {"ended": f"failed: {type(error).__name__}: {error}", "sound": 0}
-    return row | {"seconds": round(time.perf_counter() - begun, 4), "worker": f"{socket.gethostname()}/{os.getpid()}"}
+    return row | {"seconds": round(time.perf_counter() - begun, 4), "worker": player()}
 
 
-def play_scenario(scenario: Path, image: Path, slots: int) -> Row:
+def player() -> str:
+    """Who plays: the machine and the process."""
+    return f"{socket.gethostname()}/{os.getpid()}"
+
+
+def play_scenario(job: Job, room: Path) -> Row:
     """Plays one life on a fresh image."""
-    program.format_image(image, slots)
+    scenario, image = room / "scenario.json", room / "image"
+    scenario.write_bytes(job.files[0][1])
+    program.format_image(image, job.slots)
     status, printed = program.etcs("run", "--", str(scenario), str(image))
     ended = "carried out" if status == 0 else printed[-1] if printed else f"status {status}"
     journal = read(image, replay=True, is_own=True)
     row: Row = {"ended": ended, "image_sha256": journal.sha256, "sound": 1}
     try:
-        playing.check_image(journal)
-        playing.check_released([line for line in printed if playing.RELEASED.fullmatch(line)], journal.records)
-    except playing.Missed as missed:
+        sound.check_image(journal)
+        sound.check_released([line for line in printed if sound.RELEASED.fullmatch(line)], journal.records)
+    except sound.Missed as missed:
         row |= {"first_missed": str(missed), "sound": 0}
     return row | told_of(journal.records)
 
 
-def told_of(records: Sequence[Json]) -> Row:
+def told_of(told: Iterable[Json]) -> Row:
     """What the records come to."""
+    records = list(told)
     if not records:
         return {"events": 0, "lives": 0}
-    last = records[-1]
-    begun = sum(now["brake"] == "emergency" != before["brake"] for before, now in zip(records, records[1:]))
-    trips = sum(now["mode"] == "TR" != before["mode"] for before, now in zip(records, records[1:]))
+    last, behind = records[-1], list(zip(records, records[1:]))
+    begun = sum(now["brake"] == "emergency" != before["brake"] for before, now in behind)
+    trips = sum(now["mode"] == "TR" != before["mode"] for before, now in behind)
     return {"events": len(records), "lives": len({record["life"] for record in records}), "mode": last["mode"], "brake": last["brake"],
             "limit_m_per_h": last["limit_m_per_h"], "place_cm": last["place_cm"], "emergencies": begun, "trips": trips}
 
 
-def play_case(path: Path) -> Row:
+def play_case(job: Job, room: Path) -> Row:
     """Plays the cases of a file, and judges what they expect."""
+    with tempfile.TemporaryDirectory(dir=room) as folder:
+        for name, data in job.files:
+            path = Path(folder, name)
+            path.parent.mkdir(parents=True, exist_ok=True)
+            path.write_bytes(data)
+        return judged(Path(folder, job.files[0][0]))
+
+
+def judged(path: Path) -> Row:
+    """What the cases of a file come to."""
+    from . import cases, mode_rows, playing
     tests = missed = 0
-    first, sums = None, hashlib.sha256()
+    first = None
     records: list[Json] = []
     for case in cases.read(path):
         try:
@@ -143,7 +162,6 @@ def play_case(path: Path) -> Row:
             tests, missed, first = tests + 1, missed + 1, first or f"{case.name}: {told}"
             continue
         records += played.records
-        sums.update(repr(played.records).encode())
         tests += not case.expected
         for expected in case.expected:
             tests += 1
@@ -155,8 +173,12 @@ def play_case(path: Path) -> Row:
 
 
 def play_all(jobs: list[Job]) -> list[Row]:
-    """Plays jobs in turn."""
-    return [play(job) for job in jobs]
+    """Plays jobs in turn, in one folder."""
+    try:
+        with program.room(max(job.slots for job in jobs)) as room:
+            return [play(job, Path(room)) for job in jobs]
+    except OSError as error:
+        return [row_without(job, f"failed: {type(error).__name__}: {error}") | {"seconds": 0.0, "worker": player()} for job in jobs]
 
 
 class Batches:
@@ -206,21 +228,24 @@ class Batches:
 
 # ---- who plays them
 
+def row_without(job: Job, ended: str) -> Row:
+    """The row of a job that wasn't played to its end."""
+    return {**dict.fromkeys(COLUMNS), "name": job.name, "job_sha256": job.sha256, "kind": job.kind, "sound": 0, "ended": ended}
+
+
 def lost(job: Job) -> Row:
     """The row of a job whose workers were lost again and again."""
-    return {**dict.fromkeys(COLUMNS), "name": job.name, "job_sha256": job.sha256, "kind": job.kind, "sound": 0,
-            "ended": f"failed: its worker was lost {MOST_LOSSES} times"}
+    return row_without(job, f"failed: its worker was lost {MOST_LOSSES} times")
 
 
 def here(jobs: Iterable[Job], count: int, workers: int, take: Take) -> None:
     """Plays so many jobs by processes of this machine."""
     left, losses, running = Batches(jobs, count, workers), Counter[str](), dict[Future[list[Row]], list[Job]]()
-    pool = ProcessPoolExecutor(workers)
+    pool = ProcessPoolExecutor(workers, initializer=gc.freeze)
     try:
         while True:
-            while len(running) < (1 if left.again else AHEAD * workers) and (batch := left.next()):
-                running[pool.submit(play_all, batch)] = batch
-            if not running:
+            is_broken = not hand_out(left, running, pool, workers)
+            if not running and not is_broken:
                 return
             broken: list[Job] = []
             for done in wait(running, return_when=FIRST_COMPLETED).done:
@@ -228,18 +253,29 @@ def here(jobs: Iterable[Job], count: int, workers: int, take: Take) -> None:
                 try:
                     left.learn(rows := done.result())
                 except BrokenProcessPool:
-                    broken += batch
+                    broken, is_broken = broken + batch, True
                     continue
                 for row in rows:
                     take(row)
-            if broken:
+            if is_broken:
                 broken += [job for batch in running.values() for job in batch]
                 running.clear()
                 pool.shutdown(wait=False)
-                pool = ProcessPoolExecutor(workers)
+                pool = ProcessPoolExecutor(workers, initializer=gc.freeze)
                 again(broken, left, losses, take)
     finally:
         pool.shutdown(wait=False, cancel_futures=True)
+
+
+def hand_out(left: Batches, running: dict[Future[list[Row]], list[Job]], pool: ProcessPoolExecutor, workers: int) -> bool:
+    """Hands jobs to the processes; whether none of these was lost meanwhile."""
+    while len(running) < (1 if left.again else AHEAD * workers) and (batch := left.next()):
+        try:
+            running[pool.submit(play_all, batch)] = batch
+        except BrokenProcessPool:
+            left.again += batch
+            return False
+    return True
 
 
 def again(jobs: list[Job], left: Batches, losses: Counter[str], take: Take) -> None:
@@ -334,10 +370,8 @@ class Table:
 
     def take(self, row: Row) -> None:
         """Adds a row, or puts it in the place of the one with its name. It is on the disk within a second."""
-        marks = ", ".join("?" * len(COLUMNS))
         try:
-            self.connection.execute(f"INSERT OR REPLACE INTO result ({', '.join(COLUMNS)}) VALUES ({marks})",
-                                    [row[name] for name in COLUMNS])
+            self.connection.execute(INSERT, [row[name] for name in COLUMNS])
             if time.monotonic() - self.written > COMMIT_SECONDS:
                 self.connection.execute("COMMIT")
                 self.connection.execute("BEGIN IMMEDIATE")
@@ -367,6 +401,19 @@ def rows_of(path: Path) -> dict[str, Row]:
     try:
         kept = [name for name in COLUMNS if name not in NOT_COMPARED]
         return {row[0]: dict(zip(kept, row)) for row in connection.execute(f"SELECT {', '.join(kept)} FROM result ORDER BY name")}
+    except sqlite3.DatabaseError as error:
+        raise Failed(f"{path}: is no table of a campaign", REFUSED) from error
+    finally:
+        connection.close()
+
+
+def unsound(path: Path, most: int) -> tuple[int, int, list[Row]]:
+    """How many rows a table has, how many of them aren't sound, and the first ones of these."""
+    connection = files.read_database(path, files.CAMPAIGN)
+    try:
+        count, bad = connection.execute("SELECT count(*), count(*) FILTER (WHERE NOT sound) FROM result").fetchone()
+        rows = connection.execute("SELECT name, ended, first_missed FROM result WHERE NOT sound ORDER BY name LIMIT ?", (most,))
+        return count, bad, [dict(zip(("name", "ended", "first_missed"), row)) for row in rows]
     except sqlite3.DatabaseError as error:
         raise Failed(f"{path}: is no table of a campaign", REFUSED) from error
     finally:

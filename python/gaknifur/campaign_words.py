@@ -12,6 +12,8 @@ from .reading import Progress
 from .shown import shown
 
 Word = Callable[[str, str, str], argparse.ArgumentParser]
+SHOWN = 10
+"""How many rows are shown that aren't sound."""
 
 
 def add_words(word: Word) -> None:
@@ -68,14 +70,13 @@ def play_campaign(told: argparse.Namespace, progress: Progress) -> int:
         table.close()
         raise Failed(f"{played} played; the same command goes on", REFUSED) from None
     table.close()
-    rows = campaign.rows_of(told.out)
+    rows, bad, first = campaign.unsound(told.out, SHOWN)
     if out:
         campaign.write_csv(told.out, out)
-    unsound = [row for row in rows.values() if not row["sound"]]
-    print(f"{len(rows)} rows, {played} of them played now; {len(unsound)} not sound")
-    for row in unsound[:10]:
+    print(f"{rows} rows, {played} of them played now; {bad} not sound")
+    for row in first:
         print(shown(f"  {row['name']}: {row['ended']}{'; ' + row['first_missed'].splitlines()[0] if row['first_missed'] else ''}"))
-    return NOT_WHOLE if unsound else 0
+    return NOT_WHOLE if bad else 0
 
 
 def compare_campaigns(told: argparse.Namespace, progress: Progress) -> int:

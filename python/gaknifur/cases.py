@@ -14,7 +14,6 @@ from typing import Any
 from . import drives, scenarios
 from .located import Value, documents, shortened
 from .mode_rows import mode_table, row_name
-from .program import DEVICE, Failed
 from .words import INDICATIONS, MODES
 
 KINDS = ("powerup", "telegram", "odometer", "clock", "driver")
@@ -342,39 +341,6 @@ def read(path: Path) -> list[Case]:
         if names[case.name] > 1:
             raise case.at.fault(f"the test case \"{shortened(case.name)}\" stands twice in this file")
     return found
-
-
-def files_of(path: Path) -> list[Path]:
-    """A file, and all files that it and these name as `include` or `scenario`, each once; one that is no YAML names none."""
-    found = [path.resolve()]
-    for one in found:
-        try:
-            told = documents(one) if one.suffix in (".yaml", ".yml") else []
-        except Failed:
-            continue
-        for name in (name for document in told for name in document.below(("include", "scenario"))):
-            try:
-                other = name.file().resolve()
-            except Failed:
-                continue
-            if other not in found:
-                found.append(other)
-    return found
-
-
-def is_case_file(path: Path) -> bool:
-    """Whether a file has test cases, by its name."""
-    return path.name == "case.yaml" or path.name.endswith(".case.yaml")
-
-
-def below(folder: Path) -> tuple[list[Path], list[Path]]:
-    """The files of cases below a folder, and the scenarios in JSON that none of them names."""
-    if not folder.is_dir():
-        raise Failed(f"{folder}: there is no such folder", DEVICE)
-    paths = sorted(path for path in folder.rglob("*") if path.suffix in (".yaml", ".yml", ".json") and path.is_file())
-    case_files = [path for path in paths if is_case_file(path)]
-    named = {other for path in case_files for other in files_of(path)}
-    return case_files, [path for path in paths if path.suffix == ".json" and path.resolve() not in named]
 
 
 def derived(record: dict[str, Any]) -> dict[str, Any]:

@@ -9,7 +9,7 @@ from collections.abc import Iterable
 from dataclasses import dataclass, field
 from pathlib import Path
 
-from . import cases
+from . import case_files, cases
 from .cases import Case
 from .located import document
 from .mode_rows import Table, mode_table, page, row_name, table_rows, transitions
@@ -80,7 +80,7 @@ def files(folder: Path) -> list[Path]:
         return [folder]
     if not folder.is_dir():
         raise Failed(f"{folder}: there is no such folder", DEVICE)
-    return sorted(path for path in folder.rglob("*.yaml") if cases.is_case_file(path))
+    return sorted(path for path in folder.rglob("*.yaml") if case_files.is_case_file(path))
 
 
 def all_cases(folder: Path) -> list[Case]:

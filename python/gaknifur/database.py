@@ -76,6 +76,13 @@ def plain(column: Any) -> list[Any]:
             for value, gone in zip(values, missing)]
 
 
+def rows_of(columns: Sequence[Any]) -> Iterator[tuple[Any, ...]]:
+    """The rows of some columns as SQLite takes them, made by so many at once, so that a long journal never stands in memory as
+    objects."""
+    for at in range(0, len(columns[0]), tables.AT_ONCE):
+        yield from zip(*(plain(column.iloc[at:at + tables.AT_ONCE]) for column in columns))
+
+
 def add(connection: sqlite3.Connection, journal: Journal, table: pd.DataFrame) -> bool:
     """Adds a journal; answers whether it wasn't there yet."""
     try:
@@ -134,17 +141,17 @@ def add_events(connection: sqlite3.Connection, image: int, table: pd.DataFrame) 
     """Adds blocks and records, and what their telegrams are."""
     if table.empty:
         return
-    source = table["source"] if "source" in table else pd.Series("journal", index=table.index)
-    blocks = table.assign(source=source).groupby("block").agg(
+    told = {"block": table["block"], "source": table["source"] if "source" in table else "journal", "event": table["event"]}
+    blocks = pd.DataFrame(told).groupby("block").agg(
         source=("source", "first"), first_event=("event", "min"), last_event=("event", "max")).reset_index()
     insert(connection, "block", ["image", "block", "source", "first_event", "last_event"],
            ([image, *row] for row in zip(*(plain(blocks[name]) for name in blocks))))
-    bounded = table.assign(uncertainty_cm=table["uncertainty_cm"].where(table["uncertainty_cm"] <= GREATEST))
     beside = {name: tables.before(table, told) for name, told in BEFORE.items()} | {
         name: tables.behind(table, told) for name, told in NEXT.items()}
-    columns = [plain(bounded[name]) for name in EVENT] + [plain(column) for column in beside.values()]
-    insert(connection, "event", ["image", *EVENT, *beside], ([image, *row] for row in zip(*columns)))
-    heard = table[table["kind"] == "telegram"]
+    uncertainty = table["uncertainty_cm"]
+    columns = [uncertainty.where(uncertainty <= GREATEST) if name == "uncertainty_cm" else table[name] for name in EVENT]
+    insert(connection, "event", ["image", *EVENT, *beside], ([image, *row] for row in rows_of([*columns, *beside.values()])))
+    heard = tables.some_of(table, table["kind"] == "telegram", ("block", "event", "telegram", "decoded"))
     rows = list(zip(plain(heard["block"]), plain(heard["event"]), heard["telegram"], heard["decoded"]))
     insert(connection, "telegram", ["image", "block", "event", "digits", "fault", *map(str.lower, HEADER)],
            ([image, *row] for row in map(telegram_row, rows)))
@@ -184,7 +191,7 @@ def packets_in(rows: list[tuple[int, int, str, Json]]) -> Iterator[tuple[int, in
 def add_causes(connection: sqlite3.Connection, image: int, table: pd.DataFrame) -> None:
     """Adds what is told of events, and the causes of their brakes."""
     for name in ("why", "held"):
-        told = table[table[name].notna()]
+        told = tables.some_of(table, table[name].notna(), ("block", "event", name))
         rows = zip(plain(told["block"]), plain(told["event"]), told[name])
         if name == "why":
             insert(connection, "why", ["image", "block", "event", *WHY],

@@ -10,7 +10,7 @@ from dataclasses import dataclass, replace
 from pathlib import Path
 from typing import Any
 
-from . import cases, closed_loop, drives, track_checks
+from . import case_files, cases, closed_loop, drives, track_checks
 from .course import DRIVE, Life, of_case, played, scenario_of
 from .last_net import say
 from .located import Value, document
@@ -202,7 +202,7 @@ def of_cases(path: Path) -> Iterator[Subject]:
 
 def of_file(path: Path) -> Iterator[Subject]:
     """A file of cases, a scenario in YAML, or one in JSON."""
-    if cases.is_case_file(path):
+    if case_files.is_case_file(path):
         yield from of_cases(path)
     elif path.suffix in (".yaml", ".yml"):
         at = document(path)
@@ -218,7 +218,7 @@ def paths_of(path: Path) -> list[Path]:
         if not path.exists():
             raise Failed(f"{path}: there is no such file", DEVICE)
         return [path]
-    case_files, others = cases.below(path)
+    case_files, others = case_files.below(path)
     if not case_files and not others:
         raise Failed(f"{path}: has no test case and no scenario", DEVICE)
     return [*case_files, *others]

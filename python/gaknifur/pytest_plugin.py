@@ -13,7 +13,7 @@ from typing import Any
 
 import pytest
 
-from . import cases, mode_rows, oracle, oracle_words, other_unit, playing
+from . import case_files, cases, mode_rows, oracle, oracle_words, other_unit, playing
 from .program import Failed
 from .reaching import REACHES, Reaches
 
@@ -52,7 +52,7 @@ def folder_of(config: pytest.Config) -> Path | None:
 
 def pytest_collect_file(file_path: Path, parent: pytest.Collector) -> "CaseFile | None":
     """The files of test cases."""
-    return CaseFile.from_parent(parent, path=file_path) if cases.is_case_file(file_path) else None
+    return CaseFile.from_parent(parent, path=file_path) if case_files.is_case_file(file_path) else None
 
 
 class CaseFile(pytest.File):

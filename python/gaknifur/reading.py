@@ -22,8 +22,9 @@ Progress = Callable[[str, int, int], None]
 """What is told while it goes on: what is done, how much of it, and of how much (0 where that isn't known)."""
 
 
-AT_ONCE, PACK, MOST_UNPACKED = 512, 512, 1 << 15
-"""How many lines are read at once; how many records are packed together; and up to how many aren't packed: a multiple of that."""
+AT_ONCE, PACK, MOST_UNPACKED, MOST_SMALL = 512, 512, 1 << 15, 1 << 20
+"""How many lines are read at once; how many records are packed together; up to how many aren't packed: a multiple of that; and the
+bytes of an image at the most of which all lines are taken at once."""
 
 
 def silent(what: str, done: int, whole: int) -> None:
@@ -181,8 +182,12 @@ def parsed_all(lines: Sequence[str], what: str) -> list[Json]:
 
 
 def objects(words: list[str], path: Path, step: Callable[[Json], None]) -> Run:
-    """Hands each line of a run to `step`."""
+    """Hands each line of a run to `step`. Those of a small image are taken all at once, at the end of the run."""
     run = Run(words, path)
+    if is_small(path):
+        for told in parsed_all(run.all_lines(), words[0]):
+            step(told)
+        return run
     lines = run.lines()
     with contextlib.closing(lines), without_collecting():
         while some := list(itertools.islice(lines, AT_ONCE)):
@@ -202,6 +207,14 @@ def without_collecting() -> Iterator[None]:
         yield
     finally:
         gc.enable()
+
+
+def is_small(path: Path) -> bool:
+    """Whether a file is there that is an image of few slots."""
+    try:
+        return path.stat().st_size <= MOST_SMALL
+    except OSError:
+        return False
 
 
 def examine(path: Path) -> Json:

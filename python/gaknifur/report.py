@@ -47,14 +47,14 @@ def lives_of(table: pd.DataFrame) -> list[Life]:
 
 def groups_of(part: pd.DataFrame) -> list[tuple[int, str]]:
     """Where telegrams were read, and of which group."""
-    heard = part[(part["kind"] == "telegram") & part["place_cm"].notna()]
+    heard = tables.some_of(part, (part["kind"] == "telegram") & part["place_cm"].notna(), ("place_cm", "nid_c", "nid_bg"))
     return [(int(place), f"{country}/{group}" if group is not pd.NA else "not decoded")
             for place, country, group in zip(heard["place_cm"], heard["nid_c"], heard["nid_bg"])]
 
 
 def ends_of(part: pd.DataFrame) -> list[tuple[int, str]]:
     """Where authorities end, as their telegrams announce it. Whether one came into force `etcs_lab` doesn't tell yet."""
-    heard = part[(part["kind"] == "telegram") & part["place_cm"].notna()]
+    heard = tables.some_of(part, (part["kind"] == "telegram") & part["place_cm"].notna(), ("event", "place_cm", "decoded"))
     found = []
     for event, place, decoded in zip(heard["event"], heard["place_cm"], heard["decoded"]):
         ahead = words.announced_end_cm(decoded)
@@ -114,7 +114,7 @@ def windows(table: pd.DataFrame, found: pd.DataFrame) -> Iterator[str]:
 
 
 def listed(table: pd.DataFrame, linked: set[int]) -> pd.DataFrame:
-    """The records that the page lists: what is linked to, changes of mode and brake, and then what else is notable, as
+    """The rows that the page lists, with their lives: what is linked to, changes of mode and brake, and then what else is notable, as
     long as there is room."""
     notable = tables.is_notable(table)
     changed = ((table["brake"] != table["brake"].shift()) | (table["mode"] != table["mode"].shift())).to_numpy()
@@ -122,7 +122,7 @@ def listed(table: pd.DataFrame, linked: set[int]) -> pd.DataFrame:
     rank[np.isin(table.index.to_numpy(), list(linked))] = 0
     rows = np.flatnonzero(rank < 3)
     kept = rows[np.argsort(rank[rows], kind="stable")][:MOST_ROWS]
-    return table.iloc[np.sort(kept)]
+    return table["life"].iloc[np.sort(kept)].to_frame()
 
 
 def row_of(record: Json, row: int, mode_before: Any, refused: Any) -> Json:
@@ -134,11 +134,11 @@ def row_of(record: Json, row: int, mode_before: Any, refused: Any) -> Json:
 
 def told_rows(journal: Journal, table: pd.DataFrame, shown: pd.DataFrame) -> list[Json]:
     """The rows of the page's events, with the speed that held."""
-    mode_before = tables.before(table, "mode")
+    mode_before, refused, speed = tables.before(table, "mode"), table["refused"], table["speed_kmh"]
     rows = []
     for row in shown.index:
-        told = row_of(journal.records[row], row, mode_before.at[row], table["refused"].at[row])
-        told |= {"speed_kmh": table["speed_kmh"].at[row], "begins": mode_before.isna().at[row]}
+        told = row_of(journal.records[row], row, mode_before.at[row], refused.at[row])
+        told |= {"speed_kmh": speed.at[row], "begins": pd.isna(mode_before.at[row])}
         rows.append(told)
     return rows
 
@@ -223,7 +223,7 @@ def page(journal: Journal, extent: Extent = Extent(), progress: Progress = silen
     at_top = brief.brief(journal, records, tables.interventions(records))
     table = extent.take(records)
     found, usual = interventions(table, is_newest_first)
-    readings = table[["event", "speed_kmh"]][table["kind"] == "odometer"]
+    readings = tables.some_of(table, table["kind"] == "odometer", ("event", "speed_kmh"))
     fastest, over = top_of(readings, "speed_kmh"), top_of(table, "over_limit_kmh")
     told = found.head(MOST_TOLD)
     chosen = in_order(farthest(found), is_newest_first) if len(table) > SHORT else found.head(0)

@@ -153,19 +153,32 @@ def told_columns(records: Sequence[Json], texts: Texts) -> dict[str, Any]:
     return columns | {name: texts.column(one) if isinstance(one, list) else one for name, one in heads.items()}
 
 
-def joined(parts: Sequence[Any]) -> Any:
-    """Some pieces of a column, one behind another."""
-    if isinstance(parts[0], pd.arrays.IntegerArray):
-        return pd.arrays.IntegerArray(np.concatenate([one._data for one in parts]), np.concatenate([one._mask for one in parts]))
-    return np.concatenate(parts)
+def room_like(part: Any, count: int) -> Any:
+    """A column for so many values like those of a part. Of whole numbers all are missing at first, and take no memory."""
+    if isinstance(part, pd.arrays.IntegerArray):
+        return pd.arrays.IntegerArray(np.zeros(count, part._data.dtype), np.ones(count, bool))
+    return np.empty(count, part.dtype)
+
+
+def put(column: Any, at: int, part: Any) -> None:
+    """Puts a part into its place in a column."""
+    if not isinstance(part, pd.arrays.IntegerArray):
+        column[at:at + len(part)] = part
+    elif not part._mask.all():
+        column._data[at:at + len(part)] = part._data
+        column._mask[at:at + len(part)] = part._mask
 
 
 def all_columns(records: Sequence[Json]) -> dict[str, Any]:
     """The members of all records, as columns. They are taken by so many at once, so that a long journal never stands in memory as
-    objects."""
-    texts, left = Texts(), iter(records)
-    parts = [told_columns(some, texts) for some in iter(lambda: list(itertools.islice(left, AT_ONCE)), [])] or [told_columns([], texts)]
-    return {name: joined([one.pop(name) for one in parts]) for name in list(parts[0])}
+    objects, and each column is made once, at its whole length."""
+    texts, left, found = Texts(), iter(records), dict[str, Any]()
+    for at in range(0, max(len(records), 1), AT_ONCE):
+        for name, part in told_columns(list(itertools.islice(left, AT_ONCE)), texts).items():
+            if name not in found:
+                found[name] = room_like(part, len(records))
+            put(found[name], at, part)
+    return found
 
 
 ORDER = ("block", "event", "life", "stretch", "kind", "time_ms", "mode", "level", "brake", "source", *SHOWS, "place_cm", "uncertainty_cm",
@@ -252,11 +265,16 @@ def intervention(table: pd.DataFrame, brake: Any, first: int, last: int) -> Json
         "causes_not_known": value("causes_not_known", first)}
 
 
-def trips(table: pd.DataFrame) -> pd.DataFrame:
-    """The records that entered Trip."""
+def trips(table: pd.DataFrame) -> Any:
+    """The rows of the records that entered Trip."""
     mode = before(table, "mode")
-    entered: pd.DataFrame = table[(table["mode"] == "TR") & mode.notna() & (mode != "TR")]
-    return entered
+    return table.index[(table["mode"] == "TR") & mode.notna() & (mode != "TR")]
+
+
+def some_of(table: pd.DataFrame, chosen: Any, names: Sequence[str]) -> pd.DataFrame:
+    """Some columns of some rows, a row for each True. (Rows that are taken of the whole table copy all of it first: pandas puts columns
+    of one type together.)"""
+    return pd.DataFrame({name: table[name][chosen] for name in names})
 
 
 def is_notable(table: pd.DataFrame) -> Any:

@@ -1,10 +1,19 @@
-"""Campaigns: how jobs are handed out."""
+"""Campaigns: how jobs are handed out, and what comes of those whose worker is lost."""
+import json
 import os
+import sys
+import tempfile
+import types
 import unittest
+from collections.abc import Callable, Iterator
+from pathlib import Path
+from typing import Any, Self
 from unittest.mock import patch
 
 from gaknifur import campaign
 from gaknifur.campaign import MOST_AT_ONCE, Batches, Job, Row
+
+from .samples import journal, record
 
 LOST = ("12", "13", "14", "16")
 
@@ -14,7 +23,7 @@ def jobs_of(count: int, cases: int = 10) -> list[Job]:
     return [Job(str(number), "case" if number % cases == cases - 1 else "scenario", (), 64) for number in range(count)]
 
 
-def row_of(job: Job) -> Row:
+def row_of(job: Job, room: Path) -> Row:
     """The row of a job; some of them end their process."""
     if job.name in LOST:
         os._exit(1)
@@ -60,6 +69,137 @@ class Lost(unittest.TestCase):
         self.assertEqual(sorted(int(row["name"]) for row in taken), list(range(60)))
         self.assertEqual({row["name"]: row["ended"] for row in taken if row["ended"] != "carried out"},
                          dict.fromkeys(LOST, f"failed: its worker was lost {campaign.MOST_LOSSES} times"))
+
+
+class Future:
+    """What a scheduler's client holds of jobs that it handed on."""
+
+    def __init__(self, plays: Callable[[], list[Row]], key: str) -> None:
+        self.plays, self.key, self.status, self.is_released = plays, key, "finished", False
+
+    def result(self) -> list[Row]:
+        """The rows; raises where the scheduler gave the jobs up."""
+        return self.plays()
+
+    def release(self) -> None:
+        """Nothing is asked of it any more."""
+        self.is_released = True
+
+
+class Scheduler:
+    """A stand-in of Dask: it plays what is handed out when its turn comes. Workers of some jobs are killed, with all that was handed
+    out beside them, until the scheduler gives these up; others are stopped once they have played, before they hand over the rows."""
+
+    def __init__(self, stopped: set[str]) -> None:
+        self.stopped, self.played, self.futures = stopped, list[list[str]](), list[Future]()
+
+    def module(self) -> types.ModuleType:
+        """What a campaign takes of the module `distributed`."""
+        told = types.ModuleType("distributed")
+        told.__dict__.update(Client=lambda *words, **named: self, as_completed=lambda loop: self)
+        return told
+
+    loop = None
+
+    def nthreads(self) -> dict[str, int]:
+        """Five workers."""
+        return {f"tcp://{number}": 1 for number in range(5)}
+
+    def __enter__(self) -> Self:
+        return self
+
+    def __exit__(self, *_: object) -> None:
+        self.is_left = True
+
+    def submit(self, plays: Callable[[list[Job]], list[Row]], batch: list[Job], key: str, pure: bool) -> Future:
+        """Hands jobs on."""
+        def played() -> list[Row]:
+            names = [job.name for job in batch]
+            self.played.append(names)
+            if set(names) & set(LOST):
+                raise RuntimeError("KilledWorker")
+            return plays(batch)
+
+        future = Future(played, key)
+        if batch[0].name in self.stopped:
+            future.status = "lost"
+        return future
+
+    def add(self, future: Future) -> None:
+        """One more is waited for; one of a worker that was stopped is played by another one."""
+        if future in self.futures:
+            raise AssertionError("waited for twice")
+        self.futures.append(future)
+
+    def __iter__(self) -> Iterator[Future]:
+        while self.futures:
+            future = self.futures.pop(0)
+            before = future.status
+            yield future
+            if before == "lost" and not future.is_released:
+                future.status = "finished"
+
+
+class Scheduled(unittest.TestCase):
+    """Jobs by the workers of a scheduler."""
+
+    def test_given_back_and_lost(self) -> None:
+        taken: list[Row] = []
+        dask = Scheduler({"0", "20", "40"})
+        with patch.dict(sys.modules, distributed=dask.module()), patch.object(campaign, "play", played_of):
+            campaign.by_scheduler(jobs_of(80, 100), 80, "tcp://none", taken.append)
+        self.assertEqual(sorted(int(row["name"]) for row in taken), list(range(80)))
+        self.assertEqual({row["name"]: row["ended"] for row in taken if row["ended"] != "carried out"},
+                         dict.fromkeys(LOST, f"failed: its worker was lost {campaign.MOST_LOSSES} times"))
+        together = [names for names in dask.played if len(names) > 1 and set(names) & set(LOST)]
+        self.assertTrue(together)
+        for names in together:  # what was handed out together with such a job is played alone, each once
+            self.assertEqual([dask.played.count([name]) for name in names], [1] * len(names))
+        self.assertEqual(dask.played.count(["0"]), 1)
+
+
+ETCS = """#!/bin/sh
+[ "$1" = format ] && { printf image >"$3"; exit; }
+printf 'event 0 mode FS level 1 brake none limit 40000 ind 0\nevent 1 mode FS level 1 brake %s limit 40000 ind 0\n' "$(cat "$3")"
+"""
+LAB = """#!/bin/sh
+cat "$0.$1"
+"""
+
+
+class Judged(unittest.TestCase):
+    """Lives that stand-ins of both programs play."""
+
+    def test_an_output_that_is_not_its_record_s(self) -> None:
+        told = journal(record(0, "powerup"), record(1))
+        lines = {"events": [*told.records, {"end": "done"}],
+                 "check": [told.examination, {"life": 1, "replay": "agrees"}, {"end": "nothing_differs"}, {"check": {}}]}
+        with tempfile.TemporaryDirectory() as folder, tempfile.TemporaryDirectory() as room:
+            for name, text in (("etcs", ETCS), ("lab", LAB), *((f"lab.{word}", "".join(json.dumps(one) + "\n" for one in some))
+                                                              for word, some in lines.items())):
+                Path(folder, name).write_text(text)
+                Path(folder, name).chmod(0o755)
+            jobs = [Job(brake, "scenario", (("scenario.json", brake.encode()),), 64) for brake in ("none", "service", "none")]
+            with patch.dict(os.environ, GAKNIFUR_ETCS=f"{folder}/etcs", GAKNIFUR_ETCS_LAB=f"{folder}/lab", TMPDIR=room), \
+                    patch.object(tempfile, "tempdir", room):
+                rows = campaign.play_all(jobs)
+            self.assertEqual(os.listdir(room), [])
+        self.assertEqual([(row["name"], row["ended"], row["events"], row["sound"]) for row in rows],
+                         [("none", "carried out", 2, 1), ("service", "carried out", 2, 0), ("none", "carried out", 2, 1)])
+        self.assertEqual(rows[1]["first_missed"].splitlines()[:2],
+                         ["expected: the output of its record: event 1 mode FS level 1 brake none limit 40000 ind 0",
+                          "found:    this output was released: event 1 mode FS level 1 brake service limit 40000 ind 0"])
+
+    def test_no_room(self) -> None:
+        with patch.dict(os.environ, TMPDIR="/none"), patch.object(tempfile, "tempdir", "/none"):
+            rows = campaign.play_all(jobs_of(3))
+        self.assertEqual([(row["name"], row["sound"]) for row in rows], [("0", 0), ("1", 0), ("2", 0)])
+        self.assertRegex(rows[0]["ended"], "^failed: FileNotFoundError")
+
+
+def played_of(job: Job, room: Path) -> dict[str, Any]:
+    """The row of a job that was played."""
+    return {"name": job.name, "ended": "carried out", "seconds": 0.001}
 
 
 if __name__ == "__main__":

@@ -2,17 +2,21 @@
 import hashlib
 import json
 import os
+import signal
+import subprocess
+import sys
 import tempfile
 import unittest
 from pathlib import Path
 from unittest.mock import patch
 
-from gaknifur import reading
-from gaknifur.program import Failed, built, etcs
+from gaknifur import program, reading
+from gaknifur.program import Failed, Ran, built, etcs
 from gaknifur.reading import Journal, Records, read
 
 from .samples import journal, line, record
 
+TOP = Path(__file__).resolve().parents[2]
 STAND_IN = """#!/bin/sh
 cat "$0.$1"
 cat "$0.$1.said" 1>&2 2>/dev/null
@@ -62,6 +66,17 @@ class Reading(unittest.TestCase):
         self.assertEqual([list(one)[-1] for one in found.replay], ["replay", "end"])
         self.assertEqual((list(read(self.image).records), read(self.image).replay), (list(found.records), []))
 
+    def test_the_same_of_a_large_image(self) -> None:
+        small = self.read()
+        with patch.object(reading, "MOST_SMALL", 0):
+            large = self.read()
+        self.assertEqual((list(large.records), large.unreadable, large.replay, large.why),
+                         (list(small.records), small.unreadable, small.replay, small.why))
+        self.says("check", [{}], 1, f"etcs_lab: {self.image}: is not a formatted image\n")
+        for most in (0, 1 << 20):
+            with patch.object(reading, "MOST_SMALL", most):
+                self.assertRaisesRegex(Failed, "image: is not a formatted image$", self.read)
+
     def test_a_listing_that_was_cut_off(self) -> None:
         self.says("events", [{"image": {}}, record(0)])
         self.assertRaisesRegex(Failed, "cut off", self.read)
@@ -107,6 +122,68 @@ class Reading(unittest.TestCase):
                            ('{"end": "done"}, {"end": "done"}\n', "no JSON"), ('[1\n2]\n', "no JSON")):
             self.program.with_name("etcs_lab.events").write_text(text)
             self.assertRaisesRegex(Failed, said, self.read)
+
+
+class Whole(unittest.TestCase):
+    """A program that is run to its end, and told all at once."""
+
+    def setUp(self) -> None:
+        folder = tempfile.TemporaryDirectory()
+        self.addCleanup(folder.cleanup)
+        self.path = Path(folder.name) / "program"
+
+    def ran(self, text: str) -> Ran:
+        """What a shell's text comes to."""
+        self.path.write_text(f"#!/bin/sh\n{text}\n")
+        self.path.chmod(0o755)
+        return program.ran([str(self.path), "first", "second"])
+
+    def test_all_that_it_prints(self) -> None:
+        done = self.ran('printf "%300000s" "$1"; printf "%200000s" "$2" 1>&2; exit 3')
+        self.assertEqual((done.status, len(done.output), len(done.said)), (3, 300_000, 200_000))
+        self.assertEqual((done.output[-6:], done.said[-7:]), (b" first", b" second"))
+        self.assertEqual(self.ran("cat; echo $GAKNIFUR_A"), Ran(0, b"\n", b""))
+        with patch.dict(os.environ, {"GAKNIFUR_A": "a"}):
+            self.assertEqual(self.ran("echo $GAKNIFUR_A"), Ran(0, b"a\n", b""))
+
+    def test_signals(self) -> None:
+        self.assertEqual(self.ran("kill -KILL $$").status, -9)
+        self.assertEqual(self.ran("kill -PIPE $$; echo goes on"), Ran(-13, b"", b""))
+
+    def test_one_that_is_missing(self) -> None:
+        with patch.dict(os.environ, GAKNIFUR_ETCS="/none/etcs"):
+            self.assertRaisesRegex(Failed, "^/none/etcs: No such file or directory$", etcs, "decode", "90")
+
+    def test_none_stays_behind_an_interrupt(self) -> None:
+        waited: list[int] = []
+
+        def interrupted(process: int, options: int) -> tuple[int, int]:
+            waited.append(process)
+            if len(waited) == 1:
+                raise KeyboardInterrupt
+            return waits(process, options)
+
+        waits = os.waitpid
+        with patch("os.waitpid", interrupted), self.assertRaises(KeyboardInterrupt):
+            self.ran("exec sleep 100")
+        self.assertEqual(waited, [waited[0]] * 2)
+        self.assertRaises(ProcessLookupError, os.kill, waited[0], 0)
+
+    def test_streams_that_are_closed(self) -> None:
+        self.ran("echo out; echo said 1>&2")
+        asked = ("import sys; sys.path.insert(0, sys.argv[1]); from gaknifur.program import ran; told = ran([sys.argv[2]])\n"
+                 "open(sys.argv[2] + '.told', 'w').write(repr((told.status, told.output, told.said)))")
+        for closes in ("", "<&-", ">&-", "<&- >&-", "<&- >&- 2>&-"):
+            subprocess.run(["sh", "-c", f'exec "$0" -I -B -c "$1" "$2" "$3" {closes}', sys.executable, asked, str(TOP / "python"), str(self.path)],
+                           check=True)
+            self.assertEqual(Path(f"{self.path}.told").read_text(), r"(0, b'out\n', b'said\n')", closes)
+
+    def test_whose_status_the_system_throws_away(self) -> None:
+        before = signal.signal(signal.SIGCHLD, signal.SIG_IGN)
+        try:
+            self.assertEqual(self.ran("echo out; exit 3"), Ran(0, b"out\n", b""))
+        finally:
+            signal.signal(signal.SIGCHLD, before)
 
 
 class Packed(unittest.TestCase):

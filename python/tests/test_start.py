@@ -58,7 +58,8 @@ class Beginning(unittest.TestCase):
     """What is loaded where a command begins."""
 
     def test_is_nothing_that_takes_long(self) -> None:
-        asked = "import sys; sys.path.insert(0, sys.argv[1]); import gaknifur.__main__; print(*sorted(sys.modules))"
+        asked = ("import sys; sys.path.insert(0, sys.argv[1]); import gaknifur.__main__; gaknifur.__main__.words(); "
+                 "print(*sorted(sys.modules))")
         done = subprocess.run([sys.executable, "-I", "-B", "-c", asked, TOP / "python"], capture_output=True, text=True, check=True)
         found = {name.partition(".")[0] for name in done.stdout.split()}
         self.assertEqual(found & {"pandas", "numpy", "matplotlib", "jinja2", "openpyxl", "hypothesis", "pytest", "distributed"}, set())
@@ -169,7 +170,7 @@ class Nets(Room):
 
     def test_no_traceback_of_a_fault(self) -> None:
         started = ("import sys; sys.path.insert(0, sys.argv[1])\nfrom gaknifur import __main__, last_net\n"
-                   "__main__.WORDS['table'] = lambda told, progress: {}['a']\nsys.exit(__main__.main(['table', 'x']))")
+                   "__main__.part('image_words').WORDS['table'] = lambda told, progress: {}['a']\nsys.exit(__main__.main(['table', 'x']))")
         for asked in (False, True):
             done = subprocess.run([sys.executable, "-I", "-c", started, str(TOP / "python")], capture_output=True, text=True,
                                   env=os.environ | ({last_net.TRACEBACK: "1"} if asked else {}))

@@ -7,7 +7,7 @@ import unittest
 from pathlib import Path
 from unittest.mock import patch
 
-from gaknifur import cases, coverage, playing, scenarios, telegrams
+from gaknifur import case_files, cases, coverage, playing, scenarios, telegrams
 from gaknifur.cases import derived
 from gaknifur.located import document
 from gaknifur.mode_rows import page, table_rows
@@ -192,11 +192,11 @@ class Named(InFiles):
         (folder / "life.json").write_text("{}")
         self.write("# see commented.yaml\n" + CASE.replace("rule: c", "rule: as noted.json tells\ninclude: a part.yaml").replace(
             "lives: [", "lives: [{scenario: life.json}, {scenario: missing.json}, ") + "  - {note: x, never: {mode: SF}}\n")
-        self.assertEqual([path.name for path in cases.files_of(self.path)][0], self.path.name)
-        self.assertEqual({path.name for path in cases.files_of(self.path)}, {self.path.name, "a part.yaml", "inner.yaml", "life.json"})
+        self.assertEqual([path.name for path in case_files.files_of(self.path)][0], self.path.name)
+        self.assertEqual({path.name for path in case_files.files_of(self.path)}, {self.path.name, "a part.yaml", "inner.yaml", "life.json"})
 
     def test_a_file_that_is_no_yaml_names_none(self) -> None:
-        self.assertEqual(cases.files_of(self.write("include: [")), [self.path.resolve()])
+        self.assertEqual(case_files.files_of(self.write("include: [")), [self.path.resolve()])
 
 
 class Telegrams(unittest.TestCase):

@@ -14,7 +14,7 @@ from typing import Any
 from unittest.mock import patch
 
 from gaknifur import __main__ as lab
-from gaknifur import measured, playing
+from gaknifur import image_words, measured, playing
 from gaknifur.cases import Case
 from gaknifur.playing import Keep, Played, with_speeds
 from gaknifur.program import Failed
@@ -79,7 +79,7 @@ class Names(unittest.TestCase):
         with tempfile.TemporaryDirectory() as room:
             out = Path(room) / "out.parquet"
             with self.assertRaisesRegex(Failed, "no Parquet is written, since Debian has no package for it"):
-                lab.write_table(lab.understood(["table", "image", str(out)]), lambda *_: None)
+                image_words.write_table(lab.understood(["table", "image", str(out)]), lambda *_: None)
             self.assertFalse(out.exists())
 
 

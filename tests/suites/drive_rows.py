@@ -20,7 +20,7 @@ TOP = Path(__file__).resolve().parents[2]
 DRIVES = TOP / "drives"
 sys.path[:0] = [str(TOP / "python"), str(TOP / "tests")]
 from compared import Compared  # noqa: E402
-from gaknifur import cases, closed_loop, coverage, drive_words, drives, driving, playing, program  # noqa: E402
+from gaknifur import case_files, cases, closed_loop, coverage, drive_words, drives, driving, playing, program  # noqa: E402
 from gaknifur.unit import Brake, FileMedium, Unit  # noqa: E402
 
 SWAPPED = {Brake.NONE: Brake.EMERGENCY, Brake.SERVICE: Brake.SERVICE, Brake.EMERGENCY: Brake.NONE}
@@ -180,7 +180,7 @@ def main(etcs, etcs_lab):
     with tempfile.TemporaryDirectory() as folder:
         compared = Driven(Path(folder))
         for path in sorted(DRIVES.glob("*.yaml")):
-            if not cases.is_case_file(path):
+            if not case_files.is_case_file(path):
                 compared.drive(path)
         compared.refusals()
         compared.table()

@@ -1,0 +1,175 @@
+"""The words of `./lab` that make a file of an image: `table`, `timeline`, `database` and `report`."""
+import argparse
+import sys
+from collections.abc import Callable
+from importlib.util import find_spec
+from pathlib import Path
+
+from . import files
+from .last_net import say
+from .program import DEVICE, NOT_WHOLE, WRONG_WORDS, Failed
+from .reading import Journal, Progress, read
+
+Word = Callable[[str, str, str], argparse.ArgumentParser]
+
+
+def add_words(word: Word) -> None:
+    """Adds the words."""
+    table = word("table", "prints a row for each record of the journal, as CSV",
+                 "Units stand in the names of the columns; nothing stands where nothing is known.")
+    table.add_argument("image", metavar="IMAGE", type=Path)
+    table.add_argument("out", metavar="OUT.csv|OUT.xlsx", nargs="?", type=Path,
+                       help="the file, a workbook where its name ends in .xlsx; else standard output")
+    which = table.add_mutually_exclusive_group()
+    add_all(which)
+    add_times(table)
+    which.add_argument("--damaged", action="store_true", help="in place of these the records of blocks that are damaged or in "
+                       "a wrong slot, each with its slot and byte; nothing else vouches for them")
+    add_force(table)
+    line = word("timeline", "writes the events for other programs: Timesketch's CSV, or JSON Lines",
+                "Of OUT.csv each event has a time of day, by marks beside the journal; OUT.jsonl has all events.")
+    line.add_argument("image", metavar="IMAGE", type=Path)
+    line.add_argument("out", metavar="OUT.csv|OUT.jsonl", nargs="?", type=Path, help="the file; else JSON Lines on standard output")
+    add_times(line)
+    add_force(line)
+    data = word("database", "adds images to an SQLite database",
+                "A database that isn't there is made. An image that is in it already, by its SHA-256, is left as it is.")
+    data.add_argument("images", metavar="IMAGE", nargs="+", type=Path)
+    data.add_argument("out", metavar="OUT.db", type=Path)
+    add_all(data)
+    add_times(data)
+    page = word("report", "writes a page with charts into one HTML file",
+                "The page asks nothing of the network and has no script.")
+    page.add_argument("image", metavar="IMAGE", type=Path)
+    page.add_argument("out", metavar="OUT.html", type=Path)
+    page.add_argument("--from", dest="first", metavar="WHERE", help="an event (120), a place (300m), a moment (20.5s)")
+    page.add_argument("--to", dest="last", metavar="WHERE", help="the same")
+    page.add_argument("--life", metavar="N", type=int, help="this life alone")
+    add_force(page)
+    add_times(page)
+    page.add_argument("--newest-first", action="store_true", help="the lives from the last one to the first")
+
+
+def add_all(parser: argparse._ActionsContainer) -> None:
+    """The word for other blocks."""
+    parser.add_argument("--all", action="store_true", dest="other_blocks",
+                        help="also the records of readable blocks that aren't of the journal; `source` tells them apart")
+
+
+def add_times(parser: argparse.ArgumentParser) -> None:
+    """The words for marks of the time of day."""
+    parser.add_argument("--times", metavar="FILE", type=Path, help="marks of the time of day; else IMAGE.times, where it is there")
+    parser.add_argument("--drift", metavar="PPM", type=int, help="by how many millionths the unit's clock runs off at most; else 100")
+
+
+def add_force(parser: argparse.ArgumentParser) -> None:
+    """The word for files that are there."""
+    parser.add_argument("--force", action="store_true", help="write over files that lab made; nothing writes over others")
+
+
+def note(journal: Journal) -> int:
+    """Says that an image isn't whole, or that the replay differs; answers the status."""
+    from . import brief
+    found = brief.faults(journal)
+    if journal.times is not None:
+        for fault in journal.times.faults():
+            say(f"{journal.times.path}: {fault}")
+    if found:
+        say(f"{journal.path}: {'; '.join(found)}")
+    return NOT_WHOLE if found else 0
+
+
+def take_times(journal: Journal, told: argparse.Namespace) -> None:
+    """Takes the marks of the time of day that are named, or lie beside the image."""
+    from . import times
+    path = times.beside(journal.path, told.times)
+    if path is not None:
+        journal.times = times.Times.of(journal, path, times.DRIFT_PPM if told.drift is None else told.drift)
+
+
+def write(out: files.Out | None, text: str | bytes, source: Path) -> None:
+    """Writes to a file, or to standard output."""
+    if out is None:
+        sys.stdout.write(text if isinstance(text, str) else text.decode())
+        sys.stdout.flush()
+    else:
+        files.write(out, text, [source])
+
+
+def out_of(told: argparse.Namespace, kind: files.Kind, source: Path) -> files.Out | None:
+    """The file that a command is to make, where it is told one. It is looked at before what may take long."""
+    out = files.Out(told.out, kind, told.force) if told.out is not None else None
+    files.check_all([out] if out else [], [source])
+    return out
+
+
+def write_table(told: argparse.Namespace, progress: Progress) -> int:
+    """The word `table`. (pandas, and matplotlib of a report, take a second to load, which other words needn't.)"""
+    if told.out is not None and told.out.suffix == ".parquet":
+        raise Failed(f"{told.out}: no Parquet is written, since Debian has no package for it; name it .csv or .xlsx",
+                     WRONG_WORDS)
+    is_book = told.out is not None and told.out.suffix == ".xlsx"
+    if is_book and not find_spec("openpyxl"):
+        raise Failed("openpyxl is missing; tools/python installs it by Debian's packages", DEVICE)
+    out = out_of(told, files.WORKBOOK if is_book else files.TABLE, told.image)
+    journal = read(told.image, other_blocks=told.other_blocks, replay=True, why=not told.damaged, progress=progress,
+                   strays=told.damaged)
+    take_times(journal, told)
+    from . import tables, timeline
+    table = tables.strays(journal) if told.damaged else tables.frame(journal)
+    says = [f"sha256 {journal.sha256}", *([journal.times.says()] if journal.times else [])]
+    write(out, timeline.workbook(tables.written(table), says) if is_book else tables.csv_text(table), told.image)
+    return note(journal)
+
+
+def write_timeline(told: argparse.Namespace, progress: Progress) -> int:
+    """The word `timeline`."""
+    if told.out is not None and told.out.suffix not in (".csv", ".jsonl"):
+        raise Failed(f"{told.out}: its name ends in .csv or .jsonl", WRONG_WORDS)
+    out = out_of(told, files.TIMELINE, told.image)
+    journal = read(told.image, progress=progress)
+    take_times(journal, told)
+    from . import timeline
+    if told.out is not None and told.out.suffix == ".csv":
+        text, left = timeline.as_csv(journal)
+        if left:
+            say(f"{journal.path}: {left} events have no time of day and are left out")
+    else:
+        text = timeline.as_json(journal)
+    write(out, text, told.image)
+    return note(journal)
+
+
+def write_database(told: argparse.Namespace, progress: Progress) -> int:
+    """The word `database`."""
+    from . import database, tables
+    if told.times is not None and len(told.images) > 1:
+        raise Failed("--times is of one image; the others have their marks beside them", WRONG_WORDS)
+    connection, status = database.open_database(told.out, told.images), 0
+    try:
+        for image in told.images:
+            journal = read(image, other_blocks=told.other_blocks, replay=True, why=True, progress=progress)
+            take_times(journal, told)
+            progress("database", 0, 0)
+            if not database.add(connection, journal, tables.frame(journal)):
+                say(f"{image}: is in the database already")
+            status = max(status, note(journal))
+    finally:
+        connection.close()
+    return status
+
+
+def write_report(told: argparse.Namespace, progress: Progress) -> int:
+    """The word `report`."""
+    from .extent import Extent, bound
+    extent = Extent(bound(told.first) if told.first else None, bound(told.last) if told.last else None, told.life)
+    out = out_of(told, files.REPORT, told.image)
+    journal = read(told.image, replay=True, why=True, progress=progress, strays=True)
+    take_times(journal, told)
+    from . import report
+    write(out, report.page(journal, extent, progress, told.newest_first), told.image)
+    return note(journal)
+
+
+WORDS: dict[str, Callable[[argparse.Namespace, Progress], int | None]] = {"table": write_table, "timeline": write_timeline,
+                                                                          "database": write_database, "report": write_report}

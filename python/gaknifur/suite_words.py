@@ -1,0 +1,117 @@
+"""The words of `./lab` about suites of test cases: `build`, `test` and `coverage`."""
+import argparse
+import hashlib
+import os
+import sys
+from pathlib import Path
+
+from . import coverage, files, measured_words, oracle_words, scenarios
+from .image_words import Word, add_force, out_of, write
+from .program import DEVICE, REFUSED, WRONG_WORDS, Failed
+from .reading import Progress
+
+
+def add_words(word: Word) -> None:
+    """Adds the words."""
+    build = word("build", "makes of a scenario in YAML the JSON that etcs run reads",
+                 "Each fault is told with its file, line and column.")
+    build.add_argument("yaml", metavar="FILE.yaml", type=Path)
+    build.add_argument("out", metavar="OUT.json", nargs="?", type=Path, help="the file; else standard output")
+    add_force(build)
+    test = word("test", "plays the test cases of a folder, and judges what they expect",
+                "Further words are pytest's: -k, -x, --lf, --junitxml=FILE and the others.")
+    test.add_argument("folder", metavar="FOLDER", type=Path, help="or a file of cases")
+    test.add_argument("--section", action="append", default=[], help="only results about this section, or a part of it")
+    test.add_argument("--feature", action="append", default=[], help="only cases of this feature")
+    test.add_argument("--junitxml", "--junit-xml", metavar="OUT.xml", type=Path, help="the results, for other programs")
+    test.add_argument("--reached", metavar="OUT.json", type=Path, help="what each case reaches, for coverage --measured --reached")
+    test.add_argument("--python", action="store_true", help="also run what the folder has for pytest: conftest.py, settings, "
+                      "modules of tests. They are programs, and may do whatever you may")
+    add_force(test)
+    test.add_argument("--keep", metavar="FOLDER", help="keep the image and the report of each case that failed in this new folder")
+    test.add_argument("--against", metavar="COMMAND", help="another unit, a program that speaks the protocol of docs/ORACLE.md: its answers "
+                      "are compared with the proved unit's, and judged")
+    oracle_words.add_within(test)
+    told = word("coverage", "tells which sections and transitions the cases of a folder are about",
+                "1 where one that the product covers has no case, and no reason why.")
+    told.add_argument("folder", metavar="FOLDER", type=Path)
+    measured_words.add_words(told)
+
+
+def write_scenario(told: argparse.Namespace, progress: Progress) -> None:
+    """The word `build`."""
+    out = out_of(told, scenarios.FILE, told.yaml)
+    write(out, scenarios.read(told.yaml).text(), told.yaml)
+
+
+WITHOUT_PYTHON = ("-c", os.devnull, "--noconftest", *(word for name in ("python", "unittest", "nose", "doctest")
+                                                      for word in ("-p", f"no:{name}")))
+"""Words of pytest, by which it runs nothing of the folder."""
+PLUGIN = ("-p", "no:gaknifur", "-p", "gaknifur.pytest_plugin")
+"""Words of pytest that take the plugin once, also where it is installed and pytest would find it by itself."""
+WRITING = ("--log-file", "--basetemp", "--debug", "--pastebin")
+"""Words of pytest that write where they are told, or send."""
+
+
+def begun(folder: Path, words: list[str], plugins: list[object]) -> int:
+    """What pytest answers."""
+    import pytest
+    try:
+        return pytest.main(words, plugins)
+    except ImportError as error:  # a plugin that the folder's settings name
+        raise Failed(f"{folder}: pytest doesn't begin: {error}", REFUSED) from error
+
+
+def results_of(folder: Path) -> Path:
+    """Where pytest notes which tests of a folder failed, for `--lf`: in the user's cache, not in the folder itself."""
+    cache = os.environ.get("XDG_CACHE_HOME") or os.path.expanduser("~/.cache")
+    return Path(cache).absolute() / "gaknifur" / hashlib.sha256(os.fsencode(folder.resolve())).hexdigest()[:16]
+
+
+def run_tests(told: argparse.Namespace, progress: Progress) -> None:
+    """The word `test`."""
+    try:
+        import pytest
+
+        from .junit import results_in_xml
+    except ImportError as error:
+        raise Failed("pytest is missing; tools/python installs it by Debian's packages", DEVICE) from error
+    if not told.folder.exists():
+        raise Failed(f"{told.folder}: there is no such folder", DEVICE)
+    for word in told.others:
+        if word.partition("=")[0] in WRITING:
+            raise Failed(f"pytest's {word} isn't taken here, since it writes over what is there", WRONG_WORDS)
+    from . import measured, reaching
+    out = files.Out(told.junitxml, files.JUNIT, told.force) if told.junitxml else None
+    reached = files.Out(told.reached, measured.FILE, told.force) if told.reached else None
+    files.check_all([one for one in (out, reached) if one])
+    root = told.folder if told.folder.is_dir() else told.folder.parent
+    selected = [f"--{name}={one}" for name in ("section", "feature") for one in getattr(told, name)]
+    selected += [f"--keep={told.keep}"] if told.keep else []
+    selected += [f"--against={told.against}", f"--answer-within={told.answer_within}"] if told.against else []
+    with results_in_xml(out) as (words, plugins):
+        status = begun(told.folder, [
+            "-q", "--no-header", *PLUGIN, "-o", f"cache_dir={results_of(root)}", "-W",
+            "ignore::pytest.PytestCacheWarning", f"--rootdir={root}", *([] if told.python else WITHOUT_PYTHON), *words,
+            str(told.folder), *selected, *told.others], plugins + ([reaching.Reaches(reached)] if reached else []))
+    if status == pytest.ExitCode.NO_TESTS_COLLECTED:
+        raise Failed(f"{told.folder}: there is no such test", REFUSED)
+    if status == pytest.ExitCode.USAGE_ERROR:
+        raise Failed("pytest doesn't take these words", WRONG_WORDS)
+    if status != pytest.ExitCode.OK:
+        raise Failed(f"{told.folder}: not all that was expected came", REFUSED)
+
+
+def tell_coverage(told: argparse.Namespace, progress: Progress) -> None:
+    """The word `coverage`."""
+    measured_words.check(told)
+    if told.measured:
+        return measured_words.tell(told, progress)
+    found = coverage.matrix(told.folder)
+    sys.stdout.write(coverage.told(found))
+    sys.stdout.flush()
+    if found.faults:
+        raise Failed(f"{told.folder}: not all is covered as told", REFUSED)
+
+
+WORDS = {"build": write_scenario, "test": run_tests, "coverage": tell_coverage}

@@ -6,7 +6,9 @@ import {Replay, Request, SECTOR, Slot, State, TrainData, Why} from "./layouts";
 export const OK = 0, END = 38, DAMAGED = 32, NO_SUCH_REQUEST = 249;
 /** How many records of a journal come at once. */
 export const AT_ONCE = 256;
-const ABI = 3, OUTPUTS = 8;
+const OUTPUTS = 8;
+/** The number of the interface: tools/page puts in that of include/etcs_unit.h. */
+declare const ABI: number;
 
 interface Exports {
     memory: WebAssembly.Memory;

@@ -6,8 +6,9 @@
             obey(output)
 
 `$GAKNIFUR_ETCS_UNIT` names the library; without it the one that is installed beside this package is taken, or else the
-system's loader looks for `libetcs_unit.so.3`. A unit opens no file: its journal lies on a `Medium`, here a file
-(`FileMedium`) or sectors in memory (`MemoryMedium`), or a class of the user's own.
+system's loader looks for `libetcs_unit.so.N`, N being the number of the interface (`ABI`). A unit opens no file: its
+journal lies on a `Medium`, here a file (`FileMedium`) or sectors in memory (`MemoryMedium`), or a class of the user's
+own.
 
 `journal(path)` iterates over the records that a file holds, and `records`, `facts` and `slots` read bytes. The module
 `lives` runs the lives of a journal again.

@@ -4,6 +4,7 @@ import contextlib
 import io
 import json
 import os
+import re
 import subprocess
 import tempfile
 import unittest
@@ -58,10 +59,10 @@ class Order(unittest.TestCase):
 class Completion(unittest.TestCase):
     """What bash completes is each word and each option of the help, and nothing else."""
 
-    def completed(self, *words: str) -> set[str]:
-        """What the words of `lab` behind which a further one begins may go on with."""
+    def completed(self, *words: str, program: str = "lab") -> set[str]:
+        """What the words of a program may go on with, after which a further one begins."""
         path = Path(__file__).parents[2] / "packaging/completion"
-        told = f'. "$0"; COMP_WORDS=(lab "$@"); COMP_CWORD={len(words)}; _gaknifur; echo "${{COMPREPLY[@]}}"'
+        told = f'. "$0"; COMP_WORDS=({program} "$@"); COMP_CWORD={len(words)}; _gaknifur; echo "${{COMPREPLY[@]}}"'
         return set(subprocess.run(["bash", "-c", told, path, *words], capture_output=True, text=True,
                                   check=True).stdout.split())
 
@@ -70,6 +71,12 @@ class Completion(unittest.TestCase):
         self.assertEqual(self.completed(""), {*subjects, "--version", "--help"})
         options = {name for one in subjects.values() for action in one._actions for name in action.option_strings}
         self.assertEqual(self.completed("table", "-"), {name for name in options if len(name) > 2} - {"--junit-xml"})
+
+    def test_of_etcs_lab(self) -> None:
+        told = (Path(__file__).parents[2] / "crates/etcs_lab/stdout").read_text(encoding="utf-8")
+        words = set(re.findall(r"^  etcs_lab ([a-z]+) ", told, re.MULTILINE))
+        self.assertEqual(self.completed("", program="etcs_lab"), words | {"--version", "--help"})
+        self.assertEqual(self.completed("check", "-", program="etcs_lab"), set(re.findall("--[a-z]+", told)) - {"--help"})
 
 
 class Names(unittest.TestCase):

@@ -17,6 +17,7 @@ sys.path[:0] = [str(HERE), str(TOP / "tests"), str(TOP / "tests/plain"), str(TOP
 import program  # noqa: E402
 from compared import Compared, run, status_of_full  # noqa: E402
 from items import Kept  # noqa: E402
+from journal import SIGNS, signs_of  # noqa: E402
 from life import Life  # noqa: E402
 from random_inputs import Made  # noqa: E402
 from random_lists import Numbers  # noqa: E402
@@ -26,7 +27,6 @@ SCENARIOS, SEED = 2_000, 42
 LEAST_LINES = 20_000  # so many outputs at least
 MOST_PENDING = 8
 COLD = ("unknown", "moved", "not_moved")
-SIGNS = ("on_sight", "shunting", "level_0", "trip", "overridden", "not_revalidated", "overspeed")
 BEHIND = "allowed_backward_cm"  # behind this member come those of the step and of the output
 
 # By hand. Each step of a scenario gives the events that it says: a drive of 250 m three readings, and a telegram where it passes a balise.
@@ -73,9 +73,9 @@ class Told(Life):
         output = super().take(word, value)
         number = len(self.lines) + 1
         self.reasons.note(number)
-        shown, place = output.indications, self.place()
+        place = self.place()
         more = {
-            "mode": output.mode, "level": None if output.level == "-" else int(output.level), "indications": [sign for at, sign in enumerate(SIGNS) if shown >> at & 1],
+            "mode": output.mode, "level": None if output.level == "-" else int(output.level), "indications": signs_of(output.indications),
             "place_cm": place[0], "uncertainty_cm": place[1],
         }
         self.lines.append((self.reasons.members(number), more))

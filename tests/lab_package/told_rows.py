@@ -35,7 +35,8 @@ from replay_rows import damaged, examples, formats, random_lives  # noqa: E402
 from why import WORDS, told_of, walk_of  # noqa: E402
 from why_rows import more_lives  # noqa: E402
 from images import MARKUP, blocks, random_images, slots_of  # noqa: E402
-from told import SIGNS, Refused, told  # noqa: E402
+from journal import SIGNS  # noqa: E402
+from told import Refused, told  # noqa: E402
 
 IMAGES, SEED = 200, 44
 LIVES, EACH = 25, 7

@@ -11,13 +11,12 @@ from blocks import NO_END
 from disk import SECTOR_BYTES
 from items import Kept
 from journal import ACKNOWLEDGED, ALONE, BRAKES, COLD, CONFIRMED, MODES, SLOT_SECTORS, block_of, kept_in, number_in, read_block, record_of
-from journal import slots_in, valid_number
+from journal import signs_of, slots_in, valid_number
 from life import Life
 
 WHOLE, REFUSED, LOST = 0, 1, 4
 MODE_WORDS = {number: word for word, number in MODES.items()}
 STATUS_WORDS = ("unknown", "valid", "invalid")
-SIGNS = ("on_sight", "shunting", "level_0", "trip", "overridden", "not_revalidated", "overspeed")
 VALUES = ("shunting_m_per_h", "staff_responsible_m_per_h", "on_sight_m_per_h", "unfitted_m_per_h", "release_m_per_h", "roll_cm",
           "override_allowed_m_per_h", "override_speed_m_per_h", "override_distance_cm", "override_time_ms", "staff_responsible_distance_cm")
 RECORD_FIELDS = (("event", "number"), ("time_ms", "moment"), ("mode", "mode"), ("level", "level"), ("brake", "brake"), ("indications", "ind"),
@@ -56,7 +55,7 @@ def answer_object(record, form):
     """What is told of an event beside the event."""
     told = {"event": record["number"], "time_ms": record["moment"], "mode": MODE_WORDS[record["mode"]],
             "level": None if record["level"] == 255 else record["level"], "brake": BRAKES[record["brake"]],
-            "indications": [sign for bit, sign in enumerate(SIGNS) if record["ind"] >> bit & 1]}
+            "indications": signs_of(record["ind"])}
     if form > 1:
         told |= {"place_cm": record["estimate"], "uncertainty_cm": record["uncertainty"], "limit_m_per_h": record["limit"]}
     return told

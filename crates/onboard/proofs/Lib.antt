@@ -1,6 +1,7 @@
 pub mod Chains
 pub mod Damage
 pub mod Greatest
+pub mod InParts
 pub mod LastBlock
 pub mod Lists
 pub mod Meeting

@@ -3,6 +3,7 @@
 #![tactic(auto)]
 
 mod accepting;
+mod apart;
 mod errors;
 mod flushing;
 mod laws;
@@ -14,6 +15,7 @@ mod sink;
 mod start;
 mod steps;
 
+pub use apart::UnitParts;
 pub use errors::{AcceptError, FlushError, LiveError, OpenError};
 pub use events::Step;
 pub use laws::{

@@ -16,7 +16,7 @@ from unittest import mock
 import gaknifur
 from gaknifur import lives
 from gaknifur import unit as units
-from gaknifur._header import Adaptation, Direction, Fault, RequestKind, Source, StatusKind, UnusedReason
+from gaknifur._header import Adaptation, Direction, DroppedVariable, Fault, RequestKind, Source, StatusKind, UnusedReason
 from gaknifur.lives import BrakeCause, Datum, KeptField, LimitCause, RecordField, TripCause, Verdict
 from gaknifur.unit import (Acknowledgement, Action, Brake, Cold, FileMedium, Indication, Kind, Level, MemoryMedium, Mode, Output, Record,
                            Refused, SlotState, Status, TrainData, Unit, UnitWhy, Waiting)
@@ -33,7 +33,8 @@ class Names(unittest.TestCase):
     def test_enums(self) -> None:
         enums: list[type[enum.IntEnum | enum.IntFlag]] = [
             Fault, Status, StatusKind, Source, Cold, Action, Mode, Level, Brake, Indication, RequestKind, BrakeCause, LimitCause,
-            Acknowledgement, Adaptation, Direction, UnusedReason, SlotState, Kind, Datum, Verdict, RecordField, KeptField, TripCause]
+            Acknowledgement, Adaptation, DroppedVariable, Direction, UnusedReason, SlotState, Kind, Datum, Verdict, RecordField, KeptField,
+            TripCause]
         text = "".join((INCLUDE / name).read_text() for name in ("etcs.h", "etcs_unit.h", "etcs_image.h"))
         bodies = re.findall(r"^enum \w+ \{(.*?)\};", text, re.DOTALL | re.MULTILINE)
         for one, body in zip(enums, bodies, strict=True):

@@ -21,6 +21,7 @@ use Rattle.track_packets.specs.declared.listing.PacketPlace.{PacketPlace}
 use Rattle.track_packets.proofs.Steps.{Marks, packet_listed, mark_listed}
 use Rattle.installed_values.specs.Staying.{moved, IsThere, OthersAreThere}
 use Rattle.installed_values.proofs.Heads.{headed}
+use Rattle.installed_values.proofs.Walks.{moved_here}
 use Rattle.installed_values.proofs.Written.{IsFor, Kept, all_kept, parts, listing_long, others_stay}
 
 -- ---- decoded packets are listed
@@ -60,8 +61,10 @@ decoded (p ∷ ps) (suc n) at all rest lt b =
 
 -- ---- and were spelled before
 
-there : (p q : PacketPlace) (old new : List Bool) (x : Packet) → ThereIn new x (moved p q) → Kept p old new q → IsThere p old x q
-there p q old new x t (inl same) = inl same
+there : (p q : PacketPlace) (old new : List Bool) (x : Packet) → ThereIn new x (moved p q) → Kept p old new q → IsThere p old new x q
+there p q old new x t (inl same) =
+    let start_is : (moved p q).start ≡ p.start = ap (λ r. (moved p r).start) same ∙ ap (λ (r : PacketPlace). r.start) (moved_here p) in
+    inl (same, (t.0, subst (λ (k : ℕ). Begins packet x (drop k new) t.0) start_is t.1))
 there p q old new x t (inr k) =
     let b = t.1 in
     let long : length b.front ≡ length_of x = (spelled-packet x b.front b.spelled).length_is in
@@ -78,13 +81,13 @@ there p q old new x t (inr k) =
       length_is,
     )
 
-all_there : (p : PacketPlace) (old new : List Bool) (xs : List Packet) (qs : List PacketPlace) → AllZip (ThereIn new) xs (map (moved p) qs) → All (Kept p old new) qs → AllZip (IsThere p old) xs qs
+all_there : (p : PacketPlace) (old new : List Bool) (xs : List Packet) (qs : List PacketPlace) → AllZip (ThereIn new) xs (map (moved p) qs) → All (Kept p old new) qs → AllZip (IsThere p old new) xs qs
 all_there p old new [] [] z k = tt
 all_there p old new [] (q ∷ qs) z k = z
 all_there p old new (x ∷ xs) [] z k = z
 all_there p old new (x ∷ xs) (q ∷ qs) z k = (there p q old new x z.0 (All-head (Kept p old new) q qs k), all_there p old new xs qs z.1 (All-tail (Kept p old new) q qs k))
 
-pub others_are_there : (p : PacketPlace) (bytes written : List ℕ) (y pad : List Bool) → IsFor p bytes written y pad → (t : Telegram) → Carries written t → OthersAreThere p bytes t
+pub others_are_there : (p : PacketPlace) (bytes written : List ℕ) (y pad : List Bool) → IsFor p bytes written y pad → (t : Telegram) → Carries written t → OthersAreThere p bytes written t
 others_are_there p bytes written y pad is t c =
     let old = bits_of bytes in
     let new = bits_of written in

@@ -15,7 +15,7 @@ use Rattle.installed_values.proofs.Pieces.{total_is}
 use Rattle.installed_values.proofs.Shorter.{own_head, length-own_head, where_kept, kept_bits, kept_is}
 use Rattle.installed_values.proofs.Written.{IsFor, few_countries}
 
-abbrev own : List Row → List Row
+abbrev pub own : List Row → List Row
 own rows = filter (λ row. has_place row.variable) rows
 
 abbrev with_place : List (Variable × List Bool) → List (Variable × List Bool)
@@ -62,7 +62,7 @@ total_own countries [] = refl
 total_own countries (row ∷ rows) =
     one_total countries (has_place row.variable) row (own rows) ∙ ap (λ n. where_kept (has_place row.variable) (bits_of_row countries row) + n) (total_own countries rows)
 
-own_total : (countries : ℕ) → total_bits countries (own (rows_of 3)) ≡ 124 + 10 * countries
+pub own_total : (countries : ℕ) → total_bits countries (own (rows_of 3)) ≡ 124 + 10 * countries
 own_total countries = total_own countries (rows_of 3) ∙ kept_is countries
 
 -- the first three rows are kept: Q_SCALE, D_VALIDNV and N_ITER

@@ -1,9 +1,14 @@
 -- Laws of `adapt` (this project's profile). Each is of all telegrams that have a packet 3 as a track sends it, and of the
 -- bytes that were written for them.
-use Rattle.std.specs.Prelude.{ℕ, List, take, Ok}
+use Rattle.std.specs.Prelude.{ℕ, Bool, List, take, drop, Ok}
 use Rattle.bits.specs.Bits.{bits_of}
+use Rattle.bits.specs.Layout.{Begins}
+use Rattle.packets.specs.Packets.{packet}
+use Rattle.packets.specs.declared.national.NationalValues.{NationalValues}
+use Rattle.packets.specs.declared.packet.Packet.TheVariants as packets
 use Rattle.track_packets.specs.declared.listing.PacketPlace.{PacketPlace}
 use Rattle.installed_values.specs.Adapting.{Tells, found_in}
+use Rattle.installed_values.specs.Reading.{ReadsValues}
 use Rattle.installed_values.specs.Staying.{OthersStay, IsLeftAsItIs, FaultsStay, ValuesStay}
 use Rattle.installed_values.specs.declared.adapting.Adaptation.TheVariants.{Written}
 
@@ -20,6 +25,11 @@ OthersStayAsTheyWere = OfEachWritten OthersStay
 -- The packet 3 has the values that this project has a place for.
 abbrev pub ValuesAreKept : Type 0
 ValuesAreKept = OfEachWritten (λ installed bytes written. ValuesStay installed (bits_of bytes) (bits_of written))
+
+-- What a unit reads of the packet 3 is what the track sent, but for the values that are left out.
+abbrev pub ValuesAreRead : Type 0
+ValuesAreRead =
+    OfEachWritten (λ installed bytes written. (v : NationalValues) (rest : List Bool) → Begins packet (packets.NationalValues v) (drop installed.start (bits_of written)) rest → ReadsValues installed (bits_of bytes) v)
 
 -- What was written isn't adapted again.
 abbrev pub TwiceIsOnce : Type 0

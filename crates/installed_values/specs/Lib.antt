@@ -4,4 +4,5 @@ pub mod Dropping
 pub mod Finding
 pub mod Keeping
 pub mod Laws
+pub mod Reading
 pub mod Staying

@@ -47,14 +47,16 @@ abbrev pub IsLeftAsItIs : List ℕ → Type 0
 IsLeftAsItIs bytes =
     (answer : Result Adaptation AdaptError) (old new : List ℕ) → Tells (found_in bytes) (bits_of bytes) answer old new → (answer ≡ Ok AsItIs) × (new ≡ old)
 
--- a packet other than the packet 3 is spelled at its place
-abbrev pub IsThere : PacketPlace → List Bool → Packet → PacketPlace → Type 0
-IsThere installed bits x p = (p ≡ installed) ⊎ ((rest : List Bool) × Begins packet x (drop p.start bits) rest × (p.length ≡ length_of x))
+-- A packet is spelled at its place in what was sent; where that is the place of the packet 3, in what was written.
+abbrev pub IsThere : PacketPlace → List Bool → List Bool → Packet → PacketPlace → Type 0
+IsThere installed sent written x p =
+    ((p ≡ installed) × ((rest : List Bool) × Begins packet x (drop installed.start written) rest))
+    ⊎ ((rest : List Bool) × Begins packet x (drop p.start sent) rest × (p.length ≡ length_of x))
 
--- The header of the telegram and its packets but the packet 3 are spelled in the bytes, each at its place.
-pub record OthersAreThere (installed : PacketPlace) (bytes : List ℕ) (t : Telegram) : Type 0 where
-  pub header : Begins header t.header (bits_of bytes) (drop header_bits (bits_of bytes))
-  pub packets : AllZip (IsThere installed (bits_of bytes)) t.packets.items (listing_of bytes).packets.items
+-- The header of the telegram and its packets but the packet 3 are spelled in the bytes that were sent, each at its place.
+pub record OthersAreThere (installed : PacketPlace) (sent written : List ℕ) (t : Telegram) : Type 0 where
+  pub header : Begins header t.header (bits_of sent) (drop header_bits (bits_of sent))
+  pub packets : AllZip (IsThere installed (bits_of sent) (bits_of written)) t.packets.items (listing_of sent).packets.items
 
 -- these packets are within the bits, and what comes next has this first fault, whatever follows the bits
 abbrev pub RefusesWithin : TelegramFault → List Packet → List Bool → Type 0
@@ -70,7 +72,7 @@ RefusesFront e bits = (h : Header) × (rest : List Bool) × (ps : List Packet) �
 pub record FaultsStay (installed : PacketPlace) (bytes written : List ℕ) : Type 0 where
   pub header : (e : TelegramFault) → Refuses header e (bits_of bytes) → Refuses header e (bits_of written)
   pub front : (e : TelegramFault) → RefusesFront e (take installed.start (bits_of bytes)) → RefusesTelegram e (bits_of bytes) × RefusesTelegram e (bits_of written)
-  pub others : (t : Telegram) → Carries written t → OthersAreThere installed bytes t
+  pub others : (t : Telegram) → Carries written t → OthersAreThere installed bytes written t
 
 -- the bits of each row, with its variable; those of the countries of a list in one
 abbrev pub values_by : ℕ → List Row → List Bool → List (Variable × List Bool)

@@ -14,4 +14,6 @@ pub use calls::{EtcsAdapted, EtcsDropped, adapt_call, dropped_call};
 pub use dropping::{Dropped, dropped_of};
 pub use finding::is_installed;
 pub use keeping::has_place;
-pub use laws::{other_faults_stay, others_stay_as_they_were, twice_is_once, values_are_kept};
+pub use laws::{
+    other_faults_stay, others_stay_as_they_were, twice_is_once, values_are_kept, values_are_read,
+};

@@ -23,6 +23,7 @@ import blocks  # noqa: E402
 import event_rows  # noqa: E402
 import image_cases  # noqa: E402
 import lint_faults  # noqa: E402
+import packet_lists  # noqa: E402
 import replay_rows  # noqa: E402
 import why_rows  # noqa: E402
 from compared import Compared, run  # noqa: E402
@@ -236,6 +237,7 @@ LINES = {  # of each command the tables that one of its lines may have, by a mem
     "why": [("replay", "replay"), ("brake", "causes")],
     "run": [("scenario", "a-life-that-is-played"), ("end", "the-end-of-a-life"), ("step", "played-output")],
     "decode": [("refused", "a-refusal"), ("", "a-telegram")],
+    "packets": [("", "the-packets-of-a-telegram")],
     "lint": [("", "advice-on-a-scenario")],
     "against": [("tells", "another-unit"), ("against", "a-comparison"), ("", "the-end-of-comparisons")],
 }
@@ -263,6 +265,9 @@ def images():
     yield from ((image, None) for _, image in event_rows.random_images(30, 5))
     yield from ((image, None) for _, image in islice(replay_rows.cases(), 0, None, EACH))
     yield from ((image, None) for *_, name, image in replay_rows.altered() if "trip outstanding" in name)
+    heard = [blocks.entry(at, ("telegram", data)) for at, (_, data) in enumerate(packet_lists.telegrams())]
+    parts = [(number, blocks.data_of(blocks.block(3, number, min(8 * number, len(heard)), 1, heard[8 * number - 8:8 * number]))) for number in (1, 2)]
+    yield slots_of(parts, 2), None
 
 
 def all_read(page, program, room):
@@ -288,6 +293,8 @@ def all_read(page, program, room):
         read(page, program, "lint", "--json", file)
     for data in [bytes(LONG), *islice(known_telegrams(), 0, None, 4)]:
         read(page, program, "decode", "--json", data.hex())
+    for _, data in packet_lists.telegrams():
+        read(page, program, "packets", "--json", data.hex())
 
 
 def other_units(page, program, room):

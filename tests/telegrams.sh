@@ -1,5 +1,5 @@
 #!/bin/bash
-# Telegrams in JSON, and what is told of scenarios, on the programs that the gate leaves behind: what the program etcs_lab writes of an object and
+# Telegrams in JSON, their packets by name, and what is told of scenarios, on the programs that the gate leaves behind: what the program etcs_lab writes of an object and
 # tells of bytes beside what plain readers and writers do, each message once, the schema; what is wrong in a scenario, and where.
 #
 #     tests/telegrams.sh [ETCS_LAB ETCS]    on other programs
@@ -14,5 +14,6 @@ for program in "$lab" "$etcs"; do
 done
 status=0
 /usr/bin/python3 telegrams/telegram_rows.py "$lab" || status=1
+/usr/bin/python3 telegrams/packet_rows.py "$lab" || status=1
 /usr/bin/python3 telegrams/lint_rows.py "$etcs" "$lab" || status=1
 exit $status

@@ -14,7 +14,7 @@ from . import causes, files, tables, times
 from .program import DEVICE, REFUSED, Failed
 from .reading import Journal, Json
 
-VERSION = 4
+VERSION = 5
 """The `user_version` of the schema."""
 GREATEST = 2**62
 EVENT = (
@@ -31,6 +31,7 @@ SLOT = ("slot state block first_sector last_sector format life first_event last_
 WHY = ("brake limit_m_per_h speed_m_per_h backward_cm allowed_backward_cm trip_cause trip_cause_event trip_cause_section "
        "limit_cause limit_cause_speed_m_per_h limit_cause_place_cm limit_cause_number limit_cause_section").split()
 REPLAY = "replay life first_event last_event block reason field".split()
+UNUSED = "name bit bits why".split()
 HEADER = "Q_UPDOWN M_VERSION Q_MEDIA N_PIG N_TOTAL M_DUP M_MCOUNT NID_C NID_BG Q_LINK".split()
 
 
@@ -151,8 +152,9 @@ def add_events(connection: sqlite3.Connection, image: int, table: pd.DataFrame) 
     uncertainty = table["uncertainty_cm"]
     columns = [uncertainty.where(uncertainty <= GREATEST) if name == "uncertainty_cm" else table[name] for name in EVENT]
     insert(connection, "event", ["image", *EVENT, *beside], ([image, *row] for row in rows_of([*columns, *beside.values()])))
-    heard = tables.some_of(table, table["kind"] == "telegram", ("block", "event", "telegram", "decoded"))
-    rows = list(zip(plain(heard["block"]), plain(heard["event"]), heard["telegram"], heard["decoded"]))
+    heard = tables.some_of(table, table["kind"] == "telegram", ("block", "event", "telegram", "decoded", "unused"))
+    at = list(zip(plain(heard["block"]), plain(heard["event"])))
+    rows = [(*one, *told) for one, told in zip(at, zip(heard["telegram"], heard["decoded"]))]
     insert(connection, "telegram", ["image", "block", "event", "digits", "fault", *map(str.lower, HEADER)],
            ([image, *row] for row in map(telegram_row, rows)))
     insert(connection, "packet", ["image", "block", "event", "packet", "nid_packet", "skipped_bits"],
@@ -161,6 +163,9 @@ def add_events(connection: sqlite3.Connection, image: int, table: pd.DataFrame) 
     insert(connection, "field", ["image", "block", "event", "packet", "field", "name", "value"],
            ([image, block, event, place, index, *pair]
             for block, event, place, packet in packets_in(rows) for index, pair in enumerate(packet["fields"])))
+    insert(connection, "unused", ["image", "block", "event", "unused", "nid_packet", *UNUSED],
+           ([image, *one, place, packet["packet"], *map(packet.get, UNUSED)]
+            for one, told in zip(at, heard["unused"]) for place, packet in enumerate(told or ())))
 
 
 def add_marks(connection: sqlite3.Connection, image: int, journal: Journal) -> None:

@@ -274,6 +274,22 @@ def room(slots: int) -> tempfile.TemporaryDirectory[str]:
 
 
 @functools.lru_cache(maxsize=4096)
+def adapted(digits: str) -> str:
+    """What `etcs_lab telegram --installed` writes: what a unit is to be handed in place of a telegram of an installed track. Where it
+    refuses, that is an error."""
+    path = find()
+    try:
+        done = subprocess.run([path, "telegram", "--installed", "--", digits], stdin=subprocess.DEVNULL, capture_output=True, text=True,
+                              encoding="utf-8", errors="replace")
+    except OSError as error:
+        raise Failed(f"{path}: {error.strerror}", DEVICE) from error
+    told = Told(done.returncode, done.stdout, done.stderr)
+    if told.status:
+        raise Failed(told.last().removeprefix("etcs_lab: ").removeprefix("HEX: "), REFUSED)
+    return told.output.strip()
+
+
+@functools.lru_cache(maxsize=4096)
 def decode(digits: str) -> list[str]:
     """What `etcs decode` prints of a telegram."""
     lines = etcs("decode", "--", digits)[1]

@@ -150,9 +150,38 @@ def digits_of(at: Value, shared: Shared) -> str:
         if "NID_BG" not in text:
             raise at.fault(f"there is no telegram \"{shortened(text)}\"; {', '.join(sorted(shared.telegrams)) or 'none is told'}")
         return written(text, at, None)
-    members = at.members(("fields",), ("refused",))
+    members = at.members((), ("fields", "refused", "installed"))
+    if "installed" in members:
+        return of_track(at, members)
+    if "fields" not in members:
+        raise at.fault("fields is missing here, or installed")
     refused = members["refused"].text() if "refused" in members else None
     return written(members["fields"].text(), members["fields"], refused)
+
+
+def of_track(at: Value, members: dict[str, Value]) -> str:
+    """The digits of what a unit is handed in place of a telegram of an installed track, which is told by its variables or in hex."""
+    if len(members) > 1:
+        raise at.fault("beside installed nothing else can stand here")
+    told = members["installed"]
+    text = told.text()
+    if is_hex(text):
+        return adapted(checked_size(text.upper(), told), told)
+    try:
+        sent = telegrams.telegram(text, of_track=True)
+        digits = adapted(sent.digits, told)
+    except telegrams.Wrong as wrong:
+        raise told.fault(str(wrong)) from wrong
+    compared(sent.adapted(), program.decode(digits), told)
+    return digits
+
+
+def adapted(digits: str, at: Value) -> str:
+    """What `etcs_lab telegram --installed` makes of a telegram."""
+    try:
+        return program.adapted(digits)
+    except program.Failed as failed:
+        raise at.fault(f"the telegram {failed}") from failed
 
 
 def checked_size(digits: str, at: Value) -> str:
@@ -174,12 +203,17 @@ def written(text: str, at: Value, refused: str | None) -> str:
         if found != [f"refused {refused}"]:
             raise at.fault(f"the telegram was to be refused with {refused}, and etcs decode says: {found[0]}")
         return digits
+    compared(told, found, at)
+    return digits
+
+
+def compared(told: telegrams.Telegram, found: list[str], at: Value) -> None:
+    """Whether `etcs decode` finds the telegram that is told; else that is a fault."""
     if found[0].startswith("refused"):
         raise at.fault(f"etcs decode says of this telegram: {found[0]}")
     for wanted, line in zip(told.lines(), found[:-1], strict=False):
         if line != wanted:
             raise at.fault(f"etcs decode finds another telegram: {line}; {wanted} was told")
-    return digits
 
 
 class Builder:

@@ -242,6 +242,23 @@ CREATE TABLE packet (
     FOREIGN KEY (image, block, event) REFERENCES telegram ON DELETE CASCADE
 ) STRICT, WITHOUT ROWID;
 
+-- The packets of a telegram that the unit uses in no mode and in no direction, numbered from 0 in their order. `bit` is the
+-- place of its first bit in the telegram, `bits` its length. `why`: the kernel doesn't know it; it is a packet 136, or stands
+-- behind one; or its telegram is refused.
+CREATE TABLE unused (
+    image INTEGER NOT NULL,
+    block INTEGER NOT NULL,
+    event INTEGER NOT NULL,
+    unused INTEGER NOT NULL,
+    nid_packet INTEGER NOT NULL,
+    name TEXT,
+    bit INTEGER NOT NULL,
+    bits INTEGER NOT NULL,
+    why TEXT NOT NULL CHECK (why IN ('not_known', 'infill', 'refused')),
+    PRIMARY KEY (image, block, event, unused),
+    FOREIGN KEY (image, block, event) REFERENCES telegram ON DELETE CASCADE
+) STRICT, WITHOUT ROWID;
+
 -- the fields of a packet, numbered from 0 in their order: names repeat (SUBSET-026, 7.5.1)
 CREATE TABLE field (
     image INTEGER NOT NULL,
@@ -340,4 +357,4 @@ FROM extent
 JOIN step AS first ON (first.image, first.block, first.event) = (extent.image, extent.first_block, extent.first_event)
 JOIN step AS last ON (last.image, last.block, last.event) = (extent.image, extent.last_block, extent.last_event);
 
-PRAGMA user_version = 4;
+PRAGMA user_version = 5;

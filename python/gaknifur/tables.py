@@ -11,7 +11,8 @@ Columns of `frame`, in their order:
   stretch (0 from a power-up on), and by how much it is above the limit behind the event.
 - `word`, `now_ms`, `action` and the driver's entries; `refused`: whether the action can't have been accepted.
 - `nid_c`, `nid_bg`, `n_pig`, `n_total`, `m_dup`, `m_mcount`, `q_link`, `packets`, `fault`, `telegram`, `decoded`;
-  `not_obeyed`: the packets of issue 2.3.0 that it had and the unit doesn't obey (module `not_obeyed`).
+  `not_obeyed`: those of its packets that the unit uses in no mode and in no direction, each with why (module `not_obeyed`);
+  `unused`: the same as the record tells them.
 - `causes`: the causes of its brake, and the event since which each holds; `causes_not_known`: why they aren't known;
   `trip_cause`, `trip_cause_event`: while a trip is owed, why it was entered and by which event; `limit_cause`: the kind of
   what decides the limit; `held`: the causes as a dictionary; `trip`: the trip that is owed; `why`: the line of `etcs_lab
@@ -43,7 +44,7 @@ NUMBERS = ("now_ms", "running_number", "chosen_level", "length_cm", "maximum_m_p
            "deceleration_cm_per_s2", "reaction_ms")
 TEXTS = ("word", "action", "identity", "confirmed", "acknowledged", "telegram")
 OF_KIND = {
-    "powerup": ("word",), "telegram": ("telegram", "decoded"), "odometer": ("movement_cm", "speed_m_per_h"),
+    "powerup": ("word",), "telegram": ("telegram", "decoded", "unused"), "odometer": ("movement_cm", "speed_m_per_h"),
     "clock": ("now_ms",),
     "driver": ("action", "identity", "running_number", "chosen_level", "confirmed", "acknowledged", "length_cm",
                "maximum_m_per_h", "category", "deceleration_cm_per_s2", "reaction_ms")}
@@ -147,8 +148,8 @@ def told_columns(records: Sequence[Json], texts: Texts) -> dict[str, Any]:
     columns |= {"uncertainty_cm": numbers(told["uncertainty_cm"], np.uint64)}
     columns |= {"movement_cm": numbers(some["movement_cm"]), "reading_m_per_h": numbers(some["speed_m_per_h"])}
     columns |= {name: numbers(some[name]) for name in NUMBERS}
-    columns |= {name: texts.column(some[name]) for name in (*TEXTS, "decoded")}
-    columns["not_obeyed"] = texts.column(not_obeyed.column(some["telegram"]))
+    columns |= {name: texts.column(some[name]) for name in (*TEXTS, "decoded", "unused")}
+    columns["not_obeyed"] = texts.column(not_obeyed.column(some["unused"]))
     heads = decoded_columns(some["decoded"])
     return columns | {name: texts.column(one) if isinstance(one, list) else one for name, one in heads.items()}
 
@@ -183,7 +184,8 @@ def all_columns(records: Sequence[Json]) -> dict[str, Any]:
 
 ORDER = ("block", "event", "life", "stretch", "kind", "time_ms", "mode", "level", "brake", "source", *SHOWS, "place_cm", "uncertainty_cm",
          "min_safe_front_cm", "max_safe_front_cm", "limit_m_per_h", "limit_kmh", "movement_cm", "reading_m_per_h", "speed_m_per_h",
-         "speed_kmh", "over_limit_kmh", *NUMBERS, *TEXTS, *(name.lower() for name in HEADER), "packets", "fault", "not_obeyed", "decoded")
+         "speed_kmh", "over_limit_kmh", *NUMBERS, *TEXTS, *(name.lower() for name in HEADER), "packets", "fault", "not_obeyed", "decoded",
+         "unused")
 """The columns up to those of causes."""
 
 
@@ -306,8 +308,8 @@ def strays(journal: Journal) -> pd.DataFrame:
 
 
 def written(table: pd.DataFrame) -> pd.DataFrame:
-    """The table as it is written, without the columns `decoded`, `held`, `trip` and `why`."""
-    return table.drop(columns=["decoded", "held", "trip", "why"], errors="ignore")
+    """The table as it is written, without the columns `decoded`, `unused`, `held`, `trip` and `why`."""
+    return table.drop(columns=["decoded", "unused", "held", "trip", "why"], errors="ignore")
 
 
 def csv_text(table: pd.DataFrame) -> str:

@@ -130,6 +130,9 @@ def read_layout(text: str) -> tuple[Part, ...]:
 
 SKIPPED = {number: read_layout(text) for number, text in _track_packets.LAYOUTS.items() if number not in LAYOUTS}
 """The layouts of packets that the kernel skips."""
+NATIONAL_VALUES = 3
+OF_TRACK = SKIPPED | {NATIONAL_VALUES: read_layout(_track_packets.LAYOUTS[NATIONAL_VALUES])}
+"""Those of a track of issue 2.3.0, whose packet 3 has another layout than a unit reads."""
 
 
 def packets_in(bits: str) -> Iterator[tuple[int, str]]:
@@ -223,15 +226,17 @@ class Told:
             self.written.insert(at, (part.counter, written))
 
 
-def packet_pairs(number: int, told: Pairs) -> Pairs:
-    """The variables of a packet in their order, its head among them."""
+def packet_pairs(number: int, told: Pairs, of_track: bool = False) -> Pairs:
+    """The variables of a packet in their order, its head among them; `of_track`: as a track of issue 2.3.0 sends it."""
+    skipped = (OF_TRACK if of_track else SKIPPED).get(number)
+    layout = LAYOUTS.get(number) if skipped is None else skipped
     head = dict(pair for pair in told if pair[0] in HEAD)
     body = Told(number, [pair for pair in told if pair[0] not in HEAD])
-    if number in SKIPPED:
-        scale = [("Q_SCALE", head.pop("Q_SCALE", USUAL["Q_SCALE"]))] if "Q_SCALE" in SKIPPED[number] else []
+    if skipped is not None:
+        scale = [("Q_SCALE", head.pop("Q_SCALE", USUAL["Q_SCALE"]))] if "Q_SCALE" in skipped else []
         body.left = scale + body.left
-    if number in LAYOUTS or number in SKIPPED:
-        body.write(LAYOUTS.get(number) or SKIPPED[number])
+    if layout is not None:
+        body.write(layout)
         if number in _track_packets.THEN_BITS:
             body.written += body.left
         elif body.left:
@@ -240,7 +245,7 @@ def packet_pairs(number: int, told: Pairs) -> Pairs:
                         f"{guess(name, {one for one, _ in body.written})}")
     else:
         body.written = body.left
-    if number in LAYOUTS and number not in WITHOUT_SCALE or "Q_SCALE" in head:
+    if skipped is None and number in LAYOUTS and number not in WITHOUT_SCALE or "Q_SCALE" in head:
         body.written.insert(0, ("Q_SCALE", head.get("Q_SCALE", USUAL["Q_SCALE"])))
     length = 23 + sum(width_of(name) for name, _ in body.written)
     return [("NID_PACKET", number), ("Q_DIR", head.get("Q_DIR", USUAL["Q_DIR"])),
@@ -290,9 +295,26 @@ class Telegram:
             raise Wrong(f"a telegram has at most {MOST_BYTES} bytes, and this one has {len(bits) // 8}")
         return f"{int(bits, 2):0{len(bits) // 4}X}"
 
+    def adapted(self) -> "Telegram":
+        """What a unit is to be handed in its place: without the variables of a track's packet 3 that a unit's doesn't have."""
+        return Telegram(self.header, [unit_pairs(packet) if packet[0][1] == NATIONAL_VALUES else packet for packet in self.packets])
+
     def lines(self) -> list[str]:
         """The telegram as `etcs decode` prints it, but for the last line, which counts its bits."""
         return [" ".join(["telegram", *map(shown, self.header)]), *map(packet_line, self.packets)]
+
+
+def names_in(layout: Sequence[Part]) -> set[str]:
+    """The variables of a layout that stand in no list."""
+    return {part for part in layout if isinstance(part, str)}
+
+
+def unit_pairs(packet: Pairs) -> Pairs:
+    """A packet 3 without the variables that a track's has more."""
+    gone = names_in(OF_TRACK[NATIONAL_VALUES]) - names_in(LAYOUTS[NATIONAL_VALUES]) - set(HEAD)
+    kept = [(name, number) for name, number in packet if name not in gone]
+    less = sum(width_of(name) for name, _ in packet) - sum(width_of(name) for name, _ in kept)
+    return [(name, number - less if name == "L_PACKET" else number) for name, number in kept]
 
 
 def shown(pair: tuple[str, int]) -> str:
@@ -308,8 +330,8 @@ def packet_line(packet: Pairs) -> str:
     return " ".join([f"packet {number}", *map(shown, packet[1:3]), "skipped"])
 
 
-def telegram(text: str) -> Telegram:
-    """The telegram that a text tells."""
+def telegram(text: str, of_track: bool = False) -> Telegram:
+    """The telegram that a text tells; `of_track`: as a track of issue 2.3.0 sends it."""
     if len(text) > MOST_TEXT:
         raise Wrong(f"a telegram is told in at most {MOST_TEXT:,} characters, and this has {len(text):,}")
     first, *rest = text.split(";")
@@ -328,5 +350,5 @@ def telegram(text: str) -> Telegram:
         number_text, _, body = one.strip().partition(":")
         if not re.fullmatch("[0-9]{1,3}", number_text.strip()) or int(number_text) > END_MARK:
             raise Wrong(f"\"{shortened(one.strip())}\" begins with no number of a packet")
-        packets.append(packet_pairs(int(number_text), pairs_of(body)))
+        packets.append(packet_pairs(int(number_text), pairs_of(body), of_track))
     return Telegram([(name, number or 0) for name, number in header.items()], packets)

@@ -1,6 +1,7 @@
 """The words of `etcs_lab` as people say them (docs/GLOSSARY.md), and texts of events, telegrams and actions."""
 from typing import Any
 
+from . import not_obeyed
 from .reading import Json
 
 MODES = {"FS": "Full Supervision", "OS": "On Sight", "SR": "Staff Responsible", "SH": "Shunting", "UN": "Unfitted",
@@ -62,7 +63,8 @@ def event_text(record: Json) -> str:
     """What happened."""
     kind = record["kind"]
     if kind == "telegram":
-        return telegram_text(record["decoded"])
+        unused = not_obeyed.text(record.get("unused") or ())
+        return telegram_text(record["decoded"]) + (f"; not used: {unused}" if unused else "")
     if kind == "driver":
         return f"the driver {action_text(record)}"
     if kind == "odometer":

@@ -1,85 +1,92 @@
-"""Packets of issue 2.3.0 that the unit doesn't obey: the bits are by hand, after SUBSET-026, 7.4.2 and 8.4.2."""
+"""Packets that the unit uses in no mode and in no direction, as records tell them: the places and lengths are by hand, after SUBSET-026,
+7.4.2 and 8.4.2."""
+import sqlite3
 import unittest
 
-from gaknifur import brief, not_obeyed, tables
+from gaknifur import brief, database, not_obeyed, tables, words
 from gaknifur.reading import Json
 
-from .samples import journal, record
+from .samples import AUTHORITY, journal, record
 
-HEADER = "1" "0010000" "0" "000" "000" "00" "11111111" "0000000001" "00000000000010" "1"
-"""Q_UPDOWN 1, M_VERSION 16, Q_MEDIA 0, the only balise of group 1/2, linked."""
-END = "11111111"
-STOP_IN_SR = "10001001" "10" "0000000011000" "0"
-"""137: Q_DIR both, 24 bits, Q_SRSTOP 0."""
-STOP_SHUNTING = "10000111" "10" "0000000010111"
-"""135: Q_DIR both, 23 bits."""
-BIG_METAL_REVERSE = "01000011" "00" "0000000111100" "01" "000000000000001" "000000000000001" "00000"
-"""67, for the other direction: 60 bits, Q_SCALE 1, D_TRACKCOND 1, L_TRACKCOND 1, no more."""
-REVOCATION = "01000010" "10" "0000000011111" "00000001"
-"""66, which the kernel uses: 31 bits."""
-VERSION_ORDER = "00000010" "10" "0000000011110" "0010000"
-"""2, of a later issue: 30 bits."""
+STOP_IN_SR = (137, "Stop if in Staff Responsible", 24)
+"""Its head of 23 bits, and Q_SRSTOP."""
+STOP_SHUNTING = (135, "Stop Shunting on desk opening", 23)
+INFILL = (136, "Infill location reference", 38)
+"""Its head, Q_NEWCOUNTRY 0 and NID_BG."""
+RESTRICTION = (65, "Temporary Speed Restriction", 71)
+NATIONAL = (3, "National Values", 186)
+"""As a track sends it, for one country."""
+VERSION_ORDER = (2, "System Version order", 30)
+"""Of a later issue."""
+NAMELESS = (99, None, 30)
 
 
-def national(bits: int) -> str:
-    """A packet 3 of so many bits, all 0 behind L_PACKET."""
-    return "00000011" "10" f"{bits:013b}" + "0" * (bits - 23)
+def telegram(event: int, *packets: tuple[tuple[int, str | None, int], str], refused: bool = False) -> Json:
+    """A record of a telegram that has these packets, each with why it isn't used, and no others; what it carries plays no part."""
+    decoded: Json = {"refused": {"number": 2, "name": "WrongLength"}} if refused else AUTHORITY
+    at, unused = 50, []
+    for (number, name, bits), why in packets:
+        unused.append({"packet": number, "name": name, "bit": at, "bits": bits, "why": why})
+        at += bits
+    return record(event, "telegram", telegram="90", decoded=decoded, unused=unused)
 
 
-def digits(*packets: str, header: str = HEADER, end: str = END) -> str:
-    """The bytes of a telegram in hex."""
-    bits = header + "".join(packets) + end
-    bits += "0" * (-len(bits) % 8)
-    return f"{int(bits, 2):0{len(bits) // 4}X}"
-
-
-def telegram(event: int, *packets: str, refused: bool = False, **told: str) -> Json:
-    """A record of a telegram; what it carries plays no part."""
-    decoded: Json = {"refused": {"number": 2, "name": "WrongLength"}} if refused else {"header": {}, "packets": [], "bits": 0}
-    return record(event, "telegram", telegram=digits(*packets, **told), decoded=decoded)
-
-
-class Packets(unittest.TestCase):
-    """Which packets of a telegram are listed."""
-
-    def test_packets_that_the_kernel_skips(self) -> None:
-        self.assertEqual(not_obeyed.packets_of(digits(STOP_IN_SR, REVOCATION, BIG_METAL_REVERSE, STOP_SHUNTING)), [137, 67, 135])
-
-    def test_packets_that_it_knows_and_those_of_later_issues_are_none(self) -> None:
-        self.assertEqual(not_obeyed.packets_of(digits(REVOCATION, VERSION_ORDER)), [])
-        self.assertEqual(not_obeyed.packets_of(digits()), [])
-
-    def test_packet_3_by_its_length(self) -> None:
-        self.assertEqual(not_obeyed.packets_of(digits(national(186))), [3])
-        self.assertEqual(not_obeyed.packets_of(digits(national(157))), [])
-
-    def test_up_to_what_is_no_packet(self) -> None:
-        self.assertEqual(not_obeyed.packets_of(digits(STOP_IN_SR, STOP_SHUNTING[:-13] + "0000000010110")), [137])
-        self.assertEqual(not_obeyed.packets_of(digits(STOP_IN_SR, national(800)[:100], end="")), [137])
-
-    def test_another_system_has_none(self) -> None:
-        for header in ("0" + HEADER[1:], "1" "0010001" + HEADER[8:], HEADER[:8] + "1" + HEADER[9:]):
-            self.assertEqual(not_obeyed.packets_of(digits(STOP_IN_SR, header=header)), [])
+def skipped(*packets: tuple[int, str | None, int]) -> list[tuple[tuple[int, str | None, int], str]]:
+    """Packets that the kernel doesn't know."""
+    return [(packet, "not_known") for packet in packets]
 
 
 class Told(unittest.TestCase):
     """Where they are told."""
 
     def test_a_column_of_the_table(self) -> None:
-        table = tables.frame(journal(record(0, "powerup"), telegram(1, STOP_IN_SR, STOP_SHUNTING), telegram(2, REVOCATION),
-                                     telegram(3, national(186), refused=True)))
-        self.assertEqual(list(table["not_obeyed"]), [None, "137 135", None, "3"])
+        table = tables.frame(journal(
+            record(0, "powerup"), telegram(1, *skipped(STOP_IN_SR, STOP_SHUNTING)), telegram(2), telegram(3, (NATIONAL, "refused"), refused=True),
+            telegram(4, (STOP_IN_SR, "not_known"), (INFILL, "infill"), (RESTRICTION, "infill"))))
+        self.assertEqual(list(table["not_obeyed"]), [None, "137 not_known, 135 not_known", None, "3 refused", "137 not_known, 136 infill, 65 infill"])
+
+    def test_a_record_that_tells_none(self) -> None:
+        """As of a program of before."""
+        table = tables.frame(journal(record(0, "telegram", telegram="90", decoded=AUTHORITY)))
+        self.assertEqual(list(table["not_obeyed"]), [None])
 
     def test_a_summary_counts_telegrams(self) -> None:
-        told = journal(telegram(0, STOP_IN_SR, STOP_IN_SR, STOP_SHUNTING), telegram(1, REVOCATION), telegram(2, STOP_IN_SR))
+        told = journal(telegram(0, *skipped(STOP_IN_SR, STOP_IN_SR, STOP_SHUNTING)), telegram(1), telegram(2, *skipped(STOP_IN_SR)),
+                       telegram(3, *skipped(VERSION_ORDER)))
         table = tables.frame(told)
         summary = not_obeyed.summary(table["not_obeyed"])
         self.assertEqual(summary.text(), "2 telegrams had packets of issue 2.3.0 that this unit does not obey: "
                          "137 Stop if in Staff Responsible (2), 135 Stop Shunting on desk opening (1)")
         self.assertEqual(brief.brief(told, table, tables.interventions(table)).not_obeyed, summary.text())
 
-    def test_none(self) -> None:
-        told = journal(telegram(0, REVOCATION))
+    def test_a_summary_says_why(self) -> None:
+        table = tables.frame(journal(telegram(0, (INFILL, "infill"), (RESTRICTION, "infill")),
+                                     telegram(1, (NATIONAL, "refused"), (RESTRICTION, "refused"), refused=True)))
+        self.assertEqual(not_obeyed.summary(table["not_obeyed"]).text(), "2 telegrams had packets of issue 2.3.0 that this unit does not obey: "
+                         "3 National Values in a telegram that is refused (1), 65 Temporary Speed Restriction in infill (1), "
+                         "65 Temporary Speed Restriction in a telegram that is refused (1), 136 Infill location reference in infill (1)")
+
+    def test_none_of_issue_2_3_0(self) -> None:
+        told = journal(telegram(0, *skipped(VERSION_ORDER, NAMELESS)))
         table = tables.frame(told)
+        self.assertEqual(list(table["not_obeyed"]), ["2 not_known, 99 not_known"])
         self.assertIsNone(brief.brief(told, table, tables.interventions(table)).not_obeyed)
         self.assertEqual(not_obeyed.summary(table["not_obeyed"]).text(), "no telegram had a packet of issue 2.3.0 that this unit does not obey")
+
+    def test_the_text_of_an_event(self) -> None:
+        usual = "telegram of group 1/2, balise 1 of 2, packet 12"
+        self.assertEqual(words.event_text(telegram(0)), usual)
+        self.assertEqual(words.event_text(telegram(0, (STOP_IN_SR, "not_known"), (NAMELESS, "not_known"), (RESTRICTION, "infill"))),
+                         f"{usual}; not used: 137 Stop if in Staff Responsible, 99, 65 Temporary Speed Restriction in infill")
+
+    def test_a_table_of_the_database(self) -> None:
+        connection = sqlite3.connect(":memory:")
+        database.fill(connection)
+        connection.commit()
+        told = journal(record(0, "powerup"), telegram(1), telegram(2, (STOP_IN_SR, "not_known"), (INFILL, "infill")),
+                       telegram(3, (NAMELESS, "refused"), refused=True))
+        self.assertTrue(database.add(connection, told, tables.frame(told)))
+        rows = connection.execute("SELECT event, unused, nid_packet, name, bit, bits, why FROM unused ORDER BY event, unused").fetchall()
+        self.assertEqual(rows, [(2, 0, 137, "Stop if in Staff Responsible", 50, 24, "not_known"), (2, 1, 136, "Infill location reference", 74, 38, "infill"),
+                                (3, 0, 99, None, 50, 30, "refused")])
+        connection.close()

@@ -141,11 +141,42 @@ def body_row(run):
         data = int(bits.ljust(-(-len(bits) // 8) * 8, "0"), 2).to_bytes(-(-len(bits) // 8), "big")
         _, out = run(slots_of([(1, blocks.data_of(blocks.block(3, 1, 1, 1, [blocks.entry(0, ("telegram", data))])))], 2), False)
         wanted = (f'"packets":[{{"packet":44,"fields":[["NID_PACKET",44],["Q_DIR",2],["L_PACKET",{23 + count}]],'
-                  f'"skipped_bits":{count},"body":"{digits}"}}],"bits":{81 + count}}}}}')
+                  f'"skipped_bits":{count},"body":"{digits}"}}],"bits":{81 + count}}},"unused":[{{"packet":44,'
+                  f'"name":"Data used by applications outside the ERTMS/ETCS system","bit":50,"bits":{23 + count},"why":"not_known"}}]}}')
         if not out.splitlines()[1].endswith(wanted):
             print(f"a body of {count} bits:\n  told   {out.splitlines()[1]}\n  wanted {wanted}")
             wrong += 1
     print(f"events: 5 bodies of packets by hand, {wrong} differ")
+    return wrong
+
+
+def unused_row(run):
+    """By hand, after SUBSET-026, 7.4.2 and 8.4.2: packets that no mode uses in any direction, and why."""
+    header = "1" "0010000" "0" "000" "000" "00" "11111111" "0000000001" "00000000000010" "1"
+    stop = "10001001" "10" "0000000011000" "0"  # 137, both directions, 24 bits, Q_SRSTOP 0
+    nominal = "01000010" "01" "0000000011111" "00000001"  # 66, nominal, 31 bits, NID_TSR 1
+    infill = "10001000" "10" "0000000100110" "0" "00000000000011"  # 136, both, 38 bits, Q_NEWCOUNTRY 0, NID_BG 3
+    nameless = "01100011" "00" "0000000010111"  # 99, reverse, 23 bits
+    spare = "01000010" "11" "0000000011111" "00000001"  # 66 with a spare Q_DIR
+    rows = [
+        ("none", nominal, []),
+        ("one that is skipped", stop + nominal, [(137, "Stop if in Staff Responsible", 50, 24, "not_known")]),
+        ("behind infill", nominal + infill + nominal + stop, [
+            (136, "Infill location reference", 81, 38, "infill"), (66, "Temporary Speed Restriction Revocation", 119, 31, "infill"),
+            (137, "Stop if in Staff Responsible", 150, 24, "infill")]),
+        ("without a name", nameless + stop, [(99, None, 50, 23, "not_known"), (137, "Stop if in Staff Responsible", 73, 24, "not_known")]),
+        ("refused", stop + spare, [(137, "Stop if in Staff Responsible", 50, 24, "refused"), (66, "Temporary Speed Restriction Revocation", 74, 31, "refused")]),
+    ]
+    wrong = 0
+    for what, packets, wanted in rows:
+        bits = header + packets + "11111111"
+        data = int(bits.ljust(-(-len(bits) // 8) * 8, "0"), 2).to_bytes(-(-len(bits) // 8), "big")
+        _, out = run(slots_of([(1, blocks.data_of(blocks.block(3, 1, 1, 1, [blocks.entry(0, ("telegram", data))])))], 2), False)
+        found = [tuple(one.values()) for one in json.loads(out.splitlines()[1])["unused"]]
+        if found != wanted:
+            print(f"unused, {what}:\n  told   {found}\n  wanted {wanted}")
+            wrong += 1
+    print(f"events: {len(rows)} telegrams with packets that no mode uses by hand, {wrong} differ")
     return wrong
 
 
@@ -178,7 +209,7 @@ def main(words):
         for name, image in all_images(rings, seed):
             for all_blocks in (False, True):
                 count.compare(f"{name}, {'all' if all_blocks else 'journal'}", *run(image, all_blocks), image, all_blocks)
-        wrong = markup_row(run) + by_hand_rows(run) + body_row(run)
+        wrong = markup_row(run) + by_hand_rows(run) + body_row(run) + unused_row(run)
     return 1 if count.end() or wrong else 0
 
 

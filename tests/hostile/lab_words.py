@@ -36,7 +36,8 @@ def laid(folder):
 
 def all_words(files):
     """Each command with each of its options, on each of its files."""
-    rows = [["--help"], ["telegram", "--schema"], ["telegram", "-"], ["decode", AUTHORITY], ["decode", "--json", AUTHORITY], ["decode", "9"], ["decode", "--json", "90"]]
+    rows = [["--help"], ["telegram", "--schema"], ["telegram", "-"], ["decode", AUTHORITY], ["decode", "--json", AUTHORITY], ["decode", "9"], ["decode", "--json", "90"],
+            ["packets", AUTHORITY], ["packets", "--json", AUTHORITY], ["packets", "90"]]
     for image in ("image", "altered"):
         rows += [[word, *option, files[image]] for word, option in (
             ("examine", []), ("examine", ["--json"]), ("events", []), ("events", ["--all"]), ("replay", []), ("replay", ["--json"]), ("why", []), ("why", ["--json"]))]

@@ -42,7 +42,7 @@ IMAGES, SEED = 200, 44
 LIVES, EACH = 25, 7
 """Images of each kind of lives; of the events of which nothing new is told each seventh is compared."""
 LEAST_KNOWN, LEAST_UNKNOWN, LEAST_TRIPS = 150, 20, 3
-LEAST_RECORDS, LEAST_INTERVENTIONS, LEAST_TELEGRAMS = 4_000, 500, 300
+LEAST_RECORDS, LEAST_INTERVENTIONS, LEAST_TELEGRAMS, LEAST_UNUSED = 4_000, 500, 300, 100
 PLAIN = ("block event life kind time_ms mode level brake place_cm uncertainty_cm min_safe_front_cm max_safe_front_cm limit_m_per_h movement_cm "
          "now_ms word action identity running_number chosen_level confirmed acknowledged length_cm maximum_m_per_h category "
          "deceleration_cm_per_s2 reaction_ms telegram").split()
@@ -101,6 +101,16 @@ def wanted_row(record, beside):
     return {name: "" if value is None else str(value) for name, value in row.items()}
 
 
+def unused_in(record):
+    """The packets of a telegram that no mode uses in any direction, as dictionaries."""
+    return list(map(dict, record.get("unused", ())))
+
+
+def not_obeyed(record):
+    """These as a column tells them."""
+    return ", ".join(f"{one['packet']} {one['why']}" for one in unused_in(record)) or None
+
+
 def wanted_runs(records, holds):
     """First and last event of each run of records, going on, for which something holds."""
     runs = []
@@ -122,14 +132,15 @@ def is_above(record, speed):
 class Count(Compared):
     def __init__(self):
         super().__init__()
-        self.images = self.records = self.interventions = self.telegrams = self.pages = self.strayed = 0
+        self.images = self.unused = self.records = self.interventions = self.telegrams = self.pages = self.strayed = 0
         self.strays = Counter()
 
     def end(self):
         print(f"lab: {self.records} records of {self.images} images, {self.interventions} interventions, {self.telegrams} telegrams, "
+              f"{self.unused} packets that no mode uses, "
               f"{self.strays['damaged']} records of damaged blocks and {self.strays['misplaced']} of misplaced ones, also on {self.pages} "
               f"pages: {self.count} comparisons, {self.differ} differ")
-        few = self.records < LEAST_RECORDS or self.interventions < LEAST_INTERVENTIONS or self.telegrams < LEAST_TELEGRAMS
+        few = self.unused < LEAST_UNUSED or self.records < LEAST_RECORDS or self.interventions < LEAST_INTERVENTIONS or self.telegrams < LEAST_TELEGRAMS
         few = few or self.pages < LEAST_PAGES or any(self.strays[source] < least for source, least in LEAST_STRAYS.items())
         if few:
             print("too little was tried")
@@ -140,7 +151,7 @@ def compare_table(count, name, journal, records):
     """The table, as it comes out of its CSV text."""
     table = tables.frame(journal)
     rows = list(csv.DictReader(io.StringIO(tables.csv_text(table))))
-    wanted = [wanted_row(record, {"speed_m_per_h": speed}) for record, speed, _ in with_speeds(records)]
+    wanted = [wanted_row(record, {"speed_m_per_h": speed, "not_obeyed": not_obeyed(record)}) for record, speed, _ in with_speeds(records)]
     got = [{key: row.get(key, "") for key in (wanted[0] if wanted else ())} for row in rows]
     count.same(f"{name}, rows", len(got), len(wanted))
     for one, other in zip(got, wanted):
@@ -179,7 +190,7 @@ def compare_database(count, name, connection, journal, table, records):
     columns = [column for column in PLAIN if column != "telegram"] + ["reading_m_per_h", "speed_m_per_h"] + [f"shows_{sign}" for sign in SIGNS]
     rows = {row[:2]: list(row[2:]) for row in connection.execute(
         f"SELECT block, event, {', '.join(columns)} FROM event WHERE image = ?", [image])}
-    wanted, digits, fields = {}, {}, []
+    wanted, digits, fields, unused = {}, {}, [], []
     for record, speed, _ in with_speeds(records):
         key = record["block"], record["event"]
         values = {**record, "reading_m_per_h": record.get("speed_m_per_h"), "speed_m_per_h": speed}
@@ -191,12 +202,16 @@ def compare_database(count, name, connection, journal, table, records):
             digits[key] = record["telegram"]
             for place, packet in enumerate(dict(record["decoded"]).get("packets", ())):
                 fields += [(*key, place, at, *pair) for at, pair in enumerate(dict(packet)["fields"])]
+            unused += [(*key, place, *one.values()) for place, one in enumerate(unused_in(record))]
     count.same(f"{name}, database", rows, wanted)
     count.same(f"{name}, telegrams", {row[:2]: row[2] for row in connection.execute(
         "SELECT block, event, digits FROM telegram WHERE image = ?", [image])}, digits)
     count.same(f"{name}, fields", sorted(connection.execute(
         "SELECT block, event, packet, field, name, value FROM field WHERE image = ?", [image])), sorted(fields))
+    count.same(f"{name}, packets that no mode uses", sorted(connection.execute(
+        "SELECT block, event, unused, nid_packet, name, bit, bits, why FROM unused WHERE image = ?", [image]), key=str), sorted(unused, key=str))
     count.telegrams += len(digits)
+    count.unused += len(unused)
     return image
 
 

@@ -18,6 +18,9 @@ carries, how one is written, and what is wrong in a scenario.
                                      or of this one, which causes of its brake hold, since which event, how each ends,
                                      and what decides its limit; and which events can't be replayed, and why
   etcs_lab decode [--json] HEX       tells what the digits of a telegram carry, as etcs decode does, or as JSON
+  etcs_lab packets [--json] HEX      tells the packets of a telegram by name, as issue 2.3.0 has them: where each stands,
+                                     its fields, and why no mode uses it in any direction; also of a telegram that is
+                                     refused
   etcs_lab telegram FILE             writes the digits of the telegram that a file tells in that JSON; - is standard
                                      input; packet, bits and each L_PACKET may be left out, no name comes twice
   etcs_lab telegram --schema         prints the JSON Schema of a telegram
@@ -39,8 +42,8 @@ carries, how one is written, and what is wrong in a scenario.
   memory is refused or nothing can be written, which is said   2 wrong words   3 a file or the device
   4 something is lost, damaged, contradicts or differs, or lint has something to tell; all that can be read was told
 
-examine, replay, check, why and lint print lines, or with --json JSON: examine one object, the others one a line. Errors
-go to standard error. Behind -- a word may begin with -.
+examine, replay, check, why, packets and lint print lines, or with --json JSON: examine and packets one object, the
+others one a line. Errors go to standard error. Behind -- a word may begin with -.
 The image is opened for reading alone, and may be a file that can't be written. It is a file or a block device.
 
 Take a digest of the image before anything reads it, and work on a copy. The journal has no checksum and no

@@ -9,6 +9,7 @@ mod help;
 mod images;
 mod linted;
 mod listed;
+mod packets;
 mod played;
 mod program;
 mod replayed;

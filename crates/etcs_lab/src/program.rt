@@ -5,6 +5,7 @@ use crate::examined::examined;
 use crate::help::HELP;
 use crate::linted::linted;
 use crate::listed::events_told;
+use crate::packets::packets_told;
 use crate::played::played;
 use crate::replayed::replayed;
 use crate::status::{Status, text_told, usage};
@@ -34,6 +35,7 @@ pub(crate) fn answer<R: Files<File = File> + Input + AllocGlobal + Eprint, W: Wr
         Some(Asked::Adapt(digits)) => adapted_told(rt, digits, out),
         Some(Asked::Schema) => text_told(rt, SCHEMA, "--schema", out),
         Some(Asked::Decode(digits, is_json)) => decode_told(rt, digits, is_json, out),
+        Some(Asked::Packets(digits, form)) => packets_told(rt, digits, form, out),
         Some(Asked::Lint(scenario, is_json)) => linted(rt, scenario, is_json, out),
         Some(Asked::Run(scenario)) => played(rt, scenario, out),
         None => usage(rt),

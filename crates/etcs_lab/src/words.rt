@@ -29,6 +29,8 @@ pub(crate) enum Asked<'a> {
     Schema,
     /// To decode digits, in lines or as JSON.
     Decode(&'a str, bool),
+    /// The packets of a telegram by name, by its digits.
+    Packets(&'a str, Form),
     /// What is wrong in a scenario, in lines or as JSON.
     Lint(&'a str, bool),
     /// To play a scenario.
@@ -87,6 +89,10 @@ fn other_command<'a>(name: &str, words: &'a [String]) -> Option<Asked<'a>> {
         (None, None) if name == "telegram" && has_option => Some(Asked::Schema),
         (Some(file), None) if name == "telegram" && !has_option => Some(Asked::Telegram(file)),
         (Some(digits), None) if name == "decode" => Some(Asked::Decode(digits, has_option)),
+        (Some(digits), None) if name == "packets" => Some(Asked::Packets(
+            digits,
+            form_of(has_option),
+        )),
         (Some(scenario), None) if name == "lint" => Some(Asked::Lint(scenario, has_option)),
         (Some(scenario), None) if name == "run" => Some(Asked::Run(scenario)),
         _ => None,

@@ -4,9 +4,11 @@ use Rattle.std.specs.Prelude.{◌≡◌, ℕ, false, List, [], ◌∷◌, length
 use Rattle.balise_groups.specs.Telling.{before_infill}
 use Rattle.mode_table.specs.declared.mode.Mode.{Mode}
 use Rattle.packets.specs.declared.packet.Packet.{Packet}
+use Rattle.telegram.specs.Telegrams.{header_bits}
 use Rattle.track_picture.specs.Sentences.{is_used}
 use Rattle.vars.specs.declared.linking.LinkOrientation.{LinkOrientation}
 use Rattle.packet_uses.specs.Calls.{is_unused}
+use Rattle.packet_uses.specs.Never.{never_used_among, never_used_of}
 use Rattle.packet_uses.specs.Telling.{told_from}
 use Rattle.packet_uses.specs.declared.telling.ToldPacket.{ToldPacket}
 
@@ -26,3 +28,9 @@ ToldAsUsedIsUsed =
     (mode : Mode) (direction : Option LinkOrientation) (start : ℕ) (packets : List Packet)
     → (length (told_from mode direction false start packets) ≡ length packets)
     × (used_among packets (told_from mode direction false start packets) ≡ filter (is_used mode direction) (before_infill packets))
+
+-- The same packets are told as never used, whatever the mode and the direction.
+abbrev pub NeverUsedIsSo : Type 0
+NeverUsedIsSo =
+    (mode : Mode) (direction : Option LinkOrientation) (packets : List Packet)
+    → never_used_among (told_from mode direction false header_bits packets) ≡ never_used_of packets

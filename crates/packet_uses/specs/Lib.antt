@@ -1,4 +1,5 @@
 pub mod Calls
 pub mod Fates
 pub mod Laws
+pub mod Never
 pub mod Telling

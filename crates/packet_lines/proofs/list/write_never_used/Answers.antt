@@ -1,0 +1,7 @@
+use Rattle.std.proofs.lemmas.Result.{on_ok_weaker}
+use Rattle.packet_lines.proofs.list.write_never_used.Goals as goal
+
+pub returns : goal.returns
+returns g c =
+    on_ok_weaker c.write_told.result (λ list.
+    (c.never_used_packets-told.result.items, c.never_used_packets-told.ensures, rw (c.as_slice.ensures.value) at list)) c.write_told.ensures

@@ -1,0 +1,61 @@
+-- Packets that are never used are the same whatever the mode and the direction.
+use Rattle.std.proofs.Common.{◌≡◌, ℕ, ◌+◌, ◌==◌, Bool, true, false, ◌||◌, if◌then◌else◌, List, [], ◌∷◌, Option, Some, None, refl, sym, ap, ◌∙◌}
+use Rattle.balise_groups.specs.Telling.{infill}
+use Rattle.mode_table.specs.Packets.{uses}
+use Rattle.mode_table.specs.declared.mode.Mode.{Mode}
+use Rattle.mode_table.specs.declared.mode.Mode.TheVariants.{FullSupervision}
+use Rattle.packets.specs.Packets.{length_of, number_of}
+use Rattle.packets.specs.declared.packet.Packet.{Packet}
+use Rattle.track_packets.specs.declared.listing.PacketPlace.{PacketPlace}
+use Rattle.track_picture.specs.Sentences.{is_valid, valid_in}
+use Rattle.vars.specs.declared.linking.LinkOrientation.{LinkOrientation}
+use Rattle.vars.specs.declared.packet_head.ValidityDirection.{ValidityDirection}
+use Rattle.packet_uses.specs.Fates.{fate_by}
+use Rattle.packet_uses.specs.Never.{is_never_used, never_used_among}
+use Rattle.packet_uses.specs.Telling.{refused_of, told_from}
+use Rattle.packet_uses.specs.declared.fate.Fate.TheVariants.{Used, OtherDirection, NotInMode, NotKnown, Infill, Refused}
+use Rattle.packet_uses.specs.declared.telling.ToldPacket.{ToldPacket}
+
+-- ---- a telegram that is refused
+
+pub all_refused : (ps : List PacketPlace) → never_used_among (refused_of ps) ≡ refused_of ps
+all_refused [] = refl
+all_refused (p ∷ ps) = ap (λ (xs : List ToldPacket). record { number = p.number; start = p.start; length = p.length; fate = Refused } ∷ xs) (all_refused ps)
+
+-- ---- a telegram that is carried
+
+by_table : (used valid : Bool) → is_never_used (if used then (if valid then Used else OtherDirection) else NotInMode) ≡ false
+by_table true true = refl
+by_table true false = refl
+by_table false true = refl
+by_table false false = refl
+
+by_valid : (mode : Mode) (direction : Option LinkOrientation) (number start length : ℕ) (valid : Option ValidityDirection) (ps qs : List ToldPacket)
+    → never_used_among ps ≡ never_used_among qs
+    → never_used_among (record { number = number; start = start; length = length; fate = fate_by mode direction number valid } ∷ ps)
+    ≡ never_used_among (record { number = number; start = start; length = length; fate = fate_by FullSupervision None number valid } ∷ qs)
+by_valid mode direction number start length None ps qs e =
+    ap (λ (xs : List ToldPacket). record { number = number; start = start; length = length; fate = NotKnown } ∷ xs) e
+by_valid mode direction number start length (Some v) ps qs e =
+    ap (λ b. if b then record { number = number; start = start; length = length; fate = fate_by mode direction number (Some v) } ∷ never_used_among ps else never_used_among ps)
+    (by_table (uses mode number) (is_valid v direction))
+    ∙ e
+    ∙ sym (ap (λ b. if b then record { number = number; start = start; length = length; fate = fate_by FullSupervision None number (Some v) } ∷ never_used_among qs else never_used_among qs)
+    (by_table (uses FullSupervision number) (is_valid v None)))
+
+step : (mode : Mode) (direction : Option LinkOrientation) (behind : Bool) (start : ℕ) (p : Packet) (ps : List Packet) (is_behind : Bool)
+    → (behind || (number_of p == infill)) ≡ is_behind
+    → never_used_among (told_from mode direction is_behind (start + length_of p) ps) ≡ never_used_among (told_from FullSupervision None is_behind (start + length_of p) ps)
+    → never_used_among (told_from mode direction behind start (p ∷ ps)) ≡ never_used_among (told_from FullSupervision None behind start (p ∷ ps))
+step mode direction behind start p ps true e rest =
+    rw e (ap (λ (xs : List ToldPacket). record { number = number_of p; start = start; length = length_of p; fate = Infill } ∷ xs) rest)
+step mode direction behind start p ps false e rest =
+    rw e (by_valid mode direction (number_of p) start (length_of p) (valid_in p) (told_from mode direction false (start + length_of p) ps)
+    (told_from FullSupervision None false (start + length_of p) ps) rest)
+
+pub whatever : (mode : Mode) (direction : Option LinkOrientation) (behind : Bool) (start : ℕ) (ps : List Packet)
+    → never_used_among (told_from mode direction behind start ps) ≡ never_used_among (told_from FullSupervision None behind start ps)
+whatever mode direction behind start [] = refl
+whatever mode direction behind start (p ∷ ps) =
+    step mode direction behind start p ps (behind || (number_of p == infill)) refl
+    (whatever mode direction (behind || (number_of p == infill)) (start + length_of p) ps)

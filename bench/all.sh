@@ -3,13 +3,13 @@
 # run behind it. What the builds have to say goes to bench/out/said. With UNPROVED=yes the parts that know it compile the product without a
 # proof (bench/unproved): their rows are kept apart.
 #
-#     bench/all.sh [--keep] [PART..]    the parts: measure kernel blocks journal onboard run program worst mixed; with --keep the new rows are kept
+#     bench/all.sh [--keep] [PART..]    the parts: measure kernel blocks journal onboard rows run program worst mixed; with --keep the new rows are kept
 top=$(cd "$(dirname "$(readlink -f -- "$0")")/.." && pwd) || exit 1
 out=$top/bench/out
 mkdir -p "$out/printed"
 keep=
 [ "${1:-}" != --keep ] || { keep=--keep; shift; }
-[ $# -gt 0 ] || set -- measure kernel blocks journal onboard run program worst mixed
+[ $# -gt 0 ] || set -- measure kernel blocks journal onboard rows run program worst mixed
 : >"$out/said"
 status=0
 for part in "$@"; do

@@ -19,9 +19,11 @@ typedef uint64_t once(const uint8_t *bytes, size_t len);
 /* A call that makes its own runs over one place in memory. */
 typedef uint64_t many(const uint8_t *bytes, size_t len, uint32_t runs);
 
+#ifndef CALLS_ALONE /* without crates/etcs_c */
 static uint64_t decode_number(const uint8_t *bytes, size_t len) { return etcs_decode(bytes, len); }
 
 static uint64_t packet_count(const uint8_t *bytes, size_t len) { return etcs_packet_count(bytes, len); }
+#endif
 
 static const struct {
     const char *name;
@@ -33,8 +35,10 @@ static const struct {
     {"encode", NULL, bench_encode},
     {"walk", bench_walk, NULL},
     {"walk_into", bench_walk_into, NULL},
+#ifndef CALLS_ALONE
     {"etcs_decode", decode_number, NULL},
     {"etcs_packet_count", packet_count, NULL},
+#endif
 };
 
 static uint64_t repeat(once *call, const uint8_t *bytes, size_t len, uint32_t runs) {
@@ -71,10 +75,12 @@ int main(int argc, char **argv) {
     }
     size_t len = from_hex(argv[2], bytes, sizeof bytes);
     uint32_t runs = (uint32_t)strtoul(argv[3], NULL, 10);
+#ifndef CALLS_ALONE
     if (etcs_decode(bytes, len) != ETCS_OK) {
         fprintf(stderr, "no telegram: %s\n", argv[2]);
         return 2;
     }
+#endif
     for (size_t i = 0; i < sizeof calls / sizeof calls[0]; i++) {
         if (strcmp(argv[1], calls[i].name) == 0) {
             uint64_t sum = calls[i].once ? repeat(calls[i].once, bytes, len, runs)

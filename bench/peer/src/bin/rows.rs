@@ -145,6 +145,20 @@ fn batch(first: u64) -> Vec<Record> {
         .collect()
 }
 
+/// Telegrams of 104 bytes, readings, moments and a driver's actions in turn, as in bench/calls/blocks.
+fn mixed() -> Vec<Record> {
+    let mut records = batch(0);
+    for (k, r) in records.iter_mut().enumerate() {
+        (r.kind, r.payload) = match k % 4 {
+            0 => (RecordKind::Telegram, Payload::new(&[0x90; 104])),
+            1 => (RecordKind::Odometer, Payload::new(&[0, 0, 0, 100, 0, 1, 0x86, 0xA0])),
+            2 => (RecordKind::Clock, Payload::new(&[0, 0, 0, 0, 0, 0, 3, 0xE8])),
+            _ => (RecordKind::Driver, Payload::new(&[6])),
+        };
+    }
+    records
+}
+
 fn main() {
     let w: Vec<String> = std::env::args().skip(1).collect();
     let w: Vec<&str> = w.iter().map(String::as_str).collect();
@@ -253,7 +267,7 @@ fn main() {
             let (s, _) = State::first(Cold::Unknown);
             let mut k = s.kept();
             k.events = 8;
-            let r = batch(0);
+            let r = mixed();
             let mut o = [0; BLOCK];
             let mut sum = 0;
             for _ in 0..n.parse::<u32>().unwrap() {

@@ -201,11 +201,11 @@ def draw_marks(main: Any, picture: Picture, table: pd.DataFrame, x: Any, speed: 
     at = {row: place for place, row in enumerate(table.index)}
     shown = [(row, at[row]) for row in list(picture.marks)[:MOST_MARKS] if row in at]
     label: str | None = "possible front"
+    fronts = np.array([numbers(table, name) / 100 for name in ("min_safe_front_cm", "max_safe_front_cm")])
     for row, place in shown:
         height = 0.0 if np.isnan(speed[place]) else speed[place]
-        fronts = [numbers(table.iloc[[place]], name)[0] / 100 for name in ("min_safe_front_cm", "max_safe_front_cm")]
-        if picture.axis == "distance" and not np.isnan(fronts).any() and len(table) <= 150:
-            main.plot(fronts, [height] * 2, color=SPEED, lw=4, alpha=0.22, solid_capstyle="butt", zorder=4, label=label)
+        if picture.axis == "distance" and not np.isnan(fronts[:, place]).any() and len(table) <= 150:
+            main.plot(fronts[:, place], [height] * 2, color=SPEED, lw=4, alpha=0.22, solid_capstyle="butt", zorder=4, label=label)
             label = None
         dot, = main.plot([x[place]], [height], "o", mfc="white", mec=SPEED, mew=1, ms=5, zorder=5, clip_on=False)
         dot.set_gid(f"p{row}" if picture.has_anchors else f"to{row}")

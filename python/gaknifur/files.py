@@ -173,11 +173,12 @@ def check_all(outs: Iterable[Out], inputs: Iterable[Path] = (), others: Iterable
         seen.add(real)
 
 
-def write(out: Out, data: str | bytes, inputs: Iterable[Path] = ()) -> None:
-    """Makes a file, whole or not at all."""
+def write(out: Out, data: str | bytes | Iterable[str], inputs: Iterable[Path] = ()) -> None:
+    """Makes a file, whole or not at all, of a text, of bytes, or of parts of a text, which needn't be in memory at once."""
     before = check(out, inputs)
+    parts = (data,) if isinstance(data, str | bytes) else data
     try:
-        put(Path(os.path.realpath(out.path)), data.encode() if isinstance(data, str) else data, before)
+        put(Path(os.path.realpath(out.path)), (part if isinstance(part, bytes) else part.encode() for part in parts), before)
     except FileExistsError as error:
         raise refused(out.path, "is there since a moment ago; nothing writes over it") from error
     except OSError as error:
@@ -206,10 +207,10 @@ def filled(path: Path, before: os.stat_result | None = None) -> Iterator[BinaryI
         beside.unlink(missing_ok=True)
 
 
-def put(path: Path, data: bytes, before: os.stat_result | None) -> None:
+def put(path: Path, data: Iterable[bytes], before: os.stat_result | None) -> None:
     """Makes a file of these bytes."""
     with filled(path, before) as file:
-        file.write(data)
+        file.writelines(data)
 
 
 @contextlib.contextmanager
@@ -256,7 +257,7 @@ def sync_folder(folder: Path) -> None:
 
 def write_new(path: Path, data: bytes) -> None:
     """Makes a file that isn't there yet; FileExistsError where it is."""
-    put(Path(os.path.realpath(path)), data, None)
+    put(Path(os.path.realpath(path)), (data,), None)
 
 
 def sync_file(path: Path) -> None:

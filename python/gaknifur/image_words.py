@@ -1,7 +1,7 @@
 """The words of `./lab` that make a file of an image: `table`, `timeline`, `database` and `report`."""
 import argparse
 import sys
-from collections.abc import Callable
+from collections.abc import Callable, Iterable
 from importlib.util import find_spec
 from pathlib import Path
 
@@ -87,10 +87,10 @@ def take_times(journal: Journal, told: argparse.Namespace) -> None:
         journal.times = times.Times.of(journal, path, times.DRIFT_PPM if told.drift is None else told.drift)
 
 
-def write(out: files.Out | None, text: str | bytes, source: Path) -> None:
+def write(out: files.Out | None, text: str | bytes | Iterable[str], source: Path) -> None:
     """Writes to a file, or to standard output."""
     if out is None:
-        sys.stdout.write(text if isinstance(text, str) else text.decode())
+        sys.stdout.writelines([text.decode()] if isinstance(text, bytes) else [text] if isinstance(text, str) else text)
         sys.stdout.flush()
     else:
         files.write(out, text, [source])
@@ -118,7 +118,7 @@ def write_table(told: argparse.Namespace, progress: Progress) -> int:
     from . import tables, timeline
     table = tables.strays(journal) if told.damaged else tables.frame(journal)
     says = [f"sha256 {journal.sha256}", *([journal.times.says()] if journal.times else [])]
-    write(out, timeline.workbook(tables.written(table), says) if is_book else tables.csv_text(table), told.image)
+    write(out, timeline.workbook(tables.written(table), says) if is_book else tables.csv_parts(table), told.image)
     return note(journal)
 
 

@@ -25,7 +25,7 @@ stands in the image, and of those above what it tells by itself. Of a damaged bl
 its head tells none.
 """
 import itertools
-from collections.abc import Callable, Iterable, Sequence
+from collections.abc import Callable, Iterable, Iterator, Sequence
 from operator import itemgetter
 from typing import Any
 
@@ -312,7 +312,13 @@ def written(table: pd.DataFrame) -> pd.DataFrame:
     return table.drop(columns=["decoded", "unused", "held", "trip", "why"], errors="ignore")
 
 
+def csv_parts(table: pd.DataFrame) -> Iterator[str]:
+    """The table as comma-separated values, so many rows at once; nothing stands where nothing is known."""
+    told = written(table)
+    for at in range(0, max(len(told), 1), AT_ONCE):
+        yield told.iloc[at:at + AT_ONCE].to_csv(index=False, header=at == 0, lineterminator="\n")
+
+
 def csv_text(table: pd.DataFrame) -> str:
-    """The table as comma-separated values; nothing stands where nothing is known."""
-    text: str = written(table).to_csv(index=False, lineterminator="\n")
-    return text
+    """The same as one text."""
+    return "".join(csv_parts(table))

@@ -57,9 +57,12 @@ class Columns(unittest.TestCase):
         told = journal(record(0, "powerup"), reading(1, 30_000), record(2, "telegram", telegram="90", decoded=AUTHORITY),
                        action(3, "enter_identity", identity="IC"), record(4, level=None, uncertainty_cm=2**64 - 1), record(5, source="replaced"))
         whole = tables.frame(told)
+        text = tables.csv_text(whole)
         for count in (1, 2, 5):
             with patch.object(tables, "AT_ONCE", count):
                 pd.testing.assert_frame_equal(tables.frame(told), whole)
+                self.assertEqual(tables.csv_text(whole), text)
+        self.assertEqual(len(text.splitlines()), 7)
 
     def test_no_record(self) -> None:
         table = tables.frame(journal())

@@ -71,11 +71,12 @@ class History:
         """What an accepted entry, a confirmation, a level that came into force and the modes entered made of an item."""
         item = self.begun.items[name]
         for entry in self.entries:
-            word, value = entry.accepted or (None, None)
-            if driver.ENTERED.get(word) == name:
-                item = Item(VALID, driver.entered(word, value))
-            if word == "confirm" and value == name:
-                item = Item(VALID, item.value)
+            if entry.accepted:
+                word, value = entry.accepted
+                if driver.ENTERED.get(word) == name:
+                    item = Item(VALID, driver.entered(word, value))
+                if word == "confirm" and value == name:
+                    item = Item(VALID, item.value)
             if name == "level" and entry.came_in is not None:
                 item = Item(VALID, entry.came_in)
             if entry.entered:
@@ -146,12 +147,14 @@ class History:
 
     def facts_of(self, *kinds):
         """The live facts of some packets: those that no mode entered by their own or a later entry deletes."""
+        found = [fact for fact in self.facts if fact.packet.kind in kinds]
+        if not found:
+            return []
         last = {}
         for at, entry in enumerate(self.entries):
-            for kind in kinds:
-                if entry.entered and fate(ITEM_OF[kind], entry.entered) == "D":
-                    last[kind] = at
-        return [fact for fact in self.facts if fact.packet.kind in kinds and fact.entry > last.get(fact.packet.kind, -1)]
+            if entry.entered:
+                last.update((kind, at) for kind in kinds if fate(ITEM_OF[kind], entry.entered) == "D")
+        return [fact for fact in found if fact.entry > last.get(fact.packet.kind, -1)]
 
     def gradients(self):
         return Profile([gradient_steps(fact) for fact in self.facts_of(21)], self.mark)

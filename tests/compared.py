@@ -41,9 +41,9 @@ def run(program, words, text=None, **how):
     """What a program prints, what it says, and its status; `text` stands on its standard input, and the program may
     have words of its own."""
     first = program if isinstance(program, (list, tuple)) else [program]
-    if text is None and not how and threading.current_thread() is threading.main_thread():
+    if text is None and not how.keys() - {"env"} and threading.current_thread() is threading.main_thread():
         try:
-            status, printed, said = ran([*map(str, first), *map(str, words)])
+            status, printed, said = ran([*map(str, first), *map(str, words)], **how)
         except TimeoutError:
             return "", "", "no end"
         return printed.decode(), said.decode(), status

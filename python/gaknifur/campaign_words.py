@@ -6,7 +6,7 @@ import re
 from collections.abc import Callable
 from pathlib import Path
 
-from . import campaign, files
+from . import campaign, campaign_table, files
 from .program import NOT_WHOLE, REFUSED, WRONG_WORDS, Failed
 from .reading import Progress
 from .shown import shown
@@ -49,7 +49,7 @@ def play_campaign(told: argparse.Namespace, progress: Progress) -> int:
     out = files.Out(told.csv, files.CAMPAIGN_TABLE, told.force) if told.csv else None
     files.check_all([out] if out else [], [told.out], [told.out])
     jobs: list[campaign.Job] = list(campaign.of_folder(told.folder, told.slots)) if told.folder else []
-    table = campaign.Table(told.out, campaign.settings_of())
+    table = campaign_table.Table(told.out, campaign_table.settings_of())
     played = 0
 
     def take(row: campaign.Row) -> None:
@@ -70,9 +70,9 @@ def play_campaign(told: argparse.Namespace, progress: Progress) -> int:
         table.close()
         raise Failed(f"{played} played; the same command goes on", REFUSED) from None
     table.close()
-    rows, bad, first = campaign.unsound(told.out, SHOWN)
+    rows, bad, first = campaign_table.unsound(told.out, SHOWN)
     if out:
-        campaign.write_csv(told.out, out)
+        campaign_table.write_csv(told.out, out)
     print(f"{rows} rows, {played} of them played now; {bad} not sound")
     for row in first:
         print(shown(f"  {row['name']}: {row['ended']}{'; ' + row['first_missed'].splitlines()[0] if row['first_missed'] else ''}"))
@@ -81,7 +81,7 @@ def play_campaign(told: argparse.Namespace, progress: Progress) -> int:
 
 def compare_campaigns(told: argparse.Namespace, progress: Progress) -> int:
     """The word `compare`."""
-    found = list(campaign.differences(told.first, told.second))
+    found = list(campaign_table.differences(told.first, told.second))
     for line in found:
         print(shown(line))
     print(f"{len(found)} rows differ")

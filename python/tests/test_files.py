@@ -11,7 +11,7 @@ from collections.abc import Callable
 from pathlib import Path
 from unittest.mock import patch
 
-from gaknifur import campaign, closed_loop, database, drive_words, drives, files, scenarios, tables
+from gaknifur import campaign_table, closed_loop, database, drive_words, drives, files, scenarios, tables
 from gaknifur.__main__ import main
 from gaknifur.driving import Driven
 from gaknifur.files import Out
@@ -175,7 +175,7 @@ class Words(Room):
                 forces: list[list[str]] = [[], ["--force"] if words[0] != "database" else []]
                 for force in forces:
                     said = io.StringIO()
-                    with contextlib.redirect_stderr(said), patch("gaknifur.campaign.settings_of", dict):
+                    with contextlib.redirect_stderr(said), patch("gaknifur.campaign_table.settings_of", dict):
                         self.assertEqual(main([*words, *force]), REFUSED, words)
                     self.assertEqual(len(said.getvalue().splitlines()), 1)
                     tried += 1
@@ -287,9 +287,9 @@ class Databases(Room):
         for name in NAMES:
             path = self.room / name
             database.open_database(path).close()
-            campaign.Table(path.with_name(f"{name}.c"), {"a": "b"}).close()
-            self.assertEqual(campaign.rows_of(path.with_name(f"{name}.c")), {})
-            campaign.write_csv(path.with_name(f"{name}.c"), Out(path.with_name(f"{name}.csv"), files.CAMPAIGN_TABLE))
+            campaign_table.Table(path.with_name(f"{name}.c"), {"a": "b"}).close()
+            self.assertEqual(campaign_table.rows_of(path.with_name(f"{name}.c")), {})
+            campaign_table.write_csv(path.with_name(f"{name}.c"), Out(path.with_name(f"{name}.csv"), files.CAMPAIGN_TABLE))
             self.assertTrue(files.CAMPAIGN_TABLE.is_own(path.with_name(f"{name}.csv").read_bytes()))
         self.assertEqual(self.names(), sorted(name + end for name in NAMES for end in ("", ".c", ".csv")))
 
@@ -298,7 +298,7 @@ class Databases(Room):
         with sqlite3.connect(path) as connection:
             connection.execute("CREATE TABLE a (b)")
         connection.close()
-        campaign.Table(self.room / "campaign", {}).close()
+        campaign_table.Table(self.room / "campaign", {}).close()
         database.open_database(self.room / "journals").close()
         self.file("empty", b"")
         self.file("image", IMAGE)
@@ -307,8 +307,8 @@ class Databases(Room):
             if name != "journals":
                 self.assertRaises(Failed, database.open_database, self.room / name)
             if name != "campaign":
-                self.assertRaises(Failed, campaign.Table, self.room / name, {})
-                self.assertRaises(Failed, campaign.rows_of, self.room / name)
+                self.assertRaises(Failed, campaign_table.Table, self.room / name, {})
+                self.assertRaises(Failed, campaign_table.rows_of, self.room / name)
         self.assertEqual({name: (self.room / name).read_bytes() for name in self.names()}, before)
 
     def test_many_at_once(self) -> None:

@@ -9,7 +9,7 @@ from collections.abc import Mapping
 from pathlib import Path
 from unittest.mock import patch
 
-from gaknifur import campaign, last_net
+from gaknifur import campaign_table, last_net
 from gaknifur.shown import shown
 
 TOP = Path(__file__).resolve().parents[2]
@@ -193,7 +193,7 @@ class Nets(Room):
         self.assertEqual((status, (self.work / "out.json").read_text()), (0, self.lab("build", "a.yaml")[1]))
 
     def test_a_full_device_of_words_that_print(self) -> None:
-        campaign.Table(self.work / "a.db", {}).close()
+        campaign_table.Table(self.work / "a.db", {}).close()
         done = subprocess.run(["sh", "-c", '"$0" compare a.db a.db >/dev/full', TOP / "lab"], cwd=self.work, capture_output=True, text=True)
         self.assertEqual((done.returncode, done.stderr), (3, "lab: No space left on device\n"))
 

@@ -44,8 +44,7 @@ def limit_of(life, mode):
 
 def since(ends, moments):
     """The moments from the last one that ends a window on, that one included; all of them where none does."""
-    halts = [at for at, moment in enumerate(moments) if ends(moment)]
-    return moments[halts[-1] if halts else 0:]
+    return next((moments[at:] for at in reversed(range(len(moments))) if ends(moments[at])), moments)
 
 
 def moments_of(life, limit):

@@ -64,14 +64,15 @@ enum etcs_kind { ETCS_POWER_UP = 1, ETCS_TELEGRAM = 2, ETCS_ODOMETER = 3, ETCS_C
 /** Whether a datum may be relied on (SUBSET-026, 4.10). */
 enum etcs_datum { ETCS_DATUM_UNKNOWN = 0, ETCS_DATUM_VALID = 1, ETCS_DATUM_INVALID = 2 };
 
-/** What a life came to that was run through the kernel again. */
+/** What events of a life came to that were run through the kernel again, or a head. */
 enum etcs_verdict {
-    ETCS_VERDICT_AGREES = 1,         /**< each record and each head is what this kernel answers and keeps */
-    ETCS_VERDICT_RECORD_DIFFERS = 2, /**< a record differs: what is behind it wasn't compared */
-    ETCS_VERDICT_HEAD_DIFFERS = 3,   /**< the head of a block differs, likewise */
-    ETCS_VERDICT_BEFORE_OLDEST = 4,  /**< not run: its power-up, or the head before that, is in no slot any more */
-    ETCS_VERDICT_BEHIND_GAP = 5,     /**< not run: the block before can't be read, or its events aren't those before these */
-    ETCS_VERDICT_BEGINS_EARLIER = 6  /**< not run: it begins in a block before the one that the journal was at */
+    ETCS_VERDICT_AGREES = 1,           /**< each of these records is what this kernel answers */
+    ETCS_VERDICT_RECORD_DIFFERS = 2,   /**< this record differs: what is behind it in its life isn't run */
+    ETCS_VERDICT_HEAD_DIFFERS = 3,     /**< the head of a block differs: what is behind it is run on */
+    ETCS_VERDICT_BEFORE_OLDEST = 4,    /**< not run: the power-up of their life, or the head before that, is in no slot any more */
+    ETCS_VERDICT_BEHIND_GAP = 5,       /**< not run: a block before them can't be read, or events are missing before them */
+    ETCS_VERDICT_WITHIN_BLOCK = 6,     /**< not run: their life begins within a block behind events that aren't run, so that no head tells what was kept */
+    ETCS_VERDICT_BEHIND_DIFFERENCE = 7 /**< not run: they come behind a record that differs */
 };
 
 /** What of a record differs first, in the order in which it is compared. */
@@ -206,13 +207,13 @@ typedef struct {
     uint64_t index; /**< which of its records comes next */
 } etcs_journal;
 
-/** What a life came to that was run again. What isn't told is zero. */
+/** A line of a replay: events of one life that follow one another, or a head that differs. What isn't told is zero. */
 typedef struct {
-    uint64_t first_event; /**< the number of its first event that is there */
-    uint64_t last_event;  /**< that of its last one */
-    uint64_t block;       /**< of what differs first */
+    uint64_t first_event; /**< the number of the first event; 0 of a head */
+    uint64_t last_event;  /**< that of the last one; 0 of a head */
+    uint64_t block;       /**< of the record or head that differs */
     uint64_t event;       /**< of a record that differs */
-    uint32_t life;        /**< how many power-ups there were up to and with its last block */
+    uint32_t life;        /**< the number of its life: how many power-ups there were up to and with it */
     uint32_t verdict;     /**< enum etcs_verdict */
     uint32_t field;       /**< of a record enum etcs_record_field, of a head enum etcs_kept_field */
     uint32_t reserved;    /**< zero */
@@ -308,14 +309,15 @@ static inline uint32_t etcs_journal_next(const uint8_t *image, size_t size, etcs
     return ((image != NULL) && (journal != NULL) && (record != NULL)) ? etcs_journal_next_(image, size, journal, record) : (uint32_t)ETCS_UNIT_NULL_POINTER;
 }
 
-/** Runs the life through the kernel again that begins with the block at which the journal is, whatever its index, and
- * tells what it came to; then the journal is behind the last block of this life. So from etcs_journal_open on it tells
- * one life after the other, the oldest first, until END. A life ends before a power-up, before a block that can't be
- * read, and before one whose events don't follow; what is behind such a gap is told as a life of its own, which is
- * BEHIND_GAP. AGREES says that the journal is consistent with this kernel, and not that it is authentic
- * (crates/replaying/README.md). It takes memory. Answers OK, END, NOT_OPEN, OTHER_ABI, OUT_OF_RANGE, IMAGE_NOT_FORMATTED,
- * IMAGE_DAMAGED where the block can't be read: then the journal is behind that block; or NO_MEMORY, where the journal
- * stays. */
+/** The next line of a replay: the life of the record at which the journal is is run through the kernel again, from its
+ * power-up on, and what comes from this record on is told: events that agree, or why they aren't run, as many as follow
+ * one another in one life with one verdict; or the record that differs; or the head of a block that does. Then the
+ * journal is behind what was told. So from etcs_journal_open on it tells line by line what `etcs_lab replay` prints,
+ * until END. An index behind the last record of a block is the place of its head: only etcs_image_replay leaves a journal
+ * there. AGREES says that the journal is consistent with this kernel, and not that it is authentic
+ * (crates/replaying/README.md). Each call takes as long as the life is up to the end of the line. It takes memory. Answers
+ * OK, END, NOT_OPEN, OTHER_ABI, OUT_OF_RANGE, IMAGE_NOT_FORMATTED, IMAGE_DAMAGED where the next block can't be read: then
+ * the journal is at the block after that one; or NO_MEMORY. With END and NO_MEMORY the journal stays. */
 static inline uint32_t etcs_image_replay(const uint8_t *image, size_t size, etcs_journal *journal, etcs_replay *replay) {
     return ((image != NULL) && (journal != NULL) && (replay != NULL)) ? etcs_image_replay_(image, size, ETCS_UNIT_ABI, journal, replay) : (uint32_t)ETCS_UNIT_NULL_POINTER;
 }

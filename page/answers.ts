@@ -50,7 +50,7 @@ function answerText(record: JournalRecord): string {
             seconds(record.moment)}`;
 }
 
-/** What a life came to that was run again. */
+/** What events of a life that was run again came to, or a head. */
 function verdictText(life: Replay): string {
     const says = VERDICTS[life.verdict] ?? "";
     if (life.verdict === 2) {
@@ -61,11 +61,11 @@ function verdictText(life: Replay): string {
     return life.verdict === 3 ? `${says}: block ${count(life.block)} in ${KEPT_FIELDS[life.field]}` : says;
 }
 
-/** The cells of a life that was run again. */
+/** The cells of a line of a replay. */
 export function lifeCells(life: Replay, word: string): Child[] {
     const isBad = life.verdict === 2 || life.verdict === 3, kind = life.verdict === 1 ? "good" : isBad ? "bad" : "";
     return [
-        count(life.life), `${count(life.first)} to ${count(life.last)}`, word,
+        count(life.life), life.verdict === 3 ? "" : `${count(life.first)} to ${count(life.last)}`, word,
         make("span", { class: kind }, verdictText(life))
     ];
 }

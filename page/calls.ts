@@ -238,7 +238,7 @@ export class Journal {
     /** The number of the block at which the journal is. */
     block(): number { return this.reader().u64(Number(this.at)); }
 
-    /** The next life, run again. */
+    /** The next line of a replay. */
     replay(): Told<Replay> {
         const status = this.x.etcs_image_replay_(this.image.at, BigInt(this.image.size), ABI, this.at, this.told);
         return { status, value: status === OK ? this.reader().replay(Number(this.told)) : null };

@@ -117,7 +117,9 @@ export const SLOT_SYMBOLS = ["", "", "unreadable", "misplaced", "foreign", "unwr
 export const VERDICTS = [
     "", "agrees", "a record differs", "the head of a block differs",
     "can't be run again: what was kept before its power-up was overwritten",
-    "can't be run again: blocks or events are missing before", "can't be run again: it begins in an earlier block"
+    "can't be run again: blocks or events are missing before",
+    "can't be run again: no head tells what was kept before its power-up",
+    "can't be run again: it follows a record that differs"
 ];
 export const RECORD_FIELDS = [
     "", "event", "word", "moment", "mode", "level", "brake", "indications", "place and limit", "place", "uncertainty",

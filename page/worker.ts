@@ -100,7 +100,7 @@ async function replay(calls: Calls, id: number, held: Held): Promise<boolean> {
         const block = journal.block(), told = journal.replay();
         status = told.status;
         if (told.value) lives.push(told.value);
-        else if (status !== END && journal.block() !== block) unreadable.push(block);
+        else if (status !== END && journal.block() !== block) unreadable.push(journal.block() - 1);
         else return false;
         return true;
     });

@@ -16,7 +16,7 @@ static const char *const causes[ETCS_BRAKE_CAUSES] = {
 static const char *const trips[] = {"", "the end of authority was passed", "linking or a group asked for it", "an authority with V_MAIN 0 was used",
                                     "the path in Staff Responsible was too long", "level 1 without an authority or a known track"};
 static const char *const verdicts[] = {"", "agrees", "a record differs", "a head differs", "begins before the oldest block", "comes behind a gap",
-                                       "begins in an earlier block"};
+                                       "begins within a block", "comes behind a record that differs"};
 
 static void tell(const etcs_why *why) {
     printf("event %llu: brake %s, limit %u m/h, speed %u m/h\n", (unsigned long long)why->event, brakes[why->brake], (unsigned)why->limit_m_per_h,
@@ -30,7 +30,7 @@ static void tell(const etcs_why *why) {
         printf("  the limit is for what lies at %lld cm\n", (long long)why->limit_cause_cm);
 }
 
-/* What each life came to. */
+/* Each line of a replay. */
 static uint32_t lives(const uint8_t *image, size_t size) {
     etcs_journal journal;
     etcs_replay replay;

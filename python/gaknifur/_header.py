@@ -277,14 +277,15 @@ class Datum(enum.IntEnum):
 
 
 class Verdict(enum.IntEnum):
-    """What a life came to that was run through the kernel again."""
+    """What events of a life came to that were run through the kernel again, or a head."""
 
     AGREES = 1
     RECORD_DIFFERS = 2
     HEAD_DIFFERS = 3
     BEFORE_OLDEST = 4
     BEHIND_GAP = 5
-    BEGINS_EARLIER = 6
+    WITHIN_BLOCK = 6
+    BEHIND_DIFFERENCE = 7
 
 
 class RecordField(enum.IntEnum):

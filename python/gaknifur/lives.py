@@ -1,12 +1,13 @@
 """The lives of a journal, run through the kernel again by the library of `gaknifur.unit`.
 
-    for life in gaknifur.replay("image"):
-        print(life.first_event, life.last_event, life.verdict.name)
+    for line in gaknifur.replay("image"):
+        print(line.first_event, line.last_event, line.verdict.name)
     print(gaknifur.why("image", 8).causes)
 
-`replay(path)` tells of each life whether the journal agrees with the kernel, and else the first difference;
+`replay(path)` tells line by line, as `etcs_lab replay` does, which events agree with the kernel, which record or head
+differs, and which events can't be run again;
 `why(path, event)` tells which causes of a brake hold behind an event and since when, why the train was tripped, and what
-decides the limit. `lives`, `why_at` and `why_in` read bytes. Each life is run from its power-up on, so `why` takes as long as the
+decides the limit. `lines`, `why_at` and `why_in` read bytes. Each life is run from its power-up on, so `why` takes as long as the
 life is up to the event.
 """
 import ctypes
@@ -18,8 +19,8 @@ from . import _header, unit
 from ._header import BrakeCause, Datum, KeptField, LimitCause, RecordField, TripCause, Verdict
 from .unit import Brake, Level, Record, Refused, Status, TrainData
 
-__all__ = ["BrakeCause", "Datum", "Difference", "Kept", "KeptField", "Life", "LimitCause", "RecordField", "TripCause",
-           "Verdict", "Why", "lives", "replay", "why", "why_at", "why_in"]
+__all__ = ["BrakeCause", "Datum", "Difference", "Kept", "KeptField", "LimitCause", "Line", "RecordField", "TripCause",
+           "Verdict", "Why", "lines", "replay", "why", "why_at", "why_in"]
 
 @dataclass(frozen=True, slots=True)
 class Kept:
@@ -38,7 +39,7 @@ class Kept:
 
 @dataclass(frozen=True, slots=True)
 class Difference:
-    """The first difference of a life: in the head of a block, or in the record of an event. Behind it nothing was compared."""
+    """What differs: the head of a block, or the record of an event."""
 
     block: int
     event: int | None
@@ -48,12 +49,13 @@ class Difference:
 
 
 @dataclass(frozen=True, slots=True)
-class Life:
-    """A life that was run again: which it is, its first and last event in the journal, and what it came to."""
+class Line:
+    """A line of a replay: a life, events of it that follow one another, and what they came to. Of a head that differs
+    there are no events."""
 
     life: int
-    first_event: int
-    last_event: int
+    first_event: int | None
+    last_event: int | None
     verdict: Verdict
     difference: Difference | None
 
@@ -95,30 +97,32 @@ def _kept(told: _header.etcs_kept) -> Kept:
         tuple(values.countries[:values.count]))
 
 
-def _life(told: _header.etcs_replay) -> Life:
+def _line(told: _header.etcs_replay) -> Line:
     verdict, difference = Verdict(told.verdict), None
+    first, last = told.first_event, told.last_event
     if verdict == Verdict.RECORD_DIFFERS:
         difference = Difference(told.block, told.event, RecordField(told.field), unit._record(told.journal), unit._record(told.kernel))
     if verdict == Verdict.HEAD_DIFFERS:
         difference = Difference(told.block, None, KeptField(told.field), _kept(told.journal_kept), _kept(told.kernel_kept))
-    return Life(told.life, told.first_event, told.last_event, verdict, difference)
+        first, last = None, None
+    return Line(told.life, first, last, verdict, difference)
 
 
-def lives(image: bytes) -> Iterator[Life]:
-    """Each life of the journal that an image holds, the oldest first. A block that can't be read is passed over: what is
-    behind it comes as a life of its own, with the verdict BEHIND_GAP, up to the next power-up."""
+def lines(image: bytes) -> Iterator[Line]:
+    """Each line of a replay of the journal that an image holds, the oldest first. A block that can't be read is passed
+    over: what is behind it has the verdict BEHIND_GAP, up to the next power-up."""
     cursor, told = _header.etcs_journal(), _header.etcs_replay()
     unit._told(unit._called("etcs_journal_open_", image, len(image), unit.ABI, ctypes.byref(cursor)))
     while (status := unit._called("etcs_image_replay_", image, len(image), unit.ABI, ctypes.byref(cursor), ctypes.byref(told))) != Status.END:
         if status == Status.OK:
-            yield _life(told)
+            yield _line(told)
         elif status != Status.IMAGE_DAMAGED:
             raise Refused(status)
 
 
-def replay(path: str | Path) -> list[Life]:
-    """Each life of a file's journal, the oldest first; the file is read as a whole, and no lock is taken."""
-    return list(lives(Path(path).read_bytes()))
+def replay(path: str | Path) -> list[Line]:
+    """Each line of a replay of a file's journal, the oldest first; the file is read as a whole, and no lock is taken."""
+    return list(lines(Path(path).read_bytes()))
 
 
 def why_at(image: bytes, block: int, event: int) -> Why:

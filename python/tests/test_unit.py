@@ -252,29 +252,31 @@ class Calls(unittest.TestCase):
 
     def test_a_replay(self) -> None:
         image = self.lived()
-        self.assertEqual(list(lives.lives(bytes(image))), [lives.Life(1, 0, 3, Verdict.AGREES, None)])
+        self.assertEqual(list(lives.lines(bytes(image))), [lives.Line(1, 0, 3, Verdict.AGREES, None)])
         with tempfile.TemporaryDirectory() as folder:
             path = Path(folder) / "image"
             path.write_bytes(image)
-            self.assertEqual(gaknifur.replay(path), list(lives.lives(bytes(image))))
+            self.assertEqual(gaknifur.replay(path), list(lives.lines(bytes(image))))
             self.assertEqual(gaknifur.why(path, 2), lives.why_in(bytes(image), 2))
         # The moment of event 1, in the first record of block 2; and then a letter of the identity in the head before it.
         head, first = 512 + 2 * 3_072 + 512, 512 + 2 * 3_072 + 1_024
         image[first + 16:first + 24] = struct.pack(">Q", 7)
-        life, = lives.lives(bytes(image))
+        before, life, behind = lives.lines(bytes(image))
         assert life.difference is not None and isinstance(life.difference.journal, Record) and isinstance(life.difference.kernel, Record)
-        self.assertEqual((life.verdict, life.last_event), (Verdict.RECORD_DIFFERS, 3))
+        self.assertEqual((before, life.verdict, life.last_event), (lives.Line(1, 0, 0, Verdict.AGREES, None), Verdict.RECORD_DIFFERS, 1))
+        self.assertEqual(behind, lives.Line(1, 2, 3, Verdict.BEHIND_DIFFERENCE, None))
         self.assertEqual((life.difference.block, life.difference.event, life.difference.field), (2, 1, RecordField.MOMENT))
         self.assertEqual((life.difference.journal.moment_ms, life.difference.kernel.moment_ms), (7, 0))
         image = self.lived()
         image[head:head + 200] = image[head:head + 200].replace(b"IC 704", b"IC 705")
-        life, = lives.lives(bytes(image))
+        before, life = lives.lines(bytes(image))
+        self.assertEqual((before, life.first_event), (lives.Line(1, 0, 3, Verdict.AGREES, None), None))
         assert life.difference is not None and isinstance(life.difference.journal, lives.Kept) and isinstance(life.difference.kernel, lives.Kept)
         self.assertEqual((life.verdict, life.difference.event, life.difference.field), (Verdict.HEAD_DIFFERS, None, KeptField.IDENTITY))
         self.assertEqual((life.difference.journal.identity, life.difference.kernel.identity), (b"IC 705", b"IC 704"))
         self.assertEqual(life.difference.kernel.national[8:], (20_000, 60_000, None))
         with self.refused(Status.IMAGE_NOT_FORMATTED):
-            list(lives.lives(b""))
+            list(lives.lines(b""))
 
     def test_why(self) -> None:
         image = bytes(self.lived())

@@ -14,7 +14,7 @@ ALTERED = 200
 STATES = ("empty", "block", "unreadable", "misplaced", "foreign", "unwritten", "replaced", "remains")
 RECORD = ("", "event", "word", "time_ms", "mode", "level", "brake", "indications", "place", "place_cm", "uncertainty_cm", "limit_m_per_h")
 HEAD = ("", "events", "lives", "trip_outstanding", "identity", "running_number", "train", "level", "position", "national_values", "countries")
-REASONS = {4: "before_oldest_block", 5: "gap", 6: "within_block"}
+REASONS = {4: "before_oldest_block", 5: "gap", 6: "within_block", 7: "behind_difference"}
 CAUSES = ("not_revalidated", "in_trip", "in_system_failure", "owes_trip", "far_too_fast", "rolled_too_far", "asked_for_service", "too_fast",
           "must_stand", "owes_too_long")
 LIMITS = ("", "no_speed", "no_train_data", "national_staff_responsible", "national_override", "national_shunting", "national_unfitted",
@@ -94,16 +94,14 @@ def compare_slots(told: dict[str, Any], wanted: dict[str, Any], at: str) -> int:
     return len(slots)
 
 
-def lines_of(life: dict[str, Any]) -> list[Any]:
-    """The lines of `etcs_lab replay` that a life comes to."""
-    first, last, event = life["first"], life["last"], life["event"]
-    if life["verdict"] == 1:
-        return [("agrees", first, last)]
-    if life["verdict"] == 2:
-        return [("agrees", first, event - 1)] * (event > first) + [("differs", event, RECORD[life["field"]])]
-    if life["verdict"] == 3:
-        return [("head", life["block"], HEAD[life["field"]])]
-    return [(REASONS[life["verdict"]], first, last)]
+def told_of(line: dict[str, Any]) -> Any:
+    """What the page tells by a line of a replay."""
+    first, last, verdict = line["first"], line["last"], line["verdict"]
+    if verdict == 2:
+        return "differs", line["event"], RECORD[line["field"]]
+    if verdict == 3:
+        return "head", line["block"], HEAD[line["field"]]
+    return "agrees" if verdict == 1 else REASONS[verdict], first, last
 
 
 def line_of(line: dict[str, Any]) -> Any:
@@ -123,10 +121,9 @@ def compare_replay(told: dict[str, Any], path: Path, at: str) -> int:
     wanted, count = [line_of(line) for line in lines], 0
     unreadable = [line["block"] for line in lines if line.get("replay") == "unreadable"]
     assert told["unreadable"] == unreadable, (at, told["unreadable"], unreadable)
-    for life in told["lives"] or []:
-        for line in lines_of(life):
-            assert line in wanted, (at, line, lines)
-            count += 1
+    found = [told_of(line) for line in told["lives"] or []]
+    assert found == [line for line in wanted if line], (at, found, lines)
+    count += len(found)
     bad = sum(life["verdict"] in (2, 3) for life in told["lives"] or [])
     assert bool(bad) == any(one and one[0] in ("differs", "head") for one in wanted), (at, told["lives"], lines)
     return count

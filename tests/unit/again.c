@@ -11,7 +11,7 @@
 
 #include "etcs_image.h"
 
-static const char *const verdicts[] = {"", "agrees", "record_differs", "head_differs", "before_oldest_block", "gap", "begins_earlier"};
+static const char *const reasons[] = {"", "", "", "", "before_oldest_block", "gap", "within_block", "behind_difference"};
 static const char *const record_fields[] = {"", "event", "word", "time_ms", "mode", "level", "brake", "indications", "place", "place_cm", "uncertainty_cm", "limit_m_per_h"};
 static const char *const kept_fields[] = {"", "events", "lives", "trip_outstanding", "identity", "running_number", "train", "level", "position", "national_values", "countries"};
 static const char *const modes[] = {"FS", "OS", "SR", "SH", "UN", "", "SB", "TR", "PT", "SF"};
@@ -111,25 +111,33 @@ static int is_zero(const void *bytes, size_t size) {
     return 1;
 }
 
-static void tell_life(const etcs_replay *replay) {
+/* A line of a replay, as `etcs_lab replay` writes it, but for the counts of a head. */
+static void tell_line(const etcs_replay *replay) {
     const int record = replay->verdict == ETCS_VERDICT_RECORD_DIFFERS, head = replay->verdict == ETCS_VERDICT_HEAD_DIFFERS;
-    printf("{\"life\":%u,\"first_event\":%llu,\"last_event\":%llu,\"verdict\":\"%s\"", (unsigned)replay->life, wide(replay->first_event), wide(replay->last_event),
-           verdicts[replay->verdict]);
+    printf("{\"life\":%u", (unsigned)replay->life);
+    if (record)
+        printf(",\"block\":%llu,\"event\":%llu,\"replay\":\"record_differs\",\"field\":\"%s\",\"journal\":", wide(replay->block), wide(replay->event),
+               record_fields[replay->field]);
+    else if (head)
+        printf(",\"block\":%llu,\"replay\":\"head_differs\",\"field\":\"%s\",\"journal\":", wide(replay->block), kept_fields[replay->field]);
+    else
+        printf(",\"first_event\":%llu,\"last_event\":%llu,\"replay\":\"%s\"", wide(replay->first_event), wide(replay->last_event),
+               replay->verdict == ETCS_VERDICT_AGREES ? "agrees" : "not_replayed");
     if (record) {
-        printf(",\"block\":%llu,\"event\":%llu,\"field\":\"%s\",\"journal\":", wide(replay->block), wide(replay->event), record_fields[replay->field]);
         tell_record(&replay->journal);
         printf(",\"kernel\":");
         tell_record(&replay->kernel);
-    }
-    if (head) {
-        printf(",\"block\":%llu,\"field\":\"%s\",\"journal\":", wide(replay->block), kept_fields[replay->field]);
+    } else if (head) {
         tell_kept(&replay->journal_kept);
         printf(",\"kernel\":");
         tell_kept(&replay->kernel_kept);
+    } else if (replay->verdict != ETCS_VERDICT_AGREES) {
+        printf(",\"reason\":\"%s\"", reasons[replay->verdict]);
     }
     if (replay->reserved != 0 || (!record && (replay->event != 0 || !is_zero(&replay->journal, sizeof replay->journal) || !is_zero(&replay->kernel, sizeof replay->kernel)))
         || (!head && (!is_zero(&replay->journal_kept, sizeof replay->journal_kept) || !is_zero(&replay->kernel_kept, sizeof replay->kernel_kept)))
-        || (!record && !head && (replay->block != 0 || replay->field != 0)))
+        || (!record && !head && (replay->block != 0 || replay->field != 0)) || (head && (replay->first_event | replay->last_event) != 0)
+        || (record && (replay->first_event != replay->event || replay->last_event != replay->event)))
         printf(",\"not_zero\":true");
     printf("}\n");
 }
@@ -137,15 +145,14 @@ static void tell_life(const etcs_replay *replay) {
 static uint32_t replayed(const uint8_t *image, size_t size) {
     etcs_journal journal;
     etcs_replay replay;
-    uint64_t block;
     uint32_t answer = etcs_journal_open(image, size, &journal);
     if (answer != ETCS_UNIT_OK)
         return answer;
-    while (block = journal.block, (answer = etcs_image_replay(image, size, &journal, &replay)) != ETCS_UNIT_END) {
+    while ((answer = etcs_image_replay(image, size, &journal, &replay)) != ETCS_UNIT_END) {
         if (answer == ETCS_UNIT_OK)
-            tell_life(&replay);
+            tell_line(&replay);
         else if (answer == ETCS_UNIT_IMAGE_DAMAGED)
-            printf("{\"block\":%llu,\"verdict\":\"unreadable\"}\n", wide(block));
+            printf("{\"block\":%llu,\"replay\":\"unreadable\"}\n", wide(journal.block - 1));
         else
             return answer;
     }

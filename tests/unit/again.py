@@ -13,6 +13,7 @@ import re
 import sys
 import tempfile
 from collections import Counter
+from itertools import zip_longest
 from pathlib import Path
 
 HERE = Path(__file__).resolve().parent
@@ -27,7 +28,7 @@ from why_rows import more_lives  # noqa: E402
 EVERY = 19  # so many altered bytes are passed over
 OF_LAB = 7  # etcs_lab is asked of so many images one
 LEAST, LEAST_WHYS, LEAST_REFUSED = 650, 11_000, 400  # so many images, and events whose causes are compared
-VERDICTS = ("agrees", "record_differs", "head_differs", "before_oldest_block", "gap", "unreadable")
+VERDICTS = ("agrees", "record_differs", "head_differs", "before_oldest_block", "gap", "within_block", "behind_difference", "unreadable")
 LEFT_OUT = ("trip_cause_section", "limit_cause_section")
 
 
@@ -59,60 +60,19 @@ def mirrors_differ():
             yield f"{causes.__name__}: {told}, wanted {wanted}"
 
 
-def is_of_events(line):
-    return line["replay"] in ("agrees", "not_replayed", "record_differs")
+def without_counts(line):
+    """A line of a replay but for the counts of a head, which C tells by etcs_image_block."""
+    if line.get("replay") != "head_differs":
+        return line
+    return line | {key: {name: value for name, value in line[key].items() if name not in ("events", "lives")} for key in ("journal", "kernel")}
 
 
-def lines_of(life, lines, at):
-    """Where the lines end that tell of the events of a life, and of heads in it; None where they don't tell just these events."""
-    event = life["first_event"]
-    while event <= life["last_event"]:
-        if at >= len(lines):
-            return None
-        line = lines[at]
-        if is_of_events(line):
-            if line.get("first_event", line.get("event")) != event:
-                return None
-            event = line.get("last_event", line.get("event")) + 1
-        elif line["replay"] != "head_differs":
-            return None
-        at += 1
-    while at < len(lines) and lines[at]["replay"] == "head_differs":
-        at += 1
-    return at if event == life["last_event"] + 1 else None
-
-
-def verdict_of(lines):
-    """What lines of a life come to: what differs first, else why it wasn't run, else that it agrees."""
-    told = {"life": [line for line in lines if is_of_events(line)][-1]["life"]}
-    for line in lines:
-        if line["replay"] in ("record_differs", "head_differs"):
-            of_head = {key: {name: value for name, value in line[key].items() if name not in ("events", "lives")} for key in ("journal", "kernel")}
-            told |= {"verdict": line["replay"], "block": line["block"], "field": line["field"]}
-            return told | (of_head if line["replay"] == "head_differs" else {key: line[key] for key in ("event", "journal", "kernel")})
-    reasons = [line["reason"] for line in lines if line["replay"] == "not_replayed"]
-    return told | {"verdict": reasons[0] if reasons else "agrees"}
-
-
-def lives_differ(told, lines):
-    """Why lives that C tells aren't those of the lines of a replay, or None."""
-    at = 0
-    for life in told:
-        if "verdict" not in life:
-            return f"{life}: it wasn't run again"
-        if life["verdict"] == "unreadable":
-            if at >= len(lines) or lines[at] != {"block": life["block"], "replay": "unreadable"}:
-                return f"{life}: no such line"
-            at += 1
-            continue
-        end = lines_of(life, lines, at)
-        if end is None:
-            return f"{life}: other events than {lines[at:at + 2]}"
-        wanted = verdict_of(lines[at:end]) | {key: life[key] for key in ("first_event", "last_event")}
-        if life != wanted:
-            return f"{life}\n--- wanted\n{wanted}"
-        at = end
-    return None if at == len(lines) else f"no life has {lines[at]}"
+def lines_differ(told, lines):
+    """The first line that C tells otherwise than a replay, or None."""
+    for one, other in zip_longest(told, map(without_counts, lines)):
+        if one != other:
+            return f"{one}\n--- wanted\n{other}"
+    return None
 
 
 def without_sections(members):
@@ -135,14 +95,14 @@ class Tried(Compared):
                 if [line.get("refused") for line in told] not in (["IMAGE_NOT_FORMATTED"], ["IMAGE_DAMAGED"]):
                     self.tell(f"{name}: {told}, wanted a refusal")
                 continue
-            self.met.update(line["verdict"] for line in told if "verdict" in line)
-            found = lives_differ(told, wanted)
+            self.met.update(line.get("reason", line.get("replay")) for line in told)
+            found = lines_differ(told, wanted)
             if found:
                 self.tell(f"{name}: {found}")
         if status != 1 and self.images % OF_LAB == 0:
             self.of_lab += 1
             _, lines = printed(self.lab, "replay", "--json", self.image)
-            found = lives_differ(told, lines[:-1])
+            found = lines_differ(told, lines[:-1])
             if found:
                 self.tell(f"{name}, beside etcs_lab: {found}")
 

@@ -1,8 +1,6 @@
 pub mod Asked
 pub mod Asks
-pub mod Checked
-pub mod Counting
+pub mod Fewness
 pub mod Places
 pub mod Reading
 pub mod Refusing
-pub mod Walked

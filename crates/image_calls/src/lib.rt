@@ -7,14 +7,13 @@
 
 mod answer;
 mod asking;
-mod beginnings;
 mod block_heads;
-mod checking;
 mod facts;
 mod image_disk;
 mod images;
 mod journals;
 mod kept_items;
+mod lines;
 mod links;
 mod national_items;
 mod numbers;
@@ -29,13 +28,12 @@ mod why_numbers;
 mod whys;
 
 pub use answer::Answer;
-pub use beginnings::kept_before;
 pub use block_heads::{EtcsBlock, block_call};
 pub use facts::{EtcsImage, facts_call};
 pub use images::{Ring, held_in, ring_in, slot_in};
 pub use journals::{EtcsJournal, journal_call, next_call};
 pub use kept_items::{EtcsKept, EtcsTrain, kept_told};
-pub use links::{end_of, first_word, goes_on, read};
+pub use links::first_word;
 pub use national_items::EtcsNational;
 pub use records::{EtcsRecord, record_call, record_told};
 pub use replays::replay_call;

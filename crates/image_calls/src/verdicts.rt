@@ -1,36 +1,31 @@
-//! What a life that was run again came to, as C gets it.
-ghost use Rattle.std.specs.Prelude.{◌≡◌, ◌+◌, ◌*◌, ◌≤◌};
-ghost use Rattle.blocks.specs.FirstSector.{most_slots};
-ghost use Rattle.blocks.specs.Heads.{last_number};
-ghost use Rattle.image_calls.specs.ImageDisk.{sectors_in};
-ghost use Rattle.image_calls.specs.Checks.{IsWithin};
-ghost use Rattle.image_calls.specs.Verdicts.{record_field_number, kept_field_number, lost_by, lost_before, no_record, no_kept, verdict_told, record_differs, TellsDifference};
+//! A line of a replay, as C gets it.
+ghost use Rattle.std.specs.Prelude.{◌≡◌};
+ghost use Rattle.image_calls.specs.Verdicts.{record_field_number, kept_field_number, unknown_number, verdict_of, no_record, no_kept, no_line};
+ghost use Rattle.image_calls.specs.Verdicts.{verdict_told, record_differs, TellsHead};
 
-use crate::checking::Difference;
-use crate::images::{Ring, slot_in};
 use crate::kept_items::{EtcsKept, EtcsTrain, kept_told};
 use crate::national_items::EtcsNational;
-use crate::records::{EtcsRecord, life_at, record_told};
+use crate::records::{EtcsRecord, record_told};
 use blocks::{Block, BlockRecord};
-use examination::SlotState;
-use replaying::{KeptField, RecordField};
+use lives::Unknown;
+use replaying::{HeadFound, Judged, KeptField, RecordField};
 
-/// What a life that was run again came to.
+/// A line of a replay.
 #[repr(C)]
 #[derive(Clone, Copy)]
 pub struct EtcsReplay {
-    /// The number of the first event of the life that the journal has.
+    /// The number of the first event that the line tells of; 0 of a head.
     pub first_event: u64,
-    /// The number of the last one.
+    /// The number of the last one; 0 of a head.
     pub last_event: u64,
-    /// The block of what differs first; 0 where nothing differs.
+    /// The block of what differs; 0 where nothing does.
     pub block: u64,
-    /// The event of a record that differs first; else 0.
+    /// The event of a record that differs; else 0.
     pub event: u64,
-    /// How many power-ups there were up to and with its last block.
+    /// The number of the life: how many power-ups there were up to and with the first of its events, of a head up to it.
     pub life: u32,
-    /// 1 all agrees, 2 a record differs, 3 a head differs; not run again: 4 what was kept before it was overwritten, 5 it
-    /// comes behind a gap, 6 it begins in an earlier block.
+    /// 1 the events agree, 2 a record differs, 3 a head differs; not run again: 4 what was kept before their life was
+    /// overwritten, 5 they come after a gap, 6 their life begins within a block, 7 they come after a record that differs.
     pub verdict: u32,
     /// The field that differs first, 1 to 11 of a record, 1 to 10 of a head; 0 where nothing differs.
     pub field: u32,
@@ -46,7 +41,7 @@ pub struct EtcsReplay {
     pub kernel_kept: EtcsKept,
 }
 
-/// The events of a life, and its number.
+/// Events of one life that follow one another, by their numbers.
 #[derive(Clone, Copy)]
 pub(crate) struct Span {
     pub(crate) first_event: u64,
@@ -89,36 +84,26 @@ fn kept_field_number(field: KeptField) -> u32
     }
 }
 
-// Why a life can't be run again, where the slot of the block before this number is so.
-fn lost_by(number: u64, state: SlotState) -> u32
-    ensures { result ≡ lost_by number state }
+// Why events are not run again, where nobody knows what was kept before their life.
+fn unknown_number(unknown: Unknown) -> u32
+    ensures { result ≡ unknown_number unknown }
 {
-    match state {
-        SlotState::Block(n) | SlotState::Unreadable(n) => { if n == number { 5 } else { 4 } }
-        SlotState::Misplaced(_)
-        | SlotState::Foreign
-        | SlotState::Unwritten(_)
-        | SlotState::Replaced(_)
-        | SlotState::Remains
-        | SlotState::Empty => 4,
+    match unknown {
+        Unknown::BeforeOldest => 4,
+        Unknown::Gap => 5,
+        Unknown::WithinBlock => 6,
     }
 }
 
-/// Why a life can't be run again that begins with the block of this number.
-pub(crate) fn lost_before(image: &[u8], ring: Ring, newest: u64, number: u64) -> u32
-    requires slots { (ring.whole ≤ ring.slots) × (1 ≤ ring.slots) × (ring.slots ≤ most_slots) }
-    requires sectors { 1 + 6 * ring.whole ≤ sectors_in image.now }
-    requires newest { newest ≤ last_number }
-    ensures { result ≡ lost_before image.now ring newest number }
+/// The verdict on events of a life that is judged so.
+pub(crate) fn verdict_of(judged: &Judged) -> u32
+    ensures { result ≡ verdict_of judged.now }
 {
-    if number < 2 {
-        return 4;
+    match judged {
+        Judged::Agrees(_) => 1,
+        Judged::Unknown(unknown) => unknown_number(*unknown),
+        Judged::BehindDifference => 7,
     }
-    let slot = (number - 1) % ring.slots;
-    if slot < ring.whole {
-        return lost_by(number - 1, slot_in(image, ring, newest, slot).state);
-    }
-    4
 }
 
 // No record.
@@ -208,17 +193,33 @@ pub(crate) fn verdict_told(span: Span, verdict: u32) -> EtcsReplay
     }
 }
 
-// A record differs.
-fn record_differs(
-    span: Span,
+/// No line.
+pub(crate) fn no_line() -> EtcsReplay
+    ensures { result ≡ no_line }
+{
+    let none = Span {
+        first_event: 0,
+        last_event: 0,
+        life: 0,
+    };
+    verdict_told(none, 0)
+}
+
+/// A record of this life differs.
+pub(crate) fn record_differs(
     block: &Block,
     life: u32,
     field: RecordField,
     told: &BlockRecord,
     answer: &BlockRecord,
 ) -> EtcsReplay
-    ensures { result ≡ record_differs span block.now life field told.now answer.now }
+    ensures { result ≡ record_differs block.now life field told.now answer.now }
 {
+    let span = Span {
+        first_event: told.number,
+        last_event: told.number,
+        life,
+    };
     let mut all = verdict_told(span, 2);
     all.block = block.number;
     all.event = told.number;
@@ -228,30 +229,19 @@ fn record_differs(
     all
 }
 
-/// What differs first in a block.
-pub(crate) fn difference_told(span: Span, block: &Block, what: &Difference) -> EtcsReplay
-    requires { IsWithin what.now block.now }
-    ensures { TellsDifference span block.now what.now result }
+/// The head of a block differs.
+pub(crate) fn head_differs(block: &Block, found: &HeadFound) -> EtcsReplay
+    ensures { TellsHead block.now found.now result }
 {
-    match what {
-        Difference::Record(found) => {
-            let records = block.records.as_slice();
-            record_differs(
-                span,
-                block,
-                life_at(block, found.index),
-                found.field,
-                &records[found.index],
-                &found.answer,
-            )
-        }
-        Difference::Head(found) => {
-            let mut all = verdict_told(span, 3);
-            all.block = block.number;
-            all.field = kept_field_number(found.field);
-            all.journal_kept = kept_told(&block.kept);
-            all.kernel_kept = kept_told(&found.kept);
-            all
-        }
-    }
+    let span = Span {
+        first_event: 0,
+        last_event: 0,
+        life: block.kept.lives,
+    };
+    let mut all = verdict_told(span, 3);
+    all.block = block.number;
+    all.field = kept_field_number(found.field);
+    all.journal_kept = kept_told(&block.kept);
+    all.kernel_kept = kept_told(&found.kept);
+    all
 }

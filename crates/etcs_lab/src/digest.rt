@@ -5,7 +5,7 @@ use crate::status::{Status, fail};
 use blocks::read_first_sector;
 use disk::DiskFault;
 use file_disk::{RawFile, read_all};
-use lab_lines::FileFacts;
+use lab_examine::FileFacts;
 use sha2::{Digest, Sha256};
 
 // The bytes of an image of the most slots, and of a part of a sector behind them.

@@ -2,7 +2,7 @@
 
 use crate::images::{Image, Named, opened_whole, unread};
 use crate::status::{Status, unwritten};
-use lab_lines::{ExamineError, Form, Verdict, examine};
+use lab_examine::{ExamineError, Form, Verdict, examine};
 use std::fs::File;
 use std::io::Write;
 use std::rt::Files;

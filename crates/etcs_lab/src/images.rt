@@ -7,7 +7,7 @@ use crate::digest::facts_of;
 use crate::status::{Status, fail};
 use file_disk::{FileDisk, ReadError, ReadOnlyFile};
 use given_slots::GivenSlots;
-use lab_lines::FileFacts;
+use lab_examine::FileFacts;
 use std::fs::File;
 use std::rt::Files;
 

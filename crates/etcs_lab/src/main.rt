@@ -4,15 +4,15 @@
 
 mod checked;
 mod digest;
+mod events;
 mod examined;
 mod help;
 mod images;
 mod linted;
-mod listed;
 mod packets;
-mod played;
 mod program;
 mod replayed;
+mod run;
 mod running;
 mod status;
 mod telegrams;

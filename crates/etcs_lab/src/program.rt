@@ -1,13 +1,13 @@
 //! What the words ask for is done.
 
 use crate::checked::checked;
+use crate::events::events_told;
 use crate::examined::examined;
 use crate::help::HELP;
 use crate::linted::linted;
-use crate::listed::events_told;
 use crate::packets::packets_told;
-use crate::played::played;
 use crate::replayed::replayed;
+use crate::run::played;
 use crate::status::{Status, text_told, usage};
 use crate::telegrams::{adapted_told, decode_told, telegram_told};
 use crate::why::why_told;

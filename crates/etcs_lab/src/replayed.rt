@@ -2,7 +2,7 @@
 
 use crate::images::{Named, opened};
 use crate::status::{Status, fail, unwritten};
-use replay_lines::{Form, Outcome, WalkError, replay};
+use lab_replay::{Form, Outcome, WalkError, replay};
 use std::fs::File;
 use std::io::Write;
 use std::rt::Files;

@@ -3,10 +3,10 @@
 use crate::images::{Named, opened};
 use crate::replayed::stopped;
 use crate::status::{Status, fail};
+use lab_why::{Form, tell_why};
 use std::fs::File;
 use std::io::Write;
 use std::rt::Files;
-use why_lines::{Form, tell_why};
 
 /// Tells why the brakes were commanded in an image, which is opened for reading alone, and answers the status.
 pub(crate) fn why_told<R: Files<File = File> + AllocGlobal + Eprint, W: Write>(

@@ -4,7 +4,7 @@ ghost use Rattle.std.specs.Prelude.{◌+◌, ◌<◌, length, IfSome};
 use crate::images::Named;
 use blocks::{LEAST_SLOTS, MOST_SLOTS};
 use command_line::told_apart;
-use lab_lines::Form;
+use lab_examine::Form;
 
 /// What the words ask for.
 #[derive(Clone, Copy)]

@@ -1,0 +1,95 @@
+//! The words of states and fields, and the numbers of formats.
+ghost use Rattle.std.specs.Prelude.{◌≡◌};
+ghost use Rattle.lab_examine.specs.Words.{state_text, field_text, format_number};
+
+use blocks::Format;
+use examination::{FieldName, SlotState};
+
+/// The word of a state.
+pub(crate) fn state_word(state: SlotState) -> &'static str
+    ensures { result.now ≡ state_text state }
+{
+    match state {
+        SlotState::Block(_) => "block",
+        SlotState::Unreadable(_) => "unreadable",
+        SlotState::Misplaced(_) => "misplaced",
+        SlotState::Foreign => "foreign",
+        SlotState::Unwritten(_) => "unwritten",
+        SlotState::Replaced(_) => "replaced",
+        SlotState::Remains => "remains",
+        SlotState::Empty => "empty",
+    }
+}
+
+/// The number of a format.
+pub(crate) fn format_number(format: Format) -> u8
+    ensures { result ≡ format_number format }
+{
+    match format {
+        Format::One => 1,
+        Format::Two => 2,
+        Format::Three => 3,
+    }
+}
+
+/// The name of a field, as `docs/FORMAT.md` has it.
+pub(crate) fn field_word(field: FieldName) -> &'static str
+    ensures { result.now ≡ field_text field }
+{
+    match field {
+        FieldName::Mark => "mark",
+        FieldName::Version => "version",
+        FieldName::SlotCount => "number of slots",
+        FieldName::BlockNumber => "number of the block",
+        FieldName::Events => "events",
+        FieldName::Lives => "lives",
+        FieldName::RecordCount => "count of records",
+        FieldName::TripOutstanding => "trip outstanding",
+        FieldName::IdentityStatus => "status of the identity",
+        FieldName::IdentityLength => "length of the identity",
+        FieldName::Identity => "identity",
+        FieldName::RunningNumberStatus => "status of the running number",
+        FieldName::RunningNumber => "running number",
+        FieldName::TrainStatus => "status of the train data",
+        FieldName::Category => "train category",
+        FieldName::Reaction => "reaction time",
+        FieldName::TrainLength => "train length",
+        FieldName::MaximumSpeed => "maximum speed",
+        FieldName::Deceleration => "deceleration",
+        FieldName::LevelStatus => "status of the level",
+        FieldName::Level => "level",
+        FieldName::PositionStatus => "status of the position",
+        FieldName::GroupCountry => "country of the group",
+        FieldName::GroupNumber => "number of the group",
+        FieldName::GroupDistance => "distance from the group",
+        FieldName::ShuntingSpeed => "speed in Shunting",
+        FieldName::StaffResponsibleSpeed => "speed in Staff Responsible",
+        FieldName::OnSightSpeed => "speed in On Sight",
+        FieldName::UnfittedSpeed => "speed in Unfitted",
+        FieldName::ReleaseSpeed => "release speed",
+        FieldName::RollDistance => "distance to roll",
+        FieldName::OverrideAllowedSpeed => "speed to override at",
+        FieldName::OverrideSpeed => "speed of an override",
+        FieldName::OverrideDistance => "distance of an override",
+        FieldName::OverrideTime => "time of an override",
+        FieldName::StaffResponsibleDistance => "distance in Staff Responsible",
+        FieldName::CountryCount => "count of countries",
+        FieldName::Country => "country",
+        FieldName::Kind => "kind",
+        FieldName::Mode => "mode",
+        FieldName::Brake => "brake",
+        FieldName::PayloadSize => "size of the payload",
+        FieldName::Indications => "indications",
+        FieldName::EventNumber => "number of the event",
+        FieldName::Moment => "moment",
+        FieldName::Place => "place",
+        FieldName::Uncertainty => "uncertainty",
+        FieldName::Limit => "limit",
+        FieldName::Word => "word",
+        FieldName::Movement => "movement",
+        FieldName::Speed => "speed",
+        FieldName::ActionCode => "code of the action",
+        FieldName::Subject => "subject of the action",
+        FieldName::Zero => "zero",
+    }
+}

@@ -1,0 +1,139 @@
+-- What is released of a life, beside the inputs that it accepts.
+use Rattle.std.proofs.Common.{◌≡◌, ℕ, zero, suc, ◌+◌, ◌<◌, List, [], ◌∷◌, ◌++◌, length, take, drop, get_or, Option, Some, None, refl, sym, ◌∙◌, ap, arith, append_assoc, append-nil, length-append}
+use Rattle.std.proofs.lemmas.List.{take-append-drop}
+use Rattle.std.proofs.lemmas.List.Sums.{fold-append}
+use Rattle.std.proofs.Math.Seq.{drop-append_seam}
+use Rattle.events.specs.declared.input.Event.{Event}
+use Rattle.events.specs.declared.input.Event.TheVariants as an_event
+use Rattle.events.specs.declared.input.Input.{Input}
+use Rattle.events.specs.declared.step.Step.{Step}
+use Rattle.events.specs.declared.step.Step.TheVariants.{Accept, Flush}
+use Rattle.mode_table.specs.declared.statuses.Cold.{Cold}
+use Rattle.onboard.specs.Events.{pair_of, pairs_of}
+use Rattle.onboard.specs.Releases.{Release}
+use Rattle.onboard.specs.Runs.{accept_one, accepted_by, flushed_by, durable_by}
+use Rattle.onboard.specs.declared.errors.LiveError.{LiveError}
+use Rattle.onboard.specs.declared.errors.LiveError.TheVariants as a_live
+use Rattle.onboard.proofs.Chains.{accepted_on}
+use Rattle.onboard.proofs.Lists.{empty_of}
+use Rattle.lab_why.specs.Playing.{carried_out}
+
+-- ---- of lists of events, what is released
+
+more_pairs : (more events : List Event) → (rest : List Release) × (pairs_of (more ++ events) ≡ pairs_of events ++ rest)
+more_pairs [] events = ([], sym (append-nil (pairs_of events)))
+more_pairs (event ∷ more) events =
+    let so = more_pairs more events in
+    let pair = pair_of (more ++ events) event in
+    (so.0 ++ pair ∷ [], ap (λ (l : List Release). l ++ pair ∷ []) so.1 ∙ append_assoc (pairs_of events) so.0 (pair ∷ []))
+
+length_pairs : (events : List Event) → length (pairs_of events) ≡ length events
+length_pairs [] = refl
+length_pairs (event ∷ events) =
+    let more : length (pairs_of events) ≡ length events = length_pairs events in
+    omega (arith, more, length-append (pairs_of events) (pair_of events event ∷ []))
+
+-- so many are durable behind the power-up as were released
+pub count_released : (word : Cold) (durable : List Event) (released : List Release) → pairs_of durable ≡ pairs_of (an_event.PowerUp word ∷ []) ++ released
+    → length durable ≡ suc (length released)
+count_released word durable released is = sym (length_pairs durable) ∙ ap length is
+
+-- ---- lists with a common end
+
+-- two ends of a list that are as long are the same
+pub same_end : (all more one others other : List Event) → all ≡ more ++ one → all ≡ others ++ other → length one ≡ length other → one ≡ other
+same_end all more one others other is also long =
+    let first : length all ≡ length more + length one = ap length is ∙ length-append more one in
+    let second : length all ≡ length others + length other = ap length also ∙ length-append others other in
+    let same : length more ≡ length others = omega (arith, first, second, long) in
+    sym (drop-append_seam more one)
+    ∙ ap (λ (n : ℕ). drop n (more ++ one)) same
+    ∙ ap (drop (length others)) (sym is ∙ also)
+    ∙ drop-append_seam others other
+
+at_front : (xs ys : List Release) (n : ℕ) (d : Release) → n < length xs → get_or (xs ++ ys) n d ≡ get_or xs n d
+at_front [] ys n d below = absurd (omega (arith, below))
+at_front (x ∷ xs) ys zero d below = refl
+at_front (x ∷ xs) ys (suc n) d below = at_front xs ys n d (omega (arith, below))
+
+at_seam : (xs : List Release) (x : Release) (ys : List Release) (d : Release) → get_or (xs ++ x ∷ ys) (length xs) d ≡ x
+at_seam [] x ys d = refl
+at_seam (y ∷ xs) x ys d = at_seam xs x ys d
+
+-- ---- what was accepted up to an input
+
+abbrev pub begun : Cold → List Event
+begun word = an_event.PowerUp word ∷ []
+
+-- the input, behind all that was accepted before it, is where it was accepted
+pub up_to : (events : List Event) (first rest : List Step) → accepted_by events (first ++ rest) ≡ accepted_by [] rest ++ accepted_by events first
+up_to events first rest = fold-append accept_one events first rest ∙ accepted_on (accepted_by events first) rest
+
+-- what is released of it, where that many are released before it
+pub its_release : (word : Cold) (first rest : List Step) (input : Input) (durable more : List Event) (released : List Release) (told : ℕ) (d : Release)
+    → accepted_by (begun word) (first ++ Accept input ∷ rest) ≡ more ++ durable → pairs_of durable ≡ pairs_of (begun word) ++ released
+    → length (accepted_by (begun word) first) ≡ suc told → told < length released
+    → get_or released told d ≡ pair_of (accepted_by (begun word) first) (an_event.Input input)
+its_release word first rest input durable more released told d accepted is counted below =
+    let events = accepted_by (begun word) first in
+    let event = an_event.Input input in
+    let pair = pair_of events event in
+    let one = more_pairs (accepted_by [] rest) (event ∷ events) in
+    let other = more_pairs more durable in
+    let up : accepted_by (begun word) (first ++ Accept input ∷ rest) ≡ accepted_by [] rest ++ event ∷ events =
+    fold-append accept_one (begun word) first (Accept input ∷ rest) ∙ accepted_on (event ∷ events) rest in
+    let same : pairs_of (begun word) ++ (released ++ other.0) ≡ pairs_of events ++ pair ∷ one.0 =
+    sym (append_assoc (pairs_of (begun word)) released other.0)
+    ∙ ap (λ (l : List Release). l ++ other.0) (sym is)
+    ∙ sym other.1
+    ∙ ap pairs_of (sym accepted ∙ up)
+    ∙ one.1
+    ∙ append_assoc (pairs_of events) (pair ∷ []) one.0 in
+    let long : suc told ≡ length (pairs_of events) = sym counted ∙ sym (length_pairs events) in
+    sym (at_front released other.0 told d below)
+    ∙ ap (λ (l : List Release). get_or l (suc told) d) same
+    ∙ ap (λ (n : ℕ). get_or (pairs_of events ++ pair ∷ one.0) n d) long
+    ∙ at_seam (pairs_of events) pair one.0 d
+
+-- ---- what is durable
+
+-- what is durable behind steps is the older part of what they accepted
+older : (d a m : List Event) (steps : List Step) → a ≡ m ++ d → (more : List Event) × (accepted_by a steps ≡ more ++ flushed_by d a steps)
+older d a m [] is = (m, is)
+older d a m (Accept input ∷ steps) is = older d (an_event.Input input ∷ a) (an_event.Input input ∷ m) steps (ap (λ (l : List Event). an_event.Input input ∷ l) is)
+older d a m (Flush ∷ steps) is = older a a [] steps refl
+
+-- .. of what more steps accept
+durable_is_older : (events : List Event) (steps : List Step) (n : ℕ) → (more : List Event) × (accepted_by events steps ≡ more ++ durable_by events (take n steps))
+durable_is_older events steps n =
+    let first = older events events [] (take n steps) refl in
+    let rest = accepted_by [] (drop n steps) in (
+      rest ++ first.0,
+      ap (λ (l : List Step). accepted_by events l) (sym (take-append-drop n steps))
+          ∙ up_to events (take n steps) (drop n steps)
+          ∙ ap (λ (l : List Event). rest ++ l) first.1
+          ∙ sym (append_assoc rest first.0 (durable_by events (take n steps))),
+    )
+
+-- .. and of what all steps accept, where a life stopped
+pub carried_older : (events : List Event) (steps : List Step) (stopped : Option LiveError) → (more : List Event) × (accepted_by events steps ≡ more ++ durable_by events (carried_out steps stopped))
+carried_older events steps None = older events events [] steps refl
+carried_older events steps (Some (a_live.Open e)) = (accepted_by [] steps, accepted_on events steps)
+carried_older events steps (Some (a_live.Accept k e)) = durable_is_older events steps k
+carried_older events steps (Some (a_live.Flush k e)) = durable_is_older events steps k
+carried_older events steps (Some (a_live.NoMemory k)) = durable_is_older events steps k
+
+-- what is durable goes on from what there was
+flushed_on : (d a events : List Event) (steps : List Step) → flushed_by (d ++ events) (a ++ events) steps ≡ flushed_by d a steps ++ events
+flushed_on d a events [] = refl
+flushed_on d a events (Accept input ∷ steps) = flushed_on d (an_event.Input input ∷ a) events steps
+flushed_on d a events (Flush ∷ steps) = flushed_on a a events steps
+
+-- where nothing was released behind one power-up, nothing is durable behind another one
+pub nothing_durable : (word other : Cold) (steps : List Step) → pairs_of (durable_by (begun word) steps) ≡ pairs_of (begun word) ++ [] → durable_by (begun other) steps ≡ begun other
+nothing_durable word other steps none =
+    let count : length (durable_by (begun word) steps) ≡ 1 = count_released word (durable_by (begun word) steps) [] none in
+    let more : length (durable_by (begun word) steps) ≡ length (durable_by [] steps) + 1 =
+    ap length (flushed_on [] [] (begun word) steps) ∙ length-append (durable_by [] steps) (begun word) in
+    let empty : durable_by [] steps ≡ [] = empty_of (durable_by [] steps) (omega (arith, count, more)) in
+    flushed_on [] [] (begun other) steps ∙ ap (λ (l : List Event). l ++ begun other) empty

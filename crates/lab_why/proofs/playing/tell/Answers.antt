@@ -1,0 +1,24 @@
+use Rattle.std.proofs.Common.{ℕ, List, ◌++◌, length, ◌∙◌, sym, ap}
+use Rattle.std.proofs.KnownBytes.{Appends-trans}
+use Rattle.onboard.specs.Releases.{Release}
+use Rattle.onboard.specs.Events.{pairs_of}
+use Rattle.pieces.specs.Pieces.{texts}
+use Rattle.pieces.specs.declared.piece.Form.TheVariants.{Json}
+use Rattle.lab_why.specs.Ends.{first_line, last_line}
+use Rattle.lab_why.specs.Playing.{released_in}
+use Rattle.lab_why.proofs.Releasing.{begun, carried_older}
+use Rattle.lab_why.proofs.playing.tell.Goals as goal
+
+pub returns : goal.returns
+returns g c is =
+    let life = c.args.life.now in
+    let stopped = c.args.lived.now.stopped in
+    let older = carried_older (begun life.cold) life.steps.items stopped in
+    let told = c.in_ok-tell_released.ensures (released_in life stopped) older.0 older.1
+    (is ∙ ap (λ (l : List Release). pairs_of (begun life.cold) ++ l) (sym c.as_slice.ensures.value)) in
+    let first = c.first_pieces.ensures ∙ ap (λ (l : List ℕ). first_line life.cold (length l)) c.as_slice-ends.ensures.value in
+    let last = c.last_pieces.ensures ∙ ap (λ (l : List ℕ). last_line l stopped) c.as_slice-ends.ensures.value in (
+      texts Json c.first_pieces.result ++ told.0 ++ texts Json c.last_pieces.result,
+      record { lines = told.0; lines_are = told.1; text_is = λ i. first i ++ told.0 ++ last i },
+      Appends-trans _ _ _ _ _ (Appends-trans _ _ _ _ _ c.in_ok-write_text.ensures told.2) c.in_ok-write_text-2.ensures,
+    )

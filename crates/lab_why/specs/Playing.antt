@@ -1,0 +1,85 @@
+-- What is written while the life of a scenario is played on an empty image (this project's profile). Events and the
+-- steps of a scenario are numbered from 0; lists of events have the newest first, lists of steps the oldest first.
+-- Told elsewhere, and taken for granted here: the text of a line (`played_line_of`, in Played), what of a life is durable
+-- and what is released of it (`durable_by`, `pair_of`, in onboard), and what decides a limit (`IsLimitCause`, in
+-- limit_causes), where of several of equal force one is named.
+use Rattle.std.specs.Prelude.{◌≡◌, ◌⊎◌, ℕ, ◌+◌, ◌-◌, Option, Some, None, List, [], ◌∷◌, ◌++◌, length, map, take, slice_index}
+use Rattle.std.specs.Option.{option_map_or}
+use Rattle.events.specs.declared.input.Event.{Event}
+use Rattle.events.specs.declared.input.Event.TheVariants.{PowerUp, Input}
+use Rattle.events.specs.declared.step.Step.{Step}
+use Rattle.events.specs.declared.step.Step.TheVariants.{Accept, Flush}
+use Rattle.kernel.specs.Lives.{Story, story_of, past_at}
+use Rattle.kernel.specs.Output.{output_at}
+use Rattle.limit_causes.specs.Causes.{IsLimitCause}
+use Rattle.limit_causes.specs.declared.cause.LimitCause.{LimitCause}
+use Rattle.onboard.specs.Events.{pair_of}
+use Rattle.onboard.specs.Releases.{Release}
+use Rattle.onboard.specs.Runs.{durable_by}
+use Rattle.onboard.specs.Stops.{step_of, begun_with, AllStand, Stopped}
+use Rattle.onboard.specs.declared.errors.LiveError.{LiveError}
+use Rattle.onboard.specs.declared.errors.LiveError.TheVariants as a_live
+use Rattle.onboard.specs.declared.errors.OpenError.TheVariants as an_open
+use Rattle.reasons.specs.LimitWords.{limit_told}
+use Rattle.reasons.specs.Runs.{runs_of}
+use Rattle.reasons.specs.Trips.{trip_of}
+use Rattle.lab_why.specs.Ends.{step_at, first_line, last_line}
+use Rattle.lab_why.specs.Lines.{told_of}
+use Rattle.lab_why.specs.Played.{answer_of, played_of, played_line_of}
+use Rattle.lab_why.specs.declared.playing.PlayedLife.{PlayedLife}
+
+-- ---- which step of the scenario each input of the life comes from
+
+-- the places of the inputs among the steps of the life, from this place on
+abbrev pub inputs_from : ℕ → List Step → List ℕ
+inputs_from place [] = []
+inputs_from place (Accept input ∷ steps) = place ∷ inputs_from (place + 1) steps
+inputs_from place (Flush ∷ steps) = inputs_from (place + 1) steps
+
+abbrev pub input_steps : PlayedLife → List ℕ
+input_steps life = map (step_at life.ends.items) (inputs_from 0 life.steps.items)
+
+-- ---- the lines of the outputs
+
+-- the line of an output that was released to the last event of a story, which comes from this step of the scenario
+abbrev pub IsLine : ℕ → Story → Release → List ℕ → Type 0
+IsLine step story one line =
+    (cause : LimitCause) × IsLimitCause (past_at story).life (output_at story).limit cause
+    × (line ≡ played_line_of (answer_of story one) (played_of story one step) (told_of (runs_of story)) (trip_of story) (limit_told one.output.limit cause))
+
+-- a text, and another one behind it
+pub record IsFollowed (Earlier Later : List ℕ → Type 0) (text : List ℕ) : Type 0 where
+  pub earlier : List ℕ
+  pub later : List ℕ
+  pub earlier_is : Earlier earlier
+  pub later_is : Later later
+  pub text_is : text ≡ earlier ++ later
+
+-- a line of each input of a first life, the oldest first; the power-up, event 0, has none
+abbrev pub AreLines : List ℕ → List Event → List ℕ → Type 0
+AreLines steps [] text = text ≡ []
+AreLines steps (PowerUp cold ∷ events) text = text ≡ []
+AreLines steps (Input input ∷ events) text =
+    IsFollowed (AreLines steps events) (IsLine (slice_index steps (length events - 1)) (story_of (Input input ∷ events)) (pair_of events (Input input))) text
+
+-- ---- all that is written, by how the life ended: at its end, or for this error
+
+-- the steps that were carried out: all, or those before the one that an error names; none where no life began
+abbrev pub carried_out : List Step → Option LiveError → List Step
+carried_out steps None = steps
+carried_out steps (Some error) = option_map_or (λ number. take number steps) (step_of error) []
+
+-- the events whose outputs were released, behind the power-up
+abbrev pub released_in : PlayedLife → Option LiveError → List Event
+released_in life stopped = durable_by (PowerUp life.cold ∷ []) (carried_out life.steps.items stopped)
+
+pub record IsPlayed (life : PlayedLife) (stopped : Option LiveError) (text : List ℕ) : Type 0 where
+  pub lines : List ℕ
+  pub lines_are : AreLines (input_steps life) (released_in life stopped) lines
+  pub text_is : text ≡ first_line life.cold (length life.ends.items) ++ lines ++ last_line life.ends.items stopped
+
+-- How a life may end on an empty image: no step has a cause to be refused; or it stopped at the first one that has, or
+-- for memory or the device; or the device failed as it was opened.
+abbrev pub PlayEnds : List Step → Option LiveError → Type 0
+PlayEnds steps None = AllStand (begun_with 1) steps
+PlayEnds steps (Some error) = (error ≡ a_live.Open an_open.DeviceFault) ⊎ Stopped (begun_with 1) steps error

@@ -1,0 +1,271 @@
+//! The line of an event with the causes of its brake and of its limit.
+ghost use Rattle.std.specs.Prelude.{◌≡◌, OnOk, flat_map};
+ghost use Rattle.std.specs.Io.KnownBytes.{Appends};
+ghost use Rattle.pieces.specs.Pieces.{texts};
+ghost use Rattle.pieces.specs.declared.piece.Form.{Form as a_form};
+ghost use Rattle.lab_why.specs.Lines.{front_text, held_text, free_text, cause_text, told_of, trip_known_text, trip_unknown_text, trip_text, decides_text, place_text, number_text, section_text, end_text, last_text, line_of};
+
+use command_line::brake_word;
+use events::Brake;
+use kernel::{BrakeCause, TripCause};
+use pieces::{Form, Piece, both, write_parts, write_pieces};
+use reasons::{
+    LimitKind, LimitTold, Runs, TripTold, ending, limit_section, limit_sentence, limit_word,
+    sentence, trip_section, trip_sentence, trip_word, word,
+};
+use std::io;
+use std::io::Write;
+
+/// What was answered to an event, and the numbers that causes speak of.
+#[derive(Clone, Copy)]
+pub struct Answer {
+    /// The number of the event.
+    pub event: u64,
+    /// What the brakes were commanded to do.
+    pub brake: Brake,
+    /// The limit, in metres per hour.
+    pub limit: u64,
+    /// The speed of the last reading, in metres per hour.
+    pub speed: u64,
+    /// How far the train has rolled backward since it stood, in centimetres.
+    pub backward: u64,
+    /// How far it may, in centimetres.
+    pub allowed: u64,
+}
+
+/// A cause, and the first event behind which it has held, if it holds.
+#[derive(Clone, Copy)]
+pub struct Told {
+    /// The cause.
+    pub cause: BrakeCause,
+    /// The number of that event.
+    pub first: Option<u64>,
+}
+
+/// Each cause with its first event, in the order of the brake table.
+pub fn told_of(runs: &Runs) -> [Told; 10]
+    ensures { result ≡ told_of runs.now }
+{
+    let told = |cause: BrakeCause| Told {
+        cause,
+        first: runs.first(cause),
+    };
+    [
+        told(BrakeCause::NotRevalidated),
+        told(BrakeCause::InTrip),
+        told(BrakeCause::InSystemFailure),
+        told(BrakeCause::OwesTrip),
+        told(BrakeCause::FarTooFast),
+        told(BrakeCause::RolledTooFar),
+        told(BrakeCause::AskedForService),
+        told(BrakeCause::TooFast),
+        told(BrakeCause::MustStand),
+        told(BrakeCause::OwesTooLong),
+    ]
+}
+
+fn front_pieces(answer: &Answer) -> [Piece; 13]
+    ensures { (form : a_form) → texts form result ≡ front_text form answer.now }
+{
+    [
+        Piece::Text("event ", "{\"event\":"),
+        Piece::Number(answer.event),
+        Piece::Text(": brake ", ",\"brake\":\""),
+        both(brake_word(answer.brake)),
+        Piece::Text(", limit ", "\",\"limit_m_per_h\":"),
+        Piece::Number(answer.limit),
+        Piece::Text(" m/h, speed ", ",\"speed_m_per_h\":"),
+        Piece::Number(answer.speed),
+        Piece::Text(" m/h, rolled backward ", ",\"backward_cm\":"),
+        Piece::Number(answer.backward),
+        Piece::Text(" cm of ", ",\"allowed_backward_cm\":"),
+        Piece::Number(answer.allowed),
+        Piece::Text(" cm", ""),
+    ]
+}
+
+fn held_pieces(cause: BrakeCause, first: u64) -> [Piece; 7]
+    ensures { (form : a_form) → texts form result ≡ held_text form cause first }
+{
+    [
+        Piece::Text("; ", ",\""),
+        Piece::Text(sentence(cause), word(cause)),
+        Piece::Text(" (since event ", "\":"),
+        Piece::Number(first),
+        Piece::Text(", ", ""),
+        Piece::Text(ending(cause), ""),
+        Piece::Text(")", ""),
+    ]
+}
+
+fn free_pieces(cause: BrakeCause) -> [Piece; 3]
+    ensures { (form : a_form) → texts form result ≡ free_text form cause }
+{
+    [
+        Piece::Text("", ",\""),
+        Piece::Text("", word(cause)),
+        Piece::Text("", "\":null"),
+    ]
+}
+
+fn decides_pieces(kind: LimitKind, speed: u64) -> [Piece; 5]
+    ensures { (form : a_form) → texts form result ≡ decides_text form kind speed }
+{
+    [
+        Piece::Text("; ", ",\"limit_cause\":\""),
+        Piece::Text(limit_sentence(kind), limit_word(kind)),
+        Piece::Text(": ", "\",\"limit_cause_speed_m_per_h\":"),
+        Piece::Number(speed),
+        Piece::Text(" m/h", ""),
+    ]
+}
+
+fn place_pieces(place: Option<i64>) -> [Piece; 3]
+    ensures { (form : a_form) → texts form result ≡ place_text form place }
+{
+    match place {
+        Some(place) => [
+            Piece::Text(" at ", ",\"limit_cause_place_cm\":"),
+            Piece::Signed(place),
+            Piece::Text(" cm", ""),
+        ],
+        None => [
+            Piece::Text("", ",\"limit_cause_place_cm\":null"),
+            Piece::Nothing,
+            Piece::Nothing,
+        ],
+    }
+}
+
+fn number_pieces(number: Option<u64>) -> [Piece; 2]
+    ensures { (form : a_form) → texts form result ≡ number_text form number }
+{
+    match number {
+        Some(number) => [
+            Piece::Text(", number ", ",\"limit_cause_number\":"),
+            Piece::Number(number),
+        ],
+        None => [
+            Piece::Text("", ",\"limit_cause_number\":null"),
+            Piece::Nothing,
+        ],
+    }
+}
+
+fn section_pieces(kind: LimitKind) -> [Piece; 3]
+    ensures { (form : a_form) → texts form result ≡ section_text form kind }
+{
+    [
+        Piece::Text(" (", ",\"limit_cause_section\":\""),
+        both(limit_section(kind)),
+        Piece::Text(")", "\""),
+    ]
+}
+
+fn known_trip_pieces(cause: TripCause, event: u64) -> [Piece; 7]
+    ensures { (form : a_form) → texts form result ≡ trip_known_text form cause event }
+{
+    [
+        Piece::Text("; the train was tripped: ", ",\"trip_cause\":\""),
+        Piece::Text(trip_sentence(cause), trip_word(cause)),
+        Piece::Text(" (event ", "\",\"trip_cause_event\":"),
+        Piece::Number(event),
+        Piece::Text(", ", ",\"trip_cause_section\":\""),
+        Piece::Same(trip_section(cause)),
+        Piece::Text(")", "\""),
+    ]
+}
+
+fn unknown_trip_pieces() -> [Piece; 7]
+    ensures { (form : a_form) → texts form result ≡ trip_unknown_text form }
+{
+    let none = Piece::Nothing;
+    let null = Piece::Text(
+        "",
+        ",\"trip_cause\":null,\"trip_cause_event\":null,\"trip_cause_section\":null",
+    );
+    [null, none, none, none, none, none, none]
+}
+
+fn trip_pieces(trip: &Option<TripTold>) -> [Piece; 7]
+    ensures { (form : a_form) → texts form result ≡ trip_text form trip.now }
+{
+    match trip {
+        Some(told) => known_trip_pieces(told.cause, told.event),
+        None => unknown_trip_pieces(),
+    }
+}
+
+fn end_piece() -> [Piece; 1]
+    ensures { (form : a_form) → texts form result ≡ end_text form }
+{
+    [Piece::Text("\n", "}\n")]
+}
+
+fn write_cause<W: Write>(form: Form, told: &Told, out: &mut W) -> io::Result<()>
+    ensures { OnOk result (Appends (W.contents out.old) (W.contents out.new) (cause_text form told.now)) }
+{
+    match told.first {
+        Some(first) => write_pieces(form, &held_pieces(told.cause, first), out),
+        None => write_pieces(form, &free_pieces(told.cause), out),
+    }
+}
+
+/// Writes causes, in their order.
+pub(crate) fn write_causes<W: Write>(form: Form, told: &[Told], out: &mut W) -> io::Result<()>
+    ensures { OnOk result (Appends (W.contents out.old) (W.contents out.new) (flat_map (cause_text form) told.now)) }
+{
+    for one in told {
+        write_cause(form, one, out)?;
+    }
+    Ok(())
+}
+
+/// Writes what the line begins with.
+pub(crate) fn write_front<W: Write>(form: Form, answer: &Answer, out: &mut W) -> io::Result<()>
+    ensures { OnOk result (Appends (W.contents out.old) (W.contents out.new) (front_text form answer.now)) }
+{
+    write_pieces(form, &front_pieces(answer), out)
+}
+
+/// Writes what follows the causes, up to the end of the line.
+pub(crate) fn write_last<W: Write>(
+    form: Form,
+    trip: &Option<TripTold>,
+    told: &LimitTold,
+    out: &mut W,
+) -> io::Result<()>
+    ensures { OnOk result (Appends (W.contents out.old) (W.contents out.new) (last_text form trip.now told.now)) }
+{
+    let speed = u64::from(told.speed.get());
+    write_parts(
+        form,
+        &[
+            &trip_pieces(trip),
+            &decides_pieces(told.kind, speed),
+            &place_pieces(told.place),
+            &number_pieces(told.number),
+            &section_pieces(told.kind),
+            &end_piece(),
+        ],
+        out,
+    )
+}
+
+/// Writes the line of an event with these causes of its brake, with the trip that is owed, where it is known why, and
+/// with what decides its limit. The error is that of a write.
+pub fn write_line<W: Write>(
+    form: Form,
+    answer: &Answer,
+    told: &[Told],
+    trip: &Option<TripTold>,
+    decides: &LimitTold,
+    out: &mut W,
+) -> io::Result<()>
+    ensures { OnOk result (Appends (W.contents out.old) (W.contents out.new) (line_of form answer.now told.now trip.now decides.now)) }
+{
+    write_front(form, answer, out)?;
+    write_causes(form, told, out)?;
+    write_last(form, trip, decides, out)?;
+    Ok(())
+}

@@ -1,0 +1,124 @@
+//! A scenario's life is played on an image of its own, and each output that is released is told.
+ghost use Rattle.std.specs.Prelude.{◌≡◌, ◌∷◌, ◌++◌, [], List, ℕ, IfOk, OnOk};
+ghost use Rattle.std.specs.Io.KnownBytes.{Appends};
+ghost use Rattle.events.specs.declared.input.Event.TheVariants.{PowerUp};
+ghost use Rattle.onboard.specs.Events.{pairs_of};
+ghost use Rattle.lab_why.specs.Images.{IsEmpty};
+ghost use Rattle.lab_why.specs.Playing.{released_in, IsPlayed, PlayEnds};
+
+use crate::ends::{first_pieces, last_pieces};
+use crate::errors::PlayError;
+use crate::played::write_text;
+use crate::telling::tell_released;
+use disk::Memory;
+use events::Step;
+use journal::format;
+use lives::LateError;
+use mode_table::Cold;
+use onboard::{LiveError, Released, live};
+use std::alloc::Global;
+use std::io::Write;
+use units::NoMemory;
+
+/// How many blocks the image has, as few as an image may have.
+const BLOCKS: u32 = 2;
+
+/// How many sectors that are.
+const SECTORS: u64 = 13;
+
+/// A life that a scenario asks for (this project's profile).
+#[derive(Drop)]
+pub struct PlayedLife {
+    /// What is known of movements without power.
+    pub cold: Cold,
+    /// The steps of the life.
+    pub steps: Vec<Step>,
+    /// Of each step of the scenario, how many steps of the life there are up to its end.
+    pub ends: Vec<usize>,
+}
+
+// What a life released, and why it stopped before its end, if it did.
+#[derive(Drop)]
+struct Lived {
+    released: Vec<Released>,
+    stopped: Option<LiveError>,
+}
+
+// How many flushes the steps have.
+fn flushes_in(steps: &[Step]) -> u64 {
+    let mut count: u64 = 0;
+    for step in steps {
+        if let Step::Flush = step {
+            count = count.saturating_add(1);
+        }
+    }
+    count
+}
+
+// An empty image in memory, with room for the calls of a life of these steps.
+fn empty_image(alloc: Global, steps: &[Step]) -> Result<Memory, NoMemory>
+    ensures { IfOk result IsEmpty }
+{
+    let calls = flushes_in(steps).saturating_add(16).saturating_mul(8);
+    let mut disk = Memory::new(alloc, SECTORS, calls, calls)?;
+    match format(&mut disk, BLOCKS) {
+        Ok(()) => Ok(disk),
+        Err(_) => Err(NoMemory),
+    }
+}
+
+// Runs a life on an empty image.
+fn run_life(alloc: Global, life: &PlayedLife) -> Result<Lived, NoMemory>
+    ensures released { IfOk result (λ it. pairs_of (released_in life.now it.stopped) ≡ pairs_of (PowerUp life.now.cold ∷ []) ++ it.released.items) }
+    ensures ends { IfOk result (λ it. PlayEnds life.now.steps.items it.stopped) }
+{
+    let steps = life.steps.as_slice();
+    let disk = empty_image(alloc, steps)?;
+    let mut released = Vec::new(alloc);
+    let (_disk, ended) = live(alloc, disk, life.cold, steps, &mut released);
+    let stopped = ended.err();
+    Ok(Lived { released, stopped })
+}
+
+// Tells what a life released, and how it ended.
+fn tell<W: Write>(
+    alloc: Global,
+    life: &PlayedLife,
+    lived: &Lived,
+    out: &mut W,
+) -> Result<(), LateError>
+    ensures { pairs_of (released_in life.now lived.now.stopped) ≡ pairs_of (PowerUp life.now.cold ∷ []) ++ lived.now.released.items
+        → OnOk result ((text : List ℕ) × IsPlayed life.now lived.now.stopped text × Appends (W.contents out.old) (W.contents out.new) text) }
+{
+    let ends = life.ends.as_slice();
+    write_text(&first_pieces(life.cold, ends.len()), out)?;
+    tell_released(alloc, life, lived.released.as_slice(), out)?;
+    write_text(&last_pieces(ends, &lived.stopped), out)?;
+    Ok(())
+}
+
+/// Plays a life on an empty image in memory, and writes a line before the first output, one of each output that is
+/// released, with the step of the scenario that it comes from and its causes, and a last one, which tells whether the
+/// life came to its end (this project's profile). It answers why it didn't. Write is an error of the writer; NoMemory
+/// where memory is refused for the image or a line.
+pub fn play<W: Write>(
+    alloc: Global,
+    life: &PlayedLife,
+    out: &mut W,
+) -> Result<Option<LiveError>, PlayError>
+    // Where it could be written, exactly these lines were.
+    ensures lines { IfOk result (λ stopped. (text : List ℕ) × IsPlayed life.now stopped text
+        × Appends (W.contents out.old) (W.contents out.new) text) }
+
+    // It stopped at the first step that has a cause to be refused, and only for a cause.
+    ensures ends { IfOk result (λ stopped. PlayEnds life.now.steps.items stopped) }
+{
+    let Ok(lived) = run_life(alloc, life) else {
+        return Err(PlayError::NoMemory);
+    };
+    match tell(alloc, life, &lived, out) {
+        Ok(()) => Ok(lived.stopped),
+        Err(LateError::Write) => Err(PlayError::Write),
+        Err(LateError::NoMemory) => Err(PlayError::NoMemory),
+    }
+}

@@ -1,4 +1,0 @@
-use Rattle.why_lines.proofs.lines.decides_pieces.Goals as goal
-
-pub returns : goal.returns
-returns c = λ form. cc (c.limit_sentence.ensures, c.limit_word.ensures)

@@ -1,5 +1,0 @@
-use Rattle.std.proofs.Common.{refl}
-use Rattle.why_lines.proofs.playing.empty_image.Goals as goal
-
-pub returns-in-Ok : goal.returns-in-Ok
-returns-in-Ok c = record { rest = λ told none. c.in-Ok.ensures.formatted told none refl }

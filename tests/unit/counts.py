@@ -7,8 +7,9 @@ found beside its bound.
 
 A row fails where it takes more than 3 in 100 more or less than tests/unit/counts.txt keeps: what makes it cheaper is kept, and what makes it
 dearer is looked at. A bound fails where more is taken. Counts go by the place of the stack, and by what else is in the library, so nearer
-ones can't be asked for.
+ones can't be asked for. The stack of each call, by the frames in the object code, has a bound too.
 """
+import re
 import sys
 from pathlib import Path
 
@@ -18,6 +19,7 @@ KEPT = HERE / "counts.txt"
 sys.dont_write_bytecode = True
 sys.path[:0] = [str(TOP / "bench"), str(TOP / "tests" / "plain")]
 import mixed  # noqa: E402
+import stack_bound  # noqa: E402
 import worst_search  # noqa: E402
 
 # The worst driver's start that was found, and a reading before 32 restrictions behind 690 gradients, told from the farthest to the nearest.
@@ -25,6 +27,8 @@ MOST_START = 60_000
 MOST_READING = 45_000
 # A reading with twice the restrictions, or twice the gradients, takes at most twice as much, and a little for the call itself.
 MOST_DOUBLED = 2.05
+# Bytes of stack: of an opening, and of any other call.
+MOST_STACK_OF_OPEN, MOST_STACK, LEAST_CALLS = 16_384, 16_640, 15
 
 
 def rows():
@@ -48,6 +52,12 @@ def counted(scenarios):
     return [took[at, len(lines) + 1][0] for at, lines in enumerate(scenarios, 1)]
 
 
+def stacks(program):
+    """The bytes of stack that each call of the unit takes at most, by its name."""
+    functions = stack_bound.functions_of(program)
+    return {name: stack_bound.deepest(functions, name)[0] for name in functions if re.fullmatch("etcs_unit_.*_", name)}
+
+
 def main(program, *words):
     worst_search.OUT = Path(program).resolve().parent
     told = rows()
@@ -66,9 +76,15 @@ def main(program, *words):
               ("the same, told by turns", turns, MOST_READING), ("the same, twice the restrictions", restricted, MOST_DOUBLED * few),
               ("the same, twice the gradients", graded, MOST_DOUBLED * few)]
     faults += [f"{what}: {number} instructions, and {most:.0f} are its bound" for what, number, most in bounds if number > most]
+    taken = stacks(program)
+    most = {name: MOST_STACK_OF_OPEN if name == "etcs_unit_open_" else MOST_STACK for name in taken}
+    faults += [f"{name}: {number} bytes of stack, and {most[name]} are its bound" for name, number in taken.items() if number > most[name]]
+    if len(taken) < LEAST_CALLS or "etcs_unit_open_" not in taken:
+        faults.append(f"the stack of {len(taken)} calls is known: {sorted(taken)}")
     for fault in faults:
         print(fault)
-    print(f"instructions of calls: {len(numbers)} rows beside kept ones, {len(bounds)} bounds")
+    print(f"instructions of calls: {len(numbers)} rows beside kept ones, {len(bounds)} bounds; the stack of {len(taken)} calls, "
+          f"{taken.get('etcs_unit_open_')} bytes of an opening")
     return 1 if faults else 0
 
 

@@ -1,7 +1,7 @@
 -- Why the newest released output is what it is, and what a display shows of it, as C is told it (this project's profile).
 -- Places and distances are centimetres, speeds metres per hour, times milliseconds; lists of events have the newest
 -- first.
-use Rattle.std.specs.Prelude.{◌≡◌, ℕ, ◌-◌, ◌^◌, min, ℤ, int_lt, ◌-ℤ◌, Bool, true, false, if◌then◌else◌, List, [], ◌∷◌, length, Option, Some, None, is_some, IfSome}
+use Rattle.std.specs.Prelude.{◌≡◌, ℕ, ◌-◌, ◌^◌, min, ℤ, int_lt, ◌-ℤ◌, Bool, true, false, if◌then◌else◌, List, [], ◌∷◌, map, length, Option, Some, None, is_some, IfSome}
 use Rattle.std.specs.Int.RustNames.{unsigned_abs}
 use Rattle.braking.specs.declared.target.Target.{Target}
 use Rattle.driver.specs.declared.override_left.OverrideLeft.{OverrideLeft}
@@ -9,12 +9,11 @@ use Rattle.events.specs.declared.input.Event.{Event}
 use Rattle.image_calls.specs.KeptItems.{or_zero, flag_of}
 use Rattle.image_calls.specs.WhyNumbers.{place_or_zero, limit_number}
 use Rattle.kernel.specs.Brake.{causes_of, rolled_backward}
-use Rattle.kernel.specs.Causes.{is_among}
+use Rattle.kernel.specs.Causes.{all_causes, is_among}
 use Rattle.kernel.specs.Lives.{life_of}
 use Rattle.kernel.specs.Output.{output_of}
 use Rattle.kernel.specs.Showing.{acknowledgements_of, service_speed, emergency_speed}
 use Rattle.kernel.specs.declared.causes.BrakeCause.{BrakeCause}
-use Rattle.kernel.specs.declared.causes.BrakeCause.TheVariants as cause
 use Rattle.kernel.specs.declared.showing.Acknowledgements.{Acknowledgements}
 use Rattle.kernel.specs.declared.showing.Waiting.{Waiting}
 use Rattle.kernel.specs.declared.showing.Waiting.TheVariants as waits
@@ -46,11 +45,7 @@ use Rattle.unit_calls.specs.declared.why.Told.{Told}
 -- ---- the causes of a brake: whether each holds, in the order of the brake table
 
 abbrev pub holds_in : List BrakeCause → List ℕ
-holds_in causes = flag_of (is_among cause.NotRevalidated causes) ∷ flag_of (is_among cause.InTrip causes)
-    ∷ flag_of (is_among cause.InSystemFailure causes) ∷ flag_of (is_among cause.OwesTrip causes)
-    ∷ flag_of (is_among cause.FarTooFast causes) ∷ flag_of (is_among cause.RolledTooFar causes)
-    ∷ flag_of (is_among cause.AskedForService causes) ∷ flag_of (is_among cause.TooFast causes)
-    ∷ flag_of (is_among cause.MustStand causes) ∷ flag_of (is_among cause.OwesTooLong causes) ∷ []
+holds_in causes = map (λ why. flag_of (is_among why causes)) all_causes
 
 -- ---- what decides the limit: a target ahead of the maximum safe front, a release speed, or neither
 

@@ -1,5 +1,7 @@
 //! A disk that isn't there.
-ghost use Rattle.std.specs.Prelude.{◌≡◌, ◌+◌, ◌%◌, ◌^◌, false};
+ghost use Rattle.std.specs.Prelude.{◌≡◌, ◌+◌, ◌/◌, ◌%◌, ◌^◌, false, true, length, is_err, OnOk, OnErr};
+ghost use Rattle.disk.specs.State.{contents_of, AreSectors, Counted, Touches, Holds, AreOpen, OpenOrSame, SameOpenOutside, SameOpen, IsSynced};
+ghost use Rattle.disk.specs.Reserve.{Spends};
 ghost use Rattle.relayed_unit.specs.Absent.{absent_state};
 
 use disk::{Disk, DiskFault};
@@ -39,15 +41,40 @@ impl Disk for Absent {
         self.sectors
     }
 
-    fn read(&mut self, _first: u64, _bytes: &mut [u8]) -> Result<(), DiskFault> {
+    fn read(&mut self, first: u64, bytes: &mut [u8]) -> Result<(), DiskFault>
+        requires { AreSectors first (length bytes.old) (absent_state self.old).sectors }
+        ensures counted { Counted (is_err result) (absent_state self.old) (absent_state self.new) }
+        ensures spent { Spends 0 (is_err result) 0 0 }
+        ensures moments { Touches 0 0 (absent_state self.old) (absent_state self.new) }
+        ensures same_open { SameOpen (absent_state self.old) (absent_state self.new) }
+        ensures bytes { OnOk result (Holds (contents_of (absent_state self.old)) first bytes.new) }
+        ensures fails { is_err result ≡ true }
+    {
         Err(self.fault())
     }
 
-    fn write(&mut self, _first: u64, _bytes: &[u8]) -> Result<(), DiskFault> {
+    fn write(&mut self, first: u64, bytes: &[u8]) -> Result<(), DiskFault>
+        requires { AreSectors first (length bytes.now) (absent_state self.old).sectors }
+        ensures counted { Counted (is_err result) (absent_state self.old) (absent_state self.new) }
+        ensures spent { Spends (length bytes.now / 512) (is_err result) 0 0 }
+        ensures moments { Touches first (length bytes.now) (absent_state self.old) (absent_state self.new) }
+        ensures opened { OnOk result (AreOpen (absent_state self.new) first (length bytes.now)) }
+        ensures failed { OnErr result (OpenOrSame first (length bytes.now) (absent_state self.old) (absent_state self.new)) }
+        ensures others_open { SameOpenOutside first (length bytes.now) (absent_state self.old) (absent_state self.new) }
+        ensures written { OnOk result (Holds (contents_of (absent_state self.new)) first bytes.now) }
+        ensures fails { is_err result ≡ true }
+    {
         Err(self.fault())
     }
 
-    fn sync(&mut self) -> Result<(), DiskFault> {
+    fn sync(&mut self) -> Result<(), DiskFault>
+        ensures counted { Counted (is_err result) (absent_state self.old) (absent_state self.new) }
+        ensures spent { Spends 1 (is_err result) 0 0 }
+        ensures moments { Touches 0 0 (absent_state self.old) (absent_state self.new) }
+        ensures synced { OnOk result (IsSynced (absent_state self.new)) }
+        ensures failed { OnErr result (SameOpen (absent_state self.old) (absent_state self.new)) }
+        ensures fails { is_err result ≡ true }
+    {
         Err(self.fault())
     }
 }

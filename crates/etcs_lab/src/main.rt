@@ -4,7 +4,7 @@
 
 mod checked;
 mod digest;
-mod events;
+mod event_lines;
 mod examined;
 mod help;
 mod images;

@@ -1,7 +1,7 @@
 //! What the words ask for is done.
 
 use crate::checked::checked;
-use crate::events::events_told;
+use crate::event_lines::events_told;
 use crate::examined::examined;
 use crate::help::HELP;
 use crate::linted::linted;

@@ -7,6 +7,7 @@
 #
 #     bench/worst.sh                         counts them again
 #     bench/worst.sh --search [TRIES SEED]   looks for more (10,000 tries, seed 46), keeps what takes more, and counts them
+#     bench/worst.sh --minutes MINUTES SEED  the same, for so many minutes
 #     bench/worst.sh --build                 builds what counts, and no more
 #     bench/worst.sh --grown                 a reading where restrictions and gradients double, of the unit and of the peer
 #
@@ -36,6 +37,7 @@ search() {
 }
 case ${1:-} in
     --search) search "${2:-10000}" "${3:-46}" ;;
+    --minutes) search --minutes "${2:?}" "${3:?}" ;;
     --build) exit ;;
     --grown) "$top/bench/peer.sh" --build >&2; exec "$top/bench/worst_search.py" --grown ;;
     '') ;;

@@ -3,6 +3,7 @@
 
     bench/worst_search.py TRIES SEED     writes bench/worst.scenarios: for each kind of call the scenario whose last line took most, of
                                          those that it found and those that were kept before
+    bench/worst_search.py --minutes MINUTES SEED     the same, with as many tries as these minutes take
     bench/worst_search.py --count        counts these again: KIND, INSTRUCTIONS, MODE, LIMIT, FOUND, a line each, tab between
     bench/worst_search.py --more         what one thing more costs: a restriction, a static speed, a gradient, a slot
     bench/worst_search.py --grown        a reading where restrictions and gradients double: WHAT, INSTRUCTIONS, THOSE OF THE PEER
@@ -10,11 +11,13 @@
 
 bench/worst.sh builds what it runs (bench/out/worst), and says more.
 """
+import itertools
 import os
 import random
 import re
 import subprocess
 import sys
+import time
 from pathlib import Path
 
 TOP = Path(__file__).resolve().parent.parent
@@ -435,10 +438,15 @@ class Best:
             if instructions >= self.of.get(kind, (0,))[0]:
                 self.of[kind] = (instructions, lines)
 
-    def climb(self, r, tries):
+    def climb(self, r, tries, minutes=None):
+        """So many tries, or as many as that many minutes take."""
         weights = {"reading": 6, "reading that ends a group": 5, "telegram that closes a group": 6, "moment of the clock": 3}
+        end = None if minutes is None else time.monotonic() + 60 * minutes
         self.take(list(seeds(r)))
-        for number in range(BATCH, tries, BATCH):
+        for number in itertools.count(BATCH, BATCH) if end else range(BATCH, tries, BATCH):
+            if end and time.monotonic() >= end:
+                print(f"{number} scenarios in {minutes} minutes", file=sys.stderr)
+                break
             kinds = sorted(self.of)
             lives = [lines for _, lines in self.of.values()]
             parents = r.choices(kinds, [weights.get(kind, 1) for kind in kinds], k=BATCH)
@@ -618,9 +626,9 @@ def main(words):
         memory()
     elif words == ["--more"]:
         more()
-    elif len(words) == 2:
-        r, best = random.Random(int(words[1])), Best()
-        best.climb(r, int(words[0]))
+    elif len(words) == 2 or len(words) == 3 and words[0] == "--minutes":
+        r, best = random.Random(int(words[-1])), Best()
+        best.climb(r, int(words[0]) if len(words) == 2 else 0, int(words[1]) if len(words) == 3 else None)
         best.shorten()
         best.add_by_hand()
         best.add_kept()

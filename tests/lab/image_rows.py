@@ -10,6 +10,7 @@ from the pages too. Both forms are compared: lines as they stand, JSON as a valu
 import fcntl
 import json
 import os
+import pty
 import socket
 import subprocess
 import sys
@@ -188,10 +189,10 @@ def watch_memory(process, seen):
         time.sleep(0.01)
 
 
-def timed(words):
+def timed(words, stderr=None):
     """Seconds, megabytes at most, the status and what was printed of a program."""
     before, seen = time.monotonic(), []
-    child = subprocess.Popen(words, stdout=subprocess.PIPE, stdin=subprocess.DEVNULL)
+    child = subprocess.Popen(words, stdout=subprocess.PIPE, stdin=subprocess.DEVNULL, stderr=stderr)
     watcher = threading.Thread(target=watch_memory, args=(child.pid, seen))
     watcher.start()
     printed = child.stdout.read()
@@ -213,13 +214,28 @@ def big_journal(path, slots, newest):
             out.write(data_of(block(3, number, events, 1, records)))
 
 
+def timed_on_terminal(words):
+    """The same on a terminal, and what was shown there; it is less than a terminal holds before it is read."""
+    shown, terminal = pty.openpty()
+    told = timed(words, terminal)
+    os.write(terminal, b"end")
+    text = b""
+    while not text.endswith(b"end"):
+        text += os.read(shown, 4_096)
+    os.close(terminal)
+    os.close(shown)
+    return told, text.removesuffix(b"end").decode()
+
+
 def compare_big(program, etcs, room, compared):
     empty = room / "empty"
     with open(empty, "wb") as out:
         out.write(first_sector(1_048_576))
         out.truncate(SECTOR * (1 + 6 * 1_048_576))
-    seconds, most, status, printed = timed([program, "examine", str(empty)])
+    (seconds, most, status, printed), shown = timed_on_terminal([program, "examine", str(empty)])
     lines = printed.splitlines()
+    read = [2**26 * step // 10**6 for step in range(1, 49)]
+    compared.same("how far it is read, on a terminal", shown, "".join(f"\r{megabytes} of 3221 MB read" for megabytes in read) + f"\r{'':30}\r")
     compared.same("an empty image of 1,048,576 slots", (lines[0], lines[2:], status),
                   ("image bytes 3221225984 sectors 6291457 slots 1048576 whole 1048576 bytes behind 0",
                    ["journal empty", "power-up opens", "whole"], 0))

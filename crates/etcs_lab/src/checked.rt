@@ -78,10 +78,11 @@ fn check<R: AllocGlobal + Eprint, W: Write>(
 pub(crate) fn checked<R: Files<File = File> + AllocGlobal + Eprint, W: Write>(
     rt: &R,
     image: Named,
+    is_watched: bool,
     form: Form,
     out: &mut W,
 ) -> Status {
-    let mut image = match opened_whole(rt, image) {
+    let mut image = match opened_whole(rt, image, is_watched) {
         Ok(image) => image,
         Err(status) => return status,
     };

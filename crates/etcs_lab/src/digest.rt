@@ -1,6 +1,7 @@
 //! The size of a file, its first sector and its SHA-256.
 
 use crate::images::Named;
+use crate::progress::Progress;
 use crate::status::{Status, fail};
 use blocks::read_first_sector;
 use disk::DiskFault;
@@ -29,8 +30,12 @@ fn is_readable(first: &Option<[u8; 512]>, image: Named) -> bool {
     }
 }
 
-// How many bytes a file gives up to its end, and their digest.
-fn taken<F: RawFile>(file: &F) -> Result<(u64, [u8; 64]), DiskFault> {
+// How many bytes a file gives up to its end, and their digest; and shows how far it is.
+fn taken<R: Eprint, F: RawFile>(
+    rt: &R,
+    file: &F,
+    mut progress: Progress,
+) -> Result<(u64, [u8; 64]), DiskFault> {
     let mut hasher = Sha256::new();
     let mut buffer = [0u8; 16_384];
     let mut bytes = 0u64;
@@ -41,7 +46,9 @@ fn taken<F: RawFile>(file: &F) -> Result<(u64, [u8; 64]), DiskFault> {
         }
         hasher.update(&buffer[..count]);
         bytes = bytes.saturating_add(count as u64);
+        progress.tell(rt, bytes);
     }
+    progress.end(rt);
     Ok((bytes, digits_of(&hasher.finalize())))
 }
 
@@ -60,6 +67,7 @@ pub(crate) fn facts_of<R: Eprint, F: RawFile>(
     rt: &R,
     file: &F,
     image: Named,
+    is_watched: bool,
 ) -> Result<FileFacts, DiskFault> {
     let first = first_of(file)?;
     let is_formatted = is_readable(&first, image);
@@ -74,7 +82,7 @@ pub(crate) fn facts_of<R: Eprint, F: RawFile>(
             first,
         });
     }
-    let (bytes, digest) = taken(file)?;
+    let (bytes, digest) = taken(rt, file, Progress::of(length, is_watched))?;
     Ok(FileFacts {
         bytes,
         digest: Some(digest),

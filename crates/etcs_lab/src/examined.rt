@@ -25,10 +25,11 @@ pub(crate) fn verdict_of<R: Eprint, W: Write>(
 pub(crate) fn examined<R: Files<File = File> + Eprint, W: Write>(
     rt: &R,
     image: Named,
+    is_watched: bool,
     form: Form,
     out: &mut W,
 ) -> Status {
-    let mut image = match opened_whole(rt, image) {
+    let mut image = match opened_whole(rt, image, is_watched) {
         Ok(image) => image,
         Err(status) => return status,
     };

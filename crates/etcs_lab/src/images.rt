@@ -83,13 +83,14 @@ pub(crate) struct Image<'a> {
 }
 
 /// Opens an image for reading alone, and takes the size and the digest of the same open file; else says why not. Where it
-/// isn't formatted, it says so too.
+/// isn't formatted, it says so too. Where somebody watches it shows how far it is.
 pub(crate) fn opened_whole<'a, R: Files<File = File> + Eprint>(
     rt: &R,
     image: Named<'a>,
+    is_watched: bool,
 ) -> Result<Image<'a>, Status> {
     let open = file_of(rt, image.path)?;
-    let Ok(file) = facts_of(rt, &open, image) else {
+    let Ok(file) = facts_of(rt, &open, image, is_watched) else {
         return Err(unread(rt, image.path));
     };
     let disk = disk_over(rt, open, image)?;

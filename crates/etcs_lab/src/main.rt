@@ -9,8 +9,9 @@ mod examined;
 mod help;
 mod images;
 mod linted;
-mod packets;
+mod packet_names;
 mod program;
+mod progress;
 mod replayed;
 mod run;
 mod running;
@@ -19,8 +20,9 @@ mod telegrams;
 mod why;
 mod words;
 
+use std::io::IsTerminal;
 use std::process::ExitCode;
 
 fn main(rt: HostRuntime) -> ExitCode {
-    ExitCode::from(running::run(&rt))
+    ExitCode::from(running::run(&rt, rt.stderr().is_terminal()))
 }

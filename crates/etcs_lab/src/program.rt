@@ -5,7 +5,7 @@ use crate::event_lines::events_told;
 use crate::examined::examined;
 use crate::help::HELP;
 use crate::linted::linted;
-use crate::packets::packets_told;
+use crate::packet_names::packets_told;
 use crate::replayed::replayed;
 use crate::run::played;
 use crate::status::{Status, text_told, usage};
@@ -22,14 +22,15 @@ pub(crate) fn answer<R: Files<File = File> + Input + AllocGlobal + Eprint, W: Wr
     rt: &R,
     words: &[String],
     slots: Option<u32>,
+    is_watched: bool,
     out: &mut W,
 ) -> Status {
     match understood(words, slots) {
         Some(Asked::Help) => text_told(rt, HELP, "--help", out),
-        Some(Asked::Examine(image, form)) => examined(rt, image, form, out),
+        Some(Asked::Examine(image, form)) => examined(rt, image, is_watched, form, out),
         Some(Asked::Events(image, all)) => events_told(rt, image, all, out),
         Some(Asked::Replay(image, form)) => replayed(rt, image, form, out),
-        Some(Asked::Check(image, form)) => checked(rt, image, form, out),
+        Some(Asked::Check(image, form)) => checked(rt, image, is_watched, form, out),
         Some(Asked::Why(image, only, form)) => why_told(rt, image, only, form, out),
         Some(Asked::Telegram(file)) => telegram_told(rt, file, out),
         Some(Asked::Adapt(digits)) => adapted_told(rt, digits, out),

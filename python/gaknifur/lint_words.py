@@ -218,10 +218,10 @@ def paths_of(path: Path) -> list[Path]:
         if not path.exists():
             raise Failed(f"{path}: there is no such file", DEVICE)
         return [path]
-    case_files, others = case_files.below(path)
-    if not case_files and not others:
+    found, others = case_files.below(path)
+    if not found and not others:
         raise Failed(f"{path}: has no test case and no scenario", DEVICE)
-    return [*case_files, *others]
+    return [*found, *others]
 
 
 # ---- the word

@@ -578,6 +578,17 @@ def backwards(restricted, grades, step=2, reaction=0, turns=False, near=False):
     return [*lines, "action 7", "odometer 1 50000", "odometer 1 50000"]
 
 
+def areas_behind(areas, grades, near=False, step=2):
+    """The same with so many mode areas after all gradients in place of restrictions, one every 5 m, each 5 km/h slower than the one before it,
+    told from the farthest to the nearest, or from the nearest on."""
+    *lines, action, first, last = backwards(0, grades, step)
+    told = [[("D_MAMODE", grades * step + 10 + 5 * at), ("M_MAMODE", 0), ("V_MAMODE", 60 - at), ("L_MAMODE", 2), ("L_ACKMAMODE", 0)]
+            for at in (range(areas) if near else reversed(range(areas)))]
+    lines = [line.replace("160000", "600000") if isinstance(line, str) else line for line in lines]
+    lines.append(("telegram", dict(zip(HEADER, (0, 0, 0, 255, 1, 400, 1))), [(80, [("Q_DIR", 2), ("Q_SCALE", 1), *listed(told)])]))
+    return [*lines, action, first, last]
+
+
 def restricted_at(head, metres, speed):
     return (65, [*head, ("NID_TSR", 255), ("D_TSR", metres), ("L_TSR", 1), ("Q_FRONT", 0), ("V_TSR", speed)])
 
@@ -585,7 +596,8 @@ def restricted_at(head, metres, speed):
 def more():
     cases = {"32 and 232 restrictions ahead": [track(restricted=32), track(restricted=232)],
              "5 and 25 static speeds ahead": [track(speeds=5), track(speeds=25)],
-             "5 and 25 gradients ahead": [track(grades=5), track(grades=25)]}
+             "5 and 25 gradients ahead": [track(grades=5), track(grades=25)],
+             "10 areas told near to far, far to near": [areas_behind(10, 690, near) for near in (True, False)]}
     for name, case in cases.items():
         texts = [[text_of(line) for line in lines] for lines in case]
         took = counted([(4, [*text[:-1], "count", text[-1]]) for text in texts])

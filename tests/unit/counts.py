@@ -22,8 +22,8 @@ import mixed  # noqa: E402
 import stack_bound  # noqa: E402
 import worst_search  # noqa: E402
 
-# The worst driver's start that was found, before 600 gradients and ten mode areas told from the farthest to the nearest; and a reading before 32
-# restrictions behind 690 gradients, told so.
+# The worst driver's start that was found, before 600 gradients, 32 restrictions and ten mode areas; and a reading before 32 restrictions behind 690
+# gradients, told from the farthest to the nearest.
 MOST_START = 300_000
 MOST_READING = 45_000
 # A reading with twice the restrictions, or twice the gradients, takes at most twice as much, and a little for the call itself.

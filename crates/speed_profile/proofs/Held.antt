@@ -1,6 +1,7 @@
 -- The targets that are held, and what they ask.
-use Rattle.std.proofs.Common.{◌≡◌, ℕ, zero, suc, ◌<◌, ℤ, List, [], ◌∷◌, ◌++◌, length, Bool, true, false, refl, ap, sym, ◌∙◌, arith}
+use Rattle.std.proofs.Common.{◌≡◌, ℕ, zero, suc, ◌+◌, ◌<◌, ℤ, List, [], ◌∷◌, ◌++◌, length, take, drop, Bool, true, false, refl, ap, sym, ◌∙◌, arith}
 use Rattle.std.specs.Prelude.{Option, None, Some, ◌&&◌, slice_index_or, slice_set}
+use Rattle.std.proofs.lemmas.List.{append_assoc, append-nil, take_more, drop_more}
 use Rattle.track_store.specs.Profiles.{listed}
 use Rattle.braking.specs.declared.target.Target.{Target}
 use Rattle.braking.specs.Braking.{fits, fits_all}
@@ -58,6 +59,59 @@ known_asks known k t is h = with_known known (k ∷ []) t k (sym (ap listed is))
 
 pub told_asks : (known : Option Target) (k t : Target) → known ≡ Some k → IsNoNearer t k → AskTheSame (t ∷ []) (listed known ++ (t ∷ []))
 told_asks known k t is h = with_known known (k ∷ []) t t (sym (ap listed is)) (nearer_asks t k h)
+
+-- ---- those that decide
+
+held_both : (some others : List (Option Target)) → held (some ++ others) ≡ held some ++ held others
+held_both [] others = refl
+held_both (place ∷ some) others =
+    ap (λ (rest : List Target). listed place ++ rest) (held_both some others) ∙ sym (append_assoc (listed place) (held some) (held others))
+
+held_more : (places : List (Option Target)) (i : ℕ) (other : Option Target) → i < length places →
+    held (take (i + 1) places) ≡ held (take i places) ++ listed (slice_index_or places i other)
+held_more places i other within =
+    let place = slice_index_or places i other in
+    ap held (take_more places i other within)
+    ∙ held_both (take i places) (place ∷ [])
+    ∙ ap (λ (more : List Target). held (take i places) ++ more) (append-nil (listed place))
+
+-- one that is held comes to those that decide
+gathered : (places : List (Option Target)) (i n : ℕ) (other : Option Target) (rest now all : List Target) → i < length places → n ≡ i + 1 →
+    AskTheSame (held (take n places) ++ rest) all → AskTheSame now (listed (slice_index_or places i other) ++ rest) →
+    AskTheSame (held (take i places) ++ now) all
+gathered places i n other rest now all within next h asked =
+    let before = held (take i places) in
+    let here = listed (slice_index_or places i other) in
+    let left = held (take n places) in
+    through (before ++ now) (before ++ (here ++ rest)) all (joined before now before (here ++ rest) (same before) asked)
+    (through (before ++ (here ++ rest)) (left ++ rest) all
+    (equal (before ++ (here ++ rest)) (left ++ rest)
+    (sym (append_assoc before here rest)
+    ∙ ap (λ (some : List Target). some ++ rest) (sym (held_more places i other within))
+    ∙ ap (λ (count : ℕ). held (take count places) ++ rest) (sym next))) h)
+
+pub gathered_none : (places : List (Option Target)) (i n : ℕ) (other : Option Target) (rest all : List Target) →
+    i < length places → n ≡ i + 1 → slice_index_or places i other ≡ None → AskTheSame (held (take n places) ++ rest) all →
+    AskTheSame (held (take i places) ++ rest) all
+gathered_none places i n other rest all within next is h =
+    gathered places i n other rest rest all within next h
+    (equal rest (listed (slice_index_or places i other) ++ rest) (ap (λ (place : Option Target). listed place ++ rest) (sym is)))
+
+pub gathered_one : (places after : List (Option Target)) (i n : ℕ) (other : Option Target) (t : Target) (rest now all : List Target) →
+    i < length places → n ≡ i + 1 → slice_index_or places i other ≡ Some t → take i after ≡ take i places →
+    AskTheSame now (t ∷ rest) → AskTheSame (held (take n places) ++ rest) all → AskTheSame (held (take i after) ++ now) all
+gathered_one places after i n other t rest now all within next is left asked h =
+    through (held (take i after) ++ now) (held (take i places) ++ now) all
+    (equal (held (take i after) ++ now) (held (take i places) ++ now) (ap (λ (some : List (Option Target)). held some ++ now) left))
+    (gathered places i n other rest now all within next h
+    (through now (t ∷ rest) (listed (slice_index_or places i other) ++ rest) asked
+    (equal (t ∷ rest) (listed (slice_index_or places i other) ++ rest) (ap (λ (place : Option Target). listed place ++ rest) (sym is)))))
+
+-- of one that is held, if there is one
+pub near_asks : (known : Option Target) (k t : Target) → known ≡ Some k → IsNoNearer k t →
+    AskTheSame (listed known) (listed known ++ (t ∷ []))
+near_asks known k t is h =
+    through (listed known) (k ∷ []) (listed known ++ (t ∷ [])) (equal (listed known) (k ∷ []) (ap listed is)) (known_asks known k t is h)
 
 module _ {G : Type 0} (value : G → ℤ → Option ℤ) where
   -- what is held with one more, and others behind it
@@ -122,3 +176,13 @@ module _ {G : Type 0} (value : G → ℤ → Option ℤ) where
   lowered_place None others old new is = lowered_from value others new old (is ∙ lowered_by_none value old)
   lowered_place (Some t) others old new is =
       lowered_by_more value t others old new (is ∙ sym (lowered_by_one value t old (lowered (value old.gradient) t old) refl))
+
+  -- .. from a place on
+  pub lowered_at : (places : List (Option Target)) (i : ℕ) (place : Option Target) (old new : Course G) → i < length places →
+      place ≡ slice_index_or places i place → new ≡ lowered_by (value old.gradient) (listed place) old →
+      lowered_by (value new.gradient) (held (drop (i + 1) places)) new ≡ lowered_by (value old.gradient) (held (drop i places)) old
+  lowered_at places i place old new within at is =
+      let rest = drop (i + 1) places in
+      lowered_place place (held rest) old new is
+      ∙ ap (λ (some : List (Option Target)). lowered_by (value old.gradient) (held some) old)
+      (ap (λ (first : Option Target). first ∷ rest) at ∙ sym (drop_more places i place within))

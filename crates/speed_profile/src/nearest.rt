@@ -1,5 +1,5 @@
 //! An approach to all targets ahead, which goes through each gradient a few times at most, in whatever order they come.
-ghost use Rattle.std.specs.Prelude.{◌≡◌, ◌≤◌, ◌≤ℤ◌, List, ◌∷◌, [], ◌++◌, None, false, length, IsTrue, IfSome};
+ghost use Rattle.std.specs.Prelude.{◌≡◌, ℕ, ◌+◌, ◌<◌, ◌≤◌, ◌≤ℤ◌, List, ◌∷◌, [], ◌++◌, None, false, length, take, drop, IsTrue, IfSome};
 ghost use Rattle.track_store.specs.Profiles.{listed};
 ghost use Rattle.braking.specs.declared.target.Target.{Target as TargetAsked};
 ghost use Rattle.braking.specs.Approaches.{lowered_by};
@@ -95,8 +95,8 @@ fn lower_by_nearest<'a, S: Profile<CategorySpeeds>, G: Profile<Permille>>(
 }
 
 // Lowers the speed for two targets and for those that are left, in places that hold none. Of those of one speed only the
-// nearest is gone to, and the fastest first: a slower one that is no farther ahead decides alone, so that those that
-// decide lie farther and farther ahead, and what lies between is summed once.
+// nearest is gone to, and of those of several only the ones that are nearer than each slower one, the fastest first. So
+// they lie farther and farther ahead, and what lies between is summed once.
 #[inline(never)]
 fn lower_by_held<'a, S: Profile<CategorySpeeds>, G: Profile<Permille>>(
     approach: &mut Approach<'a, G>,
@@ -114,7 +114,8 @@ fn lower_by_held<'a, S: Profile<CategorySpeeds>, G: Profile<Permille>>(
     while let Some(target) = targets.next() {
         take(approach, nearest, &target);
     }
-    lower_each(approach, nearest);
+    let first = gather_deciding(nearest);
+    lower_each(approach, nearest, first);
 }
 
 // Holds a target, or lowers the speed for it at once.
@@ -176,12 +177,61 @@ fn is_no_nearer(near: &Target, far: &Target) -> bool
     near.place <= far.place && near.speed <= far.speed
 }
 
-// Lowers the speed for each that is held.
-fn lower_each<'a, G: Profile<Permille>>(approach: &mut Approach<'a, G>, nearest: &[Option<Target>])
-    ensures { approach.new ≡ lowered_by (G.value approach.old.gradient) (held nearest.now) approach.old }
+// Leaves out each target that is no nearer than a slower one, which asks for all that it asks for. Those that are left
+// come to stand at the end, in their order; answers where they begin.
+fn gather_deciding(nearest: &mut [Option<Target>]) -> usize
+    ensures within { result ≤ length nearest.new }
+    ensures asked { AskTheSame (held (drop result nearest.new)) (held nearest.old) }
 {
-    for place in nearest {
-        lower_if_held(approach, place);
+    let mut first = nearest.len();
+    for step in (0..nearest.len()).rev() {
+        let place = nearest[step];
+        if let Some(target) = place {
+            first = put_before(nearest, first, &target);
+        }
+    }
+    first
+}
+
+// Puts a target before those that begin at a place, unless the first of them asks for all that it asks for; answers
+// where they begin then. The caller owes a place before them.
+fn put_before(nearest: &mut [Option<Target>], first: usize, target: &Target) -> usize
+    requires before { 1 ≤ first }
+    requires within { first ≤ length nearest.old }
+    ensures length { length nearest.new ≡ length nearest.old }
+    ensures most { result ≤ first }
+    ensures least { first ≤ result + 1 }
+    ensures left { (count : ℕ) → count < first → take count nearest.new ≡ take count nearest.old }
+    ensures asked { AskTheSame (held (drop result nearest.new)) (target.now ∷ held (drop first nearest.old)) }
+{
+    if first < nearest.len() && is_decided(&nearest[first], target) {
+        return first;
+    }
+    let before = first - 1;
+    nearest[before] = Some(*target);
+    before
+}
+
+// Whether one that is held asks for all that a target asks for.
+fn is_decided(near: &Option<Target>, target: &Target) -> bool
+    ensures { IsTrue result → AskTheSame (listed near.now) (listed near.now ++ (target.now ∷ [])) }
+{
+    match near {
+        Some(near) => is_no_nearer(near, target),
+        None => false,
+    }
+}
+
+// Lowers the speed for each that is held from a place on.
+fn lower_each<'a, G: Profile<Permille>>(
+    approach: &mut Approach<'a, G>,
+    nearest: &[Option<Target>],
+    first: usize,
+)
+    ensures { approach.new ≡ lowered_by (G.value approach.old.gradient) (held (drop first nearest.now)) approach.old }
+{
+    for step in first..nearest.len() {
+        lower_if_held(approach, &nearest[step]);
     }
 }
 

@@ -1,4 +1,4 @@
-use Rattle.std.proofs.Common.{◌-◌, ◌/◌, arith}
+use Rattle.std.proofs.Common.{arith}
 use Rattle.speed_profile.proofs.Held.{held_set}
 use Rattle.speed_profile.proofs.nearest.hold.Goals as goal
 

@@ -1,8 +1,8 @@
-use Rattle.std.proofs.Common.{List, ◌∷◌, ◌++◌, ap, ◌∙◌, arith}
+use Rattle.std.proofs.Common.{List, ◌∷◌, ◌++◌, drop, ap, ◌∙◌, arith}
 use Rattle.braking.specs.declared.target.Target.{Target}
 use Rattle.braking.specs.Approaches.{lowered_by}
 use Rattle.speed_profile.specs.Targets.{held}
-use Rattle.speed_profile.proofs.Asking.{same}
+use Rattle.speed_profile.proofs.Asking.{same, lowered_same}
 use Rattle.speed_profile.proofs.Held.{lowered_behind, lowered_at_end}
 use Rattle.speed_profile.proofs.nearest.lower_by_held.Goals as goal
 
@@ -36,5 +36,7 @@ loop-target-preserved g c =
 pub returns : goal.returns
 returns g c =
     c.lower_each.ensures
+    ∙ lowered_same g.G.Profile.value (held (drop c.gather_deciding-first.result c.gather_deciding-first.new.nearest)) (held c.loop-target.nearest)
+    c.loop-target.approach c.gather_deciding-first.ensures.asked
     ∙ lowered_at_end g.G.Profile.value (held c.loop-target.nearest) c.loop-target.targets.targets c.loop-target.approach c.in_default.ensures.steps.0
     ∙ c.loop-target.invariant.asked

@@ -4,7 +4,7 @@ use Rattle.speed_profile.specs.Targets.{held}
 use Rattle.speed_profile.proofs.nearest.lower_each.Given as goal
 
 -- the rest of what is held makes of the speed so far what all makes of the first one
-abbrev pub invariant-loop-place : goal.invariant-loop-place
-invariant-loop-place g l =
-    lowered_by (g.G.Profile.value l.approach.gradient) (held (drop l.place-index l.nearest)) l.approach
-    ≡ lowered_by (g.G.Profile.value l.fn.approach.gradient) (held l.nearest) l.fn.approach
+abbrev pub invariant-loop-step : goal.invariant-loop-step
+invariant-loop-step g l =
+    lowered_by (g.G.Profile.value l.approach.gradient) (held (drop l.step l.nearest)) l.approach
+    ≡ lowered_by (g.G.Profile.value l.fn.approach.gradient) (held (drop l.first l.nearest)) l.fn.approach

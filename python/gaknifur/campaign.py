@@ -109,7 +109,7 @@ def play_scenario(job: Job, room: Path) -> Row:
     row: Row = {"ended": ended, "image_sha256": journal.sha256, "sound": 1}
     try:
         sound.check_image(journal)
-        sound.check_released([line for line in printed if sound.RELEASED.fullmatch(line)], journal.records)
+        sound.check_released(printed, journal.records)
     except sound.Missed as missed:
         row |= {"first_missed": str(missed), "sound": 0}
     return row | told_of(journal.records)
@@ -120,11 +120,15 @@ def told_of(told: Iterable[Json]) -> Row:
     records = list(told)
     if not records:
         return {"events": 0, "lives": 0}
-    last, behind = records[-1], list(zip(records, records[1:]))
-    begun = sum(now["brake"] == "emergency" != before["brake"] for before, now in behind)
-    trips = sum(now["mode"] == "TR" != before["mode"] for before, now in behind)
+    last, brakes, modes = records[-1], [record["brake"] for record in records], [record["mode"] for record in records]
     return {"events": len(records), "lives": len({record["life"] for record in records}), "mode": last["mode"], "brake": last["brake"],
-            "limit_m_per_h": last["limit_m_per_h"], "place_cm": last["place_cm"], "emergencies": begun, "trips": trips}
+            "limit_m_per_h": last["limit_m_per_h"], "place_cm": last["place_cm"], "emergencies": begun(brakes, "emergency"),
+            "trips": begun(modes, "TR")}
+
+
+def begun(values: list[str], value: str) -> int:
+    """How often a value came after another one."""
+    return sum(now == value != before for before, now in zip(values, values[1:])) if value in values else 0
 
 
 def play_case(job: Job, room: Path) -> Row:
